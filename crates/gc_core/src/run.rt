@@ -1,0 +1,10 @@
+//! Where a mutator makes its next records.
+
+/// The pages that a mutator has claimed and not yet filled.
+#[derive(Clone, Copy, Debug, PartialEq, Eq)]
+pub struct Run {
+    /// The address of its next record.
+    pub at: u32,
+    /// The first address after it.
+    pub end: u32,
+}

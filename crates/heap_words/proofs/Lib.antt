@@ -1,0 +1,7 @@
+pub mod Tags
+pub mod KindCodes
+pub mod Decoding
+pub mod Spelling
+pub mod Ranges
+pub mod Reading
+pub mod Apart

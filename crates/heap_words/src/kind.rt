@@ -1,0 +1,8 @@
+/// The kind of a record: what its words after the header are.
+#[derive(Clone, Copy, Debug, PartialEq, Eq)]
+pub enum Kind {
+    /// Tagged words, each a number or a pointer.
+    Fields,
+    /// Plain numbers without a tag.
+    Raw,
+}

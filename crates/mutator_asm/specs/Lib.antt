@@ -1,0 +1,6 @@
+pub mod Program
+pub mod Mistake
+pub mod Token
+pub mod Line
+pub mod Text
+pub mod Theorems

@@ -1,0 +1,48 @@
+-- The tokens of a line, and what one token says.
+use Rattle.std.specs.Prelude.{ℕ, ◌-◌, Bool, not, ◌&&◌, ◌||◌, List, length, filter, Result, Ok, Err, nat_le, ◌==◌, if◌then◌else◌, slice_index}
+use Rattle.std.specs.List.{slice_split, list_all}
+use Rattle.std.specs.Char.{is_ascii_digit}
+use Rattle.std.specs.Str.Parse.{digits_value}
+use Rattle.mutator_asm.specs.declared.mistake.Mistake.{Mistake}
+use Rattle.mutator_asm.specs.declared.mistake.Mistake.TheVariants.{UnknownInstr}
+use Rattle.mutator_asm.specs.declared.operand.Operand.{Operand}
+use Rattle.mutator_asm.specs.declared.operand.Operand.TheVariants.{Reg, Number}
+use Rattle.mutator_asm.specs.Program.{is_number}
+
+-- space, tab and CR stand between tokens
+abbrev pub is_blank : ℕ → Bool
+is_blank b = (b == 32) || (b == 9) || (b == 13)
+
+-- the tokens of a line: what stands between blanks
+abbrev pub tokens_of : List ℕ → List (List ℕ)
+tokens_of line = filter (λ t. not (length t == 0)) (slice_split is_blank line)
+
+-- r and one of the digits 0 to 7
+abbrev pub is_register_name : List ℕ → Bool
+is_register_name t = (length t == 2) && (slice_index t 0 == 114) && nat_le 48 (slice_index t 1) && nat_le (slice_index t 1) 55
+
+-- the register that a token names
+unfoldable pub register_of : List ℕ → Result ℕ Mistake
+register_of t = if is_register_name t then Ok (slice_index t 1 - 48) else Err UnknownInstr
+
+-- one decimal digit or more
+abbrev pub is_numeral : List ℕ → Bool
+is_numeral t = not (length t == 0) && list_all is_ascii_digit t
+
+-- a number, where it has 62 bits
+abbrev pub fitting : ℕ → Result ℕ Mistake
+fitting n = if is_number n then Ok n else Err UnknownInstr
+
+-- the number that a token writes
+unfoldable pub number_of : List ℕ → Result ℕ Mistake
+number_of t = if is_numeral t then fitting (digits_value 10 t) else Err UnknownInstr
+
+-- a register where one was read, else what was read as a number
+abbrev pub register_or : Result ℕ Mistake → Result ℕ Mistake → Result Operand Mistake
+register_or (Ok r) number = Ok (Reg r)
+register_or (Err other) (Ok n) = Ok (Number n)
+register_or (Err other) (Err mistake) = Err mistake
+
+-- the register or the number that a token is
+abbrev pub operand_of : List ℕ → Result Operand Mistake
+operand_of t = register_or (register_of t) (number_of t)

@@ -1,0 +1,57 @@
+//! Why a text gave no program.
+
+ghost use Rattle.std.specs.Prelude.{◌≡◌};
+ghost use Rattle.mutator_asm.specs.Mistake as mistakes;
+ghost use Rattle.mutator_asm.specs.declared.asm_error.AsmError.TheVariants.{NoMemory};
+
+use std::alloc::{AllocError, AllocFailed};
+use std::error::Error;
+use std::fmt;
+
+/// Why a text gave no program.
+#[derive(Clone, Copy, Debug, PartialEq, Eq)]
+pub enum AsmError {
+    /// The text has an error: its number, and the line, counted from 1.
+    Text { no: u8, line: u32 },
+    /// No memory was left.
+    NoMemory,
+}
+
+/// What an error of a text is called, by its number; nothing where no error has the number.
+pub fn error_text(number: u8) -> &'static str
+    ensures { result.now ≡ mistakes.error_text number }
+{
+    match number {
+        1 => "unknown instruction",
+        _ => "",
+    }
+}
+
+impl fmt::Display for AsmError {
+    fn fmt<W: fmt::Write>(&self, f: &mut fmt::Formatter<W>) -> fmt::Result {
+        match self {
+            AsmError::Text { no, line } => {
+                write!(f, "line {line}: error {no}: {}", error_text(*no))
+            }
+            AsmError::NoMemory => write!(f, "out of memory"),
+        }
+    }
+}
+
+impl Error for AsmError {}
+
+impl From<AllocError> for AsmError {
+    ghost from_gives = { λ _ e. e ≡ NoMemory };
+
+    fn from(_error: AllocError) -> AsmError {
+        AsmError::NoMemory
+    }
+}
+
+impl<T: Drop> From<AllocFailed<T>> for AsmError {
+    ghost from_gives = { λ _ e. e ≡ NoMemory };
+
+    fn from(_failed: AllocFailed<T>) -> AsmError {
+        AsmError::NoMemory
+    }
+}

@@ -1,0 +1,10 @@
+//! A part of a schedule.
+
+/// So many steps of one worker, one after another.
+#[derive(Clone, Copy, Debug, PartialEq, Eq)]
+pub struct Item {
+    /// The worker, 0 to 23.
+    pub worker: u8,
+    /// How many steps it makes, 1 to 1,000,000.
+    pub times: u32,
+}

@@ -1,0 +1,130 @@
+-- One instruction on the plain heap: its ends in the order in which they are tried, else its effect.
+use Rattle.std.specs.Prelude.{ℕ, ◌+◌, ◌-◌, ◌%◌, ◌^◌, List, [], ◌∷◌, ◌++◌, length, Option, Some, None, Result, Ok, Err, nat_lt, nat_le, if◌then◌else◌, slice_get, slice_index_or, slice_set, replicate}
+use Rattle.std.specs.Option.{ok_or, option_map_or}
+use Rattle.plain_state.specs.declared.end.End.{End}
+use Rattle.plain_state.specs.declared.end.End.TheVariants.{Halt, NotPointer, NotNumber, OutOfRange, IntoRaw, OutputFull}
+use Rattle.plain_state.specs.declared.kind.Kind.{Kind}
+use Rattle.plain_state.specs.declared.kind.Kind.TheVariants.{Fields, Raw}
+use Rattle.plain_state.specs.declared.value.Identity.{Identity}
+use Rattle.plain_state.specs.declared.value.Value.{Value}
+use Rattle.plain_state.specs.declared.value.Value.TheVariants.{Number, Reference}
+use Rattle.plain_state.specs.State.{Record, Heap, Mutator, made_by, record_of, serial_of}
+use Rattle.mutator_asm.specs.declared.instr.Instr.{Instr}
+use Rattle.mutator_asm.specs.declared.instr.Instr.TheVariants as instrs
+use Rattle.mutator_asm.specs.declared.operand.Operand.{Operand}
+use Rattle.mutator_asm.specs.declared.operand.Operand.TheVariants as operands
+
+-- the first end of two steps is the end of both
+infixl 10 ◌>>=◌
+abbrev pub ◌>>=◌ : {A B : Type 0} → Result A End → (A → Result B End) → Result B End
+(Ok x) >>= f = f x
+(Err why) >>= f = Err why
+
+-- what an instruction leaves: the heap, and the mutator that made it
+pub record After : Type 0 where
+  pub heap : Heap
+  pub mutator : Mutator
+
+-- ---- what an instruction reads
+
+abbrev pub register : Mutator → ℕ → Value
+register k r = slice_index_or k.registers r (Number 0)
+
+abbrev pub number_in : Value → Result ℕ End
+number_in (Number n) = Ok n
+number_in (Reference i) = Err NotNumber
+
+abbrev pub reference_in : Value → Result Identity End
+reference_in (Number n) = Err NotPointer
+reference_in (Reference i) = Ok i
+
+-- a number as it stands, or the number that a register holds
+abbrev pub operand : Mutator → Operand → Result ℕ End
+operand k (operands.Reg r) = number_in (register k r)
+operand k (operands.Number n) = Ok n
+
+-- the words of a record
+abbrev pub values_of : Heap → Identity → List Value
+values_of heap i = option_map_or (λ r. r.values) (record_of heap i) []
+
+-- word x of a record
+abbrev pub word_of : Heap → Identity → ℕ → Result Value End
+word_of heap i x = ok_or (slice_get (values_of heap i) x) OutOfRange
+
+-- ---- what an instruction writes
+
+-- the mutator goes on with the next instruction
+abbrev pub went_on : Mutator → Mutator
+went_on k = record k { counter = (k.counter + 1) % 2 ^ 62; executed = k.executed + 1 }
+
+abbrev pub set_register : Mutator → ℕ → Value → Mutator
+set_register k d v = record k { registers = slice_set k.registers d v }
+
+-- a register takes a value, and the heap stays
+abbrev pub loads : Heap → Mutator → ℕ → Value → After
+loads heap k d v = record { heap = heap; mutator = went_on (set_register k d v) }
+
+-- no reference stands in a raw record
+abbrev pub may_hold : Kind → Value → Result Value End
+may_hold Fields v = Ok v
+may_hold Raw (Number n) = Ok (Number n)
+may_hold Raw (Reference i) = Err IntoRaw
+
+abbrev pub with_word : Record → ℕ → Value → Record
+with_word r x v = record r { values = slice_set r.values x v }
+
+abbrev pub with_records : Heap → ℕ → List Record → Heap
+with_records heap m records = record heap { records = slice_set heap.records m records }
+
+-- word x of the record r with identity i takes a value
+abbrev pub stored : Heap → Identity → Record → ℕ → Value → Heap
+stored heap i r x v = with_records heap i.mutator (slice_set (made_by heap i.mutator) (i.serial - 1) (with_word r x v))
+
+-- the same, where the record is there and may hold the value
+abbrev pub store_in : Heap → Identity → Option Record → ℕ → Value → Result Heap End
+store_in heap i None x v = Err OutOfRange
+store_in heap i (Some r) x v = do
+  v ← may_hold r.kind v
+  Ok (stored heap i r x v)
+
+-- mutator m makes a record of n words, all 0, and register d refers to it
+abbrev pub makes : ℕ → Heap → Mutator → Kind → ℕ → ℕ → After
+makes m heap k kind d n = record {
+  heap = with_records heap m (made_by heap m ++ record { kind = kind; values = replicate n (Number 0) } ∷ []);
+  mutator = went_on (set_register k d (Reference (record { mutator = m; serial = serial_of heap m + 1 })));
+}
+
+-- a record has at most 4095 words
+abbrev pub length_of : ℕ → Result ℕ End
+length_of n = if nat_le n 4095 then Ok n else Err OutOfRange
+
+-- a mutator prints at most 65,536 numbers
+abbrev pub prints : Heap → Mutator → ℕ → Result After End
+prints heap k n =
+    if nat_lt (length k.printed) 65536
+    then Ok (record { heap = heap; mutator = went_on (record k { printed = k.printed ++ n ∷ [] }) })
+    else Err OutputFull
+
+-- ---- the instructions, made by mutator m
+
+unfoldable pub call : ℕ → Heap → Mutator → Instr → Result After End
+call m heap k (instrs.Li d n) = Ok (loads heap k d (Number n))
+call m heap k (instrs.New d x) = do
+  x ← operand k x
+  n ← length_of x
+  Ok (makes m heap k Fields d n)
+call m heap k (instrs.Ld d a x) = do
+  i ← reference_in (register k a)
+  x ← operand k x
+  v ← word_of heap i x
+  Ok (loads heap k d v)
+call m heap k (instrs.St a x b) = do
+  i ← reference_in (register k a)
+  x ← operand k x
+  old ← word_of heap i x
+  heap ← store_in heap i (record_of heap i) x (register k b)
+  Ok (record { heap = heap; mutator = went_on k })
+call m heap k (instrs.Out a) = do
+  n ← number_in (register k a)
+  prints heap k n
+call m heap k instrs.Halt = Err Halt

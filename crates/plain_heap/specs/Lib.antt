@@ -1,0 +1,4 @@
+pub mod Call
+pub mod Step
+pub mod Order
+pub mod Print

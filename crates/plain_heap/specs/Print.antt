@@ -1,0 +1,40 @@
+-- What is printed of a state, and the text of an order.
+use Rattle.std.specs.Prelude.{ℕ, ◌+◌, List, [], ◌∷◌, ◌++◌, Option, Some, None, codes, decimal}
+use Rattle.std.specs.List.{flat_map}
+use Rattle.plain_state.specs.declared.end.End.{End}
+use Rattle.plain_state.specs.End.{text_of}
+use Rattle.plain_state.specs.State.{Mutator, Plain}
+use Rattle.plain_heap.specs.declared.mark.Mark.{Mark}
+use Rattle.plain_heap.specs.declared.mark.Mark.TheVariants.{Step, Flip, Full}
+
+-- a line of mutator m
+abbrev pub line_of : ℕ → List ℕ → List ℕ
+line_of m text = decimal m ++ codes ": " ++ text ++ codes "\n"
+
+abbrev pub end_text : Option End → List ℕ
+end_text None = codes "stopped"
+end_text (Some why) = text_of why
+
+-- a line for each number that mutator m printed, and one for its end
+abbrev pub lines_of : ℕ → List ℕ → Option End → List ℕ
+lines_of m numbers end = flat_map (λ n. line_of m (decimal n)) numbers ++ line_of m (end_text end)
+
+-- the lines of mutators whose numbers begin with m
+abbrev pub lines_from : ℕ → List Mutator → List ℕ
+lines_from m [] = []
+lines_from m (k ∷ ks) = lines_of m k.printed k.end ++ lines_from (m + 1) ks
+
+-- the lines of all mutators
+abbrev pub print_of : Plain → List ℕ
+print_of s = lines_from 0 s.mutators
+
+-- ---- the line of an order
+
+abbrev pub mark_text : Mark → List ℕ
+mark_text (Step m) = decimal m
+mark_text (Flip asked) = codes "F" ++ decimal asked
+mark_text (Full m asked room live) =
+    codes "X" ++ decimal m ++ codes "," ++ decimal asked ++ codes "," ++ decimal room ++ codes "," ++ decimal live
+
+abbrev pub order_line : List Mark → List ℕ
+order_line marks = codes "order" ++ flat_map (λ mark. codes " " ++ mark_text mark) marks ++ codes "\n"

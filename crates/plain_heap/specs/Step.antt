@@ -1,0 +1,68 @@
+-- One step of a mutator on the plain machine.
+use Rattle.std.specs.Prelude.{ℕ, ◌+◌, ◌/◌, List, Option, Some, None, Result, Ok, Err, length, nat_le, nat_lt, if◌then◌else◌, slice_get, slice_set}
+use Rattle.std.specs.Option.{ok_or, option_and_then, option_map}
+use Rattle.std.specs.Result.{result_ok}
+use Rattle.plain_state.specs.declared.end.End.{End}
+use Rattle.plain_state.specs.declared.end.End.TheVariants.{JumpOut, TurnsOut}
+use Rattle.plain_state.specs.State.{Heap, Mutator, Plain}
+use Rattle.mutator_asm.specs.declared.instr.Instr.{Instr}
+use Rattle.mutator_asm.specs.declared.instr.Instr.TheVariants as instrs
+use Rattle.mutator_asm.specs.Program.{instr_at}
+use Rattle.plain_heap.specs.Call.{After, ◌>>=◌, call, operand, length_of}
+
+-- the instruction that a mutator makes next, or the end that stands in its place
+abbrev pub fetch : List (List Instr) → ℕ → ℕ → Mutator → Result Instr End
+fetch code turns m k = if nat_le turns k.executed then Err TurnsOut else ok_or (instr_at code m k.counter) JumpOut
+
+-- what the next step of a mutator without an end does
+abbrev pub made : List (List Instr) → ℕ → ℕ → Heap → Mutator → Result After End
+made code turns m heap k = do
+  i ← fetch code turns m k
+  call m heap k i
+
+-- the mutator gets its end, and all else stays
+abbrev pub ended : Plain → ℕ → Mutator → End → Plain
+ended s m k why = record s { mutators = slice_set s.mutators m (record k { end = Some why }) }
+
+-- the state after a step of mutator m, which was k
+abbrev pub settled : Plain → ℕ → Mutator → Result After End → Plain
+settled s m k (Ok after) = record { heap = after.heap; mutators = slice_set s.mutators m after.mutator }
+settled s m k (Err why) = ended s m k why
+
+-- where a mutator has its end nothing changes
+abbrev pub stepped_if : List (List Instr) → ℕ → Plain → ℕ → Mutator → Option End → Plain
+stepped_if code turns s m k (Some why) = s
+stepped_if code turns s m k None = settled s m k (made code turns m s.heap k)
+
+abbrev pub stepped_as : List (List Instr) → ℕ → Plain → ℕ → Option Mutator → Plain
+stepped_as code turns s m None = s
+stepped_as code turns s m (Some k) = stepped_if code turns s m k k.end
+
+-- a step of mutator m; where the program or the state has no such mutator nothing changes
+unfoldable pub stepped : List (List Instr) → ℕ → Plain → ℕ → Plain
+stepped code turns s m = if nat_lt m (length code) then stepped_as code turns s m (slice_get s.mutators m) else s
+
+-- ---- the room that the next step asks for
+
+-- the length of the record that an instruction would make
+abbrev pub length_made : Mutator → Instr → Option ℕ
+length_made k (instrs.New d x) = result_ok (do
+  x ← operand k x
+  length_of x)
+length_made k (instrs.Li d n) = None
+length_made k (instrs.Ld d a x) = None
+length_made k (instrs.St a x b) = None
+length_made k (instrs.Out a) = None
+length_made k instrs.Halt = None
+
+-- the pages that a record of n words takes with its header, a page having 64 words
+abbrev pub pages_for : ℕ → ℕ
+pages_for n = (n + 1 + 63) / 64
+
+abbrev pub asked_if : List (List Instr) → ℕ → ℕ → Mutator → Option End → Option ℕ
+asked_if code turns m k (Some why) = None
+asked_if code turns m k None = option_map pages_for (option_and_then (length_made k) (result_ok (fetch code turns m k)))
+
+-- the pages that the record would take which mutator m's next step would make
+unfoldable pub asked_by : List (List Instr) → ℕ → Plain → ℕ → Option ℕ
+asked_by code turns s m = option_and_then (λ k. asked_if code turns m k k.end) (slice_get s.mutators m)

@@ -1,0 +1,55 @@
+-- The state of the plain machine.
+use Rattle.std.specs.Prelude.{ℕ, ◌-◌, ◌^◌, ◌<◌, ◌≤◌, List, [], length, Option, slice_get, slice_index_or}
+use Rattle.plain_state.specs.declared.end.End.{End}
+use Rattle.plain_state.specs.declared.kind.Kind.{Kind}
+use Rattle.plain_state.specs.declared.value.Identity.{Identity}
+use Rattle.plain_state.specs.declared.value.Value.{Value}
+use Rattle.plain_state.specs.declared.value.Value.TheVariants.{Number, Reference}
+
+-- a record: its kind, and its words in order
+pub record Record : Type 0 where
+  pub kind : Kind
+  pub values : List Value
+
+-- The records of each mutator in the order of their serials, and the board. No record is ever
+-- removed or moved, so the record with serial k of mutator m stands at place k - 1 of list m.
+pub record Heap : Type 0 where
+  pub records : List (List Record)
+  pub board : List Value
+
+-- what a mutator is between two instructions
+pub record Mutator : Type 0 where
+  pub counter : ℕ
+  pub registers : List Value
+  pub printed : List ℕ
+  pub executed : ℕ
+  pub end : Option End
+
+-- the heap, and the mutators by their numbers
+pub record Plain : Type 0 where
+  pub heap : Heap
+  pub mutators : List Mutator
+
+-- the records that a mutator has made
+abbrev pub made_by : Heap → ℕ → List Record
+made_by heap m = slice_index_or heap.records m []
+
+-- the record of an identity; serials count from 1
+abbrev pub record_of : Heap → Identity → Option Record
+record_of heap i = slice_get (made_by heap i.mutator) (i.serial - 1)
+
+-- how many records a mutator has made, which is the serial of its latest
+abbrev pub serial_of : Heap → ℕ → ℕ
+serial_of heap m = length (made_by heap m)
+
+-- ---- what a state holds
+
+-- the identity names a record that was made
+pub record IsMade (heap : Heap) (i : Identity) : Type 0 where
+  pub first : 1 ≤ i.serial
+  pub last : i.serial ≤ serial_of heap i.mutator
+
+-- a number below 2^62, or a reference to a record that was made
+abbrev pub IsValue : Heap → Value → Type 0
+IsValue heap (Number n) = n < 2 ^ 62
+IsValue heap (Reference i) = IsMade heap i

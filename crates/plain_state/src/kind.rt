@@ -1,0 +1,10 @@
+//! What a record may hold.
+
+/// The kind of a record, fixed when it is made.
+#[derive(Clone, Copy, Debug, PartialEq, Eq)]
+pub enum Kind {
+    /// Each word is a number or a reference.
+    Fields,
+    /// Each word is a number.
+    Raw,
+}

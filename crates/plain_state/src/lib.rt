@@ -1,0 +1,16 @@
+//! What the plain machine is made of: values, records, a heap that never moves or frees a record,
+//! mutators and their ends. The machine whose heap is collected is measured against it.
+#![tactic(auto)]
+
+mod end;
+mod kind;
+mod no_memory;
+mod value;
+
+pub use end::End;
+pub use kind::Kind;
+pub use no_memory::NoMemory;
+pub use value::{Identity, Value};
+
+#[cfg(test)]
+mod tests;
