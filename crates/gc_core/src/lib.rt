@@ -2,7 +2,15 @@
 #![tactic(auto)]
 
 mod config;
+mod header;
+mod instructions;
+mod machine;
+mod mutator;
 mod run;
+mod space;
+mod stepped;
 
 pub use config::{Config, OpenError};
+pub use machine::Core;
 pub use run::Run;
+pub use stepped::Stepped;

@@ -8,7 +8,7 @@ use Rattle.mutator_asm.specs.declared.mistake.Mistake.{Mistake}
 use Rattle.mutator_asm.specs.declared.mistake.Mistake.TheVariants.{UnknownInstr}
 use Rattle.mutator_asm.specs.Token.{tokens_of, register_of, number_of, operand_of}
 
--- a line says nothing, begins a mutator's section, has an instruction, or is wrong by itself
+-- a line says nothing, begins a mutator's section, has an instruction, or is none of the language
 pub data Line : Type 0 where
   Blank : Line
   Begins : Line
@@ -87,16 +87,16 @@ abbrev pub does_or : Result Instr Mistake → Line
 does_or (Ok instr) = Does instr
 does_or (Err mistake) = Bad mistake
 
--- .mutator has no operands
-abbrev pub section_of : List (List ℕ) → Line
-section_of [] = Begins
-section_of _ = Bad UnknownInstr
+-- .mutator stands alone
+abbrev pub begins_alone : List (List ℕ) → Line
+begins_alone [] = Begins
+begins_alone _ = Bad UnknownInstr
 
 -- what the tokens of a line say
 abbrev pub line_from : List (List ℕ) → Line
 line_from [] = Blank
 line_from (first ∷ rest) =
-    if bytes_eq first (codes ".mutator") then section_of rest
+    if bytes_eq first (codes ".mutator") then begins_alone rest
     else does_or (instr_of first rest)
 
 -- what a line says

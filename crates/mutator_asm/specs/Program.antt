@@ -7,9 +7,9 @@ use Rattle.mutator_asm.specs.declared.item.Item.{Item}
 use Rattle.mutator_asm.specs.declared.operand.Operand.{Operand}
 use Rattle.mutator_asm.specs.declared.operand.Operand.TheVariants.{Reg, Number}
 
--- the instruction of a number in a mutator's section
+-- the instruction at a counter in a mutator's section, both counted from 0
 abbrev pub instr_at : List (List Instr) → ℕ → ℕ → Option Instr
-instr_at code m k = slice_get (slice_index_or code m []) k
+instr_at code mutator counter = slice_get (slice_index_or code mutator []) counter
 
 -- there are eight registers
 abbrev pub is_register : ℕ → Bool

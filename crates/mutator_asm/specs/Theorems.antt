@@ -1,31 +1,42 @@
--- What holds of every text.
-use Rattle.std.specs.Prelude.{◌≡◌, ℕ, ◌⊎◌, List}
+-- What is proved of the grammar itself.
+use Rattle.std.specs.Prelude.{◌≡◌, ℕ, ◌<◌, ◌⊎◌, List, Some, IsTrue}
 use Rattle.mutator_asm.specs.declared.instr.Instr.{Instr}
+use Rattle.mutator_asm.specs.declared.item.Item.{Item}
+use Rattle.mutator_asm.specs.Program.{IsWellFormed, instr_at, is_valid}
 use Rattle.mutator_asm.specs.Text.{IsText, IsFault}
 
 -- a text means at most one program
-abbrev pub MeansOneProgram : List ℕ → Type 0
-MeansOneProgram bytes = (code other : List (List Instr)) → IsText bytes code → IsText bytes other → code ≡ other
+abbrev pub MeansOneProgram : Type 0
+MeansOneProgram = (bytes : List ℕ) (code other : List (List Instr)) (schedule another : List Item) → IsText bytes code schedule → IsText bytes other another → (code ≡ other) × (schedule ≡ another)
 
 -- a text has at most one fault
-abbrev pub HasOneFault : List ℕ → Type 0
-HasOneFault bytes = (number line other another : ℕ) → IsFault bytes number line → IsFault bytes other another → (number ≡ other) × (line ≡ another)
+abbrev pub HasOneFault : Type 0
+HasOneFault = (bytes : List ℕ) (number line other another : ℕ) → IsFault bytes number line → IsFault bytes other another → (number ≡ other) × (line ≡ another)
 
 -- a text that means a program has no fault
-abbrev pub IsNeverBoth : List ℕ → Type 0
-IsNeverBoth bytes = (code : List (List Instr)) (number line : ℕ) → IsText bytes code → IsFault bytes number line → ⊥
+abbrev pub HasNoFault : Type 0
+HasNoFault = (bytes : List ℕ) (code : List (List Instr)) (schedule : List Item) (number line : ℕ) → IsText bytes code schedule → IsFault bytes number line → ⊥
 
--- a text means some program
-pub record IsSomeText (bytes : List ℕ) : Type 0 where
+-- a text means this program
+pub record Means (bytes : List ℕ) : Type 0 where
   pub code : List (List Instr)
-  pub text : IsText bytes code
+  pub schedule : List Item
+  pub text : IsText bytes code schedule
 
--- a text has some fault
-pub record IsFaulty (bytes : List ℕ) : Type 0 where
+-- a text has this fault
+pub record Has (bytes : List ℕ) : Type 0 where
   pub number : ℕ
   pub line : ℕ
   pub fault : IsFault bytes number line
 
--- a text means a program or has a fault
-abbrev pub IsJudged : List ℕ → Type 0
-IsJudged bytes = IsSomeText bytes ⊎ IsFaulty bytes
+-- each text means a program or has a fault
+abbrev pub IsReadable : Type 0
+IsReadable = (bytes : List ℕ) → Means bytes ⊎ Has bytes
+
+-- each instruction of a well-formed program has operands that their places allow
+abbrev pub FetchesInstrs : Type 0
+FetchesInstrs = (code : List (List Instr)) (schedule : List Item) (mutator counter : ℕ) (instr : Instr) → IsWellFormed code schedule → instr_at code mutator counter ≡ Some instr → IsTrue (is_valid instr)
+
+-- a well-formed program has no instruction from number 65,536 on
+abbrev pub FetchesEarly : Type 0
+FetchesEarly = (code : List (List Instr)) (schedule : List Item) (mutator counter : ℕ) (instr : Instr) → IsWellFormed code schedule → instr_at code mutator counter ≡ Some instr → counter < 65536

@@ -13,8 +13,8 @@ use Rattle.mutator_asm.specs.Program.{is_number}
 abbrev pub is_blank : ℕ → Bool
 is_blank b = (b == 32) || (b == 9) || (b == 13)
 
--- the tokens of a line: what stands between blanks
-abbrev pub tokens_of : List ℕ → List (List ℕ)
+-- the tokens of a line
+unfoldable pub tokens_of : List ℕ → List (List ℕ)
 tokens_of line = filter (λ t. not (length t == 0)) (slice_split is_blank line)
 
 -- r and one of the digits 0 to 7
@@ -29,19 +29,19 @@ register_of t = if is_register_name t then Ok (slice_index t 1 - 48) else Err Un
 abbrev pub is_numeral : List ℕ → Bool
 is_numeral t = not (length t == 0) && list_all is_ascii_digit t
 
--- a number, where it has 62 bits
-abbrev pub fitting : ℕ → Result ℕ Mistake
-fitting n = if is_number n then Ok n else Err UnknownInstr
+-- the number that digits write, where it is one of the language
+abbrev pub number_or : List ℕ → Result ℕ Mistake
+number_or digits = if is_number (digits_value 10 digits) then Ok (digits_value 10 digits) else Err UnknownInstr
 
 -- the number that a token writes
 unfoldable pub number_of : List ℕ → Result ℕ Mistake
-number_of t = if is_numeral t then fitting (digits_value 10 t) else Err UnknownInstr
+number_of t = if is_numeral t then number_or t else Err UnknownInstr
 
--- a register where one was read, else what was read as a number
+-- a register where one was read, else a number
 abbrev pub register_or : Result ℕ Mistake → Result ℕ Mistake → Result Operand Mistake
 register_or (Ok r) number = Ok (Reg r)
-register_or (Err other) (Ok n) = Ok (Number n)
-register_or (Err other) (Err mistake) = Err mistake
+register_or (Err e) (Ok n) = Ok (Number n)
+register_or (Err e) (Err mistake) = Err mistake
 
 -- the register or the number that a token is
 abbrev pub operand_of : List ℕ → Result Operand Mistake

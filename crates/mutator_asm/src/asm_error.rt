@@ -1,14 +1,15 @@
 //! Why a text gave no program.
 
-ghost use Rattle.std.specs.Prelude.{◌≡◌};
-ghost use Rattle.mutator_asm.specs.Mistake as mistakes;
-ghost use Rattle.mutator_asm.specs.declared.asm_error.AsmError.TheVariants.{NoMemory};
+ghost use Rattle.std.specs.Prelude.{◌≡◌, Some};
+ghost use Rattle.mutator_asm.specs.AsmError.{text_of_error, text_of_number};
+ghost use Rattle.mutator_asm.specs.declared.asm_error.AsmError.TheVariants.{NoMemory, Text};
 
+use crate::fault::Fault;
 use std::alloc::{AllocError, AllocFailed};
 use std::error::Error;
 use std::fmt;
 
-/// Why a text gave no program.
+/// Why `assemble` gave no program.
 #[derive(Clone, Copy, Debug, PartialEq, Eq)]
 pub enum AsmError {
     /// The text has an error: its number, and the line, counted from 1.
@@ -18,22 +19,26 @@ pub enum AsmError {
 }
 
 /// What an error of a text is called, by its number; nothing where no error has the number.
-pub fn error_text(number: u8) -> &'static str
-    ensures { result.now ≡ mistakes.error_text number }
+pub fn error_text(no: u8) -> &'static str
+    ensures { result.now ≡ text_of_number no }
 {
-    match number {
+    match no {
         1 => "unknown instruction",
         _ => "",
     }
 }
 
 impl fmt::Display for AsmError {
+    ghost output = { λ error. Some (text_of_error error) };
+
     fn fmt<W: fmt::Write>(&self, f: &mut fmt::Formatter<W>) -> fmt::Result {
         match self {
-            AsmError::Text { no, line } => {
-                write!(f, "line {line}: error {no}: {}", error_text(*no))
-            }
-            AsmError::NoMemory => write!(f, "out of memory"),
+            AsmError::Text { no, line } => write!(
+                f,
+                "line {line}: error {no}: {}",
+                error_text(*no)
+            ),
+            AsmError::NoMemory => f.write_str("out of memory"),
         }
     }
 }
@@ -53,5 +58,16 @@ impl<T: Drop> From<AllocFailed<T>> for AsmError {
 
     fn from(_failed: AllocFailed<T>) -> AsmError {
         AsmError::NoMemory
+    }
+}
+
+impl From<Fault> for AsmError {
+    ghost from_gives = { λ fault e. e ≡ Text fault.number fault.line };
+
+    fn from(fault: Fault) -> AsmError {
+        AsmError::Text {
+            no: fault.number,
+            line: fault.line,
+        }
     }
 }

@@ -7,7 +7,7 @@ use crate::instr::Instr;
 use crate::section::Section;
 use std::marker::Model;
 
-/// The sections of the mutators, by their numbers. Contracts see a list of lists.
+/// The sections of the mutators, by their numbers. Contracts see the list of their lists.
 #[derive(Debug, Drop)]
 pub struct Code {
     sections: Vec<Section>,
@@ -30,6 +30,20 @@ impl Code {
         Code { sections }
     }
 
+    /// Gives the sections back.
+    pub fn into_sections(self) -> Vec<Section>
+        ensures { result.items ≡ self }
+    {
+        self.sections
+    }
+
+    /// The sections in the order of the mutators.
+    pub fn sections(&self) -> &[Section]
+        ensures { result.now ≡ self.now }
+    {
+        self.sections.as_slice()
+    }
+
     /// How many mutators there are.
     pub fn len(&self) -> usize
         ensures { result ≡ length self.now }
@@ -44,7 +58,7 @@ impl Code {
         self.sections.is_empty()
     }
 
-    /// The instruction of a number in a mutator's section.
+    /// The instruction at a counter in a mutator's section, both counted from 0.
     pub fn instr(&self, mutator: u8, counter: u64) -> Option<Instr>
         ensures { result ≡ instr_at self.now mutator counter }
     {

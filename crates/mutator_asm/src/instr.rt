@@ -7,7 +7,7 @@ use crate::operand::Operand;
 pub enum Instr {
     /// `li rd k`: rd becomes the number k.
     Li(u8, u64),
-    /// `new rd x`: rd becomes a new record of x words, all 0.
+    /// `new rd x`: rd becomes a new record of x words.
     New(u8, Operand),
     /// `ld rd ra x`: rd becomes word x of the record in ra.
     Ld(u8, u8, Operand),

@@ -1,6 +1,6 @@
 //! A part of a schedule.
 
-/// So many steps of one worker, one after another.
+/// So many steps, one after another, of one worker.
 #[derive(Clone, Copy, Debug, PartialEq, Eq)]
 pub struct Item {
     /// The worker, 0 to 23.

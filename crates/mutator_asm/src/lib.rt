@@ -1,21 +1,31 @@
-//! The assembler: from the text of mutators to a program.
+//! The assembler: the text of mutators, read to a program.
 #![tactic(auto)]
 
 mod asm_error;
 mod code;
+mod fault;
 mod instr;
 mod item;
+mod laws;
+mod line;
 mod mistake;
 mod operand;
 mod program;
 mod schedule;
 mod section;
+mod text;
+mod token;
 
 pub use asm_error::{AsmError, error_text};
 pub use code::Code;
 pub use instr::Instr;
 pub use item::Item;
+pub use laws::{fetched_instr, never_both, one_fault, one_program, some_reading};
 pub use operand::Operand;
 pub use program::Program;
 pub use schedule::Schedule;
 pub use section::Section;
+pub use text::assemble;
+
+#[cfg(test)]
+mod tests;

@@ -1,13 +1,13 @@
 //! A program.
 
-ghost use Rattle.std.specs.Prelude.{◌≡◌, IfSome, IsTrue};
-ghost use Rattle.mutator_asm.specs.Program.{IsWellFormed, instr_at, is_valid};
+ghost use Rattle.mutator_asm.specs.Program.{IsWellFormed};
 
 use crate::code::Code;
 use crate::instr::Instr;
 use crate::schedule::Schedule;
 
-/// What a text means: the instructions of each mutator, and the schedule that it names.
+/// What a text means: the instructions of each mutator, and a schedule of the workers' steps, empty
+/// where the text names none. Registers, numbers and counts are those that a text can hold.
 #[derive(Debug, Drop)]
 pub struct Program {
     pub code: Code,
@@ -16,6 +16,9 @@ pub struct Program {
 }
 
 impl Program {
+    ghost use Rattle.std.specs.Prelude.{◌≡◌, IsTrue, IfSome};
+    ghost use Rattle.mutator_asm.specs.Program.{instr_at, is_valid};
+
     /// The instruction of a number in a mutator's section.
     pub fn instr(&self, mutator: u8, counter: u64) -> Option<Instr>
         ensures exact { result ≡ instr_at self.now.code mutator counter }

@@ -1,11 +1,11 @@
 //! The order in which workers make their steps.
 
-ghost use Rattle.std.specs.Prelude.{◌≡◌, ◌==◌, length, slice_get};
+ghost use Rattle.std.specs.Prelude.{◌≡◌, ◌==◌, length};
 
 use crate::item::Item;
 use std::marker::Model;
 
-/// The parts of a schedule, in order. Contracts see their list.
+/// The items of a schedule in order. Contracts see their list.
 #[derive(Debug, Drop)]
 pub struct Schedule {
     items: Vec<Item>,
@@ -21,14 +21,28 @@ impl Model for Schedule {
 }
 
 impl Schedule {
-    /// The schedule of these parts.
+    /// The schedule of these items.
     pub fn new(items: Vec<Item>) -> Schedule
         ensures { result ≡ items.items }
     {
         Schedule { items }
     }
 
-    /// How many parts there are.
+    /// Gives the items back.
+    pub fn into_items(self) -> Vec<Item>
+        ensures { result.items ≡ self }
+    {
+        self.items
+    }
+
+    /// The items in order.
+    pub fn as_slice(&self) -> &[Item]
+        ensures { result.now ≡ self.now }
+    {
+        self.items.as_slice()
+    }
+
+    /// How many items there are.
     pub fn len(&self) -> usize
         ensures { result ≡ length self.now }
     {
@@ -40,12 +54,5 @@ impl Schedule {
         ensures { result ≡ (length self.now == 0) }
     {
         self.items.is_empty()
-    }
-
-    /// The part of a number.
-    pub fn get(&self, k: usize) -> Option<Item>
-        ensures { result ≡ slice_get self.now k }
-    {
-        self.items.get(k).copied()
     }
 }

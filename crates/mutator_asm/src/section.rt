@@ -1,11 +1,11 @@
 //! The instructions of one mutator.
 
-ghost use Rattle.std.specs.Prelude.{◌≡◌, ◌==◌, slice_get, length};
+ghost use Rattle.std.specs.Prelude.{◌≡◌, ◌==◌, length, slice_get};
 
 use crate::instr::Instr;
 use std::marker::Model;
 
-/// The instructions of one mutator, by their numbers. Contracts see the list.
+/// The instructions of one mutator, by their numbers. Contracts see their list.
 #[derive(Debug, Drop)]
 pub struct Section {
     instrs: Vec<Instr>,
@@ -21,11 +21,25 @@ impl Model for Section {
 }
 
 impl Section {
-    /// A section of these instructions.
+    /// The section of these instructions.
     pub fn new(instrs: Vec<Instr>) -> Section
         ensures { result ≡ instrs.items }
     {
         Section { instrs }
+    }
+
+    /// Gives the instructions back.
+    pub fn into_instrs(self) -> Vec<Instr>
+        ensures { result.items ≡ self }
+    {
+        self.instrs
+    }
+
+    /// The instructions in order.
+    pub fn as_slice(&self) -> &[Instr]
+        ensures { result.now ≡ self.now }
+    {
+        self.instrs.as_slice()
     }
 
     /// How many instructions there are.
@@ -42,7 +56,7 @@ impl Section {
         self.instrs.is_empty()
     }
 
-    /// The instruction of a number.
+    /// The instruction of a number, counted from 0.
     pub fn get(&self, k: usize) -> Option<Instr>
         ensures { result ≡ slice_get self.now k }
     {

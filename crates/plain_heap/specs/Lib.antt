@@ -1,4 +1,5 @@
 pub mod Call
+pub mod Outcome
 pub mod Step
 pub mod Order
 pub mod Print

@@ -38,9 +38,13 @@ abbrev pub stepped_as : List (List Instr) → ℕ → Plain → ℕ → Option M
 stepped_as code turns s m None = s
 stepped_as code turns s m (Some k) = stepped_if code turns s m k k.end
 
--- a step of mutator m; where the program or the state has no such mutator nothing changes
+-- mutator m, where the program and the state have it
+abbrev pub mutator_in : List (List Instr) → Plain → ℕ → Option Mutator
+mutator_in code s m = if nat_lt m (length code) then slice_get s.mutators m else None
+
+-- a step of mutator m; where there is no such mutator nothing changes
 unfoldable pub stepped : List (List Instr) → ℕ → Plain → ℕ → Plain
-stepped code turns s m = if nat_lt m (length code) then stepped_as code turns s m (slice_get s.mutators m) else s
+stepped code turns s m = stepped_as code turns s m (mutator_in code s m)
 
 -- ---- the room that the next step asks for
 

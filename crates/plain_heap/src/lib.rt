@@ -2,7 +2,23 @@
 //! What the collected heap prints is measured against it.
 #![tactic(auto)]
 
+mod heap;
+mod instructions;
+mod made;
 mod mark;
+mod mutator;
+mod order;
+mod printing;
+mod record;
+mod state;
+mod step;
+mod stop;
 
 pub use mark::Mark;
+pub use order::plain_run;
 pub use plain_state::{End, NoMemory};
+pub use printing::{print, push_lines, push_order};
+pub use state::{PlainState, plain_step};
+
+#[cfg(test)]
+mod tests;

@@ -1,0 +1,6 @@
+-- an interrupted try is no fault
+use Rattle.std.proofs.Common.{◌≡◌}
+use Rattle.ael_cli.proofs.standard.StdSinkSink.write.Given as goal
+
+abbrev pub invariant-loop : goal.invariant-loop
+invariant-loop g l = l.self.faults ≡ l.fn.self.faults

@@ -1,0 +1,12 @@
+-- What is read of an input.
+use Rattle.std.specs.Prelude.{◌≡◌, ℕ, ◌<◌, ◌≤◌, List, [], length, Option, Some, IfSome}
+use Rattle.ael_cli.specs.declared.reading.TheConstants.{MAX_INPUT}
+
+-- the bytes are all that were to come, no more than an input may have
+pub record IsWhole (left : Option (List ℕ)) (bytes : List ℕ) : Type 0 where
+  pub all : IfSome left (λ all. bytes ≡ all)
+  pub within : length bytes ≤ MAX_INPUT
+
+-- more bytes were to come than an input may have
+abbrev pub IsPastLimit : Option (List ℕ) → Type 0
+IsPastLimit left = IfSome left (λ all. MAX_INPUT < length all)

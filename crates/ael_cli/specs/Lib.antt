@@ -1,0 +1,4 @@
+pub mod Input
+pub mod Status
+pub mod Stream
+pub mod Words

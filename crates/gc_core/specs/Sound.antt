@@ -1,0 +1,10 @@
+-- What a mutator's own state keeps.
+use Rattle.std.specs.Prelude.{ℕ, ◌*◌, ◌^◌, ◌<◌, ◌≤◌}
+
+-- each record took an instruction, there is room for all numbers, and the run lies in a space
+pub record IsSound (counter serial executed capacity at end : ℕ) : Type 0 where
+  pub counter_fits : counter < 2 ^ 62
+  pub serial_counted : serial ≤ executed
+  pub printed_fits : 65536 ≤ capacity
+  pub run_from : at ≤ end
+  pub run_to : end ≤ 64 * 2048

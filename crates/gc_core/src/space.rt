@@ -1,0 +1,123 @@
+//! The words of the heap.
+
+ghost use Rattle.std.specs.Prelude.{◌≡◌, ◌+◌, ◌*◌, ◌^◌, ◌<◌, ◌≤◌, IfOk, OnOk, OnErr, Ok, Err, MatchResult, slice_index};
+
+use crate::header::len_of;
+use crate::run::Run;
+use plain_heap::End;
+use std::alloc::{AllocError, Global};
+use std::marker::Model;
+
+/// The most words that a space has.
+const MAX_WORDS: usize = 64 * 2048;
+
+/// The words of the heap by their addresses. New records are made in pages claimed downward from
+/// the end. Contracts see the words, and the address from which pages were claimed.
+#[derive(Debug, Drop)]
+pub struct Space {
+    words: Vec<u64>,
+    low: u32,
+}
+
+impl Model for Space {
+    ghost use Rattle.std.specs.Prelude.{◌≤◌, vec_len};
+    ghost use Rattle.gc_core.specs.Configuration.{Space};
+    ghost use Rattle.gc_core.specs.declared.space.TheConstants.{MAX_WORDS};
+
+    ghost Value = { Space };
+
+    ghost view = { λ s. record { words = s.words.items; low = s.low } };
+
+    ghost invariant = { λ s. (s.low ≤ vec_len s.words) × (vec_len s.words ≤ MAX_WORDS) };
+}
+
+impl Space {
+    ghost use Rattle.gc_core.specs.Configuration.{empty_space};
+    ghost use Rattle.gc_core.specs.Event.{place_of, with_word};
+
+    /// A space of so many pages, none of them claimed.
+    pub fn new(alloc: Global, pages: u32) -> Result<Space, AllocError>
+        requires { pages ≤ 2048 }
+        ensures { IfOk result (λ space. space ≡ empty_space pages) }
+    {
+        let size = 64 * pages;
+        Ok(Space {
+            words: vec![in alloc; 0; size as usize]?,
+            low: size,
+        })
+    }
+
+    pub fn words(&self) -> &[u64]
+        ensures { result.now ≡ self.now.words }
+    {
+        self.words.as_slice()
+    }
+
+    /// The word at an address; past the end there are none but zeros.
+    pub fn word(&self, address: usize) -> u64
+        ensures { result ≡ slice_index self.now.words address }
+    {
+        match self.words.get(address) {
+            Some(word) => *word,
+            None => 0,
+        }
+    }
+
+    /// Where word `x` of the record at an address stands.
+    pub fn place(&self, address: u32, x: u64) -> Result<usize, End>
+        ensures { result ≡ place_of self.now address x }
+    {
+        let address = address as usize;
+        if x < len_of(self.word(address)) {
+            Ok(address + 1 + x as usize)
+        } else {
+            Err(End::OutOfRange)
+        }
+    }
+
+    pub fn set_word(&mut self, place: usize, word: u64)
+        ensures { self.new ≡ with_word self.old place word }
+    {
+        if place < self.words.len() {
+            self.words[place] = word;
+        }
+    }
+}
+
+impl Space {
+    ghost use Rattle.std.specs.Prelude.{◌-◌};
+    ghost use Rattle.gc_core.specs.Event.{room_for};
+
+    /// The run in which a record of `len` words is made: the present one where it fits there, else
+    /// new pages below those claimed, else the end for a full heap.
+    pub fn room_for(&mut self, run: Run, len: u64) -> Result<Run, End>
+        requires len { len ≤ 4095 }
+        requires in_order { run.at ≤ run.end }
+        requires within { run.end ≤ 131072 }
+        ensures exact { MatchResult result
+            (λ found. room_for self.old.low run len ≡ Ok (record { low = self.new.low; run = found }))
+            (λ why. (room_for self.old.low run len ≡ Err why) × (self.new ≡ self.old)) }
+        ensures words { self.new.words ≡ self.old.words }
+        ensures fits { IfOk result (λ found. found.at + len + 1 ≤ found.end) }
+        ensures within { IfOk result (λ found. found.end ≤ 131072) }
+    {
+        let len = len as u32;
+        if run.at + len + 1 <= run.end {
+            return Ok(run);
+        }
+        let asked = (len + 1 + 63) / 64;
+        let room = self.low;
+        if 64 * asked > room {
+            return Err(End::HeapFull {
+                asked,
+                room,
+                live: 0,
+            });
+        }
+        self.low -= 64 * asked;
+        Ok(Run {
+            at: self.low,
+            end: room,
+        })
+    }
+}

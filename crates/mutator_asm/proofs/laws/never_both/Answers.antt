@@ -1,0 +1,6 @@
+use Rattle.mutator_asm.specs.Line.{lines_of}
+use Rattle.mutator_asm.proofs.Readings.{no_fault_in}
+use Rattle.mutator_asm.proofs.laws.never_both.Goals as goal
+
+pub returns : goal.returns
+returns c = λ bytes code schedule number line p f. no_fault_in (lines_of bytes) number line p.clean p.begun f

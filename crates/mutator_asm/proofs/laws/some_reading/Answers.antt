@@ -1,0 +1,5 @@
+use Rattle.mutator_asm.proofs.Readings.{some_reading_of}
+use Rattle.mutator_asm.proofs.laws.some_reading.Goals as goal
+
+pub returns : goal.returns
+returns c = some_reading_of

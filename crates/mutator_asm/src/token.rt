@@ -1,0 +1,88 @@
+//! The tokens of a line, and what one token says.
+
+ghost use Rattle.std.specs.Prelude.{◌≡◌, ◌==◌, IsTrue, IfOk, map};
+ghost use Rattle.std.specs.List.{list_all, slice_split};
+ghost use Rattle.std.specs.Char.{is_ascii_digit};
+ghost use Rattle.mutator_asm.specs.Token.{is_blank, tokens_of, is_register_name, register_of, number_of, operand_of, number_or};
+
+use crate::mistake::Mistake;
+use crate::operand::Operand;
+use std::alloc::{AllocError, Global};
+
+/// The numbers of the language are below this one.
+const NUMBERS_END: u128 = 1 << 62;
+
+/// Whether a byte stands between tokens.
+fn is_blank(b: u8) -> bool
+    ensures { result ≡ is_blank b }
+{
+    b == b' ' || b == b'\t' || b == b'\r'
+}
+
+/// The tokens of a line.
+#[tactic(auto, unfolding(crate::specs::Token::tokens_of))]
+pub fn tokens<'a>(alloc: Global, line: &'a [u8]) -> Result<Vec<&'a [u8]>, AllocError>
+    ensures { IfOk result (λ v. map (λ t. t.now) v.items ≡ tokens_of line.now) }
+{
+    line.split(|b| is_blank(*b))
+        .filter(|token| !token.is_empty())
+        .collect(alloc)
+}
+
+/// The register that a token names.
+#[tactic(auto, unfolding(crate::specs::Token::register_of))]
+pub fn register(token: &[u8]) -> Result<u8, Mistake>
+    ensures { result ≡ register_of token.now }
+{
+    match token {
+        [b'r', digit @ b'0'..=b'7'] => Ok(*digit - b'0'),
+        _ => Err(Mistake::UnknownInstr),
+    }
+}
+
+/// Whether each byte is a decimal digit.
+fn are_digits(token: &[u8]) -> bool
+    ensures { result ≡ list_all is_ascii_digit token.now }
+{
+    token.iter().all(|b| b.is_ascii_digit())
+}
+
+/// The number that digits write, where it is one of the language.
+fn value(digits: &[u8]) -> Result<u64, Mistake>
+    requires { IsTrue (list_all is_ascii_digit digits.now) }
+    ensures { result ≡ number_or digits.now }
+{
+    let mut number: u64 = 0;
+    for digit in digits {
+        let longer = u128::from(number) * 10 + u128::from(*digit - b'0');
+        if longer >= NUMBERS_END {
+            return Err(Mistake::UnknownInstr);
+        }
+        number = longer as u64;
+    }
+    Ok(number)
+}
+
+/// The number that a token writes.
+#[tactic(auto, unfolding(crate::specs::Token::number_of))]
+pub fn number(token: &[u8]) -> Result<u64, Mistake>
+    ensures { result ≡ number_of token.now }
+{
+    if token.is_empty() {
+        return Err(Mistake::UnknownInstr);
+    }
+    if !are_digits(token) {
+        return Err(Mistake::UnknownInstr);
+    }
+    value(token)
+}
+
+/// The register or the number that a token is.
+pub fn operand(token: &[u8]) -> Result<Operand, Mistake>
+    ensures { result ≡ operand_of token.now }
+{
+    match register(token) {
+        Ok(register) => Ok(Operand::Reg(register)),
+        Err(_) => number(token).map(Operand::Number),
+    }
+}

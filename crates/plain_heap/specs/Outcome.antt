@@ -1,0 +1,16 @@
+-- What the outcome of an instruction on the plain machine says of the code that makes it.
+use Rattle.std.specs.Prelude.{◌≡◌, Result, Ok, Err, ⊤}
+use Rattle.plain_state.specs.declared.end.End.{End}
+use Rattle.plain_state.specs.State.{Heap, Mutator}
+use Rattle.plain_heap.specs.Call.{After}
+use Rattle.plain_heap.specs.declared.stop.Stop.{Stop}
+use Rattle.plain_heap.specs.declared.stop.Stop.TheVariants.{Ended, OutOfMemory}
+
+-- the instruction is made, and leaves this heap and this mutator
+abbrev pub Leaves : Result After End → Heap → Mutator → Type 0
+Leaves outcome heap k = outcome ≡ Ok (record { heap = heap; mutator = k })
+
+-- the instruction isn't made: it is this end; want of memory has no cause in the plain machine
+abbrev pub StopsBy : Result After End → Stop → Type 0
+StopsBy outcome (Ended why) = outcome ≡ Err why
+StopsBy outcome OutOfMemory = ⊤

@@ -1,0 +1,62 @@
+//! A record of the plain heap.
+
+ghost use Rattle.std.specs.Prelude.{◌≡◌, IfOk, replicate};
+ghost use Rattle.plain_state.specs.declared.value.Value.TheVariants.{Number};
+
+use plain_state::{End, Kind, NoMemory, Value};
+use std::alloc::Global;
+use std::marker::Model;
+
+/// A record: its kind, and its words in order. Contracts see it so.
+#[derive(Debug, Drop)]
+pub struct PlainRecord {
+    kind: Kind,
+    values: Vec<Value>,
+}
+
+impl Model for PlainRecord {
+    ghost use Rattle.plain_state.specs.State.{Record};
+
+    ghost Value = { Record };
+
+    ghost view = { λ r. record { kind = r.kind; values = r.values.items } };
+}
+
+impl PlainRecord {
+    ghost use Rattle.std.specs.Prelude.{slice_get, ok_or};
+    ghost use Rattle.plain_heap.specs.Call.{may_hold, with_word};
+
+    /// A record of so many words, each the number 0.
+    pub fn new(alloc: Global, kind: Kind, len: usize) -> Result<PlainRecord, NoMemory>
+        ensures { IfOk result (λ r. r ≡ record { kind = kind; values = replicate len (Number 0) }) }
+    {
+        let values = vec![in alloc; Value::Number(0); len]?;
+        Ok(PlainRecord { kind, values })
+    }
+
+    /// The word of a number, counted from 0.
+    pub fn word(&self, x: u64) -> Option<Value>
+        ensures { result ≡ slice_get self.now.values x }
+    {
+        self.values.get(x as usize).copied()
+    }
+
+    /// The value, where a record of this kind may hold it.
+    pub fn admit(&self, value: Value) -> Result<Value, End>
+        ensures { result ≡ may_hold self.now.kind value }
+    {
+        match (self.kind, value) {
+            (Kind::Raw, Value::Reference(_)) => Err(End::IntoRaw),
+            _ => Ok(value),
+        }
+    }
+
+    /// Puts a value into a word. Where there is no such word, nothing changes.
+    pub fn set_word(&mut self, x: u64, value: Value)
+        ensures { self.new ≡ with_word self.old x value }
+    {
+        if let Some(word) = self.values.get_mut(x as usize) {
+            *word = value;
+        }
+    }
+}

@@ -1,0 +1,128 @@
+//! The state of the plain machine, and its step.
+
+ghost use Rattle.std.specs.Prelude.{◌≡◌, ◌<◌, length, Some, IfOk, OnOk, OnErr, option_map, slice_get};
+ghost use Rattle.std.specs.Option.{option_map_or};
+ghost use Rattle.plain_heap.specs.Order.{opening};
+ghost use Rattle.plain_heap.specs.Step.{stepped, asked_by, ended};
+
+use crate::heap::PlainHeap;
+use crate::mutator::PlainMutator;
+use crate::step::{asked, take_turn};
+use crate::stop::Stop;
+use mutator_asm::{Code, Program};
+use plain_state::{End, NoMemory};
+use std::alloc::Global;
+use std::marker::Model;
+
+/// A state of the plain machine: the heap, and the mutators by their numbers. Contracts see it so.
+#[derive(Debug, Drop)]
+pub struct PlainState {
+    heap: PlainHeap,
+    mutators: Vec<PlainMutator>,
+}
+
+impl Model for PlainState {
+    ghost use Rattle.std.specs.Prelude.{◌≡◌, length};
+    ghost use Rattle.plain_state.specs.State.{Plain};
+
+    ghost Value = { Plain };
+
+    ghost view = { λ s. record { heap = s.heap; mutators = s.mutators.items } };
+
+    ghost invariant = { λ s. length s.heap.records ≡ length s.mutators.items };
+}
+
+impl PlainState {
+    /// The state in which a program begins.
+    pub fn open(alloc: Global, p: &Program) -> Result<PlainState, NoMemory>
+        ensures { IfOk result (λ s. s ≡ opening p.now.code) }
+    {
+        let count = p.code.len();
+        let heap = PlainHeap::new(alloc, count)?;
+        let mut mutators = Vec::new(alloc);
+        for _mutator in 0..count {
+            mutators.push(PlainMutator::new(alloc))?;
+        }
+        Ok(PlainState { heap, mutators })
+    }
+
+    /// How many mutators there are.
+    pub fn mutators(&self) -> usize
+        ensures { result ≡ length self.now.mutators }
+    {
+        self.mutators.len()
+    }
+
+    /// The numbers that mutator m has printed.
+    pub fn printed(&self, m: u8) -> &[u64]
+        requires { m < length self.now.mutators }
+        ensures { option_map (λ k. k.printed) (slice_get self.now.mutators m) ≡ Some result.now }
+    {
+        self.mutators[m as usize].printed()
+    }
+
+    /// The end of mutator m, where it has one.
+    pub fn ended(&self, m: u8) -> Option<End>
+        requires { m < length self.now.mutators }
+        ensures { option_map (λ k. k.end) (slice_get self.now.mutators m) ≡ Some result }
+    {
+        self.mutators[m as usize].end()
+    }
+
+    /// The mutators by their numbers.
+    pub(crate) fn all(&self) -> &[PlainMutator]
+        ensures { result.now ≡ self.now.mutators }
+    {
+        self.mutators.as_slice()
+    }
+
+    /// The pages that the record would take which mutator m's next step would make.
+    #[tactic(auto, unfolding(crate::specs::Step::asked_by))]
+    pub(crate) fn asked_by(&self, code: &Code, turns: u32, m: u8) -> Option<u32>
+        ensures { result ≡ asked_by code.now turns self.now m }
+    {
+        let mutator = self.mutators.get(m as usize)?;
+        asked(code, turns, m, mutator)
+    }
+
+    /// Mutator m, where there is one, gets its end.
+    pub(crate) fn end(&mut self, m: u8, why: End)
+        ensures { self.new ≡ option_map_or
+            (λ k. ended self.old m k why) (slice_get self.old.mutators m) self.old }
+    {
+        if let Some(mutator) = self.mutators.get_mut(m as usize) {
+            mutator.set_end(why);
+        }
+    }
+}
+
+/// A step of mutator m, which makes at most so many turns. Where the program or the state has no
+/// such mutator, and where memory is out, nothing changes.
+pub fn plain_step(
+    alloc: Global,
+    s: &mut PlainState,
+    p: &Program,
+    turns: u32,
+    m: u8,
+) -> Result<(), NoMemory>
+    ensures ok { OnOk result (s.new ≡ stepped p.now.code turns s.old m) }
+    ensures err { OnErr result (s.new ≡ s.old) }
+{
+    if m as usize >= p.code.len() {
+        return Ok(());
+    }
+    let Some(mutator) = s.mutators.get_mut(m as usize) else {
+        return Ok(());
+    };
+    if mutator.end().is_some() {
+        return Ok(());
+    }
+    match take_turn(alloc, &mut s.heap, mutator, &p.code, turns, m) {
+        Ok(()) => Ok(()),
+        Err(Stop::Ended(why)) => {
+            mutator.set_end(why);
+            Ok(())
+        }
+        Err(Stop::OutOfMemory) => Err(NoMemory),
+    }
+}
