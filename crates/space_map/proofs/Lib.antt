@@ -1,0 +1,5 @@
+pub mod Bits
+pub mod Rows
+pub mod AreaWords
+pub mod GateWords
+pub mod PageWords

@@ -1,0 +1,5 @@
+pub mod Spaces
+pub mod Table
+pub mod AreaWord
+pub mod GateWord
+pub mod PageWord

@@ -1,0 +1,30 @@
+-- The two spaces of n pages each and the board after them: where their pages and words lie.
+use Rattle.std.specs.Prelude.{ℕ, ◌+◌, ◌*◌, ◌/◌, ◌%◌, ◌<◌, ◌≤◌}
+
+-- a space may have this many pages
+abbrev pub IsPageCount : ℕ → Type 0
+IsPageCount n = (4 ≤ n) × (n ≤ 2048)
+
+-- the page that a word lies on
+abbrev pub page_of : ℕ → ℕ
+page_of addr = addr / 64
+
+-- the first word of a page
+abbrev pub first_word : ℕ → ℕ
+first_word page = 64 * page
+
+-- the space into which records are copied in an epoch
+abbrev pub to_space : ℕ → ℕ
+to_space epoch = epoch % 2
+
+-- the first word of a space
+abbrev pub space_start : ℕ → ℕ → ℕ
+space_start n space = first_word (n * space)
+
+-- the word is one of a space's own
+abbrev pub IsInSpace : ℕ → ℕ → ℕ → Type 0
+IsInSpace n addr space = (space < 2) × (space_start n space ≤ addr) × (addr < space_start n space + 64 * n)
+
+-- the board's page, the one after both spaces
+abbrev pub board_page : ℕ → ℕ
+board_page n = 2 * n

@@ -1,0 +1,36 @@
+-- The heap's table of words, with n pages a space: its rows and the place of each.
+use Rattle.std.specs.Prelude.{ℕ, ◌+◌, ◌*◌, ◌<◌, ◌≤◌, ⊤}
+
+-- a word of the table by what it is for
+pub data Row : Type 0 where
+  Gate : Row
+  Traced : Row
+  Area : (space : ℕ) → Row
+  Page : (page : ℕ) → Row
+  Cross : (page : ℕ) → Row
+  HeapWord : (addr : ℕ) → Row
+  Announce : (worker : ℕ) → Row
+
+-- the table has this row
+abbrev pub IsRow : ℕ → Row → Type 0
+IsRow n Gate = ⊤
+IsRow n Traced = ⊤
+IsRow n (Area space) = space < 2
+IsRow n (Page page) = page ≤ 2 * n
+IsRow n (Cross page) = page < 2 * n
+IsRow n (HeapWord addr) = addr ≤ 128 * n + 63
+IsRow n (Announce worker) = worker ≤ 23
+
+-- where the row stands in the table
+unfoldable pub place_of : ℕ → Row → ℕ
+place_of n Gate = 0
+place_of n Traced = 2
+place_of n (Area space) = 4 + space
+place_of n (Page page) = 16 + page
+place_of n (Cross page) = 17 + 2 * n + page
+place_of n (HeapWord addr) = 17 + 4 * n + addr
+place_of n (Announce worker) = 81 + 132 * n + worker
+
+-- the number of words in the table
+abbrev pub table_length : ℕ → ℕ
+table_length n = 132 * n + 105

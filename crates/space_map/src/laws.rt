@@ -1,0 +1,38 @@
+ghost use Rattle.std.specs.Prelude.{◌≡◌, ℕ, ◌^◌, ◌<◌, Some};
+ghost use Rattle.space_map.specs.declared.area_word.AreaWord.{AreaWord};
+ghost use Rattle.space_map.specs.declared.gate_word.GateWord.{GateWord};
+ghost use Rattle.space_map.specs.declared.page_word.PageWord.{PageWord};
+ghost use Rattle.space_map.specs.AreaWord.{AreaFits, decode_area, encode_area};
+ghost use Rattle.space_map.specs.GateWord.{GateFits, decode_gate, encode_gate};
+ghost use Rattle.space_map.specs.PageWord.{PageFits, decode_page, encode_page};
+ghost use Rattle.space_map.specs.Table.{Row, IsRow, place_of, table_length};
+
+/// No two rows of the table have one place.
+pub fn rows_lie_apart()
+    ensures apart { (n : ℕ) (a b : Row) → IsRow n a → IsRow n b → place_of n a ≡ place_of n b → a ≡ b }
+    ensures in_table { (n : ℕ) (row : Row) → IsRow n row → place_of n row < table_length n }
+{}
+
+/// Each area word says one thing, and each thing is said by one word.
+pub fn area_words_are_unambiguous()
+    ensures reads_back { (area : AreaWord) → AreaFits area → decode_area (encode_area area) ≡ Some area }
+    ensures one_spelling { (w : ℕ) (area : AreaWord) → decode_area w ≡ Some area → encode_area area ≡ w }
+    ensures parts_fit { (w : ℕ) (area : AreaWord) → decode_area w ≡ Some area → AreaFits area }
+    ensures is_word { (area : AreaWord) → AreaFits area → encode_area area < 2 ^ 64 }
+{}
+
+/// Each gate word says one thing, and each thing is said by one word.
+pub fn gate_words_are_unambiguous()
+    ensures reads_back { (gate : GateWord) → GateFits gate → decode_gate (encode_gate gate) ≡ Some gate }
+    ensures one_spelling { (w : ℕ) (gate : GateWord) → decode_gate w ≡ Some gate → encode_gate gate ≡ w }
+    ensures parts_fit { (w : ℕ) (gate : GateWord) → decode_gate w ≡ Some gate → GateFits gate }
+    ensures is_word { (gate : GateWord) → GateFits gate → encode_gate gate < 2 ^ 64 }
+{}
+
+/// Each page word says one thing, and each thing is said by one word.
+pub fn page_words_are_unambiguous()
+    ensures reads_back { (page : PageWord) → PageFits page → decode_page (encode_page page) ≡ Some page }
+    ensures one_spelling { (w : ℕ) (page : PageWord) → decode_page w ≡ Some page → encode_page page ≡ w }
+    ensures parts_fit { (w : ℕ) (page : PageWord) → decode_page w ≡ Some page → PageFits page }
+    ensures is_word { (page : PageWord) → PageFits page → encode_page page < 2 ^ 64 }
+{}

@@ -1,0 +1,200 @@
+ghost use Rattle.std.specs.Prelude.{◌≡◌, ◌<◌, ◌≤◌, ◌+◌, ◌*◌, ◌↔◌, IsTrue, IsOk, IfOk};
+ghost use Rattle.space_map.specs.Spaces.{IsPageCount, IsInSpace, board_page, first_word, page_of, space_start, to_space};
+ghost use Rattle.space_map.specs.Table.{Gate, Traced, Area, Page, Cross, HeapWord, Announce, place_of, table_length};
+
+use crate::bad_pages::BadPages;
+use std::marker::Model;
+
+/// The number of words in a page.
+pub const PAGE_WORDS: u32 = 64;
+
+const MIN_PAGES: u32 = 4;
+
+const MAX_PAGES: u32 = 2048;
+
+const WORKERS: usize = 24;
+
+const GATE_PLACE: usize = 0;
+
+const TRACED_PLACE: usize = 2;
+
+const AREA_START: usize = 4;
+
+const PAGE_START: usize = 16;
+
+/// The layout of a heap, which follows from the number of pages in a space: two spaces of so many pages each, then the
+/// board, and a table of all words that workers share.
+///
+/// An address is a word's number, counted over both spaces and the board.
+#[derive(Clone, Copy, Debug, PartialEq, Eq)]
+pub struct Spaces {
+    pages: u32,
+}
+
+impl Model for Spaces {
+    ghost use Rattle.std.specs.Prelude.{ℕ};
+    ghost use Rattle.space_map.specs.Spaces.{IsPageCount};
+
+    ghost Value = { ℕ };
+
+    ghost view = { λ spaces. spaces.pages };
+
+    ghost invariant = { λ spaces. IsPageCount spaces.pages };
+
+    ghost inverse = { λ n. record { pages = n } };
+}
+
+impl Spaces {
+    pub fn new(n: u32) -> Result<Spaces, BadPages>
+        ensures pages { IfOk result (λ spaces. spaces ≡ n) }
+        ensures refused_exactly_outside { IsOk result ↔ IsPageCount n }
+    {
+        if n < MIN_PAGES || n > MAX_PAGES {
+            return Err(BadPages);
+        }
+        Ok(Spaces { pages: n })
+    }
+
+    /// The number of pages in a space.
+    pub fn pages(self) -> u32
+        ensures pages { result ≡ self }
+        ensures in_range { IsPageCount result }
+    {
+        self.pages
+    }
+
+    pub fn page_of(self, addr: u32) -> u32
+        ensures { result ≡ page_of addr }
+    {
+        addr / PAGE_WORDS
+    }
+
+    pub fn first_word(self, page: u32) -> u32
+        requires { page ≤ board_page self }
+        ensures { result ≡ first_word page }
+    {
+        PAGE_WORDS * page
+    }
+
+    /// The space into which records are copied in an epoch.
+    pub fn to_space(self, epoch: u32) -> u8
+        ensures space { result ≡ to_space epoch }
+        ensures one_of_two { result < 2 }
+    {
+        (epoch % 2) as u8
+    }
+
+    /// The first word of a space.
+    pub fn space_start(self, space: u8) -> u32
+        requires { space < 2 }
+        ensures { result ≡ space_start self space }
+    {
+        PAGE_WORDS * (self.pages * u32::from(space))
+    }
+
+    /// Whether the word is one of the space's own. The board is in neither space.
+    pub fn in_space(self, addr: u32, space: u8) -> bool
+        ensures { IsTrue result ↔ IsInSpace self addr space }
+    {
+        space < 2 && self.page_of(addr) / self.pages == u32::from(space)
+    }
+
+    /// The page after both spaces, of which 16 words are used.
+    pub fn board_page(self) -> u32
+        ensures { result ≡ board_page self }
+    {
+        2 * self.pages
+    }
+}
+
+/// The length of the table, and the place of each row.
+#[tactic(auto, unfolding(crate::specs::Table::place_of))]
+impl Spaces {
+    /// The number of words in the table.
+    pub fn table_len(self) -> usize
+        ensures { result ≡ table_length self }
+    {
+        self.announce_start() + WORKERS
+    }
+
+    /// The place of the gate word.
+    pub fn gate_place(self) -> usize
+        ensures place { result ≡ place_of self Gate }
+        ensures in_table { result < table_length self }
+    {
+        GATE_PLACE
+    }
+
+    /// The place of the word that says which epoch was traced last.
+    pub fn traced_place(self) -> usize
+        ensures place { result ≡ place_of self Traced }
+        ensures in_table { result < table_length self }
+    {
+        TRACED_PLACE
+    }
+
+    /// The place of a space's area word.
+    pub fn area_place(self, space: u8) -> usize
+        requires { space < 2 }
+        ensures place { result ≡ place_of self (Area space) }
+        ensures in_table { result < table_length self }
+    {
+        AREA_START + usize::from(space)
+    }
+
+    /// The place of a page's word. The board has one too.
+    pub fn page_place(self, page: u32) -> usize
+        requires { page ≤ board_page self }
+        ensures place { result ≡ place_of self (Page page) }
+        ensures in_table { result < table_length self }
+    {
+        PAGE_START + page as usize
+    }
+
+    /// The place of a page's crossing word: the address of the copied record that covers the page's first word.
+    pub fn cross_place(self, page: u32) -> usize
+        requires { page < board_page self }
+        ensures place { result ≡ place_of self (Cross page) }
+        ensures in_table { result < table_length self }
+    {
+        self.cross_start() + page as usize
+    }
+
+    /// The place of a heap word, or of a word of the board's page.
+    pub fn word_place(self, addr: u32) -> usize
+        requires { addr ≤ 128 * self + 63 }
+        ensures place { result ≡ place_of self (HeapWord addr) }
+        ensures in_table { result < table_length self }
+    {
+        self.word_start() + addr as usize
+    }
+
+    /// The place of the word in which a worker announces where it is about to reserve room for a copy.
+    pub fn announce_place(self, k: u8) -> usize
+        requires { k ≤ 23 }
+        ensures place { result ≡ place_of self (Announce k) }
+        ensures in_table { result < table_length self }
+    {
+        self.announce_start() + usize::from(k)
+    }
+
+    // Each family of rows begins where the one before it ends.
+
+    fn cross_start(self) -> usize
+        ensures { result ≡ 17 + 2 * self }
+    {
+        PAGE_START + self.board_page() as usize + 1
+    }
+
+    fn word_start(self) -> usize
+        ensures { result ≡ 17 + 4 * self }
+    {
+        self.cross_start() + self.board_page() as usize
+    }
+
+    fn announce_start(self) -> usize
+        ensures { result ≡ 81 + 132 * self }
+    {
+        self.word_start() + (PAGE_WORDS * (self.board_page() + 1)) as usize
+    }
+}
