@@ -1,2 +1,4 @@
 pub mod Growing
 pub mod Runs
+pub mod Seeing
+pub mod Simulating

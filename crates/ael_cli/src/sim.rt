@@ -1,67 +1,112 @@
-//! The command `sim`: a program run by a schedule of steps.
+//! The command `sim`: a program run by the workers in turn.
 
-ghost use Rattle.std.specs.Prelude.{◌≡◌, IfOk};
+ghost use Rattle.std.specs.Prelude.{◌≡◌, ◌++◌, IfOk, OnOk, map, string_bytes};
 ghost use Rattle.gc_core.specs.Configuration.{opening_core};
+ghost use Rattle.gc_core.specs.Whole.{seen_of};
+ghost use Rattle.ael_cli.specs.Seen.{lines_seen, status_seen, all_halted};
+ghost use Rattle.ael_cli.specs.Simulation.{config, flag_lines, is_halt, IsSimulated};
 
 use crate::answer::Answer;
 use crate::run::run;
 use crate::status::Status;
 use crate::words::Command;
-use gc_core::{Config, Core, OpenError};
+use gc_core::{Config, Core, runs_follow};
 use mutator_asm::Program;
-use plain_heap::{End, NoMemory, push_lines, push_order};
+use plain_heap::{End, Mark, NoMemory, push_lines, push_order};
 use std::alloc::Global;
+
+/// The pages of a space.
+const PAGES: u32 = 256;
+
+/// The scanners beside the mutators.
+const SCANNERS: u8 = 1;
+
+/// How many instructions a mutator may execute.
+const TURNS: u32 = 1_000_000;
 
 /// How many steps a run may make.
 const STEPS: u32 = 10_000_000;
 
-/// The heap and the workers of a run.
-const CONFIG: Config = Config {
-    pages: 256,
-    scanners: 1,
-    turns: 1_000_000,
-};
+/// The core of a run.
+fn open<'p>(alloc: Global, program: &'p Program) -> Result<Core<'p>, NoMemory>
+    ensures { IfOk result (λ core. core ≡ opening_core program.now.code config) }
+{
+    let config = Config {
+        pages: PAGES,
+        scanners: SCANNERS,
+        turns: TURNS,
+    };
+    match Core::open(alloc, program, &config) {
+        Ok(core) => Ok(core),
+        Err(_) => Err(NoMemory),
+    }
+}
 
 /// Adds the lines of all mutators.
-fn push_mutators(output: &mut String, core: &Core) -> Result<(), NoMemory> {
+fn push_mutators(output: &mut String, core: &Core) -> Result<(), NoMemory>
+    ensures { OnOk result (string_bytes output.new ≡ string_bytes output.old ++ lines_seen 0 (seen_of core.now.configuration)) }
+{
     for m in 0..core.mutators() as u8 {
         push_lines(output, m as usize, core.outputs(m), core.ended(m))?;
     }
     Ok(())
 }
 
-/// How a run went, by the ends of its mutators.
-fn verdict(core: &Core) -> Status {
-    if !core.all_ended() {
-        return Status::StepsOut;
+/// Whether the end is there and is `halt`.
+fn is_halt(end: Option<End>) -> bool
+    ensures { result ≡ is_halt end }
+{
+    match end {
+        Some(End::Halt) => true,
+        Some(_) | None => false,
     }
-    for m in 0..core.mutators() as u8 {
-        if core.ended(m) != Some(End::Halt) {
-            return Status::Ended;
-        }
-    }
-    Status::Done
 }
 
-/// The core of a run.
-fn open<'p>(alloc: Global, program: &'p Program) -> Result<Core<'p>, NoMemory>
-    ensures { IfOk result (λ core. core ≡ opening_core program.now.code CONFIG) }
+/// Whether every mutator made `halt`.
+fn all_halted(core: &Core) -> bool
+    ensures { result ≡ all_halted (seen_of core.now.configuration) }
 {
-    match Core::open(alloc, program, &CONFIG) {
-        Ok(core) => Ok(core),
-        Err(_) => Err(NoMemory),
+    for m in 0..core.mutators() as u8 {
+        if !is_halt(core.ended(m)) {
+            return false;
+        }
+    }
+    true
+}
+
+/// Adds the lines of the flags.
+fn push_flags(output: &mut String, command: Command, order: &[Mark]) -> Result<(), NoMemory>
+    ensures { OnOk result (string_bytes output.new ≡ string_bytes output.old ++ flag_lines command order.now) }
+{
+    if command.order {
+        push_order(output, order)?;
+    }
+    Ok(())
+}
+
+/// How a run went, by the ends of its mutators.
+fn verdict(core: &Core) -> Status
+    ensures { result ≡ status_seen (seen_of core.now.configuration) }
+{
+    if !core.all_ended() {
+        Status::StepsOut
+    } else if all_halted(core) {
+        Status::Done
+    } else {
+        Status::Ended
     }
 }
 
 /// Runs a program, and prints what its mutators printed.
-pub fn sim(alloc: Global, program: &Program, command: Command) -> Result<Answer, NoMemory> {
+pub fn sim(alloc: Global, program: &Program, command: Command) -> Result<Answer, NoMemory>
+    ensures { IfOk result (λ answer. IsSimulated command program.now.code (string_bytes answer.output) answer.status) }
+{
+    runs_follow();
     let mut core = open(alloc, program)?;
     let order = run(alloc, &mut core, STEPS, command.order)?;
     let mut output = String::new(alloc);
     push_mutators(&mut output, &core)?;
-    if command.order {
-        push_order(&mut output, &order)?;
-    }
+    push_flags(&mut output, command, &order)?;
     Ok(Answer {
         output,
         status: verdict(&core),

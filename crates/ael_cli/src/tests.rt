@@ -135,10 +135,10 @@ fn texts_print_what_they_should(rt: HostRuntime) -> Result<(), Fail> {
     Ok(())
 }
 
-/// A text of so many bytes: one instruction, spaces, and a last line end.
-fn padded(alloc: Global, size: usize) -> Result<Vec<u8>, Fail> {
+/// A text of one instruction, with so many spaces before its last line end.
+fn padded(alloc: Global, spaces: u32) -> Result<Vec<u8>, Fail> {
     let mut text = Vec::from_slice(alloc, b".mutator\nhalt")?;
-    while text.len() + 1 < size {
+    for _ in 0..spaces {
         text.push(b' ')?;
     }
     text.push(b'\n')?;
@@ -147,10 +147,10 @@ fn padded(alloc: Global, size: usize) -> Result<Vec<u8>, Fail> {
 
 #[test]
 fn input_has_a_limit(rt: HostRuntime) -> Result<(), Fail> {
-    let fits = call(&rt, &["sim"], padded(rt.alloc(), 1_048_576)?, &[], 1000)?;
+    let fits = call(&rt, &["sim"], padded(rt.alloc(), 1_048_562)?, &[], 1000)?;
     assert_eq!(rt; fits.out.bytes(), b"0: halt\n".as_slice());
     assert_eq!(rt; fits.status, 0);
-    let past = call(&rt, &["sim"], padded(rt.alloc(), 1_048_577)?, &[], 1000)?;
+    let past = call(&rt, &["sim"], padded(rt.alloc(), 1_048_563)?, &[], 1000)?;
     assert_eq!(rt; past.out.bytes(), b"".as_slice());
     assert_eq!(rt; past.err.bytes(), b"ael: input too long\n".as_slice());
     assert_eq!(rt; past.status, 8);

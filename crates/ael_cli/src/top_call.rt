@@ -1,6 +1,9 @@
 //! The top call, which `main` calls with the real ends.
 
-ghost use Rattle.std.specs.Prelude.{IsSome};
+ghost use Rattle.std.specs.Prelude.{◌≡◌, ◌≤◌, [], IsSome, IfOk, IfErr, IfSome, map, string_bytes};
+ghost use Rattle.ael_cli.specs.Answer.{IsAnswer, IsCaused};
+ghost use Rattle.ael_cli.specs.Headline.{IsAnswered, Emits};
+ghost use Rattle.ael_cli.specs.Words.{command_of};
 
 use crate::answer::Answer;
 use crate::reading::read_all;
@@ -8,7 +11,7 @@ use crate::sim::sim;
 use crate::sink::Sink;
 use crate::source::Source;
 use crate::status::Status;
-use crate::words::read_words;
+use crate::words::{Command, read_words};
 use crate::writing::{write_all, write_line};
 use mutator_asm::assemble;
 use std::alloc::Global;
@@ -22,7 +25,13 @@ pub fn ael<R, S: Source, O: Sink, E: Sink>(
     src: &mut S,
     out: &mut O,
     err: &mut E,
-) -> u8 {
+) -> u8
+    ensures headline { IsAnswered (map string_bytes words.now)
+        (record { left = S.left src.old; before = S.faults src.old; after = S.faults src.new })
+        (record { held = O.held out.old; holds = O.held out.new; before = O.faults out.old; after = O.faults out.new })
+        (record { held = E.held err.old; holds = E.held err.new; before = E.faults err.old; after = E.faults err.new })
+        result }
+{
     ael_still(alloc, words, src, out, err).unwrap()
 }
 
@@ -36,32 +45,56 @@ pub fn ael_still<S: Source, O: Sink, E: Sink>(
     err: &mut E,
 ) -> Option<u8>
     ensures still { IsSome result }
+    ensures headline { IfSome result (IsAnswered (map string_bytes words.now)
+        (record { left = S.left src.old; before = S.faults src.old; after = S.faults src.new })
+        (record { held = O.held out.old; holds = O.held out.new; before = O.faults out.old; after = O.faults out.new })
+        (record { held = E.held err.old; holds = E.held err.new; before = E.faults err.old; after = E.faults err.new })) }
 {
-    let answer = match answer(alloc, words, src) {
-        Ok(answer) => answer,
-        Err(status) => Answer::failed(alloc, status),
-    };
-    Some(emit(&answer, out, err).code())
+    let answer = answer(alloc, words, src);
+    let status = emit(&answer, out, err);
+    Some(status.code())
 }
 
 /// The answer to the words and the input.
-fn answer<S: Source>(alloc: Global, words: &[String], src: &mut S) -> Result<Answer, Status> {
-    let Some(command) = read_words(words) else {
-        return Err(Status::Usage);
-    };
+fn answer<S: Source>(alloc: Global, words: &[String], src: &mut S) -> Answer
+    ensures { IsAnswer (command_of (map string_bytes words.now)) (S.left src.old) (S.faults src.old) (S.faults src.new)
+        (string_bytes result.output) result.status }
+{
+    match read_words(words) {
+        None => Answer::failed(alloc, Status::Usage),
+        Some(command) => match simulate(alloc, command, src) {
+            Ok(answer) => answer,
+            Err(status) => Answer::failed(alloc, status),
+        },
+    }
+}
+
+/// The answer to a simulation of the input.
+fn simulate<S: Source>(alloc: Global, command: Command, src: &mut S) -> Result<Answer, Status>
+    ensures ok { IfOk result (λ answer. IsCaused command (S.left src.old) (S.faults src.old) (S.faults src.new)
+        (string_bytes answer.output) answer.status) }
+    ensures err { IfErr result (IsCaused command (S.left src.old) (S.faults src.old) (S.faults src.new) []) }
+{
     let text = read_all(alloc, src)?;
     let program = assemble(alloc, &text)?;
     Ok(sim(alloc, &program, command)?)
 }
 
 /// Writes an answer. A failed write is how the call went, whatever else it was.
-fn emit<O: Sink, E: Sink>(answer: &Answer, out: &mut O, err: &mut E) -> Status {
-    let status = match write_all(out, answer.output.as_bytes()) {
-        Ok(()) => answer.status,
-        Err(_) => Status::WriteFault,
-    };
-    match write_line(err, status) {
-        Ok(()) => status,
-        Err(_) => Status::WriteFault,
+fn emit<O: Sink, E: Sink>(answer: &Answer, out: &mut O, err: &mut E) -> Status
+    ensures { Emits (string_bytes answer.now.output) answer.now.status
+        (record { held = O.held out.old; holds = O.held out.new; before = O.faults out.old; after = O.faults out.new })
+        (record { held = E.held err.old; holds = E.held err.new; before = E.faults err.old; after = E.faults err.new })
+        result }
+{
+    match write_all(out, answer.output.as_bytes()) {
+        Err(_) => {
+            let _ = write_line(err, Status::WriteFault);
+            Status::WriteFault
+        }
+        Ok(()) => match write_line(err, answer.status) {
+            Ok(()) => answer.status,
+            Err(_) => Status::WriteFault,
+        },
     }
 }

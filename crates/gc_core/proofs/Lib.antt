@@ -1,1 +1,15 @@
 pub mod Events
+pub mod Parallel
+pub mod Lists
+pub mod Heaps
+pub mod Next
+pub mod Storing
+pub mod Making
+pub mod Reading
+pub mod Calling
+pub mod Law
+pub mod Steady
+pub mod Opening
+pub mod Running
+pub mod Lawful
+pub mod Whole

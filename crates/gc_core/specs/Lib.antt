@@ -1,6 +1,9 @@
 pub mod Configuration
 pub mod Event
+pub mod Law
 pub mod Outcome
 pub mod Sound
+pub mod Steady
 pub mod Represents
 pub mod Run
+pub mod Whole

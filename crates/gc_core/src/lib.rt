@@ -2,9 +2,10 @@
 #![tactic(auto)]
 
 mod config;
+mod machine;
 mod header;
 mod instructions;
-mod machine;
+mod laws;
 mod mutator;
 mod run;
 mod space;
@@ -12,5 +13,6 @@ mod stepped;
 
 pub use config::{Config, OpenError};
 pub use machine::Core;
+pub use laws::{runs_are_plain_runs, runs_follow};
 pub use run::Run;
 pub use stepped::Stepped;

@@ -3,7 +3,11 @@
 ghost use Rattle.std.specs.Prelude.{◌≡◌, ◌+◌, ◌<◌, ◌≤◌, ◌↔◌, length, IfOk, IsErrOf, IsTrue, not, replicate};
 ghost use Rattle.gc_core.specs.Configuration.{fresh, opening_core, workers_of, mutator_of, is_size};
 ghost use Rattle.gc_core.specs.Event.{event_of, core_after};
+ghost use Rattle.gc_core.specs.Law.{Meets};
+ghost use Rattle.gc_core.specs.Represents.{Represents};
 ghost use Rattle.gc_core.specs.Run.{all_ended};
+ghost use Rattle.plain_heap.specs.Order.{opening};
+ghost use Rattle.plain_state.specs.State.{Plain};
 
 use crate::config::{Config, OpenError};
 use crate::instructions::turn;
@@ -29,12 +33,14 @@ pub struct Core<'p> {
 impl<'p> Model for Core<'p> {
     ghost use Rattle.std.specs.Prelude.{◌≡◌, ◌<◌, ◌≤◌, length, vec_len};
     ghost use Rattle.gc_core.specs.Configuration.{CoreState};
+    ghost use Rattle.gc_core.specs.Law.{IsLawful};
 
     ghost Value = { CoreState };
 
     ghost view = { λ c. record { code = c.program.now.code; turns = c.turns; scanners = c.scanners; configuration = record { space = c.space; mutators = c.mutators.items } } };
 
-    ghost invariant = { λ c. (vec_len c.mutators ≡ length c.program.now.code) × (vec_len c.mutators ≤ 16) × (c.scanners ≤ 8) };
+    ghost invariant = { λ c. (vec_len c.mutators ≡ length c.program.now.code) × (vec_len c.mutators ≤ 16) × (c.scanners ≤ 8)
+        × IsLawful c.program.now.code c.turns (record { space = c.space; mutators = c.mutators.items }) };
 }
 
 /// A mutator for each section.
@@ -56,6 +62,7 @@ impl<'p> Core<'p> {
         requires scanners { config.now.scanners ≤ 8 }
         requires turns { (1 ≤ config.now.turns) × (config.now.turns ≤ 10000000) }
         ensures opened { IfOk result (λ c. c ≡ opening_core program.now.code config.now) }
+        ensures represents { IfOk result (λ c. Represents c.configuration (opening program.now.code)) }
         ensures bad_pages { IsErrOf result OpenError.BadPages ↔ IsTrue (not (is_size config.now.pages)) }
     {
         if config.pages < 4 || config.pages > 2048 {
@@ -85,6 +92,7 @@ impl<'p> Core<'p> {
         requires { worker < workers_of self.old }
         ensures told { result ≡ (event_of self.old worker).told }
         ensures after { self.new ≡ core_after self.old worker }
+        ensures meets { (s : Plain) → Represents self.old.configuration s → Meets self.old.code self.old.turns self.old.configuration worker s (event_of self.old worker) }
         ensures workers { workers_of self.new ≡ workers_of self.old }
     {
         let at = worker as usize;

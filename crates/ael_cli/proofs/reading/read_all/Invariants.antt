@@ -1,4 +1,4 @@
-use Rattle.std.proofs.Common.{◌≡◌, ℕ, ◌+◌, ◌-◌, ◌≤◌, length, vec_len}
+use Rattle.std.proofs.Common.{◌+◌, ◌-◌, ◌≤◌, vec_len}
 use Rattle.ael_cli.specs.Stream.{IsFront}
 use Rattle.ael_cli.specs.declared.reading.TheConstants.{MAX_INPUT}
 use Rattle.ael_cli.proofs.reading.read_all.Given as goal

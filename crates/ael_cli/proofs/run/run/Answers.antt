@@ -1,6 +1,5 @@
-use Rattle.std.proofs.Common.{◌≡◌, ◌≤◌, sym, ◌∙◌, arith, true, false, refl}
-use Rattle.gc_core.specs.Run.{in_turn, all_ended}
-use Rattle.ael_cli.proofs.Runs.{ComesTo, ComesToOrder, comes_on, comes_on_order, came_over, came_out, came_over_order, came_out_order, comes_all, comes_all_order}
+use Rattle.std.proofs.Common.{sym, ◌∙◌, arith}
+use Rattle.ael_cli.proofs.Runs.{comes_on, comes_on_order, came_over, came_out, came_over_order, came_out_order, comes_all, comes_all_order}
 use Rattle.ael_cli.proofs.run.run.Goals as goal
 use Rattle.ael_cli.proofs.run.run.Goals.{else-loop-position-test, then-loop-position-test+then-all_ended}
 

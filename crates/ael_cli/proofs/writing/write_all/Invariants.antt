@@ -1,4 +1,4 @@
-use Rattle.std.proofs.Common.{◌≡◌, ℕ, ◌≤◌, length}
+use Rattle.std.proofs.Common.{◌≤◌, length}
 use Rattle.ael_cli.proofs.Growing.{Wrote}
 use Rattle.ael_cli.proofs.writing.write_all.Given as goal
 

@@ -1,6 +1,3 @@
-use Rattle.std.proofs.Common.{◌≡◌, List, ℕ, ◌++◌}
-use Rattle.std.specs.Prelude.{codes, decimal}
-use Rattle.ael_cli.specs.Stream.{Grows}
 use Rattle.ael_cli.proofs.Growing.{Grows-append, OnOk-map}
 use Rattle.ael_cli.proofs.writing.write_fault.Goals as goal
 

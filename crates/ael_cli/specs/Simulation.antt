@@ -1,0 +1,70 @@
+-- What `sim` prints of a program, and how it goes.
+use Rattle.std.specs.Prelude.{◌≡◌, ℕ, Bool, true, false, List, [], ◌++◌, Option, Some, None, if◌then◌else◌}
+use Rattle.std.specs.Option.{is_some}
+use Rattle.std.specs.List.{list_all}
+use Rattle.plain_state.specs.declared.end.End.{End}
+use Rattle.plain_state.specs.declared.end.End.TheVariants as ends
+use Rattle.plain_state.specs.State.{Plain}
+use Rattle.mutator_asm.specs.declared.instr.Instr.{Instr}
+use Rattle.plain_heap.specs.declared.mark.Mark.{Mark}
+use Rattle.plain_heap.specs.Order.{opening, plain}
+use Rattle.plain_heap.specs.Print.{print_of, order_line}
+use Rattle.gc_core.specs.declared.config.Config.{Config}
+use Rattle.gc_core.specs.Configuration.{opening_core, workers_of}
+use Rattle.gc_core.specs.Run.{Ran, run_from, in_turn}
+use Rattle.gc_core.specs.Whole.{EachActs}
+use Rattle.ael_cli.specs.declared.sim.TheConstants.{PAGES, SCANNERS, TURNS, STEPS}
+use Rattle.ael_cli.specs.declared.status.Status.{Status}
+use Rattle.ael_cli.specs.declared.status.Status.TheVariants.{Done, Ended, StepsOut}
+use Rattle.ael_cli.specs.declared.words.Command.{Command}
+
+-- the heap and the workers of every run
+abbrev pub config : Config
+config = record { pages = PAGES; scanners = SCANNERS; turns = TURNS }
+
+-- the run of a program: the workers in turn, up to the last end or so many steps
+abbrev pub run_of : List (List Instr) → Ran
+run_of code = run_from (in_turn (workers_of (opening_core code config))) 0 STEPS (opening_core code config)
+
+-- the order of the run
+abbrev pub order_of : List (List Instr) → List Mark
+order_of code = (run_of code).order
+
+-- the plain machine, executing the order of the run
+abbrev pub plain_of : List (List Instr) → Plain
+plain_of code = plain code TURNS (order_of code)
+
+abbrev pub is_halt : Option End → Bool
+is_halt None = false
+is_halt (Some ends.Halt) = true
+is_halt (Some ends.NotPointer) = false
+is_halt (Some ends.NotNumber) = false
+is_halt (Some ends.OutOfRange) = false
+is_halt (Some ends.IntoRaw) = false
+is_halt (Some ends.ZeroDivisor) = false
+is_halt (Some ends.JumpOut) = false
+is_halt (Some ends.TurnsOut) = false
+is_halt (Some ends.OutputFull) = false
+is_halt (Some (ends.HeapFull asked room live)) = false
+
+-- how a run went, by the ends of its mutators
+abbrev pub status_of : Plain → Status
+status_of s =
+    if list_all (λ k. is_some k.end) s.mutators then (if list_all (λ k. is_halt k.end) s.mutators then Done else Ended)
+    else StepsOut
+
+-- the lines of the flags
+abbrev pub flag_lines : Command → List Mark → List ℕ
+flag_lines command order = if command.order then order_line order else []
+
+-- all that is printed: the lines of the plain machine, and then those of the flags
+abbrev pub output_of : Command → List (List Instr) → List ℕ
+output_of command code = print_of (plain_of code) ++ flag_lines command (order_of code)
+
+-- The answer of `sim` is what the plain machine prints that executes the order of the run. Each mark
+-- of the order is of a mutator without an end, so that each mutator's marks execute its program from
+-- the start, none skipped and none twice, and heap full comes only where no free pages are left.
+pub record IsSimulated (command : Command) (code : List (List Instr)) (output : List ℕ) (status : Status) : Type 0 where
+  pub prints : output ≡ output_of command code
+  pub status_is : status ≡ status_of (plain_of code)
+  pub acts : EachActs code TURNS (opening code) (order_of code)

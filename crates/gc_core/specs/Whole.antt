@@ -1,0 +1,52 @@
+-- What holds of a whole run: the plain machine, executing its order, is what the core represents
+-- in the end, and each mark of the order acts.
+use Rattle.std.specs.Prelude.{◌≡◌, ⊤, ℕ, ◌*◌, ◌≤◌, ◌<◌, List, [], ◌∷◌, map, Option, Some, None, IsTrue}
+use Rattle.plain_state.specs.declared.end.End.{End}
+use Rattle.plain_state.specs.State as plain
+use Rattle.mutator_asm.specs.declared.instr.Instr.{Instr}
+use Rattle.mutator_asm.specs.declared.item.Item.{Item}
+use Rattle.mutator_asm.specs.Program.{IsWellFormed}
+use Rattle.plain_heap.specs.declared.mark.Mark.{Mark}
+use Rattle.plain_heap.specs.declared.mark.Mark.TheVariants.{Step, Flip, Full}
+use Rattle.plain_heap.specs.Step.{asked_by}
+use Rattle.plain_heap.specs.Order.{opening, marked, plain}
+use Rattle.gc_core.specs.declared.config.Config.{Config}
+use Rattle.gc_core.specs.Configuration.{Configuration, is_size, opening_core}
+use Rattle.gc_core.specs.Law.{end_of}
+use Rattle.gc_core.specs.Represents.{Represents}
+use Rattle.gc_core.specs.Run.{Ran, run_from}
+
+-- A mark acts: it is of a mutator that had no end. An end for want of room comes only where the
+-- mutator's next step asks for more than there is. Nothing was copied, and there is no flip yet.
+abbrev pub Acts : List (List Instr) → ℕ → plain.Plain → Mark → Type 0
+Acts code turns s (Step m) = end_of s m ≡ Some None
+Acts code turns s (Flip asked) = ⊥
+Acts code turns s (Full m asked room live) = (end_of s m ≡ Some None) × (asked_by code turns s m ≡ Some asked) × (room < 64 * asked) × (live ≡ 0)
+
+-- each mark of an order acts on the state that the marks before it leave
+abbrev pub EachActs : List (List Instr) → ℕ → plain.Plain → List Mark → Type 0
+EachActs code turns s [] = ⊤
+EachActs code turns s (mark ∷ marks) = Acts code turns s mark × EachActs code turns (marked code turns s mark) marks
+
+-- what is seen of a mutator: the numbers that it printed, and its end
+pub record Seen : Type 0 where
+  pub printed : List ℕ
+  pub end : Option End
+
+abbrev pub seen_of : Configuration → List Seen
+seen_of c = map (λ k. record { printed = k.printed; end = k.end }) c.mutators
+
+abbrev pub plain_seen : plain.Plain → List Seen
+plain_seen s = map (λ k. record { printed = k.printed; end = k.end }) s.mutators
+
+-- a run of a program by turns: the core represents the plain machine that executed the run's order
+pub record Follows (code : List (List Instr)) (turns : ℕ) (r : Ran) : Type 0 where
+  pub represents : Represents r.last.configuration (plain code turns r.order)
+  pub seen : seen_of r.last.configuration ≡ plain_seen (plain code turns r.order)
+  pub acts : EachActs code turns (opening code) r.order
+
+-- every run of every program, by any schedule and for any number of steps
+abbrev pub RunsFollow : Type 0
+RunsFollow = (code : List (List Instr)) (items : List Item) (config : Config) (schedule : ℕ → ℕ) (n : ℕ)
+    → IsWellFormed code items → IsTrue (is_size config.pages) → config.turns ≤ 10000000
+    → Follows code config.turns (run_from schedule 0 n (opening_core code config))
