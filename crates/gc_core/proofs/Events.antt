@@ -1,10 +1,10 @@
 -- What the event of a worker is, by what is known of its mutator.
-use Rattle.std.proofs.Common.{◌≡◌, ℕ, ◌+◌, ◌<◌, ◌≤◌, List, [], ◌∷◌, length, get_or, refl, ap, arith}
-use Rattle.std.specs.Prelude.{Option, Some, None, slice_get, map, replicate, zero, suc}
+use Rattle.std.proofs.Common.{◌≡◌, ℕ, ◌≤◌, List, [], ◌∷◌, length, refl, ap}
+use Rattle.std.specs.Prelude.{Some, None, slice_get, map, replicate}
 use Rattle.std.proofs.lemmas.Option.{slice_get_past}
 use Rattle.plain_state.specs.declared.end.End.{End}
 use Rattle.mutator_asm.specs.declared.instr.Instr.{Instr}
-use Rattle.gc_core.specs.Configuration.{Mutator, Configuration, fresh}
+use Rattle.gc_core.specs.Configuration.{Mutator, Configuration}
 use Rattle.gc_core.specs.Event.{event, idle, settled, left_by, made}
 
 -- one for each element

@@ -68,9 +68,9 @@ run_acts schedule at zero s p steady represents = tt
 run_acts schedule at (suc n) s p steady represents =
     let meets = event_law s.code s.turns s.configuration (schedule at) p steady represents in
     acts_as schedule at n s p (all_ended s) refl
-        (told_acts s.code s.turns s.configuration (schedule at) p (event_of s (schedule at)).after (event_of s (schedule at)).told meets.told)
-        (run_acts schedule (at + 1) n (core_after s (schedule at)) (state_after s.code s.turns p (option_to_list (mark_of (event_of s (schedule at)).told)))
-            (event_keeps s.code s.turns s.configuration (schedule at) steady) meets.represents)
+    (told_acts s.code s.turns s.configuration (schedule at) p (event_of s (schedule at)).after (event_of s (schedule at)).told meets.told)
+    (run_acts schedule (at + 1) n (core_after s (schedule at)) (state_after s.code s.turns p (option_to_list (mark_of (event_of s (schedule at)).told)))
+    (event_keeps s.code s.turns s.configuration (schedule at) steady) meets.represents)
 
 -- ---- what is seen
 

@@ -55,8 +55,11 @@ pub record CoreState : Type 0 where
 
 abbrev pub opening_core : List (List Instr) → Config → CoreState
 opening_core code config = record {
-    code = code; turns = config.turns; scanners = config.scanners; configuration = opening code config.pages
-  }
+  code = code;
+  turns = config.turns;
+  scanners = config.scanners;
+  configuration = opening code config.pages;
+}
 
 -- the mutators, then the scanners
 abbrev pub workers_of : CoreState → ℕ

@@ -1,6 +1,6 @@
 -- One event: what one turn of a worker does to the configuration, and what is told of it. As long
 -- as the heap has no pages that are scanned, an event is one whole instruction of a mutator.
-use Rattle.std.specs.Prelude.{ℕ, ◌+◌, ◌-◌, ◌*◌, ◌/◌, ◌%◌, ◌^◌, List, [], ◌∷◌, ◌++◌, length, Option, Some, None, Result, Ok, Err, nat_lt, nat_le, if◌then◌else◌, slice_get, slice_index, slice_set}
+use Rattle.std.specs.Prelude.{ℕ, ◌+◌, ◌-◌, ◌*◌, ◌%◌, ◌^◌, List, [], ◌∷◌, ◌++◌, length, Option, Some, None, Result, Ok, Err, nat_lt, nat_le, if◌then◌else◌, slice_get, slice_index, slice_set}
 use Rattle.std.specs.Option.{ok_or, option_map_or}
 use Rattle.heap_words.specs.Word.{number_word, pointer_word, header_word}
 use Rattle.heap_words.specs.Decoded.{decode, number_in, pointer_in}
@@ -91,9 +91,9 @@ room_for low run n = if nat_le (run.at + n + 1) run.end then Ok (record { low = 
 -- mutator m makes a record of n words, all 0 already, and register d points to it
 abbrev pub makes : ℕ → Space → Mutator → ℕ → ℕ → Claim → After
 makes m space k d n c = record {
-    space = record { words = slice_set space.words c.run.at (header_word Fields n (k.serial + 1) m); low = c.low };
-    mutator = went_on (record (set_register k d (pointer_word c.run.at)) { serial = k.serial + 1; run = record { at = c.run.at + n + 1; end = c.run.end } })
-  }
+  space = record { words = slice_set space.words c.run.at (header_word Fields n (k.serial + 1) m); low = c.low };
+  mutator = went_on (record (set_register k d (pointer_word c.run.at)) { serial = k.serial + 1; run = record { at = c.run.at + n + 1; end = c.run.end } });
+}
 
 -- ---- the instructions, made by mutator m
 

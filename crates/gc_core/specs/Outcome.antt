@@ -8,4 +8,4 @@ use Rattle.gc_core.specs.Event.{After}
 abbrev pub IsMade : {T : Type 0} → Result After End → Result T End → Space → Mutator → Space → Mutator → Type 0
 IsMade expected answer space k new_space new_k =
     MatchResult answer (λ _. expected ≡ Ok (record { space = new_space; mutator = new_k }))
-        (λ why. (expected ≡ Err why) × (new_space ≡ space) × (new_k ≡ k))
+    (λ why. (expected ≡ Err why) × (new_space ≡ space) × (new_k ≡ k))

@@ -1,5 +1,5 @@
 -- What it means that a configuration represents a state of the plain machine.
-use Rattle.std.specs.Prelude.{◌≡◌, ℕ, ◌+◌, ◌<◌, ◌≤◌, Bool, true, false, List, length, Option, Some, None, slice_get, slice_index, replicate}
+use Rattle.std.specs.Prelude.{◌≡◌, ℕ, ◌+◌, ◌<◌, ◌≤◌, Bool, true, false, List, length, Some, None, slice_get, slice_index, replicate}
 use Rattle.heap_words.specs.Word.{number_word, pointer_word, header_word}
 use Rattle.heap_words.specs.declared.kind.Kind.TheVariants as kinds
 use Rattle.plain_state.specs.declared.kind.Kind.TheVariants.{Fields}
@@ -8,7 +8,7 @@ use Rattle.plain_state.specs.declared.value.Value.{Value}
 use Rattle.plain_state.specs.declared.value.Value.TheVariants.{Number, Reference}
 use Rattle.plain_state.specs.State as plain
 use Rattle.plain_heap.specs.Call.{register}
-use Rattle.gc_core.specs.Configuration.{Space, Mutator, Configuration}
+use Rattle.gc_core.specs.Configuration.{Mutator, Configuration}
 
 -- To what a word of the heap belongs: to nothing, to the run of a mutator, or to a record, of
 -- which word 0 is the header.

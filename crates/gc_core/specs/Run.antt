@@ -1,5 +1,5 @@
 -- A whole run: one event after another by a schedule, and the order of what happened.
-use Rattle.std.specs.Prelude.{ℕ, ◌+◌, ◌%◌, Bool, List, [], ◌∷◌, ◌++◌, Option, Some, None, if◌then◌else◌, zero, suc}
+use Rattle.std.specs.Prelude.{ℕ, ◌+◌, ◌%◌, Bool, List, [], ◌++◌, Option, Some, None, if◌then◌else◌, zero, suc}
 use Rattle.std.specs.Option.{is_some, option_to_list}
 use Rattle.std.specs.List.{list_all}
 use Rattle.plain_state.specs.declared.end.End.{End}

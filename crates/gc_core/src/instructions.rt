@@ -108,13 +108,7 @@ fn fetch(program: &Program, turns: u32, k: &Mutator, m: u8) -> Result<Instr, End
 }
 
 /// Makes the next instruction of mutator `m`, or answers the end that stands in its place.
-fn make(
-    program: &Program,
-    turns: u32,
-    space: &mut Space,
-    k: &mut Mutator,
-    m: u8,
-) -> Result<(), End>
+fn make(program: &Program, turns: u32, space: &mut Space, k: &mut Mutator, m: u8) -> Result<(), End>
     ensures { IsMade (made program.now.code turns m space.old k.old) result space.old k.old space.new k.new }
 {
     let i = fetch(program, turns, k, m)?;
@@ -122,13 +116,7 @@ fn make(
 }
 
 /// The turn of mutator `m`, which has no end: its next instruction, or the end that it gets.
-pub fn turn(
-    program: &Program,
-    turns: u32,
-    space: &mut Space,
-    k: &mut Mutator,
-    m: u8,
-) -> Stepped
+pub fn turn(program: &Program, turns: u32, space: &mut Space, k: &mut Mutator, m: u8) -> Stepped
     ensures told { result ≡ told_of m (made program.now.code turns m space.old k.old) }
     ensures space { space.new ≡ (left_by space.old k.old (made program.now.code turns m space.old k.old)).space }
     ensures mutator { k.new ≡ (left_by space.old k.old (made program.now.code turns m space.old k.old)).mutator }

@@ -2,17 +2,17 @@
 #![tactic(auto)]
 
 mod config;
-mod machine;
 mod header;
 mod instructions;
 mod laws;
+mod machine;
 mod mutator;
 mod run;
 mod space;
 mod stepped;
 
 pub use config::{Config, OpenError};
-pub use machine::Core;
 pub use laws::{runs_are_plain_runs, runs_follow};
+pub use machine::Core;
 pub use run::Run;
 pub use stepped::Stepped;
