@@ -1,9 +1,9 @@
 -- Bytes that were written in pieces.
-use Rattle.std.proofs.Common.{◌≡◌, ℕ, List, [], ◌∷◌, ◌++◌, length, take, drop, refl, sym, ap, append_assoc, append-nil, ◌∙◌, subst, arith}
+use Rattle.std.proofs.Common.{◌≤◌, ◌+◌, ◌≡◌, ℕ, List, [], ◌∷◌, ◌++◌, length, take, drop, refl, sym, ap, append_assoc, append-nil, ◌∙◌, subst, arith}
 use Rattle.std.specs.Prelude.{Option, Some, None, Result, Ok, Err, OnOk}
-use Rattle.std.proofs.lemmas.List.{take-append-drop, length-append}
+use Rattle.std.proofs.lemmas.List.{take-append-drop, length-append, length-take}
 use Rattle.std.proofs.Math.Seq.{take-append_seam}
-use Rattle.ael_cli.specs.Stream.{Grows, GrowsByPrefix}
+use Rattle.ael_cli.specs.Stream.{Gives, Grows, GrowsByPrefix, IsFront}
 
 -- the front of the bytes was taken, and the rest was not
 pub record Wrote (old new : Option (List ℕ)) (bytes rest : List ℕ) : Type 0 where
@@ -41,3 +41,12 @@ wrote_some old new bytes rest w =
 pub OnOk-map : {T E : Type 0} {P Q : Type 0} (r : Result T E) → (P → Q) → OnOk r P → OnOk r Q
 OnOk-map (Ok x) f p = f p
 OnOk-map (Err e) f p = tt
+
+-- what a read gives comes next of the bytes that were to come
+pub front_more : (old mid new : Option (List ℕ)) (bytes buf : List ℕ) (n : ℕ) → IsFront old bytes mid → Gives mid n buf new → IsFront old (bytes ++ take n buf) new
+front_more old None new bytes buf n front gives = rw gives front
+front_more old (Some left) new bytes buf n front gives = rw (gives.2, gives.1, append_assoc, take-append-drop n left) front
+
+-- and is no more than was asked for
+pub few_more : (bytes buf : List ℕ) (n room limit : ℕ) → n ≤ room → room + length bytes ≤ limit → length (bytes ++ take n buf) ≤ limit
+few_more bytes buf n room limit within few = simp (length-append, length-take) (omega (arith, within, few))

@@ -1,6 +1,7 @@
 -- What is read of an input.
-use Rattle.std.specs.Prelude.{◌≡◌, ℕ, ◌<◌, ◌≤◌, List, length, Option, IfSome}
+use Rattle.std.specs.Prelude.{◌≡◌, ℕ, ◌+◌, ◌<◌, ◌≤◌, List, length, Option, IfSome}
 use Rattle.ael_cli.specs.declared.reading.TheConstants.{MAX_INPUT}
+use Rattle.ael_cli.specs.Stream.{IsFront}
 
 -- the bytes are all that were to come, no more than an input may have
 pub record IsWhole (left : Option (List ℕ)) (bytes : List ℕ) : Type 0 where
@@ -10,3 +11,9 @@ pub record IsWhole (left : Option (List ℕ)) (bytes : List ℕ) : Type 0 where
 -- more bytes were to come than an input may have
 abbrev pub IsPastLimit : Option (List ℕ) → Type 0
 IsPastLimit left = IfSome left (λ all. MAX_INPUT < length all)
+
+-- no more was read than the bytes that an input may have, and one
+pub record IsBounded (left rest : Option (List ℕ)) : Type 0 where
+  pub bytes : List ℕ
+  pub front : IsFront left bytes rest
+  pub few : length bytes ≤ MAX_INPUT + 1

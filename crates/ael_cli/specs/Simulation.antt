@@ -63,7 +63,7 @@ output_of command code = print_of (plain_of code) ++ flag_lines command (order_o
 
 -- The answer of `sim` is what the plain machine prints that executes the order of the run. Each mark
 -- of the order is of a mutator without an end, so that each mutator's marks execute its program from
--- the start, none skipped and none twice, and heap full comes only where no free pages are left.
+-- the start, none skipped and none twice, and heap full comes only where fewer words are free than are asked for.
 pub record IsSimulated (command : Command) (code : List (List Instr)) (output : List ℕ) (status : Status) : Type 0 where
   pub prints : output ≡ output_of command code
   pub status_is : status ≡ status_of (plain_of code)

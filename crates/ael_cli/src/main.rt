@@ -27,11 +27,10 @@ fn main(rt: HostRuntime) -> ExitCode {
     let mut src = StdSource::new(rt.stdin());
     let mut out = StdSink::new(rt.stdout());
     let mut err = StdSink::new(rt.stderr());
-    let Ok(args) = env::args(&rt) else {
+    let Ok(mut args) = env::args(&rt) else {
         let _ = write_line(&mut err, Status::Usage);
         return ExitCode::from(2);
     };
-    let mut args = args;
     let _ = args.next();
     let Ok(words) = args.collect::<Vec<String>>(rt.alloc()) else {
         let _ = write_line(&mut err, Status::NoMemory);

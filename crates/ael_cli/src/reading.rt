@@ -1,9 +1,9 @@
 //! Reading a source to its end.
 
 ghost use Rattle.std.specs.Prelude.{◌≡◌, ◌<◌, ◌≤◌, IfOk, Err, length};
-ghost use Rattle.ael_cli.specs.Stream.{IsFront, Rose};
+ghost use Rattle.ael_cli.specs.Stream.{Rose};
 ghost use Rattle.ael_cli.specs.declared.reading.ReadError.TheVariants.{Fault, TooLong, NoMemory};
-ghost use Rattle.ael_cli.specs.Input.{IsWhole, IsPastLimit};
+ghost use Rattle.ael_cli.specs.Input.{IsWhole, IsPastLimit, IsBounded};
 
 use crate::source::{Got, Source};
 use std::alloc::{AllocError, Global};
@@ -37,6 +37,7 @@ impl From<AllocError> for ReadError {
 pub fn read_all<S: Source>(alloc: Global, src: &mut S) -> Result<Vec<u8>, ReadError>
     ensures whole { IfOk result (λ bytes. IsWhole (S.left src.old) bytes.items) }
     ensures too_long { result ≡ Err TooLong → IsPastLimit (S.left src.old) }
+    ensures bounded { IsBounded (S.left src.old) (S.left src.new) }
     ensures never_falls { S.faults src.old ≤ S.faults src.new }
     ensures fails_only_if_the_count_rose { result ≡ Err Fault → Rose (S.faults src.old) (S.faults src.new) }
 {

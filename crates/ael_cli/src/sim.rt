@@ -10,7 +10,7 @@ use crate::answer::Answer;
 use crate::run::run;
 use crate::status::Status;
 use crate::words::Command;
-use gc_core::{Config, Core, runs_follow};
+use gc_core::{Config, Core, OpenError, runs_follow};
 use mutator_asm::Program;
 use plain_heap::{End, Mark, NoMemory, push_lines, push_order};
 use std::alloc::Global;
@@ -38,7 +38,8 @@ fn open<'p>(alloc: Global, program: &'p Program) -> Result<Core<'p>, NoMemory>
     };
     match Core::open(alloc, program, &config) {
         Ok(core) => Ok(core),
-        Err(_) => Err(NoMemory),
+        Err(OpenError::NoMemory) => Err(NoMemory),
+        Err(OpenError::BadPages) => unreachable!("a space may have so many pages"),
     }
 }
 

@@ -2,7 +2,8 @@
 
 ghost use Rattle.std.specs.Prelude.{◌≡◌, ◌≤◌, [], IsSome, IfOk, IfErr, IfSome, map, string_bytes};
 ghost use Rattle.ael_cli.specs.Answer.{IsAnswer, IsCaused};
-ghost use Rattle.ael_cli.specs.Headline.{IsAnswered, Emits};
+ghost use Rattle.ael_cli.specs.Headline.{IsAnswered, PrintsPlainly, Emits, IsDrawn};
+ghost use Rattle.ael_cli.specs.Input.{IsBounded};
 ghost use Rattle.ael_cli.specs.Words.{command_of};
 
 use crate::answer::Answer;
@@ -13,7 +14,7 @@ use crate::source::Source;
 use crate::status::Status;
 use crate::words::{Command, read_words};
 use crate::writing::{write_all, write_line};
-use mutator_asm::assemble;
+use mutator_asm::{assemble, never_both, one_program};
 use std::alloc::Global;
 
 /// Runs the command that the words after the program's name ask for, and answers the exit status.
@@ -27,7 +28,12 @@ pub fn ael<R, S: Source, O: Sink, E: Sink>(
     err: &mut E,
 ) -> u8
     ensures headline { IsAnswered (map string_bytes words.now)
-        (record { left = S.left src.old; before = S.faults src.old; after = S.faults src.new })
+        (record { left = S.left src.old; rest = S.left src.new; before = S.faults src.old; after = S.faults src.new })
+        (record { held = O.held out.old; holds = O.held out.new; before = O.faults out.old; after = O.faults out.new })
+        (record { held = E.held err.old; holds = E.held err.new; before = E.faults err.old; after = E.faults err.new })
+        result }
+    ensures prints { PrintsPlainly (map string_bytes words.now)
+        (record { left = S.left src.old; rest = S.left src.new; before = S.faults src.old; after = S.faults src.new })
         (record { held = O.held out.old; holds = O.held out.new; before = O.faults out.old; after = O.faults out.new })
         (record { held = E.held err.old; holds = E.held err.new; before = E.faults err.old; after = E.faults err.new })
         result }
@@ -46,10 +52,16 @@ pub fn ael_still<S: Source, O: Sink, E: Sink>(
 ) -> Option<u8>
     ensures still { IsSome result }
     ensures headline { IfSome result (IsAnswered (map string_bytes words.now)
-        (record { left = S.left src.old; before = S.faults src.old; after = S.faults src.new })
+        (record { left = S.left src.old; rest = S.left src.new; before = S.faults src.old; after = S.faults src.new })
+        (record { held = O.held out.old; holds = O.held out.new; before = O.faults out.old; after = O.faults out.new })
+        (record { held = E.held err.old; holds = E.held err.new; before = E.faults err.old; after = E.faults err.new })) }
+    ensures prints { IfSome result (PrintsPlainly (map string_bytes words.now)
+        (record { left = S.left src.old; rest = S.left src.new; before = S.faults src.old; after = S.faults src.new })
         (record { held = O.held out.old; holds = O.held out.new; before = O.faults out.old; after = O.faults out.new })
         (record { held = E.held err.old; holds = E.held err.new; before = E.faults err.old; after = E.faults err.new })) }
 {
+    one_program();
+    never_both();
     let answer = answer(alloc, words, src);
     let status = emit(&answer, out, err);
     Some(status.code())
@@ -57,8 +69,9 @@ pub fn ael_still<S: Source, O: Sink, E: Sink>(
 
 /// The answer to the words and the input.
 fn answer<S: Source>(alloc: Global, words: &[String], src: &mut S) -> Answer
-    ensures { IsAnswer (command_of (map string_bytes words.now)) (S.left src.old) (S.faults src.old) (S.faults src.new)
+    ensures answer { IsAnswer (command_of (map string_bytes words.now)) (S.left src.old) (S.faults src.old) (S.faults src.new)
         (string_bytes result.output) result.status }
+    ensures drawn { IsDrawn (command_of (map string_bytes words.now)) (S.left src.old) (S.left src.new) }
 {
     match read_words(words) {
         None => Answer::failed(alloc, Status::Usage),
@@ -74,6 +87,7 @@ fn simulate<S: Source>(alloc: Global, command: Command, src: &mut S) -> Result<A
     ensures ok { IfOk result (λ answer. IsCaused command (S.left src.old) (S.faults src.old) (S.faults src.new)
         (string_bytes answer.output) answer.status) }
     ensures err { IfErr result (IsCaused command (S.left src.old) (S.faults src.old) (S.faults src.new) []) }
+    ensures drawn { IsBounded (S.left src.old) (S.left src.new) }
 {
     let text = read_all(alloc, src)?;
     let program = assemble(alloc, &text)?;

@@ -38,7 +38,7 @@ pub fn write_line<K: Sink>(sink: &mut K, status: Status) -> Result<(), WriteFaul
 {
     match status {
         Status::Done | Status::Ended => Ok(()),
-        Status::Text { no, line } => write_fault(sink, no, line),
+        Status::Text { no, line } => write_text_fault(sink, no, line),
         Status::Usage => write_all(sink, b"usage: ael asm, sim, run, concord or bench\n"),
         Status::StepsOut => write_all(sink, b"ael: steps out\n"),
         Status::ReadFault => write_all(sink, b"ael: read fault\n"),
@@ -49,7 +49,7 @@ pub fn write_line<K: Sink>(sink: &mut K, status: Status) -> Result<(), WriteFaul
 }
 
 /// Writes the line of a text's fault.
-fn write_fault<K: Sink>(sink: &mut K, no: u8, line: u32) -> Result<(), WriteFault>
+fn write_text_fault<K: Sink>(sink: &mut K, no: u8, line: u32) -> Result<(), WriteFault>
     ensures ok { OnOk result (Grows (K.held sink.old) (line_of (Status.Text no line)) (K.held sink.new)) }
     ensures never_falls { K.faults sink.old ≤ K.faults sink.new }
     ensures fails_only_if_the_count_rose { OnErr result (Rose (K.faults sink.old) (K.faults sink.new)) }

@@ -1,5 +1,5 @@
 use Rattle.ael_cli.proofs.Growing.{Grows-append, OnOk-map}
-use Rattle.ael_cli.proofs.writing.write_fault.Goals as goal
+use Rattle.ael_cli.proofs.writing.write_text_fault.Goals as goal
 
 pub returns-clause-ok : goal.returns-clause-ok
 returns-clause-ok g c =
