@@ -3,3 +3,7 @@ pub mod Runs
 pub mod Seeing
 pub mod Simulating
 pub mod Plainly
+pub mod NoFault
+pub mod Values
+pub mod Getters
+pub mod Parsed

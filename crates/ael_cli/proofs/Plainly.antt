@@ -7,34 +7,35 @@ use Rattle.mutator_asm.specs.Theorems.{MeansOneProgram, HasNoFault}
 use Rattle.plain_heap.specs.Order.{opening}
 use Rattle.gc_core.specs.Whole.{EachActs}
 use Rattle.ael_cli.specs.declared.reading.TheConstants.{MAX_INPUT}
-use Rattle.ael_cli.specs.declared.sim.TheConstants.{TURNS}
 use Rattle.ael_cli.specs.declared.status.Status.{Status}
 use Rattle.ael_cli.specs.declared.status.Status.TheVariants.{Done, Text, Usage, Ended, StepsOut, ReadFault, WriteFault, NoMemory, TooLong}
-use Rattle.ael_cli.specs.declared.words.Command.{Command}
+use Rattle.ael_cli.specs.declared.job.Job.{Job}
+use Rattle.ael_cli.specs.declared.job.Job.TheVariants.{Sim}
+use Rattle.ael_cli.specs.declared.job.SimOptions.{SimOptions}
 use Rattle.ael_cli.specs.Answer.{IsRun, IsCaused, IsAnswer}
 use Rattle.ael_cli.specs.Headline.{Drawn, Filled, Emits, AllWritten, OutFailed, ErrFailed, IsAnswered, IsFaultless, PrintsPlainly}
-use Rattle.ael_cli.specs.Simulation.{order_of, output_of}
+use Rattle.ael_cli.specs.Simulation.{config, order_of, output_of}
 use Rattle.ael_cli.specs.Status.{code_of}
 use Rattle.ael_cli.specs.Stream.{Grows}
-use Rattle.ael_cli.specs.Words.{command_of}
+use Rattle.ael_cli.specs.Words.{job_of}
 
-module _ (one : MeansOneProgram) (no_fault : HasNoFault) (command : Command) (bytes : List ℕ) (program : List (List Instr)) (text : IsText bytes program []) where
+module _ (one : MeansOneProgram) (no_fault : HasNoFault) (options : SimOptions) (bytes : List ℕ) (program : List (List Instr)) (text : IsText bytes program []) where
   -- the output is that of the plain machine, and each mark of the order acts
   abbrev IsPlain : List ℕ → Type 0
-  IsPlain output = (output ≡ output_of command program) × EachActs program TURNS (opening program) (order_of program)
+  IsPlain output = (output ≡ output_of options program) × EachActs program (config options).turns (opening program) (order_of options program)
 
   -- what a run answers
-  ran : (output : List ℕ) (status : Status) → IsRun command (Some bytes) output status → IsPlain output
+  ran : (output : List ℕ) (status : Status) → IsRun options (Some bytes) output status → IsPlain output
   ran output status r =
       let same_bytes : r.bytes ≡ bytes = r.whole.all in
       let its_text : IsText bytes r.code [] = subst (λ bs. IsText bs r.code []) same_bytes r.text in
       let same : r.code ≡ program = (one bytes r.code program [] [] its_text text).0 in
-      let P : List (List Instr) → Type 0 = λ code. (output ≡ output_of command code) × EachActs code TURNS (opening code) (order_of code) in
+      let P : List (List Instr) → Type 0 = λ code. (output ≡ output_of options code) × EachActs code (config options).turns (opening code) (order_of options code) in
       subst P same (r.simulated.prints, r.simulated.acts)
 
   -- what any answer is, where nothing failed
   caused : (before after : ℕ) (output : List ℕ) (status : Status) → length bytes ≤ MAX_INPUT → IsFaultless before after → code_of status ≢ 7
-      → IsCaused command (Some bytes) before after output status → IsPlain output
+      → IsCaused options (Some bytes) before after output status → IsPlain output
   caused before after output Done few sound memory is = ran output Done is
   caused before after output Ended few sound memory is = ran output Ended is
   caused before after output StepsOut few sound memory is = ran output StepsOut is
@@ -53,16 +54,16 @@ written output status final out err out_sound err_sound (AllWritten same out_gro
 written output status final out err out_sound err_sound (OutFailed fault rose part) = absurd (out_sound rose)
 written output status final out err out_sound err_sound (ErrFailed fault rose out_grows) = absurd (err_sound rose)
 
-answered : (answer : Option Command) (command : Command) (left : Option (List ℕ)) (bytes : List ℕ) (before after : ℕ) (output : List ℕ) (status : Status)
-    → answer ≡ Some command → left ≡ Some bytes → IsAnswer answer left before after output status → IsCaused command (Some bytes) before after output status
-answered answer command left bytes before after output status is_command is_left is = rw (is_command, is_left) at is
+answered : (answer : Option Job) (options : SimOptions) (left : Option (List ℕ)) (bytes : List ℕ) (before after : ℕ) (output : List ℕ) (status : Status)
+    → answer ≡ Some (Sim options) → left ≡ Some bytes → IsAnswer answer left before after output status → IsCaused options (Some bytes) before after output status
+answered answer options left bytes before after output status is_command is_left is = rw (is_command, is_left) at is
 
 pub prints_plainly : MeansOneProgram → HasNoFault → (words : List (List ℕ)) (source : Drawn) (out err : Filled) (code : ℕ)
     → IsAnswered words source out err code → PrintsPlainly words source out err code
-prints_plainly one no_fault words source out err code a = λ command bytes program is_command is_left few text source_sound out_sound err_sound memory.
+prints_plainly one no_fault words source out err code a = λ options bytes program is_command is_left few text source_sound out_sound err_sound memory.
     let w = written a.output a.status a.final out err out_sound err_sound a.emitted in
     let status_code : code_of a.status ≡ code = rw (a.code_is, w.0) refl in
     let remembers : code_of a.status ≢ 7 = λ seven. memory (sym status_code ∙ seven) in
-    let is = answered (command_of words) command source.left bytes source.before source.after a.output a.status is_command is_left a.answer in
-    let same = caused one no_fault command bytes program text source.before source.after a.output a.status few source_sound remembers is in
+    let is = answered (job_of words) options source.left bytes source.before source.after a.output a.status is_command is_left a.answer in
+    let same = caused one no_fault options bytes program text source.before source.after a.output a.status few source_sound remembers is in
     (subst (λ output. Grows out.held output out.holds) same.0 w.1, same.1)

@@ -10,12 +10,11 @@ use Rattle.plain_heap.specs.Print.{lines_from, order_line}
 use Rattle.gc_core.specs.Configuration.{Mutator, CoreState}
 use Rattle.gc_core.specs.Run.{all_ended}
 use Rattle.gc_core.specs.Whole.{Seen, seen_of, plain_seen, Follows}
-use Rattle.ael_cli.specs.declared.sim.TheConstants.{TURNS}
 use Rattle.ael_cli.specs.declared.status.Status.{Status}
 use Rattle.ael_cli.specs.declared.status.Status.TheVariants.{Done, Ended, StepsOut}
-use Rattle.ael_cli.specs.declared.words.Command.{Command}
+use Rattle.ael_cli.specs.declared.job.SimOptions.{SimOptions}
 use Rattle.ael_cli.specs.Seen.{lines_seen, status_seen, all_halted}
-use Rattle.ael_cli.specs.Simulation.{run_of, order_of, plain_of, is_halt, status_of, flag_lines, IsSimulated}
+use Rattle.ael_cli.specs.Simulation.{config, run_of, order_of, plain_of, is_halt, status_of, flag_lines, IsSimulated}
 
 list_all-map : {A B : Type 0} (p : B → Bool) (f : A → B) (xs : List A) → list_all p (map f xs) ≡ list_all (λ x. p (f x)) xs
 list_all-map p f [] = refl
@@ -50,20 +49,20 @@ status_seen-plain s =
     let see : plain.Mutator → Seen = λ k. record { printed = k.printed; end = k.end } in
     rw (list_all-map ended see s.mutators, list_all-map halted see s.mutators)
 
-flag_lines-same : (command : Command) (order all : List Mark) → (command.order ≡ true → order ≡ all) → flag_lines command order ≡ flag_lines command all
-flag_lines-same command order all kept = by_flag command.order kept where
+flag_lines-same : (options : SimOptions) (order all : List Mark) → (options.order ≡ true → order ≡ all) → flag_lines options order ≡ flag_lines options all
+flag_lines-same options order all kept = by_flag options.order kept where
   by_flag : (b : Bool) → (b ≡ true → order ≡ all) → cond b (order_line order) [] ≡ cond b (order_line all) []
   by_flag true same = ap order_line (same refl)
   by_flag false same = refl
 
-pub simulated : (command : Command) (code : List (List Instr)) (last : CoreState) (order : List Mark) (output : List ℕ) (status : Status)
-    → Follows code TURNS (run_of code) → last ≡ (run_of code).last → (command.order ≡ true → order ≡ order_of code)
-    → output ≡ lines_seen 0 (seen_of last.configuration) ++ flag_lines command order → status ≡ status_seen (seen_of last.configuration)
-    → IsSimulated command code output status
-simulated command code last order output status follows is_last kept printed went =
-    let seen : seen_of last.configuration ≡ plain_seen (plain_of code) = rw is_last follows.seen in
+pub simulated : (options : SimOptions) (code : List (List Instr)) (last : CoreState) (order : List Mark) (output : List ℕ) (status : Status)
+    → Follows code (config options).turns (run_of options code) → last ≡ (run_of options code).last → (options.order ≡ true → order ≡ order_of options code)
+    → output ≡ lines_seen 0 (seen_of last.configuration) ++ flag_lines options order → status ≡ status_seen (seen_of last.configuration)
+    → IsSimulated options code output status
+simulated options code last order output status follows is_last kept printed went =
+    let seen : seen_of last.configuration ≡ plain_seen (plain_of options code) = rw is_last follows.seen in
     record {
-      prints = printed ∙ rw (seen, lines_seen-plain 0 (plain_of code).mutators, flag_lines-same command order (order_of code) kept) refl;
-      status_is = went ∙ rw seen (status_seen-plain (plain_of code));
+      prints = printed ∙ rw (seen, lines_seen-plain 0 (plain_of options code).mutators, flag_lines-same options order (order_of options code) kept) refl;
+      status_is = went ∙ rw seen (status_seen-plain (plain_of options code));
       acts = follows.acts;
     }

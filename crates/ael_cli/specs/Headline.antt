@@ -4,17 +4,18 @@ use Rattle.mutator_asm.specs.declared.instr.Instr.{Instr}
 use Rattle.mutator_asm.specs.Text.{IsText}
 use Rattle.plain_heap.specs.Order.{opening}
 use Rattle.gc_core.specs.Whole.{EachActs}
-use Rattle.ael_cli.specs.declared.sim.TheConstants.{TURNS}
 use Rattle.ael_cli.specs.declared.reading.TheConstants.{MAX_INPUT}
-use Rattle.ael_cli.specs.declared.words.Command.{Command}
+use Rattle.ael_cli.specs.declared.job.Job.{Job}
+use Rattle.ael_cli.specs.declared.job.Job.TheVariants.{Sim}
+use Rattle.ael_cli.specs.declared.job.SimOptions.{SimOptions}
 use Rattle.ael_cli.specs.declared.status.Status.{Status}
 use Rattle.ael_cli.specs.declared.status.Status.TheVariants.{WriteFault}
 use Rattle.ael_cli.specs.Answer.{IsAnswer}
 use Rattle.ael_cli.specs.Input.{IsBounded}
-use Rattle.ael_cli.specs.Simulation.{order_of, output_of}
+use Rattle.ael_cli.specs.Simulation.{config, order_of, output_of}
 use Rattle.ael_cli.specs.Status.{code_of, line_of}
 use Rattle.ael_cli.specs.Stream.{Rose, Grows, GrowsByPrefix}
-use Rattle.ael_cli.specs.Words.{command_of}
+use Rattle.ael_cli.specs.Words.{job_of}
 
 -- a source over a call: what was to come and what is, and its counts of faults before and after
 pub record Drawn : Type 0 where
@@ -37,9 +38,9 @@ pub data Emits (output : List ℕ) (status : Status) (out err : Filled) (final :
   ErrFailed : (fault : final ≡ WriteFault) (rose : Rose err.before err.after) (out_grows : Grows out.held output out.holds) → Emits output status out err final
 
 -- how much is read: nothing where the words are no command, else at most one byte past the limit
-abbrev pub IsDrawn : Option Command → Option (List ℕ) → Option (List ℕ) → Type 0
+abbrev pub IsDrawn : Option Job → Option (List ℕ) → Option (List ℕ) → Type 0
 IsDrawn None left rest = rest ≡ left
-IsDrawn (Some command) left rest = IsBounded left rest
+IsDrawn (Some job) left rest = IsBounded left rest
 
 -- The words and the input have an answer with its cause, which for a command that simulates is what
 -- the plain machine prints; that is what is written, and the exit status is its code.
@@ -47,8 +48,8 @@ pub record IsAnswered (words : List (List ℕ)) (source : Drawn) (out err : Fill
   pub output : List ℕ
   pub status : Status
   pub final : Status
-  pub drawn : IsDrawn (command_of words) source.left source.rest
-  pub answer : IsAnswer (command_of words) source.left source.before source.after output status
+  pub drawn : IsDrawn (job_of words) source.left source.rest
+  pub answer : IsAnswer (job_of words) source.left source.before source.after output status
   pub emitted : Emits output status out err final
   pub code_is : code ≡ code_of final
 
@@ -63,7 +64,7 @@ IsFaultless before after = Rose before after → ⊥
 -- and heap full comes only where fewer words are free than are asked for.
 abbrev pub PrintsPlainly : List (List ℕ) → Drawn → Filled → Filled → ℕ → Type 0
 PrintsPlainly words source out err code =
-    (command : Command) (bytes : List ℕ) (program : List (List Instr))
-    → command_of words ≡ Some command → source.left ≡ Some bytes → length bytes ≤ MAX_INPUT → IsText bytes program []
+    (options : SimOptions) (bytes : List ℕ) (program : List (List Instr))
+    → job_of words ≡ Some (Sim options) → source.left ≡ Some bytes → length bytes ≤ MAX_INPUT → IsText bytes program []
     → IsFaultless source.before source.after → IsFaultless out.before out.after → IsFaultless err.before err.after → code ≢ 7
-    → Grows out.held (output_of command program) out.holds × EachActs program TURNS (opening program) (order_of program)
+    → Grows out.held (output_of options program) out.holds × EachActs program (config options).turns (opening program) (order_of options program)

@@ -6,3 +6,4 @@ pub mod Simulation
 pub mod Status
 pub mod Stream
 pub mod Words
+pub mod CommandLine

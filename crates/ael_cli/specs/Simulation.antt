@@ -13,26 +13,26 @@ use Rattle.gc_core.specs.declared.config.Config.{Config}
 use Rattle.gc_core.specs.Configuration.{opening_core, workers_of}
 use Rattle.gc_core.specs.Run.{Ran, run_from, in_turn}
 use Rattle.gc_core.specs.Whole.{EachActs}
-use Rattle.ael_cli.specs.declared.sim.TheConstants.{PAGES, SCANNERS, TURNS, STEPS}
+use Rattle.ael_cli.specs.declared.sim.TheConstants.{SCANNERS, TURNS, STEPS}
 use Rattle.ael_cli.specs.declared.status.Status.{Status}
 use Rattle.ael_cli.specs.declared.status.Status.TheVariants.{Done, Ended, StepsOut}
-use Rattle.ael_cli.specs.declared.words.Command.{Command}
+use Rattle.ael_cli.specs.declared.job.SimOptions.{SimOptions}
 
--- the heap and the workers of every run
-abbrev pub config : Config
-config = record { pages = PAGES; scanners = SCANNERS; turns = TURNS }
+-- the heap and the workers of a run
+abbrev pub config : SimOptions → Config
+config options = record { pages = options.pages; scanners = SCANNERS; turns = TURNS }
 
 -- the run of a program: the workers in turn, up to the last end or so many steps
-abbrev pub run_of : List (List Instr) → Ran
-run_of code = run_from (in_turn (workers_of (opening_core code config))) 0 STEPS (opening_core code config)
+abbrev pub run_of : SimOptions → List (List Instr) → Ran
+run_of options code = run_from (in_turn (workers_of (opening_core code (config options)))) 0 STEPS (opening_core code (config options))
 
 -- the order of the run
-abbrev pub order_of : List (List Instr) → List Mark
-order_of code = (run_of code).order
+abbrev pub order_of : SimOptions → List (List Instr) → List Mark
+order_of options code = (run_of options code).order
 
 -- the plain machine, executing the order of the run
-abbrev pub plain_of : List (List Instr) → Plain
-plain_of code = plain code TURNS (order_of code)
+abbrev pub plain_of : SimOptions → List (List Instr) → Plain
+plain_of options code = plain code (config options).turns (order_of options code)
 
 abbrev pub is_halt : Option End → Bool
 is_halt None = false
@@ -54,17 +54,17 @@ status_of s =
     else StepsOut
 
 -- the lines of the flags
-abbrev pub flag_lines : Command → List Mark → List ℕ
-flag_lines command order = if command.order then order_line order else []
+abbrev pub flag_lines : SimOptions → List Mark → List ℕ
+flag_lines options order = if options.order then order_line order else []
 
 -- all that is printed: the lines of the plain machine, and then those of the flags
-abbrev pub output_of : Command → List (List Instr) → List ℕ
-output_of command code = print_of (plain_of code) ++ flag_lines command (order_of code)
+abbrev pub output_of : SimOptions → List (List Instr) → List ℕ
+output_of options code = print_of (plain_of options code) ++ flag_lines options (order_of options code)
 
 -- The answer of `sim` is what the plain machine prints that executes the order of the run. Each mark
 -- of the order is of a mutator without an end, so that each mutator's marks execute its program from
 -- the start, none skipped and none twice, and heap full comes only where fewer words are free than are asked for.
-pub record IsSimulated (command : Command) (code : List (List Instr)) (output : List ℕ) (status : Status) : Type 0 where
-  pub prints : output ≡ output_of command code
-  pub status_is : status ≡ status_of (plain_of code)
-  pub acts : EachActs code TURNS (opening code) (order_of code)
+pub record IsSimulated (options : SimOptions) (code : List (List Instr)) (output : List ℕ) (status : Status) : Type 0 where
+  pub prints : output ≡ output_of options code
+  pub status_is : status ≡ status_of (plain_of options code)
+  pub acts : EachActs code (config options).turns (opening code) (order_of options code)

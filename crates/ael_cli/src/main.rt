@@ -2,6 +2,8 @@
 #![tactic(auto)]
 
 mod answer;
+mod command_line;
+mod job;
 mod memory;
 mod reading;
 mod run;

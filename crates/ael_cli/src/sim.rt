@@ -1,22 +1,19 @@
 //! The command `sim`: a program run by the workers in turn.
 
-ghost use Rattle.std.specs.Prelude.{◌≡◌, ◌++◌, IfOk, OnOk, map, string_bytes};
-ghost use Rattle.gc_core.specs.Configuration.{opening_core};
+ghost use Rattle.std.specs.Prelude.{◌≡◌, ◌++◌, IfOk, IsTrue, OnOk, map, string_bytes};
+ghost use Rattle.gc_core.specs.Configuration.{is_size, opening_core};
 ghost use Rattle.gc_core.specs.Whole.{seen_of};
 ghost use Rattle.ael_cli.specs.Seen.{lines_seen, status_seen, all_halted};
 ghost use Rattle.ael_cli.specs.Simulation.{config, flag_lines, is_halt, IsSimulated};
 
 use crate::answer::Answer;
+use crate::job::SimOptions;
 use crate::run::run;
 use crate::status::Status;
-use crate::words::Command;
 use gc_core::{Config, Core, OpenError, runs_follow};
 use mutator_asm::Program;
 use plain_heap::{End, Mark, NoMemory, push_lines, push_order};
 use std::alloc::Global;
-
-/// The pages of a space.
-const PAGES: u32 = 256;
 
 /// The scanners beside the mutators.
 const SCANNERS: u8 = 1;
@@ -28,11 +25,12 @@ const TURNS: u32 = 1_000_000;
 const STEPS: u32 = 10_000_000;
 
 /// The core of a run.
-fn open<'p>(alloc: Global, program: &'p Program) -> Result<Core<'p>, NoMemory>
-    ensures { IfOk result (λ core. core ≡ opening_core program.now.code config) }
+fn open<'p>(alloc: Global, program: &'p Program, options: SimOptions) -> Result<Core<'p>, NoMemory>
+    requires { IsTrue (is_size options.pages) }
+    ensures { IfOk result (λ core. core ≡ opening_core program.now.code (config options)) }
 {
     let config = Config {
-        pages: PAGES,
+        pages: options.pages,
         scanners: SCANNERS,
         turns: TURNS,
     };
@@ -76,10 +74,10 @@ fn all_halted(core: &Core) -> bool
 }
 
 /// Adds the lines of the flags.
-fn push_flags(output: &mut String, command: Command, order: &[Mark]) -> Result<(), NoMemory>
-    ensures { OnOk result (string_bytes output.new ≡ string_bytes output.old ++ flag_lines command order.now) }
+fn push_flags(output: &mut String, options: SimOptions, order: &[Mark]) -> Result<(), NoMemory>
+    ensures { OnOk result (string_bytes output.new ≡ string_bytes output.old ++ flag_lines options order.now) }
 {
-    if command.order {
+    if options.order {
         push_order(output, order)?;
     }
     Ok(())
@@ -99,15 +97,16 @@ fn verdict(core: &Core) -> Status
 }
 
 /// Runs a program, and prints what its mutators printed.
-pub fn sim(alloc: Global, program: &Program, command: Command) -> Result<Answer, NoMemory>
-    ensures { IfOk result (λ answer. IsSimulated command program.now.code (string_bytes answer.output) answer.status) }
+pub fn sim(alloc: Global, program: &Program, options: SimOptions) -> Result<Answer, NoMemory>
+    requires { IsTrue (is_size options.pages) }
+    ensures { IfOk result (λ answer. IsSimulated options program.now.code (string_bytes answer.output) answer.status) }
 {
     runs_follow();
-    let mut core = open(alloc, program)?;
-    let order = run(alloc, &mut core, STEPS, command.order)?;
+    let mut core = open(alloc, program, options)?;
+    let order = run(alloc, &mut core, STEPS, options.order)?;
     let mut output = String::new(alloc);
     push_mutators(&mut output, &core)?;
-    push_flags(&mut output, command, &order)?;
+    push_flags(&mut output, options, &order)?;
     Ok(Answer {
         output,
         status: verdict(&core),

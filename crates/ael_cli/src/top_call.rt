@@ -4,15 +4,16 @@ ghost use Rattle.std.specs.Prelude.{◌≡◌, ◌≤◌, [], IsSome, IfOk, IfEr
 ghost use Rattle.ael_cli.specs.Answer.{IsAnswer, IsCaused};
 ghost use Rattle.ael_cli.specs.Headline.{IsAnswered, PrintsPlainly, Emits, IsDrawn};
 ghost use Rattle.ael_cli.specs.Input.{IsBounded};
-ghost use Rattle.ael_cli.specs.Words.{command_of};
+ghost use Rattle.ael_cli.specs.Words.{job_of, IsInRange};
 
 use crate::answer::Answer;
+use crate::job::{Job, SimOptions};
 use crate::reading::read_all;
 use crate::sim::sim;
 use crate::sink::Sink;
 use crate::source::Source;
 use crate::status::Status;
-use crate::words::{Command, read_words};
+use crate::words::{WordsError, read_words};
 use crate::writing::{write_all, write_line};
 use mutator_asm::{assemble, never_both, one_program};
 use std::alloc::Global;
@@ -69,29 +70,31 @@ pub fn ael_still<S: Source, O: Sink, E: Sink>(
 
 /// The answer to the words and the input.
 fn answer<S: Source>(alloc: Global, words: &[String], src: &mut S) -> Answer
-    ensures answer { IsAnswer (command_of (map string_bytes words.now)) (S.left src.old) (S.faults src.old) (S.faults src.new)
+    ensures answer { IsAnswer (job_of (map string_bytes words.now)) (S.left src.old) (S.faults src.old) (S.faults src.new)
         (string_bytes result.output) result.status }
-    ensures drawn { IsDrawn (command_of (map string_bytes words.now)) (S.left src.old) (S.left src.new) }
+    ensures drawn { IsDrawn (job_of (map string_bytes words.now)) (S.left src.old) (S.left src.new) }
 {
-    match read_words(words) {
-        None => Answer::failed(alloc, Status::Usage),
-        Some(command) => match simulate(alloc, command, src) {
+    match read_words(alloc, words) {
+        Ok(Job::Sim(options)) => match simulate(alloc, options, src) {
             Ok(answer) => answer,
             Err(status) => Answer::failed(alloc, status),
         },
+        Err(WordsError::Refused) => Answer::failed(alloc, Status::Usage),
+        Err(WordsError::NoMemory) => Answer::failed(alloc, Status::NoMemory),
     }
 }
 
 /// The answer to a simulation of the input.
-fn simulate<S: Source>(alloc: Global, command: Command, src: &mut S) -> Result<Answer, Status>
-    ensures ok { IfOk result (λ answer. IsCaused command (S.left src.old) (S.faults src.old) (S.faults src.new)
+fn simulate<S: Source>(alloc: Global, options: SimOptions, src: &mut S) -> Result<Answer, Status>
+    requires { IsInRange (Job.Sim options) }
+    ensures ok { IfOk result (λ answer. IsCaused options (S.left src.old) (S.faults src.old) (S.faults src.new)
         (string_bytes answer.output) answer.status) }
-    ensures err { IfErr result (IsCaused command (S.left src.old) (S.faults src.old) (S.faults src.new) []) }
+    ensures err { IfErr result (IsCaused options (S.left src.old) (S.faults src.old) (S.faults src.new) []) }
     ensures drawn { IsBounded (S.left src.old) (S.left src.new) }
 {
     let text = read_all(alloc, src)?;
     let program = assemble(alloc, &text)?;
-    Ok(sim(alloc, &program, command)?)
+    Ok(sim(alloc, &program, options)?)
 }
 
 /// Writes an answer. A failed write is how the call went, whatever else it was.

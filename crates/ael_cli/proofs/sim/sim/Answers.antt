@@ -7,7 +7,7 @@ use Rattle.ael_cli.proofs.sim.sim.Goals as goal
 
 pub returns : goal.returns
 returns c = simulated _ _ c.run.new.core c.in_ok-order.order.items _ _
-    (c.runs_follow.ensures c.args.program.now.code c.args.program.now.schedule config (in_turn _) STEPS c.args.program.now.well_formed (search rules) (search rules))
+    (c.runs_follow.ensures c.args.program.now.code c.args.program.now.schedule (config c.args.options) (in_turn _) STEPS c.args.program.now.well_formed c.requires (search rules))
     (rw c.in_ok-core.ensures at c.in_ok-order.ensures.core)
     (rw c.in_ok-core.ensures at c.in_ok-order.ensures.order)
     (rw (c.in_ok-push_flags.ensures, c.in_ok-push_mutators.ensures, c.new-output.ensures.bytes, c.deref.ensures.value))
