@@ -1,69 +1,81 @@
--- The headline, from the answer and its cause.
-use Rattle.std.proofs.Common.{◌≡◌, ◌≢◌, ◌≤◌, ℕ, List, [], length, refl, sym, ◌∙◌, subst, arith}
-use Rattle.std.specs.Prelude.{Option, Some}
+-- The headline and completeness, from the answer and its cause.
+use Rattle.std.proofs.Common.{◌≡◌, ◌≢◌, ◌≤◌, ℕ, List, [], length, refl, sym, ap, ◌∙◌, subst, inl, inr, arith}
+use Rattle.std.specs.Prelude.{◌⊎◌, Option, Some}
 use Rattle.mutator_asm.specs.declared.instr.Instr.{Instr}
 use Rattle.mutator_asm.specs.Text.{IsText, IsFault}
 use Rattle.mutator_asm.specs.Theorems.{MeansOneProgram, HasNoFault}
 use Rattle.plain_heap.specs.Order.{opening}
 use Rattle.gc_core.specs.Whole.{EachActs}
 use Rattle.ael_cli.specs.declared.reading.TheConstants.{MAX_INPUT}
-use Rattle.ael_cli.specs.declared.status.Status.{Status}
-use Rattle.ael_cli.specs.declared.status.Status.TheVariants.{Done, Text, Usage, Ended, StepsOut, ReadFault, WriteFault, NoMemory, TooLong}
 use Rattle.ael_cli.specs.declared.job.Job.{Job}
 use Rattle.ael_cli.specs.declared.job.Job.TheVariants.{Sim}
 use Rattle.ael_cli.specs.declared.job.SimOptions.{SimOptions}
+use Rattle.ael_cli.specs.declared.status.Status.{Status}
+use Rattle.ael_cli.specs.declared.status.Status.TheVariants.{Done, Text, Usage, Ended, StepsOut, ReadFault, WriteFault, NoMemory, TooLong}
 use Rattle.ael_cli.specs.Answer.{IsRun, IsCaused, IsAnswer}
-use Rattle.ael_cli.specs.Headline.{Drawn, Filled, Emits, AllWritten, OutFailed, ErrFailed, IsAnswered, IsFaultless, PrintsPlainly}
-use Rattle.ael_cli.specs.Simulation.{config, order_of, output_of}
+use Rattle.ael_cli.specs.Ends.{Drawn, Filled, IsFaultless}
+use Rattle.ael_cli.specs.Headline.{Emits, AllWritten, OutFailed, BothFailed, ErrFailed, IsAnswered, GoesWell, PrintsPlainly, EndsAsOrdered}
+use Rattle.ael_cli.specs.Simulation.{config, order_of, output_of, status_of, IsSimulated}
 use Rattle.ael_cli.specs.Status.{code_of}
 use Rattle.ael_cli.specs.Stream.{Grows}
 use Rattle.ael_cli.specs.Words.{job_of}
 
 module _ (one : MeansOneProgram) (no_fault : HasNoFault) (options : SimOptions) (bytes : List ℕ) (program : List (List Instr)) (text : IsText bytes program []) where
-  -- the output is that of the plain machine, and each mark of the order acts
-  abbrev IsPlain : List ℕ → Type 0
-  IsPlain output = (output ≡ output_of options program) × EachActs program (config options).turns (opening program) (order_of options program)
-
   -- what a run answers
-  ran : (output : List ℕ) (status : Status) → IsRun options (Some bytes) output status → IsPlain output
+  ran : (output : List ℕ) (status : Status) → IsRun options (Some bytes) output status → IsSimulated options program output status
   ran output status r =
-      let same_bytes : r.bytes ≡ bytes = r.whole.all in
-      let its_text : IsText bytes r.code [] = subst (λ bs. IsText bs r.code []) same_bytes r.text in
+      let its_text : IsText bytes r.code [] = subst (λ bs. IsText bs r.code []) r.whole.all r.text in
       let same : r.code ≡ program = (one bytes r.code program [] [] its_text text).0 in
-      let P : List (List Instr) → Type 0 = λ code. (output ≡ output_of options code) × EachActs code (config options).turns (opening code) (order_of options code) in
-      subst P same (r.simulated.prints, r.simulated.acts)
+      subst (λ code. IsSimulated options code output status) same r.simulated
 
   -- what any answer is, where nothing failed
-  caused : (before after : ℕ) (output : List ℕ) (status : Status) → length bytes ≤ MAX_INPUT → IsFaultless before after → code_of status ≢ 7
-      → IsCaused options (Some bytes) before after output status → IsPlain output
-  caused before after output Done few sound memory is = ran output Done is
-  caused before after output Ended few sound memory is = ran output Ended is
-  caused before after output StepsOut few sound memory is = ran output StepsOut is
-  caused before after output (Text number line) few sound memory is =
-      absurd (no_fault bytes program [] number line text (subst (λ bs. IsFault bs number line) is.1.whole.all is.1.fault))
-  caused before after output ReadFault few sound memory is = absurd (sound is.1)
-  caused before after output TooLong few sound memory is = absurd (omega (arith, few, is.1))
-  caused before after output NoMemory few sound memory is = absurd (memory refl)
-  caused before after output Usage few sound memory is = absurd is
-  caused before after output WriteFault few sound memory is = absurd is
+  caused : (source : Drawn) (output : List ℕ) (status : Status) → source.left ≡ Some bytes → length bytes ≤ MAX_INPUT → IsFaultless source.before source.after
+      → IsCaused options source output status → IsSimulated options program output status ⊎ (status ≡ NoMemory)
+  caused source output Done given within sound is = inl (ran output Done (rw given at is))
+  caused source output Ended given within sound is = inl (ran output Ended (rw given at is))
+  caused source output StepsOut given within sound is = inl (ran output StepsOut (rw given at is))
+  caused source output (Text number line) given within sound is =
+      let its = rw given at is.1.whole.all in
+      absurd (no_fault bytes program [] number line text (subst (λ bs. IsFault bs number line) its is.1.fault))
+  caused source output ReadFault given within sound is = absurd (sound is.1)
+  caused source output TooLong given within sound is = let past = rw given at is.1 in absurd (omega (arith, within, past))
+  caused source output NoMemory given within sound is = inr refl
+  caused source output Usage given within sound is = absurd is
+  caused source output WriteFault given within sound is = absurd is
 
 -- what was written, where no sink failed
 written : (output : List ℕ) (status final : Status) (out err : Filled) → IsFaultless out.before out.after → IsFaultless err.before err.after
     → Emits output status out err final → (final ≡ status) × Grows out.held output out.holds
-written output status final out err out_sound err_sound (AllWritten same out_grows err_grows) = (same, out_grows)
-written output status final out err out_sound err_sound (OutFailed fault rose part) = absurd (out_sound rose)
-written output status final out err out_sound err_sound (ErrFailed fault rose out_grows) = absurd (err_sound rose)
+written output status final out err out_sound err_sound (AllWritten same printed told) = (same, printed.grows)
+written output status final out err out_sound err_sound (OutFailed fault printed told) = absurd (out_sound printed.rose)
+written output status final out err out_sound err_sound (BothFailed fault printed told) = absurd (out_sound printed.rose)
+written output status final out err out_sound err_sound (ErrFailed fault printed told) = absurd (err_sound told.rose)
 
-answered : (answer : Option Job) (options : SimOptions) (left : Option (List ℕ)) (bytes : List ℕ) (before after : ℕ) (output : List ℕ) (status : Status)
-    → answer ≡ Some (Sim options) → left ≡ Some bytes → IsAnswer answer left before after output status → IsCaused options (Some bytes) before after output status
-answered answer options left bytes before after output status is_command is_left is = rw (is_command, is_left) at is
+answered : (job : Option Job) (options : SimOptions) (source : Drawn) (output : List ℕ) (status : Status) → job ≡ Some (Sim options)
+    → IsAnswer job source output status → IsCaused options source output status
+answered job options source output status asked is = rw asked at is
 
-pub prints_plainly : MeansOneProgram → HasNoFault → (words : List (List ℕ)) (source : Drawn) (out err : Filled) (code : ℕ)
-    → IsAnswered words source out err code → PrintsPlainly words source out err code
-prints_plainly one no_fault words source out err code a = λ options bytes program is_command is_left few text source_sound out_sound err_sound memory.
-    let w = written a.output a.status a.final out err out_sound err_sound a.emitted in
-    let status_code : code_of a.status ≡ code = rw (a.code_is, w.0) refl in
-    let remembers : code_of a.status ≢ 7 = λ seven. memory (sym status_code ∙ seven) in
-    let is = answered (job_of words) options source.left bytes source.before source.after a.output a.status is_command is_left a.answer in
-    let same = caused one no_fault options bytes program text source.before source.after a.output a.status few source_sound remembers is in
-    (subst (λ output. Grows out.held output out.holds) same.0 w.1, same.1)
+module _ (one : MeansOneProgram) (no_fault : HasNoFault) (words : List (List ℕ)) (source : Drawn) (out err : Filled) (code : ℕ) (a : IsAnswered words source out err code) where
+  -- the answer is that of the simulation and is written whole, or there was no memory
+  went : (options : SimOptions) (program : List (List Instr)) → GoesWell words source out err options program
+      → (IsSimulated options program a.output a.status ⊎ (a.status ≡ NoMemory)) × (code ≡ code_of a.status) × Grows out.held a.output out.holds
+  went options program well =
+      let w = written a.output a.status a.final out err well.printed well.told a.emitted in
+      let is = answered (job_of words) options source a.output a.status well.asked a.answer in
+      (caused one no_fault options well.bytes program well.text source a.output a.status well.given well.within well.read is, a.code_is ∙ ap code_of w.0, w.1)
+
+  pub prints_plainly : PrintsPlainly words source out err code
+  prints_plainly options program well memory =
+      let w = went options program well in
+      elim w.0 [
+        | inl simulated ↦ (subst (λ output. Grows out.held output out.holds) simulated.prints w.2, simulated.acts)
+        | inr none ↦ absurd (memory (w.1 ∙ ap code_of none))
+      ]
+
+  pub ends_as_ordered : EndsAsOrdered words source out err code
+  ends_as_ordered options program well =
+      let w = went options program well in
+      elim w.0 [
+        | inl simulated ↦ inl (w.1 ∙ ap code_of simulated.status_is)
+        | inr none ↦ inr (w.1 ∙ ap code_of none)
+      ]

@@ -1,12 +1,11 @@
 -- What is seen of the mutators, one after another.
-use Rattle.std.proofs.Common.{◌≡◌, ℕ, ◌+◌, ◌<◌, ◌≤◌, zero, suc, Bool, true, false, List, [], ◌∷◌, ◌++◌, length, get_or, drop, refl, sym, ◌∙◌, add-one, append_assoc, append-nil, arith}
+use Rattle.std.proofs.Common.{◌≡◌, ℕ, ◌+◌, ◌<◌, ◌≤◌, zero, suc, true, false, List, [], ◌∷◌, ◌++◌, length, get_or, drop, refl, sym, ◌∙◌, add-one, append_assoc, append-nil, arith}
 use Rattle.std.specs.Prelude.{map}
 use Rattle.std.specs.List.{list_all}
 use Rattle.plain_heap.specs.Print.{lines_of}
 use Rattle.gc_core.specs.Configuration.{Mutator, Configuration, fresh}
 use Rattle.gc_core.specs.Whole.{Seen, seen_of}
-use Rattle.ael_cli.specs.Seen.{lines_seen}
-use Rattle.ael_cli.specs.Simulation.{is_halt}
+use Rattle.ael_cli.specs.Seen.{lines_seen, is_halt, has_halted}
 
 abbrev pub see : Mutator → Seen
 see k = record { printed = k.printed; end = k.end }
@@ -35,18 +34,15 @@ tells_more told all m c within h = record { rest = rw append_assoc (rw (seen-nex
 pub tells_all : (told all : List ℕ) (m : ℕ) (c : Configuration) → length c.mutators ≤ m → Tells told m c all → told ≡ all
 tells_all told all m c past h = sym (append-nil told) ∙ (rw (seen-end c.mutators m past) at h.rest)
 
-abbrev pub halted : Seen → Bool
-halted k = is_halt k.end
-
 -- the mutators before m made `halt`
 pub record HaltsBelow (m : ℕ) (c : Configuration) : Type 0 where
-  pub rest : list_all halted (drop m (seen_of c)) ≡ list_all halted (seen_of c)
+  pub rest : list_all has_halted (drop m (seen_of c)) ≡ list_all has_halted (seen_of c)
 
 pub halts_more : (m : ℕ) (c : Configuration) → m < length c.mutators → is_halt (get_or c.mutators m fresh).end ≡ true → HaltsBelow m c → HaltsBelow (m + 1) c
 halts_more m c within halts h = record { rest = rw halts at (rw (seen-next c.mutators m within) at h.rest) }
 
-pub halts_not : (m : ℕ) (c : Configuration) → m < length c.mutators → is_halt (get_or c.mutators m fresh).end ≡ false → HaltsBelow m c → list_all halted (seen_of c) ≡ false
+pub halts_not : (m : ℕ) (c : Configuration) → m < length c.mutators → is_halt (get_or c.mutators m fresh).end ≡ false → HaltsBelow m c → list_all has_halted (seen_of c) ≡ false
 halts_not m c within goes h = sym (rw goes at (rw (seen-next c.mutators m within) at h.rest))
 
-pub halts_all : (m : ℕ) (c : Configuration) → length c.mutators ≤ m → HaltsBelow m c → list_all halted (seen_of c) ≡ true
+pub halts_all : (m : ℕ) (c : Configuration) → length c.mutators ≤ m → HaltsBelow m c → list_all has_halted (seen_of c) ≡ true
 halts_all m c past h = sym (rw (seen-end c.mutators m past) at h.rest)

@@ -1,7 +1,6 @@
 -- What is seen of the core in the end is what is seen of the plain machine.
 use Rattle.std.proofs.Common.{◌≡◌, ℕ, ◌+◌, Bool, true, false, List, [], ◌∷◌, ◌++◌, refl, ap, ◌∙◌, cond}
 use Rattle.std.specs.Prelude.{map}
-use Rattle.std.specs.Option.{is_some}
 use Rattle.std.specs.List.{list_all}
 use Rattle.plain_state.specs.State as plain
 use Rattle.mutator_asm.specs.declared.instr.Instr.{Instr}
@@ -13,41 +12,30 @@ use Rattle.gc_core.specs.Whole.{Seen, seen_of, plain_seen, Follows}
 use Rattle.ael_cli.specs.declared.status.Status.{Status}
 use Rattle.ael_cli.specs.declared.status.Status.TheVariants.{Done, Ended, StepsOut}
 use Rattle.ael_cli.specs.declared.job.SimOptions.{SimOptions}
-use Rattle.ael_cli.specs.Seen.{lines_seen, status_seen, all_halted}
-use Rattle.ael_cli.specs.Simulation.{config, run_of, order_of, plain_of, is_halt, status_of, flag_lines, IsSimulated}
+use Rattle.ael_cli.specs.Seen.{lines_seen, has_ended, has_halted, status_seen}
+use Rattle.ael_cli.specs.Simulation.{config, run_of, order_of, plain_of, flag_lines, IsSimulated}
 
 list_all-map : {A B : Type 0} (p : B → Bool) (f : A → B) (xs : List A) → list_all p (map f xs) ≡ list_all (λ x. p (f x)) xs
 list_all-map p f [] = refl
 list_all-map p f (x ∷ xs) = rw (list_all-map p f xs)
 
-abbrev pub ended : Seen → Bool
-ended k = is_some k.end
-
-abbrev pub halted : Seen → Bool
-halted k = is_halt k.end
-
 -- whether all have their ends
-pub ended-seen : (s : CoreState) → list_all (λ k. is_some k.end) (seen_of s.configuration) ≡ all_ended s
-ended-seen s = let see : Mutator → Seen = λ k. record { printed = k.printed; end = k.end } in list_all-map ended see s.configuration.mutators
+pub ended-seen : (s : CoreState) → list_all has_ended (seen_of s.configuration) ≡ all_ended s
+ended-seen s = let see : Mutator → Seen = λ k. record { printed = k.printed; end = k.end } in list_all-map has_ended see s.configuration.mutators
 
 -- how a run went
 pub went_out : (s : CoreState) → all_ended s ≡ false → StepsOut ≡ status_seen (seen_of s.configuration)
 went_out s out = rw (ended-seen s, out)
 
-pub went_done : (s : CoreState) → all_ended s ≡ true → all_halted (seen_of s.configuration) ≡ true → Done ≡ status_seen (seen_of s.configuration)
+pub went_done : (s : CoreState) → all_ended s ≡ true → list_all has_halted (seen_of s.configuration) ≡ true → Done ≡ status_seen (seen_of s.configuration)
 went_done s over halts = rw (ended-seen s, over, halts)
 
-pub went_otherwise : (s : CoreState) → all_ended s ≡ true → all_halted (seen_of s.configuration) ≡ false → Ended ≡ status_seen (seen_of s.configuration)
+pub went_otherwise : (s : CoreState) → all_ended s ≡ true → list_all has_halted (seen_of s.configuration) ≡ false → Ended ≡ status_seen (seen_of s.configuration)
 went_otherwise s over halts = rw (ended-seen s, over, halts)
 
 lines_seen-plain : (m : ℕ) (ks : List plain.Mutator) → lines_seen m (map (λ k. record { printed = k.printed; end = k.end }) ks) ≡ lines_from m ks
 lines_seen-plain m [] = refl
 lines_seen-plain m (k ∷ ks) = rw (lines_seen-plain (m + 1) ks)
-
-status_seen-plain : (s : plain.Plain) → status_seen (plain_seen s) ≡ status_of s
-status_seen-plain s =
-    let see : plain.Mutator → Seen = λ k. record { printed = k.printed; end = k.end } in
-    rw (list_all-map ended see s.mutators, list_all-map halted see s.mutators)
 
 flag_lines-same : (options : SimOptions) (order all : List Mark) → (options.order ≡ true → order ≡ all) → flag_lines options order ≡ flag_lines options all
 flag_lines-same options order all kept = by_flag options.order kept where
@@ -63,6 +51,6 @@ simulated options code last order output status follows is_last kept printed wen
     let seen : seen_of last.configuration ≡ plain_seen (plain_of options code) = rw is_last follows.seen in
     record {
       prints = printed ∙ rw (seen, lines_seen-plain 0 (plain_of options code).mutators, flag_lines-same options order (order_of options code) kept) refl;
-      status_is = went ∙ rw seen (status_seen-plain (plain_of options code));
+      status_is = went ∙ ap status_seen seen;
       acts = follows.acts;
     }

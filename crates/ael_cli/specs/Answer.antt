@@ -1,12 +1,13 @@
--- What a command answers to the words and the input, and what is written of it.
+-- What a command answers to the words and the input.
 use Rattle.std.specs.Prelude.{◌≡◌, ◌⊎◌, ℕ, List, [], Option, Some, None}
 use Rattle.mutator_asm.specs.declared.instr.Instr.{Instr}
 use Rattle.mutator_asm.specs.Text.{IsText, IsFault}
-use Rattle.ael_cli.specs.declared.status.Status.{Status}
-use Rattle.ael_cli.specs.declared.status.Status.TheVariants.{Done, Text, Usage, Ended, StepsOut, ReadFault, WriteFault, NoMemory, TooLong}
 use Rattle.ael_cli.specs.declared.job.Job.{Job}
 use Rattle.ael_cli.specs.declared.job.Job.TheVariants.{Sim}
 use Rattle.ael_cli.specs.declared.job.SimOptions.{SimOptions}
+use Rattle.ael_cli.specs.declared.status.Status.{Status}
+use Rattle.ael_cli.specs.declared.status.Status.TheVariants.{Done, Text, Usage, Ended, StepsOut, ReadFault, WriteFault, NoMemory, TooLong}
+use Rattle.ael_cli.specs.Ends.{Drawn}
 use Rattle.ael_cli.specs.Input.{IsWhole, IsPastLimit}
 use Rattle.ael_cli.specs.Simulation.{IsSimulated}
 use Rattle.ael_cli.specs.Stream.{Rose}
@@ -25,20 +26,19 @@ pub record IsFaulty (left : Option (List ℕ)) (number line : ℕ) : Type 0 wher
   pub whole : IsWhole left bytes
   pub fault : IsFault bytes number line
 
--- The answer to a simulation: by its status, with its cause, where left is what was to come of the
--- source, and faults are its counts before and after.
-abbrev pub IsCaused : SimOptions → Option (List ℕ) → ℕ → ℕ → List ℕ → Status → Type 0
-IsCaused options left before after output Done = IsRun options left output Done
-IsCaused options left before after output Ended = IsRun options left output Ended
-IsCaused options left before after output StepsOut = IsRun options left output StepsOut
-IsCaused options left before after output (Text number line) = (output ≡ []) × IsFaulty left number line
-IsCaused options left before after output ReadFault = (output ≡ []) × Rose before after
-IsCaused options left before after output TooLong = (output ≡ []) × IsPastLimit left
-IsCaused options left before after output NoMemory = output ≡ []
-IsCaused options left before after output Usage = ⊥
-IsCaused options left before after output WriteFault = ⊥
+-- the answer to a simulation: by its status, with its cause
+abbrev pub IsCaused : SimOptions → Drawn → List ℕ → Status → Type 0
+IsCaused options source output Done = IsRun options source.left output Done
+IsCaused options source output Ended = IsRun options source.left output Ended
+IsCaused options source output StepsOut = IsRun options source.left output StepsOut
+IsCaused options source output (Text number line) = (output ≡ []) × IsFaulty source.left number line
+IsCaused options source output ReadFault = (output ≡ []) × Rose source.before source.after
+IsCaused options source output TooLong = (output ≡ []) × IsPastLimit source.left
+IsCaused options source output NoMemory = output ≡ []
+IsCaused options source output Usage = ⊥
+IsCaused options source output WriteFault = ⊥
 
 -- the answer to the words; where they are no command it is the usage, or there was no memory to read them
-abbrev pub IsAnswer : Option Job → Option (List ℕ) → ℕ → ℕ → List ℕ → Status → Type 0
-IsAnswer None left before after output status = (output ≡ []) × ((status ≡ Usage) ⊎ (status ≡ NoMemory))
-IsAnswer (Some (Sim options)) left before after output status = IsCaused options left before after output status
+abbrev pub IsAnswer : Option Job → Drawn → List ℕ → Status → Type 0
+IsAnswer None source output status = (output ≡ []) × ((status ≡ Usage) ⊎ (status ≡ NoMemory))
+IsAnswer (Some (Sim options)) source output status = IsCaused options source output status

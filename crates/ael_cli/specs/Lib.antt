@@ -1,4 +1,6 @@
 pub mod Answer
+pub mod CommandLine
+pub mod Ends
 pub mod Headline
 pub mod Input
 pub mod Seen
@@ -6,4 +8,3 @@ pub mod Simulation
 pub mod Status
 pub mod Stream
 pub mod Words
-pub mod CommandLine

@@ -1,9 +1,5 @@
 -- What `sim` prints of a program, and how it goes.
-use Rattle.std.specs.Prelude.{◌≡◌, ℕ, Bool, true, false, List, [], ◌++◌, Option, Some, None, if◌then◌else◌}
-use Rattle.std.specs.Option.{is_some}
-use Rattle.std.specs.List.{list_all}
-use Rattle.plain_state.specs.declared.end.End.{End}
-use Rattle.plain_state.specs.declared.end.End.TheVariants as ends
+use Rattle.std.specs.Prelude.{◌≡◌, ℕ, List, [], ◌++◌, if◌then◌else◌}
 use Rattle.plain_state.specs.State.{Plain}
 use Rattle.mutator_asm.specs.declared.instr.Instr.{Instr}
 use Rattle.plain_heap.specs.declared.mark.Mark.{Mark}
@@ -12,11 +8,11 @@ use Rattle.plain_heap.specs.Print.{print_of, order_line}
 use Rattle.gc_core.specs.declared.config.Config.{Config}
 use Rattle.gc_core.specs.Configuration.{opening_core, workers_of}
 use Rattle.gc_core.specs.Run.{Ran, run_from, in_turn}
-use Rattle.gc_core.specs.Whole.{EachActs}
+use Rattle.gc_core.specs.Whole.{EachActs, plain_seen}
 use Rattle.ael_cli.specs.declared.sim.TheConstants.{SCANNERS, TURNS, STEPS}
 use Rattle.ael_cli.specs.declared.status.Status.{Status}
-use Rattle.ael_cli.specs.declared.status.Status.TheVariants.{Done, Ended, StepsOut}
 use Rattle.ael_cli.specs.declared.job.SimOptions.{SimOptions}
+use Rattle.ael_cli.specs.Seen.{status_seen}
 
 -- the heap and the workers of a run
 abbrev pub config : SimOptions → Config
@@ -34,25 +30,6 @@ order_of options code = (run_of options code).order
 abbrev pub plain_of : SimOptions → List (List Instr) → Plain
 plain_of options code = plain code (config options).turns (order_of options code)
 
-abbrev pub is_halt : Option End → Bool
-is_halt None = false
-is_halt (Some ends.Halt) = true
-is_halt (Some ends.NotPointer) = false
-is_halt (Some ends.NotNumber) = false
-is_halt (Some ends.OutOfRange) = false
-is_halt (Some ends.IntoRaw) = false
-is_halt (Some ends.ZeroDivisor) = false
-is_halt (Some ends.JumpOut) = false
-is_halt (Some ends.TurnsOut) = false
-is_halt (Some ends.OutputFull) = false
-is_halt (Some (ends.HeapFull asked room live)) = false
-
--- how a run went, by the ends of its mutators
-abbrev pub status_of : Plain → Status
-status_of s =
-    if list_all (λ k. is_some k.end) s.mutators then (if list_all (λ k. is_halt k.end) s.mutators then Done else Ended)
-    else StepsOut
-
 -- the lines of the flags
 abbrev pub flag_lines : SimOptions → List Mark → List ℕ
 flag_lines options order = if options.order then order_line order else []
@@ -61,10 +38,14 @@ flag_lines options order = if options.order then order_line order else []
 abbrev pub output_of : SimOptions → List (List Instr) → List ℕ
 output_of options code = print_of (plain_of options code) ++ flag_lines options (order_of options code)
 
+-- how it goes, by the ends of the plain machine
+abbrev pub status_of : SimOptions → List (List Instr) → Status
+status_of options code = status_seen (plain_seen (plain_of options code))
+
 -- The answer of `sim` is what the plain machine prints that executes the order of the run. Each mark
 -- of the order is of a mutator without an end, so that each mutator's marks execute its program from
 -- the start, none skipped and none twice, and heap full comes only where fewer words are free than are asked for.
 pub record IsSimulated (options : SimOptions) (code : List (List Instr)) (output : List ℕ) (status : Status) : Type 0 where
   pub prints : output ≡ output_of options code
-  pub status_is : status ≡ status_of (plain_of options code)
+  pub status_is : status ≡ status_of options code
   pub acts : EachActs code (config options).turns (opening code) (order_of options code)

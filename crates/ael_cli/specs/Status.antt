@@ -1,6 +1,6 @@
 -- Exit statuses, and the lines of standard error.
-use Rattle.std.specs.Prelude.{ℕ, List, [], ◌++◌, codes, decimal}
-use Rattle.mutator_asm.specs.AsmError.{text_of_number}
+use Rattle.std.specs.Prelude.{ℕ, Bool, true, false, List, [], ◌++◌, codes}
+use Rattle.mutator_asm.specs.AsmError.{text_of_error}
 use Rattle.mutator_asm.specs.declared.asm_error.AsmError.{AsmError}
 use Rattle.mutator_asm.specs.declared.asm_error.AsmError.TheVariants as asm
 use Rattle.ael_cli.specs.declared.reading.ReadError.{ReadError}
@@ -28,10 +28,15 @@ abbrev pub text_status : AsmError → Status
 text_status (asm.Text number line) = Text number line
 text_status asm.NoMemory = NoMemory
 
+-- whether it tells of a text's fault
+abbrev pub is_text : Status → Bool
+is_text (Text number line) = true
+is_text _ = false
+
 -- what standard error gets, which is nothing where all went well or the output says how it ended
 abbrev pub line_of : Status → List ℕ
 line_of Done = []
-line_of (Text number line) = codes "ael: line " ++ decimal line ++ codes ": error " ++ decimal number ++ codes ": " ++ text_of_number number ++ codes "\n"
+line_of (Text number line) = codes "ael: " ++ text_of_error (asm.Text number line) ++ codes "\n"
 line_of Usage = codes "usage: ael asm, sim, run, concord or bench\n"
 line_of Ended = []
 line_of StepsOut = codes "ael: steps out\n"

@@ -1,26 +1,50 @@
-//! What a command answers: the output, and how it went.
+//! What a command answers: the output, how it went, and the line that tells it.
 
-ghost use Rattle.std.specs.Prelude.{◌≡◌, [], string_bytes};
+ghost use Rattle.std.specs.Prelude.{◌≡◌, ◌⊎◌, [], IfOk, OnErr, string_bytes, true};
+ghost use Rattle.std.specs.Cow.{cow_str_bytes};
+ghost use Rattle.ael_cli.specs.Status.{is_text, line_of};
 
-use crate::status::Status;
+use crate::status::{NO_MEMORY, Status};
+use plain_heap::NoMemory;
 use std::alloc::Global;
+use std::borrow::CowStr;
 
-/// What a command answers. All output is there before its first byte is written.
+/// What a command answers. All of it is there before its first byte is written.
 #[derive(Debug, Drop)]
 pub struct Answer {
     pub output: String,
     pub status: Status,
+    /// What standard error gets.
+    pub line: CowStr<'static, Global>,
+    ghost line_is: { cow_str_bytes line ≡ line_of status },
 }
 
 impl Answer {
-    /// An answer without output.
+    /// The answer with this output, and with the line of the status.
+    pub fn new(alloc: Global, output: String, status: Status) -> Result<Answer, NoMemory>
+        ensures whole { IfOk result (λ answer. (string_bytes answer.output ≡ string_bytes output) × (answer.status ≡ status)) }
+        ensures spends { OnErr result (is_text status ≡ true) }
+    {
+        let line = status.line(alloc)?;
+        Ok(Answer {
+            output,
+            status,
+            line,
+        })
+    }
+
+    /// An answer without output. Where there is no memory for the line of a text's fault, it tells that.
     pub fn failed(alloc: Global, status: Status) -> Answer
         ensures output { string_bytes result.output ≡ [] }
-        ensures status { result.status ≡ status }
+        ensures status { (result.status ≡ status) ⊎ ((result.status ≡ Status.NoMemory) × (is_text status ≡ true)) }
     {
-        Answer {
-            output: String::new(alloc),
-            status,
+        match Answer::new(alloc, String::new(alloc), status) {
+            Ok(answer) => answer,
+            Err(NoMemory) => Answer {
+                output: String::new(alloc),
+                status: Status::NoMemory,
+                line: CowStr::Borrowed(NO_MEMORY),
+            },
         }
     }
 }

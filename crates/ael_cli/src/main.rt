@@ -12,31 +12,40 @@ mod sink;
 mod source;
 mod standard;
 mod status;
+mod sure;
 #[cfg(test)]
 mod tests;
 mod top_call;
 mod words;
 mod writing;
 
+use crate::answer::Answer;
 use crate::standard::{StdSink, StdSource};
 use crate::status::Status;
 use crate::top_call::ael;
-use crate::writing::write_line;
+use crate::writing::emit;
 use std::env;
 use std::process::ExitCode;
+
+/// The words after the program's name.
+fn given(rt: &HostRuntime) -> Result<Vec<String>, Status> {
+    let Ok(mut args) = env::args(rt) else {
+        return Err(Status::Usage);
+    };
+    let _ = args.next();
+    match args.collect::<Vec<String>>(rt.alloc()) {
+        Ok(words) => Ok(words),
+        Err(_) => Err(Status::NoMemory),
+    }
+}
 
 fn main(rt: HostRuntime) -> ExitCode {
     let mut src = StdSource::new(rt.stdin());
     let mut out = StdSink::new(rt.stdout());
     let mut err = StdSink::new(rt.stderr());
-    let Ok(mut args) = env::args(&rt) else {
-        let _ = write_line(&mut err, Status::Usage);
-        return ExitCode::from(2);
+    let code = match given(&rt) {
+        Ok(words) => ael(&rt, rt.alloc(), &words, &mut src, &mut out, &mut err),
+        Err(status) => emit(&Answer::failed(rt.alloc(), status), &mut out, &mut err).code(),
     };
-    let _ = args.next();
-    let Ok(words) = args.collect::<Vec<String>>(rt.alloc()) else {
-        let _ = write_line(&mut err, Status::NoMemory);
-        return ExitCode::from(7);
-    };
-    ExitCode::from(ael(&rt, rt.alloc(), &words, &mut src, &mut out, &mut err))
+    ExitCode::from(code)
 }

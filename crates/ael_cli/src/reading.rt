@@ -1,6 +1,6 @@
 //! Reading a source to its end.
 
-ghost use Rattle.std.specs.Prelude.{◌≡◌, ◌<◌, ◌≤◌, IfOk, Err, length};
+ghost use Rattle.std.specs.Prelude.{◌≡◌, ◌≢◌, ◌<◌, ◌≤◌, IfOk, Err, length};
 ghost use Rattle.ael_cli.specs.Stream.{Rose};
 ghost use Rattle.ael_cli.specs.declared.reading.ReadError.TheVariants.{Fault, TooLong, NoMemory};
 ghost use Rattle.ael_cli.specs.Input.{IsWhole, IsPastLimit, IsBounded};
@@ -40,6 +40,7 @@ pub fn read_all<S: Source>(alloc: Global, src: &mut S) -> Result<Vec<u8>, ReadEr
     ensures bounded { IsBounded (S.left src.old) (S.left src.new) }
     ensures never_falls { S.faults src.old ≤ S.faults src.new }
     ensures fails_only_if_the_count_rose { result ≡ Err Fault → Rose (S.faults src.old) (S.faults src.new) }
+    ensures counts_failures_alone { result ≢ Err Fault → S.faults src.new ≡ S.faults src.old }
 {
     let mut bytes = Vec::new(alloc);
     let mut buf = [0u8; 4096];

@@ -1,10 +1,11 @@
 //! The command `sim`: a program run by the workers in turn.
 
 ghost use Rattle.std.specs.Prelude.{◌≡◌, ◌++◌, IfOk, IsTrue, OnOk, map, string_bytes};
+ghost use Rattle.std.specs.List.{list_all};
 ghost use Rattle.gc_core.specs.Configuration.{is_size, opening_core};
 ghost use Rattle.gc_core.specs.Whole.{seen_of};
-ghost use Rattle.ael_cli.specs.Seen.{lines_seen, status_seen, all_halted};
-ghost use Rattle.ael_cli.specs.Simulation.{config, flag_lines, is_halt, IsSimulated};
+ghost use Rattle.ael_cli.specs.Seen.{lines_seen, is_halt, has_halted, status_seen};
+ghost use Rattle.ael_cli.specs.Simulation.{config, flag_lines, IsSimulated};
 
 use crate::answer::Answer;
 use crate::job::SimOptions;
@@ -63,7 +64,7 @@ fn is_halt(end: Option<End>) -> bool
 
 /// Whether every mutator made `halt`.
 fn all_halted(core: &Core) -> bool
-    ensures { result ≡ all_halted (seen_of core.now.configuration) }
+    ensures { result ≡ list_all has_halted (seen_of core.now.configuration) }
 {
     for m in 0..core.mutators() as u8 {
         if !is_halt(core.ended(m)) {
@@ -107,8 +108,5 @@ pub fn sim(alloc: Global, program: &Program, options: SimOptions) -> Result<Answ
     let mut output = String::new(alloc);
     push_mutators(&mut output, &core)?;
     push_flags(&mut output, options, &order)?;
-    Ok(Answer {
-        output,
-        status: verdict(&core),
-    })
+    Answer::new(alloc, output, verdict(&core))
 }

@@ -1,6 +1,6 @@
 //! Where bytes go.
 
-ghost use Rattle.std.specs.Prelude.{◌≡◌, ◌<◌, ◌≤◌, ℕ, List, Option, length};
+ghost use Rattle.std.specs.Prelude.{◌≡◌, ◌≢◌, ◌<◌, ◌≤◌, ℕ, List, Option, length};
 ghost use Rattle.ael_cli.specs.Stream.{Writes, Rose};
 ghost use Rattle.ael_cli.specs.declared.sink.Put.TheVariants.{Failed};
 
@@ -26,5 +26,6 @@ pub trait Sink {
         requires { 0 < length piece.now }
         ensures bytes { Writes (held self.old) result piece.now (held self.new) }
         ensures never_falls { faults self.old ≤ faults self.new }
-        ensures fails_only_if_the_count_rose { result ≡ Failed → Rose (faults self.old) (faults self.new) };
+        ensures fails_only_if_the_count_rose { result ≡ Failed → Rose (faults self.old) (faults self.new) }
+        ensures counts_failures_alone { result ≢ Failed → faults self.new ≡ faults self.old };
 }

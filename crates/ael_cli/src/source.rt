@@ -1,6 +1,6 @@
 //! Where bytes come from.
 
-ghost use Rattle.std.specs.Prelude.{◌≡◌, ◌<◌, ◌≤◌, ℕ, List, Option, length};
+ghost use Rattle.std.specs.Prelude.{◌≡◌, ◌≢◌, ◌<◌, ◌≤◌, ℕ, List, Option, length};
 ghost use Rattle.ael_cli.specs.Stream.{Reads, Rose};
 ghost use Rattle.ael_cli.specs.declared.source.Got.TheVariants.{Failed};
 
@@ -28,5 +28,6 @@ pub trait Source {
         requires { 0 < length buf.old }
         ensures bytes { Reads (left self.old) result buf.new (left self.new) }
         ensures never_falls { faults self.old ≤ faults self.new }
-        ensures fails_only_if_the_count_rose { result ≡ Failed → Rose (faults self.old) (faults self.new) };
+        ensures fails_only_if_the_count_rose { result ≡ Failed → Rose (faults self.old) (faults self.new) }
+        ensures counts_failures_alone { result ≢ Failed → faults self.new ≡ faults self.old };
 }

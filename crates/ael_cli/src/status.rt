@@ -6,9 +6,16 @@ use crate::reading::ReadError;
 use gc_core::OpenError;
 use mutator_asm::AsmError;
 use plain_heap::NoMemory;
-use std::alloc::AllocError;
+use std::alloc::Global;
+use std::borrow::CowStr;
 
-/// How a call went: its exit status, and the line that standard error gets.
+/// What standard error gets where a sink failed.
+pub const WRITE_FAULT: &str = "ael: write fault\n";
+
+/// What standard error gets where there was no memory.
+pub const NO_MEMORY: &str = "ael: out of memory\n";
+
+/// How a call went, from which its exit status follows and the line that standard error gets.
 #[derive(Clone, Copy, Debug, PartialEq, Eq)]
 pub enum Status {
     /// All was done, and every mutator halted.
@@ -32,8 +39,9 @@ pub enum Status {
 }
 
 impl Status {
-    ghost use Rattle.std.specs.Prelude.{◌≡◌};
-    ghost use Rattle.ael_cli.specs.Status.{code_of};
+    ghost use Rattle.std.specs.Prelude.{◌≡◌, IfOk, OnErr, true};
+    ghost use Rattle.std.specs.Cow.{cow_str_bytes};
+    ghost use Rattle.ael_cli.specs.Status.{code_of, is_text, line_of};
 
     /// The program's exit status.
     pub fn code(self) -> u8
@@ -50,6 +58,28 @@ impl Status {
             Status::NoMemory => 7,
             Status::TooLong => 8,
         }
+    }
+
+    /// The line that standard error gets, empty where it gets none. Only that of a text's fault
+    /// takes memory.
+    pub fn line(self, alloc: Global) -> Result<CowStr<'static, Global>, NoMemory>
+        ensures line { IfOk result (λ line. cow_str_bytes line ≡ line_of self) }
+        ensures spends { OnErr result (is_text self ≡ true) }
+    {
+        let line = match self {
+            Status::Done | Status::Ended => "",
+            Status::Text { no, line } => {
+                let fault = AsmError::Text { no, line };
+                return Ok(CowStr::Owned(format!(in alloc; "ael: {fault}\n")?));
+            }
+            Status::Usage => "usage: ael asm, sim, run, concord or bench\n",
+            Status::StepsOut => "ael: steps out\n",
+            Status::ReadFault => "ael: read fault\n",
+            Status::WriteFault => WRITE_FAULT,
+            Status::NoMemory => NO_MEMORY,
+            Status::TooLong => "ael: input too long\n",
+        };
+        Ok(CowStr::Borrowed(line))
     }
 }
 

@@ -1,4 +1,4 @@
-use Rattle.std.proofs.Common.{◌+◌, ◌-◌, ◌≤◌, vec_len}
+use Rattle.std.proofs.Common.{◌≡◌, ◌+◌, ◌-◌, ◌≤◌, vec_len}
 use Rattle.ael_cli.specs.Stream.{IsFront}
 use Rattle.ael_cli.specs.declared.reading.TheConstants.{MAX_INPUT}
 use Rattle.ael_cli.proofs.reading.read_all.Given as goal
@@ -8,7 +8,7 @@ abbrev pub invariant-loop-buf : goal.invariant-loop-buf
 invariant-loop-buf g l = record {
   front : IsFront (g.S.Source.left l.fn.src) l.bytes.items (g.S.Source.left l.src);
   within : vec_len l.bytes ≤ MAX_INPUT + 1;
-  counted : g.S.Source.faults l.fn.src ≤ g.S.Source.faults l.src;
+  steady : g.S.Source.faults l.src ≡ g.S.Source.faults l.fn.src;
 }
 
 abbrev pub decreases-loop-buf : goal.decreases-loop-buf

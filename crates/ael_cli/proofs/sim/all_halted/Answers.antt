@@ -1,5 +1,5 @@
 use Rattle.std.proofs.Common.{◌<◌, length, sym, ◌∙◌, ap, arith}
-use Rattle.ael_cli.specs.Simulation.{is_halt}
+use Rattle.ael_cli.specs.Seen.{is_halt}
 use Rattle.ael_cli.proofs.Seeing.{halts_more, halts_not}
 use Rattle.ael_cli.proofs.sim.all_halted.Goals as goal
 

@@ -1,19 +1,32 @@
+use Rattle.std.proofs.Common.{refl}
 use Rattle.std.specs.Prelude.{string_bytes, map}
-use Rattle.ael_cli.specs.Headline.{Drawn, Filled}
-use Rattle.ael_cli.proofs.Plainly.{prints_plainly}
+use Rattle.ael_cli.specs.Ends.{Drawn, Filled, drawn, filled}
+use Rattle.ael_cli.specs.Headline.{IsAnswered}
+use Rattle.ael_cli.proofs.Plainly.{prints_plainly, ends_as_ordered}
 use Rattle.ael_cli.proofs.top_call.ael_still.Goals as goal
 
-pub returns-clause-prints : goal.returns-clause-prints
-returns-clause-prints g c =
-    let source : Drawn = record { left = g.S.Source.left c.args.src.now; rest = g.S.Source.left c.answer-answer.new.src; before = g.S.Source.faults c.args.src.now; after = g.S.Source.faults c.answer-answer.new.src } in
-    let out : Filled = record { held = g.O.Sink.held c.args.out.now; holds = g.O.Sink.held c.emit-status.new.out; before = g.O.Sink.faults c.args.out.now; after = g.O.Sink.faults c.emit-status.new.out } in
-    let err : Filled = record { held = g.E.Sink.held c.args.err.now; holds = g.E.Sink.held c.emit-status.new.err; before = g.E.Sink.faults c.args.err.now; after = g.E.Sink.faults c.emit-status.new.err } in
-    prints_plainly c.one_program.ensures c.never_both.ensures (map string_bytes c.args.words.now) source out err c.code.result (record {
+pub returns : goal.returns
+returns g c =
+    let words = map string_bytes c.args.words.now in
+    let source : Drawn = drawn g.S.Source.left g.S.Source.faults c.args.src.now c.answer-answer.new.src in
+    let out : Filled = filled g.O.Sink.held g.O.Sink.faults c.args.out.now c.emit-status.new.out in
+    let err : Filled = filled g.E.Sink.held g.E.Sink.faults c.args.err.now c.emit-status.new.err in
+    let code = c.code.result in
+    let answered : IsAnswered words source out err code = record {
       output = string_bytes c.answer-answer.result.output;
       status = c.answer-answer.result.status;
       final = c.emit-status.result;
       drawn = c.answer-answer.ensures.drawn;
+      steady = c.answer-answer.ensures.counted;
       answer = c.answer-answer.ensures.answer;
       emitted = c.emit-status.ensures;
       code_is = c.code.ensures;
-    })
+    } in
+    let one = c.one_program.ensures in
+    let no_fault = c.never_both.ensures in
+    record {
+      still = refl;
+      headline = answered;
+      complete = ends_as_ordered one no_fault words source out err code answered;
+      prints = prints_plainly one no_fault words source out err code answered;
+    }

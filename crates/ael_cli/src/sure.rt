@@ -1,0 +1,62 @@
+//! A source and a sink that never fail.
+
+ghost use Rattle.std.specs.Prelude.{◌≡◌, List, ℕ, None, Some};
+
+use crate::sink::{Put, Sink};
+use crate::source::{Got, Source};
+use std::marker::Model;
+
+/// Gives the bytes of a list. Contracts see those still to come.
+#[derive(Debug, Drop)]
+pub struct SureSource {
+    bytes: Vec<u8>,
+    at: usize,
+}
+
+impl Model for SureSource {
+    ghost use Rattle.std.specs.Prelude.{List, ℕ, ◌≤◌, drop, length};
+
+    ghost Value = { List ℕ };
+
+    ghost view = { λ s. drop s.at s.bytes.items };
+
+    ghost invariant = { λ s. s.at ≤ length s.bytes.items };
+}
+
+impl SureSource {
+    pub fn new(bytes: Vec<u8>) -> SureSource
+        ensures { result ≡ bytes.items }
+    {
+        SureSource { bytes, at: 0 }
+    }
+}
+
+impl Source for SureSource {
+    ghost left = { λ s. Some s };
+
+    ghost faults = { λ _. 0 };
+
+    fn read(&mut self, buf: &mut [u8]) -> Got {
+        let count = buf.len().min(self.bytes.len() - self.at);
+        if count == 0 {
+            return Got::End;
+        }
+        buf[..count].copy_from_slice(&self.bytes[self.at..self.at + count]);
+        self.at += count;
+        Got::Bytes(count)
+    }
+}
+
+/// Takes every piece, and keeps none.
+#[derive(Clone, Copy, Debug, PartialEq, Eq)]
+pub struct SureSink;
+
+impl Sink for SureSink {
+    ghost held = { λ _. None };
+
+    ghost faults = { λ _. 0 };
+
+    fn write(&mut self, piece: &[u8]) -> Put {
+        Put::Took(piece.len())
+    }
+}
