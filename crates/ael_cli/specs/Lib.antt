@@ -3,6 +3,7 @@ pub mod CommandLine
 pub mod Ends
 pub mod Headline
 pub mod Input
+pub mod Memory
 pub mod Seen
 pub mod Simulation
 pub mod Status

@@ -1,12 +1,13 @@
 //! Sources and sinks in memory, which fail where they are told to.
 
-ghost use Rattle.std.specs.Prelude.{◌≡◌, ◌<◌, ◌≤◌, ℕ, List, [], Option, Some, length, drop, IfOk, vec_capacity};
+ghost use Rattle.std.specs.Prelude.{◌≡◌, ◌≤◌, [], Some, IfOk};
 ghost use Rattle.ael_cli.specs.Stream.{Rose};
 ghost use Rattle.ael_cli.specs.declared.sink.Put.TheVariants.{Failed};
 
 use crate::sink::{Put, Sink};
 use crate::source::{Got, Source};
 use std::alloc::{AllocError, Global};
+use std::marker::Model;
 
 /// Gives the bytes of a list, as many at a time as the buffer has room for.
 #[derive(Debug, Drop)]
@@ -16,15 +17,23 @@ pub struct MemSource {
     fails: Vec<u64>,
     calls: u64,
     faults: u64,
-    ghost within: { at ≤ length bytes.items },
+}
+
+impl Model for MemSource {
+    ghost use Rattle.std.specs.Prelude.{◌≤◌, drop, length};
+    ghost use Rattle.ael_cli.specs.Memory.{Supply};
+
+    ghost Value = { Supply };
+
+    ghost view = { λ s. record { left = drop s.at s.bytes.items; fails = s.fails.items; calls = s.calls; faults = s.faults } };
+
+    ghost invariant = { λ s. s.at ≤ length s.bytes.items };
 }
 
 impl MemSource {
     /// The calls of `read` that `fails` lists are to fail, numbered from 1.
     pub fn new(bytes: Vec<u8>, fails: Vec<u64>) -> MemSource
-        ensures left { drop result.at result.bytes.items ≡ bytes.items }
-        ensures fails { result.fails.items ≡ fails.items }
-        ensures unused { (result.calls ≡ 0) × (result.faults ≡ 0) }
+        ensures { result ≡ record { left = bytes.items; fails = fails.items; calls = 0; faults = 0 } }
     {
         MemSource {
             bytes,
@@ -37,7 +46,7 @@ impl MemSource {
 }
 
 impl Source for MemSource {
-    ghost left = { λ s. Some (drop s.at s.bytes.items) };
+    ghost left = { λ s. Some s.left };
 
     ghost faults = { λ s. s.faults };
 
@@ -65,17 +74,24 @@ pub struct MemSink {
     fails: Vec<u64>,
     calls: u64,
     faults: u64,
-    ghost within: { length bytes.items ≤ room },
-    ghost reserved: { room ≤ vec_capacity bytes },
+}
+
+impl Model for MemSink {
+    ghost use Rattle.std.specs.Prelude.{◌≤◌, length, vec_capacity};
+    ghost use Rattle.ael_cli.specs.Memory.{Store};
+
+    ghost Value = { Store };
+
+    ghost view = { λ s. record { held = s.bytes.items; room = s.room; fails = s.fails.items; calls = s.calls; faults = s.faults } };
+
+    ghost invariant = { λ s. (length s.bytes.items ≤ s.room) × (s.room ≤ vec_capacity s.bytes) };
 }
 
 impl MemSink {
     /// Takes its room at once. The calls of `write` that `fails` lists are to fail, numbered from 1;
     /// a write with no room left fails too.
     pub fn new(alloc: Global, room: usize, fails: Vec<u64>) -> Result<MemSink, AllocError>
-        ensures empty { IfOk result (λ sink. (sink.bytes.items ≡ []) × (sink.room ≡ room)) }
-        ensures fails { IfOk result (λ sink. sink.fails.items ≡ fails.items) }
-        ensures unused { IfOk result (λ sink. (sink.calls ≡ 0) × (sink.faults ≡ 0)) }
+        ensures { IfOk result (λ sink. sink ≡ record { held = []; room = room; fails = fails.items; calls = 0; faults = 0 }) }
     {
         Ok(MemSink {
             bytes: Vec::with_capacity(alloc, room)?,
@@ -86,16 +102,18 @@ impl MemSink {
         })
     }
 
+    /// The bytes that it took.
     pub fn bytes(&self) -> &[u8]
-        ensures { result.now ≡ self.now.bytes.items }
+        ensures { result.now ≡ self.now.held }
     {
         self.bytes.as_slice()
     }
 
+    /// Counts a fault.
     fn fail(&mut self) -> Put
         ensures answer { result ≡ Failed }
         ensures counted { Rose self.old.faults self.new.faults × (self.old.faults ≤ self.new.faults) }
-        ensures held { self.new.bytes.items ≡ self.old.bytes.items }
+        ensures held { self.new.held ≡ self.old.held }
     {
         self.faults = self.faults.saturating_add(1);
         Put::Failed
@@ -103,7 +121,7 @@ impl MemSink {
 }
 
 impl Sink for MemSink {
-    ghost held = { λ s. Some s.bytes.items };
+    ghost held = { λ s. Some s.held };
 
     ghost faults = { λ s. s.faults };
 

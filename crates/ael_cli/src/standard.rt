@@ -2,23 +2,32 @@
 //!
 //! What a real file or terminal gave or took is not told, so no clause speaks of its bytes.
 
-ghost use Rattle.std.specs.Prelude.{◌≡◌, ℕ, List, Option, None};
+ghost use Rattle.std.specs.Prelude.{◌≡◌, None};
 
 use crate::sink::{Put, Sink};
 use crate::source::{Got, Source};
 use std::io::{ErrorKind, Read, Write};
+use std::marker::Model;
 
-/// Reads from a reader.
+/// Reads from a reader. Contracts see its count of faults.
 #[derive(Debug, Drop)]
 pub struct StdSource<R> {
     reader: R,
     faults: u64,
 }
 
+impl<R> Model for StdSource<R> {
+    ghost use Rattle.std.specs.Prelude.{ℕ};
+
+    ghost Value = { ℕ };
+
+    ghost view = { λ s. s.faults };
+}
+
 impl<R: Read> StdSource<R> {
+    /// A source that has not failed yet.
     pub fn new(reader: R) -> StdSource<R>
-        ensures reader { result.reader ≡ reader }
-        ensures unused { result.faults ≡ 0 }
+        ensures { result ≡ 0 }
     {
         StdSource { reader, faults: 0 }
     }
@@ -27,7 +36,7 @@ impl<R: Read> StdSource<R> {
 impl<R: Read> Source for StdSource<R> {
     ghost left = { λ _. None };
 
-    ghost faults = { λ s. s.faults };
+    ghost faults = { λ s. s };
 
     fn read(&mut self, buf: &mut [u8]) -> Got {
         for _ in 0..u64::MAX {
@@ -43,17 +52,25 @@ impl<R: Read> Source for StdSource<R> {
     }
 }
 
-/// Writes to a writer. A write that takes nothing counts as failed.
+/// Writes to a writer. Contracts see its count of faults. A write that takes nothing counts as failed.
 #[derive(Debug, Drop)]
 pub struct StdSink<W> {
     writer: W,
     faults: u64,
 }
 
+impl<W> Model for StdSink<W> {
+    ghost use Rattle.std.specs.Prelude.{ℕ};
+
+    ghost Value = { ℕ };
+
+    ghost view = { λ s. s.faults };
+}
+
 impl<W: Write> StdSink<W> {
+    /// A sink that has not failed yet.
     pub fn new(writer: W) -> StdSink<W>
-        ensures writer { result.writer ≡ writer }
-        ensures unused { result.faults ≡ 0 }
+        ensures { result ≡ 0 }
     {
         StdSink { writer, faults: 0 }
     }
@@ -62,7 +79,7 @@ impl<W: Write> StdSink<W> {
 impl<W: Write> Sink for StdSink<W> {
     ghost held = { λ _. None };
 
-    ghost faults = { λ s. s.faults };
+    ghost faults = { λ s. s };
 
     fn write(&mut self, piece: &[u8]) -> Put {
         for _ in 0..u64::MAX {

@@ -1,9 +1,19 @@
 //! A source and a sink that never fail.
 
-ghost use Rattle.std.specs.Prelude.{◌≡◌, List, ℕ, None, Some};
+ghost use Rattle.std.specs.Prelude.{◌≡◌, ◌≤◌, ◌⊎◌, [], List, None, Some, length, map, string_bytes};
+ghost use Rattle.mutator_asm.specs.declared.instr.Instr.{Instr};
+ghost use Rattle.mutator_asm.specs.Text.{IsText};
+ghost use Rattle.ael_cli.specs.declared.job.Job.TheVariants.{Sim};
+ghost use Rattle.ael_cli.specs.declared.job.SimOptions.{SimOptions};
+ghost use Rattle.ael_cli.specs.declared.reading.TheConstants.{MAX_INPUT};
+ghost use Rattle.ael_cli.specs.Simulation.{status_of};
+ghost use Rattle.ael_cli.specs.Status.{code_of};
+ghost use Rattle.ael_cli.specs.Words.{job_of};
 
 use crate::sink::{Put, Sink};
 use crate::source::{Got, Source};
+use crate::top_call::ael;
+use std::alloc::Global;
 use std::marker::Model;
 
 /// Gives the bytes of a list. Contracts see those still to come.
@@ -59,4 +69,14 @@ impl Sink for SureSink {
     fn write(&mut self, piece: &[u8]) -> Put {
         Put::Took(piece.len())
     }
+}
+
+/// The exit status of a call whose ends never fail.
+pub fn sure_status<R>(rt: &R, alloc: Global, words: &[String], input: Vec<u8>) -> u8
+    ensures { (options : SimOptions) (program : List (List Instr)) → job_of (map string_bytes words.now) ≡ Some (Sim options)
+        → length input.items ≤ MAX_INPUT → IsText input.items program []
+        → (result ≡ code_of (status_of options program)) ⊎ (result ≡ 7) }
+{
+    let mut src = SureSource::new(input);
+    ael(rt, alloc, words, &mut src, &mut SureSink, &mut SureSink)
 }

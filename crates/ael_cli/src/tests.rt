@@ -1,8 +1,11 @@
 //! The program's answers, over sources and sinks in memory and over a file.
 
+use crate::job::{Job, SimOptions};
 use crate::memory::{MemSink, MemSource};
 use crate::standard::{StdSink, StdSource};
+use crate::sure::sure_status;
 use crate::top_call::ael;
+use crate::words::{WordsError, read_words};
 use mutator_asm::assemble;
 use plain_heap::{Mark, PlainState, plain_run, plain_step, print};
 use std::alloc::Global;
@@ -17,24 +20,37 @@ struct Outcome {
     status: u8,
 }
 
-/// Calls `ael` with a source that gives these bytes and fails at these reads, and with an out that
-/// has so much room.
-fn call(
-    rt: &HostRuntime,
-    words: &[&str],
-    input: Vec<u8>,
-    fails: &[u64],
-    room: usize,
-) -> Result<Outcome, Fail> {
-    let alloc = rt.alloc();
+/// The reads that fail, and how many bytes the sinks have room for.
+#[derive(Clone, Copy)]
+struct Limits<'a> {
+    reads: &'a [u64],
+    out: usize,
+    err: usize,
+}
+
+const AMPLE: Limits = Limits {
+    reads: &[],
+    out: 1000,
+    err: 1000,
+};
+
+/// The words as the program gets them.
+fn owned(alloc: Global, words: &[&str]) -> Result<Vec<String>, Fail> {
     let mut owned = Vec::new(alloc);
     for word in words {
         owned.push(String::from_str(alloc, word)?)?;
     }
-    let mut src = MemSource::new(input, Vec::from_slice(alloc, fails)?);
-    let mut out = MemSink::new(alloc, room, Vec::new(alloc))?;
-    let mut err = MemSink::new(alloc, 1000, Vec::new(alloc))?;
-    let status = ael(rt, alloc, &owned, &mut src, &mut out, &mut err);
+    Ok(owned)
+}
+
+/// Calls `ael` with these words, a source that gives these bytes, and ends with these limits.
+fn call(rt: &HostRuntime, words: &[&str], input: Vec<u8>, limits: Limits) -> Result<Outcome, Fail> {
+    let alloc = rt.alloc();
+    let words = owned(alloc, words)?;
+    let mut src = MemSource::new(input, Vec::from_slice(alloc, limits.reads)?);
+    let mut out = MemSink::new(alloc, limits.out, Vec::new(alloc))?;
+    let mut err = MemSink::new(alloc, limits.err, Vec::new(alloc))?;
+    let status = ael(rt, alloc, &words, &mut src, &mut out, &mut err);
     Ok(Outcome { out, err, status })
 }
 
@@ -42,7 +58,7 @@ const FIRST: &str = ".mutator\nli r1 7\nnew r0 2\nst r0 1 r1\nld r2 r0 1\nout r2
 
 #[test]
 fn texts_print_what_they_should(rt: HostRuntime) -> Result<(), Fail> {
-    let rows: [(&str, &[&str], &str, &str, &str, u8); 11] = [
+    let rows: [(&str, &[&str], &str, &str, &str, u8); 12] = [
         ("the first text", &["sim"], FIRST, "0: 7\n0: halt\n", "", 0),
         (
             "its order",
@@ -93,12 +109,20 @@ fn texts_print_what_they_should(rt: HostRuntime) -> Result<(), Fail> {
             2,
         ),
         (
-            "another flag",
-            &["sim", "--cycles"],
+            "fewer pages than a space may have",
+            &["sim", "--pages", "3"],
             FIRST,
             "",
             "usage: ael asm, sim, run, concord or bench\n",
             2,
+        ),
+        (
+            "the fewest pages",
+            &["sim", "--pages", "4", "--order"],
+            ".mutator\nnew r0 4095\n",
+            "0: heap full asked 64 room 256 live 0\norder X0,64,256,0\n",
+            "",
+            3,
         ),
         (
             "room for 63 pages where 64 are asked",
@@ -127,7 +151,7 @@ fn texts_print_what_they_should(rt: HostRuntime) -> Result<(), Fail> {
     ];
     for (name, words, text, out, err, status) in rows {
         let input = Vec::from_slice(rt.alloc(), text.as_bytes())?;
-        let found = call(&rt, words, input, &[], 1000)?;
+        let found = call(&rt, words, input, AMPLE)?;
         assert_eq!(rt; found.out.bytes(), out.as_bytes(), "out of {name}");
         assert_eq!(rt; found.err.bytes(), err.as_bytes(), "err of {name}");
         assert_eq!(rt; found.status, status, "status of {name}");
@@ -147,28 +171,153 @@ fn padded(alloc: Global, spaces: u32) -> Result<Vec<u8>, Fail> {
 
 #[test]
 fn input_has_a_limit(rt: HostRuntime) -> Result<(), Fail> {
-    let fits = call(&rt, &["sim"], padded(rt.alloc(), 1_048_562)?, &[], 1000)?;
+    let fits = call(&rt, &["sim"], padded(rt.alloc(), 1_048_562)?, AMPLE)?;
     assert_eq!(rt; fits.out.bytes(), b"0: halt\n".as_slice());
     assert_eq!(rt; fits.status, 0);
-    let past = call(&rt, &["sim"], padded(rt.alloc(), 1_048_563)?, &[], 1000)?;
+    let past = call(&rt, &["sim"], padded(rt.alloc(), 1_048_563)?, AMPLE)?;
     assert_eq!(rt; past.out.bytes(), b"".as_slice());
     assert_eq!(rt; past.err.bytes(), b"ael: input too long\n".as_slice());
     assert_eq!(rt; past.status, 8);
     Ok(())
 }
 
+/// What the words mean: the pages and whether the order is printed, or that they are refused.
+const COMMAND_LINES: [(&[&str], Option<(u32, bool)>); 44] = [
+    (&["sim"], Some((256, false))),
+    (&["sim", "--order"], Some((256, true))),
+    (&["sim", "--pages", "8"], Some((8, false))),
+    (&["sim", "--pages=8"], Some((8, false))),
+    (&["sim", "--pages", "08"], Some((8, false))),
+    (&["sim", "--pages", "+8"], Some((8, false))),
+    (&["sim", "--pages", "4", "--order"], Some((4, true))),
+    (&["sim", "--order", "--pages", "2048"], Some((2048, true))),
+    (&["sim", "--"], Some((256, false))),
+    (&["sim", "--order", "--"], Some((256, true))),
+    (&[], None),
+    (&[""], None),
+    (&["--"], None),
+    (&["--", "sim"], None),
+    (&["sim", "--pages"], None),
+    (&["sim", "--pages", "--order"], None),
+    (&["sim", "--pages", "8", "--pages", "8"], None),
+    (&["sim", "--pages", "0x8"], None),
+    (&["sim", "--pages", "8.0"], None),
+    (&["sim", "--pages", ""], None),
+    (&["sim", "--pages="], None),
+    (&["sim", "--pages", "3"], None),
+    (&["sim", "--pages", "2049"], None),
+    (&["sim", "--pages", "-8"], None),
+    (&["sim", "--order", "--order"], None),
+    (&["sim", "--order=x"], None),
+    (&["sim", "--order="], None),
+    (&["sim", "--page", "8"], None),
+    (&["sim", "--cycles"], None),
+    (&["sim", "--seed", "1"], None),
+    (&["sim", "x"], None),
+    (&["sim", "--", "x"], None),
+    (&["sim", "--", "--order"], None),
+    (&["--order", "sim"], None),
+    (&["--pages", "8", "sim"], None),
+    (&["help"], None),
+    (&["help", "sim"], None),
+    (&["--help"], None),
+    (&["-h"], None),
+    (&["-V"], None),
+    (&["--version"], None),
+    (&["sim", "--help"], None),
+    (&["asm"], None),
+    (&["bench", "1", "1"], None),
+];
+
 #[test]
-fn faults_have_their_statuses(rt: HostRuntime) -> Result<(), Fail> {
+fn words_are_read_as_clap_takes_them(rt: HostRuntime) -> Result<(), Fail> {
+    for (words, meaning) in COMMAND_LINES {
+        let wanted = match meaning {
+            Some((pages, order)) => Ok(Job::Sim(SimOptions { pages, order })),
+            None => Err(WordsError::Refused),
+        };
+        let found = read_words(rt.alloc(), &owned(rt.alloc(), words)?);
+        assert_eq!(rt; found, wanted, "{words:?}");
+    }
+    Ok(())
+}
+
+#[test]
+fn failed_reads_are_told(rt: HostRuntime) -> Result<(), Fail> {
     let first = Vec::from_slice(rt.alloc(), FIRST.as_bytes())?;
-    let read = call(&rt, &["sim", "--order"], first, &[2], 1000)?;
-    assert_eq!(rt; read.out.bytes(), b"".as_slice());
-    assert_eq!(rt; read.err.bytes(), b"ael: read fault\n".as_slice());
-    assert_eq!(rt; read.status, 5);
+    let limits = Limits {
+        reads: &[2],
+        ..AMPLE
+    };
+    let found = call(&rt, &["sim", "--order"], first, limits)?;
+    assert_eq!(rt; found.out.bytes(), b"".as_slice());
+    assert_eq!(rt; found.err.bytes(), b"ael: read fault\n".as_slice());
+    assert_eq!(rt; found.status, 5);
+    Ok(())
+}
+
+#[test]
+fn failed_writes_leave_a_front(rt: HostRuntime) -> Result<(), Fail> {
+    let whole = b"0: 7\n0: halt\norder 0 0 0 0 0 0\n";
+    for out in 0..31 {
+        let first = Vec::from_slice(rt.alloc(), FIRST.as_bytes())?;
+        let found = call(&rt, &["sim", "--order"], first, Limits { out, ..AMPLE })?;
+        assert_eq!(rt; found.out.bytes(), &whole[..out]);
+        assert_eq!(rt; found.err.bytes(), b"ael: write fault\n".as_slice());
+        assert_eq!(rt; found.status, 6);
+    }
     let first = Vec::from_slice(rt.alloc(), FIRST.as_bytes())?;
-    let write = call(&rt, &["sim", "--order"], first, &[], 3)?;
-    assert_eq!(rt; write.out.bytes(), b"0: ".as_slice());
-    assert_eq!(rt; write.err.bytes(), b"ael: write fault\n".as_slice());
-    assert_eq!(rt; write.status, 6);
+    let found = call(&rt, &["sim", "--order"], first, Limits { out: 31, ..AMPLE })?;
+    assert_eq!(rt; found.out.bytes(), whole.as_slice());
+    assert_eq!(rt; found.status, 0);
+    Ok(())
+}
+
+#[test]
+fn failed_lines_leave_a_front(rt: HostRuntime) -> Result<(), Fail> {
+    let rows: [(&str, &[&str], &str, usize, usize, &str, &str); 5] = [
+        ("no room for the usage", &[], "", 1000, 0, "", ""),
+        ("some room for the usage", &[], "", 1000, 5, "", "usage"),
+        (
+            "some room for a text's fault",
+            &["sim"],
+            ".mutator\nfoo\n",
+            1000,
+            10,
+            "",
+            "ael: line ",
+        ),
+        ("both sinks fail", &["sim"], FIRST, 3, 7, "0: ", "ael: wr"),
+        (
+            "out fails, and err has just enough room",
+            &["sim"],
+            FIRST,
+            3,
+            17,
+            "0: ",
+            "ael: write fault\n",
+        ),
+    ];
+    for (name, words, text, out_room, err_room, out, err) in rows {
+        let input = Vec::from_slice(rt.alloc(), text.as_bytes())?;
+        let limits = Limits {
+            reads: &[],
+            out: out_room,
+            err: err_room,
+        };
+        let found = call(&rt, words, input, limits)?;
+        assert_eq!(rt; found.out.bytes(), out.as_bytes(), "out where {name}");
+        assert_eq!(rt; found.err.bytes(), err.as_bytes(), "err where {name}");
+        assert_eq!(rt; found.status, 6, "status where {name}");
+    }
+    Ok(())
+}
+
+#[test]
+fn sure_ends_never_fail(rt: HostRuntime) -> Result<(), Fail> {
+    let words = owned(rt.alloc(), &["sim"])?;
+    let first = Vec::from_slice(rt.alloc(), FIRST.as_bytes())?;
+    assert_eq!(rt; sure_status(&rt, rt.alloc(), &words, first), 0);
     Ok(())
 }
 

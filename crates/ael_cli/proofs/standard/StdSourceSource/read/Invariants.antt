@@ -3,4 +3,4 @@ use Rattle.std.proofs.Common.{◌≡◌}
 use Rattle.ael_cli.proofs.standard.StdSourceSource.read.Given as goal
 
 abbrev pub invariant-loop : goal.invariant-loop
-invariant-loop g l = l.self.faults ≡ l.fn.self.faults
+invariant-loop g l = l.self-inside.faults ≡ l.fn.self
