@@ -1,13 +1,12 @@
 -- The command line of `ael`: what it takes, and what it then gives.
-use Rattle.std.proofs.Common.{◌≡◌, ◌∙◌, ◌&&◌, ℕ, Bool, cond, codes, true, false, refl, sym, ap, List, [], ◌∷◌, Option, Some, None, Result, Err, inl, inr, true≢false}
+use Rattle.std.proofs.Common.{◌≡◌, ◌∙◌, ◌&&◌, ℕ, Bool, cond, codes, true, false, refl, sym, ap, List, [], Option, Some, None, Result, Err, true≢false}
 use Rattle.std.specs.Prelude.{IfSome, option_map, pos}
 use Rattle.std.specs.Option.{option_map_or}
 use Rattle.clap.specs.ValueTests.{is_signed_in}
 use Rattle.clap.specs.declared.builder.value_parser.Reading.{Reading}
-use Rattle.clap.specs.declared.builder.value_parser.Reading.TheVariants.{AsWritten, WithoutMinus}
-use Rattle.clap.specs.declared.builder.value_parser.ValueParser.TheVariants as vp
+use Rattle.clap.specs.declared.builder.value_parser.Reading.TheVariants.{WithoutMinus}
 use Rattle.clap.specs.Walk.{Row, Text, answers_to, nothing_held, rows_after, stop_after}
-use Rattle.clap.specs.Simple.{built_leaf, inherited, marked_built, new_shape}
+use Rattle.clap.specs.Simple.{built_leaf, inherited, marked_built}
 use Rattle.ael_cli.specs.CommandLine.{ael_app, number, sim_app}
 use Rattle.clap.specs.Simple.{App, Shape, argument_words, built, entered, is_simple, label_of, names_of, rows_at, subcommand_of}
 use Rattle.clap.specs.Takes.{entered_passes, level_passes, takes}

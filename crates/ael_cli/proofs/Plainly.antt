@@ -1,11 +1,9 @@
 -- The headline and completeness, from the answer and its cause.
-use Rattle.std.proofs.Common.{◌≡◌, ◌≢◌, ◌≤◌, ℕ, List, [], length, refl, sym, ap, ◌∙◌, subst, inl, inr, arith}
+use Rattle.std.proofs.Common.{◌≡◌, ◌≤◌, ℕ, List, [], length, refl, ap, ◌∙◌, subst, inl, inr, arith}
 use Rattle.std.specs.Prelude.{◌⊎◌, Option, Some}
 use Rattle.mutator_asm.specs.declared.instr.Instr.{Instr}
 use Rattle.mutator_asm.specs.Text.{IsText, IsFault}
 use Rattle.mutator_asm.specs.Theorems.{MeansOneProgram, HasNoFault}
-use Rattle.plain_heap.specs.Order.{opening}
-use Rattle.gc_core.specs.Whole.{EachActs}
 use Rattle.ael_cli.specs.declared.reading.TheConstants.{MAX_INPUT}
 use Rattle.ael_cli.specs.declared.job.Job.{Job}
 use Rattle.ael_cli.specs.declared.job.Job.TheVariants.{Sim}
@@ -15,7 +13,7 @@ use Rattle.ael_cli.specs.declared.status.Status.TheVariants.{Done, Text, Usage, 
 use Rattle.ael_cli.specs.Answer.{IsRun, IsCaused, IsAnswer}
 use Rattle.ael_cli.specs.Ends.{Drawn, Filled, IsFaultless}
 use Rattle.ael_cli.specs.Headline.{Emits, AllWritten, OutFailed, BothFailed, ErrFailed, IsAnswered, GoesWell, PrintsPlainly, EndsAsOrdered}
-use Rattle.ael_cli.specs.Simulation.{config, order_of, output_of, status_of, IsSimulated}
+use Rattle.ael_cli.specs.Simulation.{IsSimulated}
 use Rattle.ael_cli.specs.Status.{code_of}
 use Rattle.ael_cli.specs.Stream.{Grows}
 use Rattle.ael_cli.specs.Words.{job_of}

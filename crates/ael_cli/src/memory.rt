@@ -6,28 +6,25 @@ ghost use Rattle.ael_cli.specs.declared.sink.Put.TheVariants.{Failed};
 
 use crate::sink::{Put, Sink};
 use crate::source::{Got, Source};
+use crate::sure::SureSource;
 use std::alloc::{AllocError, Global};
 use std::marker::Model;
 
 /// Gives the bytes of a list, as many at a time as the buffer has room for.
 #[derive(Debug, Drop)]
 pub struct MemSource {
-    bytes: Vec<u8>,
-    at: usize,
+    source: SureSource,
     fails: Vec<u64>,
     calls: u64,
     faults: u64,
 }
 
 impl Model for MemSource {
-    ghost use Rattle.std.specs.Prelude.{◌≤◌, drop, length};
     ghost use Rattle.ael_cli.specs.Memory.{Supply};
 
     ghost Value = { Supply };
 
-    ghost view = { λ s. record { left = drop s.at s.bytes.items; fails = s.fails.items; calls = s.calls; faults = s.faults } };
-
-    ghost invariant = { λ s. s.at ≤ length s.bytes.items };
+    ghost view = { λ s. record { left = s.source; fails = s.fails.items; calls = s.calls; faults = s.faults } };
 }
 
 impl MemSource {
@@ -36,8 +33,7 @@ impl MemSource {
         ensures { result ≡ record { left = bytes.items; fails = fails.items; calls = 0; faults = 0 } }
     {
         MemSource {
-            bytes,
-            at: 0,
+            source: SureSource::new(bytes),
             fails,
             calls: 0,
             faults: 0,
@@ -56,13 +52,7 @@ impl Source for MemSource {
             self.faults = self.faults.saturating_add(1);
             return Got::Failed;
         }
-        let count = buf.len().min(self.bytes.len() - self.at);
-        if count == 0 {
-            return Got::End;
-        }
-        buf[..count].copy_from_slice(&self.bytes[self.at..self.at + count]);
-        self.at += count;
-        Got::Bytes(count)
+        self.source.read(buf)
     }
 }
 

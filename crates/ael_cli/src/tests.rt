@@ -273,32 +273,44 @@ fn failed_writes_leave_a_front(rt: HostRuntime) -> Result<(), Fail> {
     Ok(())
 }
 
+/// The words and the text, the room of out and err, and what they hold where a line fails.
+type FailedLine = (
+    &'static str,
+    &'static [&'static str],
+    &'static str,
+    usize,
+    usize,
+    &'static str,
+    &'static str,
+);
+
+const FAILED_LINES: [FailedLine; 5] = [
+    ("no room for the usage", &[], "", 1000, 0, "", ""),
+    ("some room for the usage", &[], "", 1000, 5, "", "usage"),
+    (
+        "some room for a text's fault",
+        &["sim"],
+        ".mutator\nfoo\n",
+        1000,
+        10,
+        "",
+        "ael: line ",
+    ),
+    ("both sinks fail", &["sim"], FIRST, 3, 7, "0: ", "ael: wr"),
+    (
+        "out fails, and err has just enough room",
+        &["sim"],
+        FIRST,
+        3,
+        17,
+        "0: ",
+        "ael: write fault\n",
+    ),
+];
+
 #[test]
 fn failed_lines_leave_a_front(rt: HostRuntime) -> Result<(), Fail> {
-    let rows: [(&str, &[&str], &str, usize, usize, &str, &str); 5] = [
-        ("no room for the usage", &[], "", 1000, 0, "", ""),
-        ("some room for the usage", &[], "", 1000, 5, "", "usage"),
-        (
-            "some room for a text's fault",
-            &["sim"],
-            ".mutator\nfoo\n",
-            1000,
-            10,
-            "",
-            "ael: line ",
-        ),
-        ("both sinks fail", &["sim"], FIRST, 3, 7, "0: ", "ael: wr"),
-        (
-            "out fails, and err has just enough room",
-            &["sim"],
-            FIRST,
-            3,
-            17,
-            "0: ",
-            "ael: write fault\n",
-        ),
-    ];
-    for (name, words, text, out_room, err_room, out, err) in rows {
+    for (name, words, text, out_room, err_room, out, err) in FAILED_LINES {
         let input = Vec::from_slice(rt.alloc(), text.as_bytes())?;
         let limits = Limits {
             reads: &[],
