@@ -1,13 +1,16 @@
 -- One instruction on the plain heap: its ends in the order in which they are tried, else its effect.
-use Rattle.std.specs.Prelude.{ℕ, ◌+◌, ◌-◌, ◌%◌, ◌^◌, List, [], ◌∷◌, ◌++◌, length, Option, Some, None, Result, Ok, Err, nat_lt, nat_le, if◌then◌else◌, slice_get, slice_index_or, slice_set, replicate}
+use Rattle.std.specs.Prelude.{ℕ, ◌+◌, ◌-◌, ◌%◌, ◌^◌, Bool, true, false, ◌&&◌, List, [], ◌∷◌, ◌++◌, length, Option, Some, None, Result, Ok, Err, nat_lt, nat_le, ◌==◌, if◌then◌else◌, slice_get, slice_index_or, slice_set, replicate}
 use Rattle.std.specs.Option.{ok_or, option_map_or}
 use Rattle.plain_state.specs.declared.end.End.{End}
 use Rattle.plain_state.specs.declared.end.End.TheVariants.{Halt, NotPointer, NotNumber, OutOfRange, IntoRaw, OutputFull}
 use Rattle.plain_state.specs.declared.kind.Kind.{Kind}
 use Rattle.plain_state.specs.declared.kind.Kind.TheVariants.{Fields, Raw}
+use Rattle.plain_state.specs.declared.operation.Operation.{Operation}
+use Rattle.plain_state.specs.declared.operation.Operation.TheVariants as operations
 use Rattle.plain_state.specs.declared.value.Identity.{Identity}
 use Rattle.plain_state.specs.declared.value.Value.{Value}
 use Rattle.plain_state.specs.declared.value.Value.TheVariants.{Number, Reference}
+use Rattle.plain_state.specs.Operation.{one_if, applied}
 use Rattle.plain_state.specs.State.{Record, Heap, Mutator, made_by, record_of, serial_of}
 use Rattle.mutator_asm.specs.declared.instr.Instr.{Instr}
 use Rattle.mutator_asm.specs.declared.instr.Instr.TheVariants as instrs
@@ -38,6 +41,22 @@ abbrev pub reference_in : Value → Result Identity End
 reference_in (Number n) = Err NotPointer
 reference_in (Reference i) = Ok i
 
+-- a reference is not zero
+abbrev pub is_zero : Value → Bool
+is_zero (Number n) = n == 0
+is_zero (Reference i) = false
+
+abbrev pub is_reference : Value → Bool
+is_reference (Number n) = false
+is_reference (Reference i) = true
+
+-- equal numbers, or the same record
+abbrev pub are_same : Value → Value → Bool
+are_same (Number n) (Number o) = n == o
+are_same (Number n) (Reference j) = false
+are_same (Reference i) (Number o) = false
+are_same (Reference i) (Reference j) = (i.mutator == j.mutator) && (i.serial == j.serial)
+
 -- a number as it stands, or the number that a register holds
 abbrev pub operand : Mutator → Operand → Result ℕ End
 operand k (operands.Reg r) = number_in (register k r)
@@ -51,11 +70,23 @@ values_of heap i = option_map_or (λ r. r.values) (record_of heap i) []
 abbrev pub word_of : Heap → Identity → ℕ → Result Value End
 word_of heap i x = ok_or (slice_get (values_of heap i) x) OutOfRange
 
+-- word x of the board
+abbrev pub board_word : Heap → ℕ → Result Value End
+board_word heap x = ok_or (slice_get heap.board x) OutOfRange
+
 -- ---- what an instruction writes
+
+-- the number of the next instruction
+abbrev pub next_of : Mutator → ℕ
+next_of k = (k.counter + 1) % 2 ^ 62
+
+-- the mutator goes on at an instruction
+abbrev pub jumped : Mutator → ℕ → Mutator
+jumped k target = record k { counter = target; executed = k.executed + 1 }
 
 -- the mutator goes on with the next instruction
 abbrev pub went_on : Mutator → Mutator
-went_on k = record k { counter = (k.counter + 1) % 2 ^ 62; executed = k.executed + 1 }
+went_on k = jumped k (next_of k)
 
 abbrev pub set_register : Mutator → ℕ → Value → Mutator
 set_register k d v = record k { registers = slice_set k.registers d v }
@@ -75,6 +106,10 @@ with_word r x v = record r { values = slice_set r.values x v }
 
 abbrev pub with_records : Heap → ℕ → List Record → Heap
 with_records heap m records = record heap { records = slice_set heap.records m records }
+
+-- word x of the board takes a value
+abbrev pub with_board : Heap → ℕ → Value → Heap
+with_board heap x v = record heap { board = slice_set heap.board x v }
 
 -- word x of the record r with identity i takes a value
 abbrev pub stored : Heap → Identity → Record → ℕ → Value → Heap
@@ -107,12 +142,39 @@ prints heap k n =
 
 -- ---- the instructions, made by mutator m
 
-unfoldable pub call : ℕ → Heap → Mutator → Instr → Result After End
-call m heap k (instrs.Li d n) = Ok (loads heap k d (Number n))
-call m heap k (instrs.New d x) = do
+-- register d takes what an operation computes of the numbers in registers a and b
+abbrev pub computes : Operation → Heap → Mutator → ℕ → ℕ → ℕ → Result After End
+computes operation heap k d a b = do
+  a ← number_in (register k a)
+  b ← number_in (register k b)
+  n ← applied operation a b
+  Ok (loads heap k d (Number n))
+
+-- register d refers to a new record, whose length an operand names
+abbrev pub makes_new : ℕ → Heap → Mutator → Kind → ℕ → Operand → Result After End
+makes_new m heap k kind d x = do
   x ← operand k x
   n ← length_of x
-  Ok (makes m heap k Fields d n)
+  Ok (makes m heap k kind d n)
+
+unfoldable pub call : ℕ → Heap → Mutator → Instr → Result After End
+call m heap k (instrs.Li d n) = Ok (loads heap k d (Number n))
+call m heap k (instrs.Mov d a) = Ok (loads heap k d (register k a))
+call m heap k (instrs.Add d a b) = computes operations.Add heap k d a b
+call m heap k (instrs.Sub d a b) = computes operations.Sub heap k d a b
+call m heap k (instrs.Mul d a b) = computes operations.Mul heap k d a b
+call m heap k (instrs.Div d a b) = computes operations.Div heap k d a b
+call m heap k (instrs.Rem d a b) = computes operations.Rem heap k d a b
+call m heap k (instrs.Lt d a b) = computes operations.Lt heap k d a b
+call m heap k (instrs.Eq d a b) = Ok (loads heap k d (Number (one_if (are_same (register k a) (register k b)))))
+call m heap k (instrs.Jmp target) = Ok (record { heap = heap; mutator = jumped k target })
+call m heap k (instrs.Jz a target) = Ok (record { heap = heap; mutator = jumped k (if is_zero (register k a) then target else next_of k) })
+call m heap k (instrs.Jal d target) = Ok (record { heap = heap; mutator = jumped (set_register k d (Number (next_of k))) target })
+call m heap k (instrs.Jr a) = do
+  n ← number_in (register k a)
+  Ok (record { heap = heap; mutator = jumped k n })
+call m heap k (instrs.New d x) = makes_new m heap k Fields d x
+call m heap k (instrs.Raw d x) = makes_new m heap k Raw d x
 call m heap k (instrs.Ld d a x) = do
   i ← reference_in (register k a)
   x ← operand k x
@@ -124,6 +186,22 @@ call m heap k (instrs.St a x b) = do
   old ← word_of heap i x
   heap ← store_in heap i (record_of heap i) x (register k b)
   Ok (record { heap = heap; mutator = went_on k })
+call m heap k (instrs.Len d a) = do
+  i ← reference_in (register k a)
+  Ok (loads heap k d (Number (length (values_of heap i))))
+call m heap k (instrs.Isp d a) = Ok (loads heap k d (Number (one_if (is_reference (register k a)))))
+call m heap k (instrs.Get d x) = do
+  x ← operand k x
+  v ← board_word heap x
+  Ok (loads heap k d v)
+call m heap k (instrs.Put x a) = do
+  x ← operand k x
+  old ← board_word heap x
+  Ok (record { heap = with_board heap x (register k a); mutator = went_on k })
+call m heap k (instrs.Swap d x) = do
+  x ← operand k x
+  old ← board_word heap x
+  Ok (loads (with_board heap x (register k d)) k d old)
 call m heap k (instrs.Out a) = do
   n ← number_in (register k a)
   prints heap k n

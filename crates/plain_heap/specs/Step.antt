@@ -7,6 +7,7 @@ use Rattle.plain_state.specs.declared.end.End.TheVariants.{JumpOut, TurnsOut}
 use Rattle.plain_state.specs.State.{Heap, Mutator, Plain}
 use Rattle.mutator_asm.specs.declared.instr.Instr.{Instr}
 use Rattle.mutator_asm.specs.declared.instr.Instr.TheVariants as instrs
+use Rattle.mutator_asm.specs.declared.operand.Operand.{Operand}
 use Rattle.mutator_asm.specs.Program.{instr_at}
 use Rattle.plain_heap.specs.Call.{After, ◌>>=◌, call, operand, length_of}
 
@@ -48,16 +49,17 @@ stepped code turns s m = stepped_as code turns s m (mutator_in code s m)
 
 -- ---- the room that the next step asks for
 
--- the length of the record that an instruction would make
-abbrev pub length_made : Mutator → Instr → Option ℕ
-length_made k (instrs.New d x) = result_ok (do
+-- the length of the record that an operand would give it
+abbrev pub length_named : Mutator → Operand → Option ℕ
+length_named k x = result_ok (do
   x ← operand k x
   length_of x)
-length_made k (instrs.Li d n) = None
-length_made k (instrs.Ld d a x) = None
-length_made k (instrs.St a x b) = None
-length_made k (instrs.Out a) = None
-length_made k instrs.Halt = None
+
+-- the length of the record that an instruction would make
+abbrev pub length_made : Mutator → Instr → Option ℕ
+length_made k (instrs.New d x) = length_named k x
+length_made k (instrs.Raw d x) = length_named k x
+length_made k _ = None
 
 -- the pages that a record of n words takes with its header, a page having 64 words
 abbrev pub pages_for : ℕ → ℕ

@@ -17,11 +17,14 @@ pub struct PlainHeap {
 }
 
 impl Model for PlainHeap {
+    ghost use Rattle.std.specs.Prelude.{◌≡◌, length};
     ghost use Rattle.plain_state.specs.State.{Heap};
 
     ghost Value = { Heap };
 
     ghost view = { λ h. record { records = h.records.items; board = h.board } };
+
+    ghost invariant = { λ h. length h.board ≡ 16 };
 }
 
 /// The place of a record in the list of its mutator. Serials count from 1.
@@ -33,7 +36,7 @@ fn place_of(i: Identity) -> usize
 
 impl PlainHeap {
     ghost use Rattle.plain_state.specs.State.{made_by, record_of, serial_of};
-    ghost use Rattle.plain_heap.specs.Call.{word_of, store_in, stored, with_records};
+    ghost use Rattle.plain_heap.specs.Call.{values_of, word_of, board_word, store_in, stored, with_records, with_board};
 
     /// The heap of so many mutators, none of which has made a record.
     pub fn new(alloc: Global, mutators: usize) -> Result<PlainHeap, NoMemory>
@@ -63,6 +66,31 @@ impl PlainHeap {
     {
         let word = self.record(i).and_then(|r| r.word(x));
         word.ok_or(End::OutOfRange)
+    }
+
+    /// The length of a record.
+    pub fn len(&self, i: Identity) -> usize
+        ensures { result ≡ length (values_of self.now i) }
+    {
+        self.record(i).map_or(0, |r| r.len())
+    }
+
+    /// A word of the board, else the end for a word that isn't there.
+    pub fn board_word(&self, x: u64) -> Result<Value, End>
+        ensures { result ≡ board_word self.now x }
+    {
+        let word = self.board.get(x as usize).copied();
+        word.ok_or(End::OutOfRange)
+    }
+
+    /// Puts a value into a word of the board. Where there is no such word, nothing changes.
+    pub fn set_board(&mut self, x: u64, value: Value)
+        ensures { self.new ≡ with_board self.old x value }
+    {
+        let x = x as usize;
+        if x < self.board.len() {
+            self.board[x] = value;
+        }
     }
 
     fn set_word(&mut self, i: Identity, x: u64, value: Value)

@@ -2,17 +2,22 @@
 //! What the collected heap prints is measured against it.
 #![tactic(auto)]
 
+mod board;
 mod heap;
 mod instructions;
+mod jumps;
 mod made;
 mod mark;
 mod mutator;
+mod numbers;
 mod order;
 mod printing;
 mod record;
+mod records;
 mod state;
 mod step;
 mod stop;
+mod values;
 
 pub use mark::Mark;
 pub use order::plain_run;

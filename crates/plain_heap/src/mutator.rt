@@ -7,6 +7,9 @@ use plain_state::{End, Identity, NoMemory, Value};
 use std::alloc::Global;
 use std::marker::Model;
 
+/// One more than the greatest number that a counter holds.
+const MODULUS: u64 = 1 << 62;
+
 /// What a mutator is between two instructions. Contracts see it so.
 #[derive(Debug, Drop)]
 pub struct PlainMutator {
@@ -18,7 +21,7 @@ pub struct PlainMutator {
 }
 
 impl Model for PlainMutator {
-    ghost use Rattle.std.specs.Prelude.{◌<◌, ◌^◌};
+    ghost use Rattle.std.specs.Prelude.{◌≡◌, length};
     ghost use Rattle.plain_state.specs.State.{Mutator};
 
     ghost Value = { Mutator };
@@ -31,11 +34,11 @@ impl Model for PlainMutator {
       end = k.end;
     } };
 
-    ghost invariant = { λ k. k.counter < 2 ^ 62 };
+    ghost invariant = { λ k. length k.registers ≡ 8 };
 }
 
 impl PlainMutator {
-    ghost use Rattle.plain_heap.specs.Call.{register, number_in, reference_in, operand, went_on, set_register};
+    ghost use Rattle.plain_heap.specs.Call.{register, number_in, reference_in, operand, next_of, jumped, went_on, set_register};
     ghost use Rattle.plain_heap.specs.Order.{fresh};
 
     /// A mutator before its first instruction.
@@ -115,13 +118,28 @@ impl PlainMutator {
         }
     }
 
+    /// The number of the next instruction.
+    pub fn next(&self) -> u64
+        ensures { result ≡ next_of self.now }
+    {
+        (self.counter % MODULUS + 1) % MODULUS
+    }
+
+    /// Goes on at an instruction.
+    pub fn jump(&mut self, target: u64)
+        requires { self.old.executed + 1 < 2 ^ 32 }
+        ensures { self.new ≡ jumped self.old target }
+    {
+        self.counter = target;
+        self.executed += 1;
+    }
+
     /// Goes on with the next instruction.
     pub fn go_on(&mut self)
         requires { self.old.executed + 1 < 2 ^ 32 }
         ensures { self.new ≡ went_on self.old }
     {
-        self.counter = (self.counter + 1) % (1 << 62);
-        self.executed += 1;
+        self.jump(self.next());
     }
 
     pub fn set_register(&mut self, d: u8, value: Value)

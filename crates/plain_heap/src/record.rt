@@ -23,7 +23,7 @@ impl Model for PlainRecord {
 }
 
 impl PlainRecord {
-    ghost use Rattle.std.specs.Prelude.{slice_get, ok_or};
+    ghost use Rattle.std.specs.Prelude.{length, slice_get, ok_or};
     ghost use Rattle.plain_heap.specs.Call.{may_hold, with_word};
 
     /// A record of so many words, each the number 0.
@@ -32,6 +32,12 @@ impl PlainRecord {
     {
         let values = vec![in alloc; Value::Number(0); len]?;
         Ok(PlainRecord { kind, values })
+    }
+
+    pub fn len(&self) -> usize
+        ensures { result ≡ length self.now.values }
+    {
+        self.values.len()
     }
 
     /// The word of a number, counted from 0.

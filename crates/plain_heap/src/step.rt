@@ -2,13 +2,14 @@
 
 ghost use Rattle.std.specs.Prelude.{◌≡◌, ◌<◌, ◌≤◌, length, Ok, IfErr, IfSome, OnOk, OnErr};
 ghost use Rattle.plain_heap.specs.Outcome.{Leaves, StopsBy};
-ghost use Rattle.plain_heap.specs.Step.{fetch, made, length_made, pages_for, asked_if};
+ghost use Rattle.plain_heap.specs.Step.{fetch, made, length_named, length_made, pages_for, asked_if};
 
 use crate::heap::PlainHeap;
-use crate::instructions::{execute, length_of};
+use crate::instructions::execute;
 use crate::mutator::PlainMutator;
+use crate::records::length_of;
 use crate::stop::Stop;
-use mutator_asm::{Code, Instr};
+use mutator_asm::{Code, Instr, Operand};
 use plain_state::End;
 use std::alloc::Global;
 
@@ -46,17 +47,23 @@ pub fn take_turn(
     execute(alloc, heap, mutator, m, instr)
 }
 
+/// The length of the record that an operand would give it.
+fn length_named(mutator: &PlainMutator, x: Operand) -> Option<usize>
+    ensures exact { result ≡ length_named mutator.now x }
+    ensures short { IfSome result (λ len. len ≤ 4095) }
+{
+    let number = mutator.operand(x).ok()?;
+    length_of(number).ok()
+}
+
 /// The length of the record that an instruction would make.
 fn length_made(mutator: &PlainMutator, instr: Instr) -> Option<usize>
     ensures exact { result ≡ length_made mutator.now instr }
     ensures short { IfSome result (λ len. len ≤ 4095) }
 {
     match instr {
-        Instr::New(_, x) => {
-            let number = mutator.operand(x).ok()?;
-            length_of(number).ok()
-        }
-        Instr::Li(..) | Instr::Ld(..) | Instr::St(..) | Instr::Out(_) | Instr::Halt => None,
+        Instr::New(_, x) | Instr::Raw(_, x) => length_named(mutator, x),
+        _ => None,
     }
 }
 

@@ -1,2 +1,3 @@
 pub mod End
 pub mod State
+pub mod Operation

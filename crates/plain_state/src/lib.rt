@@ -5,11 +5,13 @@
 mod end;
 mod kind;
 mod no_memory;
+mod operation;
 mod value;
 
 pub use end::End;
 pub use kind::Kind;
 pub use no_memory::NoMemory;
+pub use operation::Operation;
 pub use value::{Identity, Value};
 
 #[cfg(test)]
