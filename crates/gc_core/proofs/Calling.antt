@@ -1,278 +1,88 @@
 -- One instruction does the same on both heaps, but for an end for want of room.
-use Rattle.std.proofs.Common.{◌≡◌, ℕ, ◌+◌, ◌-◌, ◌*◌, ◌%◌, ◌^◌, ◌<◌, ◌≤◌, ◌⊎◌, inl, inr, Bool, true, false, ◌&&◌, nat_le, nat_lt, List, [], ◌∷◌, ◌++◌, length, Option, Some, None, Ok, Err, slice_get, slice_index, slice_set, replicate, refl, ap, sym, ◌∙◌, subst, arith, length-set}
+use Rattle.std.proofs.Common.{◌≡◌, ℕ, ◌/◌, ◌%◌, ◌==◌, ◌+◌, ◌-◌, ◌*◌, ◌^◌, ◌<◌, ◌≤◌, Bool, true, false, ◌&&◌, cond, nat_le, nat_lt, eqb, length, Option, Some, None, Result, Ok, Err, slice_index, refl, ap, sym, ◌∙◌, subst, arith}
 use Rattle.std.specs.Bool.{IsTrue}
 use Rattle.std.specs.Option.{option_map}
-use Rattle.std.proofs.lemmas.Bool.{cases_lt, cases_eq, le-leb, lt-leb, ltb-true, and_parts, true≢false, leb-true}
-use Rattle.std.proofs.lemmas.List.{get_or-set_same, get_or-set_other}
-use Rattle.heap_words.specs.Word.{number_word, pointer_word, header_word}
-use Rattle.heap_words.specs.declared.kind.Kind.TheVariants as kinds
-use Rattle.plain_state.specs.declared.kind.Kind.TheVariants.{Fields}
+use Rattle.std.proofs.Math.Nat.{div-le_self, mod-le}
+use Rattle.std.proofs.lemmas.Bool.{ltb-true, and_parts, leb-true}
+use Rattle.heap_words.specs.Word.{number_word}
+use Rattle.plain_state.specs.declared.kind.Kind.{Kind}
+use Rattle.plain_state.specs.declared.kind.Kind.TheVariants.{Fields, Raw}
 use Rattle.plain_state.specs.declared.end.End.{End}
 use Rattle.plain_state.specs.declared.end.End.TheVariants as ends
+use Rattle.plain_state.specs.declared.operation.Operation.{Operation}
+use Rattle.plain_state.specs.declared.operation.Operation.TheVariants as operations
 use Rattle.plain_state.specs.declared.value.Identity.{Identity}
 use Rattle.plain_state.specs.declared.value.Value.{Value}
-use Rattle.plain_state.specs.declared.value.Value.TheVariants.{Number, Reference}
+use Rattle.plain_state.specs.declared.value.Value.TheVariants.{Number}
+use Rattle.plain_state.specs.Operation.{one_if, applied, divided_by}
 use Rattle.plain_state.specs.State as plain
 use Rattle.mutator_asm.specs.declared.instr.Instr.{Instr}
 use Rattle.mutator_asm.specs.declared.instr.Instr.TheVariants as instrs
 use Rattle.mutator_asm.specs.declared.operand.Operand.{Operand}
-use Rattle.mutator_asm.specs.Program.{is_valid, is_register, is_number, is_operand}
+use Rattle.mutator_asm.specs.Program.{is_valid, is_register, is_number, is_operand, is_target, are_registers}
 use Rattle.plain_heap.specs.Call as called
 use Rattle.plain_heap.specs.Call.{◌>>=◌, length_of, call as plain_call}
-use Rattle.plain_heap.specs.Step.{pages_for, length_made}
-use Rattle.gc_core.specs.declared.run.Run.{Run}
+use Rattle.plain_heap.specs.Step.{pages_for, length_made, length_named}
 use Rattle.gc_core.specs.Configuration.{Space, Mutator}
 use Rattle.gc_core.specs.Event as event
-use Rattle.gc_core.specs.Event.{call, room_for, Claim}
-use Rattle.gc_core.specs.Represents.{Owner, Free, InRun, Part, Placement, is_part, Denotes, RepresentsMutator}
-use Rattle.gc_core.proofs.Heaps.{newest, added, serial_of-stored, newest-made, serial_of-added_same}
-use Rattle.gc_core.proofs.Next.{mutator_in, RepresentsHeap, IsNext, next-same, denotes-next}
-use Rattle.gc_core.proofs.Storing.{heap-stored, next-stored}
-use Rattle.gc_core.proofs.Making.{IsRoom, placement_with, heap-made, next-made, place-newest, run-made}
-use Rattle.gc_core.proofs.Reading.{IsPlaced, IsWordAt, register-denotes, number_read, address_read, operand_read, place_read}
-use Rattle.gc_core.proofs.Parallel.{IsWant, Parallel, Same, parallel-bind}
+use Rattle.gc_core.specs.Event.{call, room_for}
+use Rattle.gc_core.specs.Represents.{Placement, spelled, Denotes, DenotesIn, RepresentsMutator}
+use Rattle.gc_core.proofs.Comparing.{words_same, word_zero, word_pointer}
+use Rattle.gc_core.proofs.Effects.{Done, done-loads, done-jumps, done-links, next-same_number, prints-same, done-stores, done-puts, done-swaps}
+use Rattle.gc_core.proofs.Next.{RepresentsHeap}
+use Rattle.gc_core.proofs.Parallel.{IsWant, Parallel, Same, parallel-bind, bind-bind}
+use Rattle.gc_core.proofs.Reading.{IsPlaced, IsWordAt, IsOnBoard, register-denotes, number_read, address_read, operand_read, place_read, board_read, length-same, read-denotes, held-same}
+use Rattle.gc_core.proofs.Rooms.{makes-same}
 
--- both heaps and both mutators went on, and the one represents the other again
-pub record Done (p : Placement) (space : Space) (heap : plain.Heap) (m : ℕ) (a : event.After) (b : called.After) : Type 0 where
-  pub placement : Placement
-  pub represents : RepresentsHeap placement a.space b.heap
-  pub next : IsNext p placement heap b.heap m
-  pub mutator : RepresentsMutator b.heap placement (length a.space.words) m a.mutator b.mutator
-  pub size : length a.space.words ≡ length space.words
-  pub heaps : length b.heap.records ≡ length heap.records
-  pub goes_on : b.mutator.end ≡ None
+-- ---- numbers
 
--- ---- the mutator
+one_if-small : (b : Bool) → one_if b < 2 ^ 62
+one_if-small true = omega arith
+one_if-small false = omega arith
 
-went_on-same : (heap : plain.Heap) (p : Placement) (size m : ℕ) (k : Mutator) (l : plain.Mutator) → RepresentsMutator heap p size m k l → RepresentsMutator heap p size m (event.went_on k) (called.went_on l)
-went_on-same heap p size m k l r = record {
-  counter = ap (λ n. (n + 1) % 2 ^ 62) r.counter;
-  printed = r.printed;
-  executed = ap (λ n. n + 1) r.executed;
-  end = r.end;
-  serial = r.serial;
-  eight = r.eight;
-  eight_values = r.eight_values;
-  registers = r.registers;
-  run_from = r.run_from;
-  run_to = r.run_to;
-  run_own = r.run_own;
-}
+-- what an operation computes of numbers is a number
+divided_same : (b n : ℕ) (none : Bool) → (b == 0) ≡ none → n < 2 ^ 62 → Same (λ x y. (x ≡ y) × (y < 2 ^ 62)) (divided_by b n) (divided_by b n)
+divided_same b n true is small = rw is (refl, tt)
+divided_same b n false is small = rw is (refl, small)
 
-set_as : (heap : plain.Heap) (p : Placement) (words : List ℕ) (values : List Value) (d word x : ℕ) (v : Value) → d < length words → length words ≡ length values
-    → Denotes heap p.place word v → Denotes heap p.place (slice_index words x) (called.register (record { counter = 0; registers = values; printed = []; executed = 0; end = None }) x)
-    → (x ≡ d) ⊎ (x ≡ d → ⊥)
-    → Denotes heap p.place (slice_index (slice_set words d word) x) (called.register (record { counter = 0; registers = slice_set values d v; printed = []; executed = 0; end = None }) x)
-set_as heap p words values d word x v within same is was (inl e) =
-    rw (e, get_or-set_same words d word 0 within, get_or-set_same values d v (Number 0) (omega (arith, within, same))) is
-set_as heap p words values d word x v within same is was (inr other) =
-    rw (get_or-set_other words d x word 0 other, get_or-set_other values d x v (Number 0) other) was
-
-set_register-same : (heap : plain.Heap) (p : Placement) (size m : ℕ) (k : Mutator) (l : plain.Mutator) (d word : ℕ) (v : Value) → d < 8 → Denotes heap p.place word v
-    → RepresentsMutator heap p size m k l → RepresentsMutator heap p size m (event.set_register k d word) (called.set_register l d v)
-set_register-same heap p size m k l d word v within is r = record {
-  counter = r.counter;
-  printed = r.printed;
-  executed = r.executed;
-  end = r.end;
-  serial = r.serial;
-  eight = length-set k.registers d word ∙ r.eight;
-  eight_values = length-set l.registers d v ∙ r.eight_values;
-  registers = λ running x lt. set_as heap p k.registers l.registers d word x v (omega (arith, r.eight, within)) (r.eight ∙ sym r.eight_values) is (r.registers running x lt) (cases_eq x d);
-  run_from = r.run_from;
-  run_to = r.run_to;
-  run_own = r.run_own;
-}
-
--- ---- the room for a record
-
-run-present : (low : ℕ) (run : Run) (n : ℕ) → run.at + n + 1 ≤ run.end → room_for low run n ≡ Ok (record { low = low; run = run })
-run-present low run n fits = rw (le-leb (run.at + n + 1) run.end fits) refl
-
-run-claimed : (low : ℕ) (run : Run) (n : ℕ) → run.end < run.at + n + 1 → 64 * pages_for n ≤ low
-    → room_for low run n ≡ Ok (record { low = low - 64 * pages_for n; run = record { at = low - 64 * pages_for n; end = low } })
-run-claimed low run n full fits = rw (lt-leb (run.at + n + 1) run.end full, le-leb (64 * pages_for n) low fits) refl
-
-run-full : (low : ℕ) (run : Run) (n : ℕ) → run.end < run.at + n + 1 → low < 64 * pages_for n → room_for low run n ≡ Err (ends.HeapFull (pages_for n) low 0)
-run-full low run n full past = rw (lt-leb (run.at + n + 1) run.end full, lt-leb (64 * pages_for n) low past) refl
-
-abbrev is_free : Owner → Bool
-is_free Free = true
-is_free (InRun m) = false
-is_free (Part i x) = false
-
-free_run : (o : Owner) (m : ℕ) → o ≡ Free → o ≡ InRun m → ⊥
-free_run o m free in_run = true≢false (ap is_free (sym free ∙ in_run))
-
-module _ (p : Placement) (space : Space) (heap : plain.Heap) (m : ℕ) (k : Mutator) (l : plain.Mutator) (h : RepresentsHeap p space heap)
-    (r : RepresentsMutator heap p (length space.words) m k l) where
-  low_below : (n : ℕ) → k.run.at + n + 1 ≤ k.run.end → (k.run.at < space.low) ⊎ (space.low ≤ k.run.at) → space.low ≤ k.run.at
-  low_below n fits (inl above) = absurd (free_run (p.owner k.run.at) m (h.unclaimed k.run.at above) (r.run_own k.run.at (omega arith) (omega arith)))
-  low_below n fits (inr below) = below
-
-  room-present : (n : ℕ) → k.run.at + n + 1 ≤ k.run.end → IsRoom p space m n k.run.at k.run.end space.low
-  room-present n fits = record {
-    fits = fits;
-    within = r.run_to;
-    low_below = low_below n fits (cases_lt k.run.at space.low);
-    low_sinks = omega arith;
-    own = λ a from to. ap is_part (r.run_own a from to);
-    of_no_other = λ a j from to own. ap mutator_in (sym own ∙ r.run_own a from to);
-  }
-
-  room-claimed : (n : ℕ) → 64 * pages_for n ≤ space.low → IsRoom p space m n (space.low - 64 * pages_for n) space.low (space.low - 64 * pages_for n)
-  room-claimed n fits = record {
-    fits = omega arith;
-    within = h.low;
-    low_below = omega arith;
-    low_sinks = omega arith;
-    own = λ a from to. ap is_part (h.unclaimed a to);
-    of_no_other = λ a j from to own. absurd (free_run (p.owner a) j (h.unclaimed a to) own);
-  }
-
--- ---- the effects
-
-module _ (p : Placement) (space : Space) (heap : plain.Heap) (m : ℕ) (k : Mutator) (l : plain.Mutator) (h : RepresentsHeap p space heap)
-    (r : RepresentsMutator heap p (length space.words) m k l) (running : l.end ≡ None) (in_heap : m < length heap.records) where
-  done-loads : (d word : ℕ) (v : Value) → d < 8 → Denotes heap p.place word v → Done p space heap m (event.loads space k d word) (called.loads heap l d v)
-  done-loads d word v within is = record {
-    placement = p;
-    represents = h;
-    next = next-same p heap m;
-    mutator = went_on-same heap p (length space.words) m (event.set_register k d word) (called.set_register l d v) (set_register-same heap p (length space.words) m k l d word v within is r);
-    size = refl;
-    heaps = refl;
-    goes_on = running;
-  }
-
-  printed-same : (n : ℕ) → Done p space heap m (record { space = space; mutator = event.went_on (record k { printed = k.printed ++ n ∷ [] }) }) (record { heap = heap; mutator = called.went_on (record l { printed = l.printed ++ n ∷ [] }) })
-  printed-same n = record {
-    placement = p;
-    represents = h;
-    next = next-same p heap m;
-    mutator = record {
-      counter = ap (λ n. (n + 1) % 2 ^ 62) r.counter;
-      printed = ap (λ xs. xs ++ n ∷ []) r.printed;
-      executed = ap (λ n. n + 1) r.executed;
-      end = r.end;
-      serial = r.serial;
-      eight = r.eight;
-      eight_values = r.eight_values;
-      registers = r.registers;
-      run_from = r.run_from;
-      run_to = r.run_to;
-      run_own = r.run_own;
-    };
-    size = refl;
-    heaps = refl;
-    goes_on = running;
-  }
-
-  prints_as : (F : End → Type 0) (n : ℕ) (b : Bool) → nat_lt (length l.printed) 65536 ≡ b → Parallel (Done p space heap m) F (event.prints space k n) (called.prints heap l n)
-  prints_as F n true is = rw (ap length r.printed, is) (printed-same n)
-  prints_as F n false is = rw (ap length r.printed, is) (refl, tt)
-
-  prints-same : (F : End → Type 0) (n : ℕ) → Parallel (Done p space heap m) F (event.prints space k n) (called.prints heap l n)
-  prints-same F n = prints_as F n (nat_lt (length l.printed) 65536) refl
-
-  done-stores : (i : Identity) (t : plain.Record) (x : ℕ) (old v : Value) (word : ℕ) → plain.IsMade heap i → plain.record_of heap i ≡ Some t → slice_get t.values x ≡ Some old
-      → Denotes heap p.place word v
-      → Done p space heap m (record { space = event.with_word space (p.place i + 1 + x) word; mutator = event.went_on k }) (record { heap = called.stored heap i t x v; mutator = called.went_on l })
-  done-stores i t x old v word made is_record is_word denotes =
-      let next = next-stored p space heap i t x old v word m h made is_record is_word denotes in
-      let same_length = length-set space.words (p.place i + 1 + x) word in
-      record {
-        placement = p;
-        represents = heap-stored p space heap i t x old v word m h made is_record is_word denotes;
-        next = next;
-        mutator = record {
-          counter = ap (λ n. (n + 1) % 2 ^ 62) r.counter;
-          printed = r.printed;
-          executed = ap (λ n. n + 1) r.executed;
-          end = r.end;
-          serial = r.serial ∙ sym (serial_of-stored heap i t x v made m);
-          eight = r.eight;
-          eight_values = r.eight_values;
-          registers = λ no_end y lt. denotes-next next _ _ (r.registers no_end y lt);
-          run_from = r.run_from;
-          run_to = omega (arith, r.run_to, same_length);
-          run_own = r.run_own;
-        };
-        size = same_length;
-        heaps = length-set heap.records i.mutator (slice_set (plain.made_by heap i.mutator) (i.serial - 1) (called.with_word t x v));
-        goes_on = running;
-      }
-
-  done-makes : (d n at end low : ℕ) → d < 8 → n ≤ 4095 → IsRoom p space m n at end low
-      → Done p space heap m (event.makes m space k d n (record { low = low; run = record { at = at; end = end } })) (called.makes m heap l Fields d n)
-  done-makes d n at end low within short room =
-      let zeros : plain.Record = record { kind = Fields; values = replicate n (Number 0) } in
-      let q = placement_with p (newest heap m) m n at end in
-      let next = next-made p space heap m n at end low k.serial h in_heap room short r.serial in
-      let same_length = length-set space.words at (header_word kinds.Fields n (k.serial + 1) m) in
-      let pointer : Denotes (added heap m zeros) q.place (pointer_word at) (Reference (newest heap m)) =
-      record { word_is = ap pointer_word (sym (place-newest p space heap m n at end low k.serial h in_heap room short r.serial)); value = newest-made heap m zeros in_heap } in
-      record {
-        placement = q;
-        represents = heap-made p space heap m n at end low k.serial h in_heap room short r.serial;
-        next = next;
-        mutator = record {
-          counter = ap (λ n. (n + 1) % 2 ^ 62) r.counter;
-          printed = r.printed;
-          executed = ap (λ n. n + 1) r.executed;
-          end = r.end;
-          serial = ap (λ n. n + 1) r.serial ∙ sym (serial_of-added_same heap m zeros in_heap);
-          eight = length-set k.registers d (pointer_word at) ∙ r.eight;
-          eight_values = length-set l.registers d (Reference (newest heap m)) ∙ r.eight_values;
-          registers = λ no_end x lt. set_as (added heap m zeros) q k.registers l.registers d (pointer_word at) x (Reference (newest heap m)) (omega (arith, r.eight, within)) (r.eight ∙ sym r.eight_values)
-              pointer (denotes-next next _ _ (r.registers no_end x lt)) (cases_eq x d);
-          run_from = room.fits;
-          run_to = omega (arith, room.within, same_length);
-          run_own = run-made p space heap m n at end low k.serial h in_heap room short r.serial;
-        };
-        size = same_length;
-        heaps = length-set heap.records m (plain.made_by heap m ++ zeros ∷ []);
-        goes_on = running;
-      }
-
-  -- a record is made, or there is no room for it
-  makes_claimed : (d n : ℕ) → d < 8 → n ≤ 4095 → k.run.end < k.run.at + n + 1 → (space.low < 64 * pages_for n) ⊎ (64 * pages_for n ≤ space.low)
-      → Parallel (Done p space heap m) (IsWant (Some (pages_for n))) (room_for space.low k.run n >>= (λ c. Ok (event.makes m space k d n c))) (Ok (called.makes m heap l Fields d n))
-  makes_claimed d n within short full (inl past) = rw (run-full space.low k.run n full past) (refl, past, refl)
-  makes_claimed d n within short full (inr fits) =
-      rw (run-claimed space.low k.run n full fits) (done-makes d n (space.low - 64 * pages_for n) space.low (space.low - 64 * pages_for n) within short (room-claimed p space heap m k l h r n fits))
-
-  makes_as : (d n : ℕ) → d < 8 → n ≤ 4095 → (k.run.end < k.run.at + n + 1) ⊎ (k.run.at + n + 1 ≤ k.run.end)
-      → Parallel (Done p space heap m) (IsWant (Some (pages_for n))) (room_for space.low k.run n >>= (λ c. Ok (event.makes m space k d n c))) (Ok (called.makes m heap l Fields d n))
-  makes_as d n within short (inl full) = makes_claimed d n within short full (cases_lt space.low (64 * pages_for n))
-  makes_as d n within short (inr fits) =
-      rw (run-present space.low k.run n fits) (done-makes d n k.run.at k.run.end space.low within short (room-present p space heap m k l h r n fits))
-
-  makes-same : (d n : ℕ) → d < 8 → n ≤ 4095
-      → Parallel (Done p space heap m) (IsWant (Some (pages_for n))) (room_for space.low k.run n >>= (λ c. Ok (event.makes m space k d n c))) (Ok (called.makes m heap l Fields d n))
-  makes-same d n within short = makes_as d n within short (cases_lt k.run.end (k.run.at + n + 1))
+applied-same : (operation : Operation) (a b : ℕ) → a < 2 ^ 62 → Same (λ x y. (x ≡ y) × (y < 2 ^ 62)) (applied operation a b) (applied operation a b)
+applied-same operations.Add a b small = (refl, omega arith)
+applied-same operations.Sub a b small = (refl, omega arith)
+applied-same operations.Mul a b small = (refl, product-small (a * b))
+  where
+    product-small : (n : ℕ) → n % 2 ^ 62 < 2 ^ 62
+    product-small n = omega arith
+applied-same operations.Div a b small = divided_same b (a / b) (b == 0) refl (omega (arith, div-le_self a b, small))
+applied-same operations.Rem a b small = divided_same b (a % b) (b == 0) refl (omega (arith, mod-le a b, small))
+applied-same operations.Lt a b small = (refl, one_if-small (nat_lt a b))
 
 length_same_as : (n : ℕ) (b : Bool) → nat_le n 4095 ≡ b → Same (λ a b. (a ≡ b) × (a ≤ 4095)) (length_of n) (length_of n)
 length_same_as n true is = rw is (refl, leb-true n 4095 is)
 length_same_as n false is = rw is (refl, tt)
 
-length-same : (n : ℕ) → Same (λ a b. (a ≡ b) × (a ≤ 4095)) (length_of n) (length_of n)
-length-same n = length_same_as n (nat_le n 4095) refl
+length_of-same : (n : ℕ) → Same (λ a b. (a ≡ b) × (a ≤ 4095)) (length_of n) (length_of n)
+length_of-same n = length_same_as n (nat_le n 4095) refl
 
-stores_in : (heap : plain.Heap) (i : Identity) (o : Option plain.Record) (t : plain.Record) (x : ℕ) (v : Value) → o ≡ Some t → t.kind ≡ Fields
-    → called.store_in heap i o x v ≡ Ok (called.stored heap i t x v)
-stores_in heap i o t x v is is_kind = rw (is, is_kind) refl
+length_named-is : (l : plain.Mutator) (x : Operand) (a n : ℕ) → called.operand l x ≡ Ok a → length_of a ≡ Ok n → length_named l x ≡ Some n
+length_named-is l x a n is_operand is_length = rw (is_operand, is_length) refl
 
-length_made-is : (l : plain.Mutator) (d : ℕ) (x : Operand) (a n : ℕ) → called.operand l x ≡ Ok a → length_of a ≡ Ok n → length_made l (instrs.New d x) ≡ Some n
-length_made-is l d x a n is_operand is_length = rw (is_operand, is_length) refl
+stores_in : (heap : plain.Heap) (i : Identity) (o : Option plain.Record) (t : plain.Record) (x : ℕ) (v : Value) → o ≡ Some t
+    → called.store_in heap i o x v ≡ (called.may_hold t.kind v >>= (λ v. Ok (called.stored heap i t x v)))
+stores_in heap i o t x v is = rw is refl
+
+jump_as : (b c : Bool) (target next other : ℕ) → b ≡ c → next ≡ other → cond b target next ≡ cond c target other
+jump_as b c target next other same e = rw (same, e) refl
 
 -- ---- the instructions
 
 module _ (p : Placement) (space : Space) (heap : plain.Heap) (m : ℕ) (k : Mutator) (l : plain.Mutator) (h : RepresentsHeap p space heap)
     (r : RepresentsMutator heap p (length space.words) m k l) (running : l.end ≡ None) (in_heap : m < length heap.records)
-    (size : length space.words ≤ 64 * 2048) (counted : (m : ℕ) → plain.serial_of heap m < 2 ^ 40) where
+    (size : length space.words ≤ 64 * 2048 + 16) (counted : (m : ℕ) → plain.serial_of heap m < 2 ^ 40) where
   valid_register : (d : ℕ) → is_register d ≡ true → d < 8
   valid_register d valid = ltb-true d 8 valid
+
+  valid_result : (d a b : ℕ) → are_registers d a b ≡ true → d < 8
+  valid_result d a b valid = valid_register d (and_parts (is_register d) (is_register a) (and_parts (is_register d && is_register a) (is_register b) valid).0).0
 
   abbrev IsWantAt : Instr → End → Type 0
   IsWantAt i = IsWant (option_map pages_for (length_made l i))
@@ -280,46 +90,125 @@ module _ (p : Placement) (space : Space) (heap : plain.Heap) (m : ℕ) (k : Muta
   abbrev IsDone : event.After → called.After → Type 0
   IsDone = Done p space heap m
 
-  field-denotes : (i : Identity) (x place : ℕ) (v : Value) → plain.IsMade heap i → IsWordAt p heap i x place v → Denotes heap p.place (slice_index space.words place) v
-  field-denotes i x place v made is = rw is.place_is ((h.records i is.of made.first is.is_record).fields x v is.is_word)
+  -- what register a denotes
+  denotes : (a : ℕ) → Denotes heap p.place (event.register k a) (called.register l a)
+  denotes = register-denotes p space heap h size counted m k l r running
 
-  new-same : (d : ℕ) (x : Operand) (a n : ℕ) → d < 8 → n ≤ 4095 → called.operand l x ≡ Ok a → length_of a ≡ Ok n
-      → Parallel IsDone (IsWantAt (instrs.New d x)) (room_for space.low k.run n >>= (λ c. Ok (event.makes m space k d n c))) (Ok (called.makes m heap l Fields d n))
-  new-same d x a n within short is_operand is_length =
-      subst (λ o. Parallel IsDone (IsWant (option_map pages_for o)) (room_for space.low k.run n >>= (λ c. Ok (event.makes m space k d n c))) (Ok (called.makes m heap l Fields d n)))
-      (sym (length_made-is l d x a n is_operand is_length)) (makes-same p space heap m k l h r running in_heap d n within short)
+  -- a register takes a number
+  loads_number : (d n o : ℕ) → d < 8 → n ≡ o → o < 2 ^ 62 → IsDone (event.loads space k d (number_word n)) (called.loads heap l d (Number o))
+  loads_number d n o within e small = done-loads p space heap m k l h r running in_heap d (number_word n) (Number o) within (record { word_is = ap number_word e; value = small })
 
-  store-same : (F : End → Type 0) (i : Identity) (x place b : ℕ) (old : Value) → plain.IsMade heap i → IsWordAt p heap i x place old
-      → Parallel IsDone F (Ok (record { space = event.with_word space place (event.register k b); mutator = event.went_on k }))
+  computes-same : (F : End → Type 0) (operation : Operation) (d a b : ℕ) → d < 8 → Parallel IsDone F (event.computes operation space k d a b) (called.computes operation heap l d a b)
+  computes-same F operation d a b within =
+      parallel-bind (λ a b. (a ≡ b) × (b < 2 ^ 62)) IsDone F _ _ _ _ (number_read p space heap h size counted m k l r running a)
+      (λ x x' is_x is_x' ex. parallel-bind (λ a b. (a ≡ b) × (b < 2 ^ 62)) IsDone F _ _ _ _ (number_read p space heap h size counted m k l r running b)
+      (λ y y' is_y is_y' ey. rw (ex.0, ey.0) (parallel-bind (λ a b. (a ≡ b) × (b < 2 ^ 62)) IsDone F _ _ _ _ (applied-same operation x' y' ex.1)
+      (λ n n' is_n is_n' en. loads_number d n n' within en.0 en.1))))
+
+  new-same : (kind : Kind) (d : ℕ) (x : Operand) (a n : ℕ) → d < 8 → n ≤ 4095 → called.operand l x ≡ Ok a → length_of a ≡ Ok n
+      → Parallel IsDone (IsWant (option_map pages_for (length_named l x))) (room_for space.low k.run n >>= (λ c. Ok (event.makes m space k (spelled kind) d n c))) (Ok (called.makes m heap l kind d n))
+  new-same kind d x a n within short is_operand is_length =
+      subst (λ o. Parallel IsDone (IsWant (option_map pages_for o)) (room_for space.low k.run n >>= (λ c. Ok (event.makes m space k (spelled kind) d n c))) (Ok (called.makes m heap l kind d n)))
+      (sym (length_named-is l x a n is_operand is_length)) (makes-same p space heap m k l h r running in_heap kind d n within short)
+
+  makes_new-same : (kind : Kind) (d : ℕ) (x : Operand) → d < 8
+      → Parallel IsDone (IsWant (option_map pages_for (length_named l x))) (event.makes_new m space k (spelled kind) d x) (called.makes_new m heap l kind d x)
+  makes_new-same kind d x within =
+      let F = IsWant (option_map pages_for (length_named l x)) in
+      parallel-bind (λ a b. a ≡ b) IsDone F _ _ _ _ (operand_read p space heap h size counted m k l r running x)
+      (λ a b is_a is_b e. rw e (parallel-bind (λ a b. (a ≡ b) × (a ≤ 4095)) IsDone F _ _ _ _ (length_of-same b)
+      (λ n n' is is' short. rw short.0 (new-same kind d x b n' within (subst (λ t. t ≤ 4095) short.0 short.1) is_b is'))))
+
+  store-same : (F : End → Type 0) (address : ℕ) (i : Identity) (x place b : ℕ) (old : Value) → IsPlaced p heap address i → IsWordAt p heap i x place old
+      → Parallel IsDone F
+      (event.as_held (event.kind_told (slice_index space.words address)) (event.register k b) >>= (λ word. Ok (record { space = event.with_word space place word; mutator = event.went_on k })))
       (called.store_in heap i (plain.record_of heap i) x (called.register l b) >>= (λ heap. Ok (record { heap = heap; mutator = called.went_on l })))
-  store-same F i x place b old made is =
-      rw (is.place_is, stores_in heap i (plain.record_of heap i) is.of x (called.register l b) is.is_record (h.records i is.of made.first is.is_record).kind)
-      (done-stores p space heap m k l h r running in_heap i is.of x old (called.register l b) (event.register k b) made is.is_record is.is_word (register-denotes p space heap h size counted m k l r running b))
+  store-same F address i x place b old placed is =
+      rw (stores_in heap i (plain.record_of heap i) is.of x (called.register l b) is.is_record,
+      bind-bind {C = called.After} (called.may_hold is.of.kind (called.register l b)) (λ v. Ok (called.stored heap i is.of x v)) (λ heap. Ok (record { heap = heap; mutator = called.went_on l })))
+      (parallel-bind (DenotesIn is.of.kind heap p.place) IsDone F _ _ _ _ (held-same p space heap h size counted address i x place old (called.register l b) (event.register k b) placed is (denotes b))
+      (λ word v is_word is_v held. rw is.place_is (done-stores p space heap m k l h r running in_heap i is.of x old v word placed.made is.is_record is.is_word held)))
+
+  -- word x of a record, where it stands and what it was
+  at_word : (F : End → Type 0) (a : ℕ) (x : Operand) (f : ℕ → ℕ → Result event.After End) (g : Identity → ℕ → Value → Result called.After End)
+      → ((address : ℕ) (i : Identity) (y place : ℕ) (v : Value) → IsPlaced p heap address i → IsWordAt p heap i y place v → Parallel IsDone F (f address place) (g i y v))
+      → Parallel IsDone F
+      (event.address_of (event.register k a) >>= (λ address. event.operand k x >>= (λ y. event.place_of space address y >>= (λ place. f address place))))
+      (called.reference_in (called.register l a) >>= (λ i. called.operand l x >>= (λ y. called.word_of heap i y >>= (λ v. g i y v))))
+  at_word F a x f g next =
+      parallel-bind (IsPlaced p heap) IsDone F _ _ _ _ (address_read p space heap h size counted m k l r running a)
+      (λ address i is_address is_i placed. parallel-bind (λ a b. a ≡ b) IsDone F _ _ _ _ (operand_read p space heap h size counted m k l r running x)
+      (λ y y' is_y is_y' e. parallel-bind (IsWordAt p heap i y') IsDone F _ _ _ _ (place_read p space heap h size counted m k l r running address i y y' placed e)
+      (λ place v is_place is_v is. next address i y' place v placed is)))
+
+  -- word x of the board, where it stands and what it was
+  at_board : (F : End → Type 0) (x : Operand) (f : ℕ → Result event.After End) (g : ℕ → Value → Result called.After End)
+      → ((y place : ℕ) (v : Value) → IsOnBoard p space heap y place v → Parallel IsDone F (f place) (g y v))
+      → Parallel IsDone F (event.operand k x >>= (λ y. event.board_place space y >>= (λ place. f place))) (called.operand l x >>= (λ y. called.board_word heap y >>= (λ v. g y v)))
+  at_board F x f g next =
+      parallel-bind (λ a b. a ≡ b) IsDone F _ _ _ _ (operand_read p space heap h size counted m k l r running x)
+      (λ y y' is_y is_y' e. parallel-bind (IsOnBoard p space heap y') IsDone F _ _ _ _ (board_read p space heap h size counted y y' e)
+      (λ place v is_place is_v is. next y' place v is))
 
   pub call-same : (i : Instr) → IsTrue (is_valid i) → Parallel (Done p space heap m) (IsWantAt i) (call m space k i) (plain_call m heap l i)
   unfolding call plain_call
   call-same (instrs.Li d n) valid =
       let parts = and_parts (is_register d) (is_number n) valid in
-      done-loads p space heap m k l h r running in_heap d (number_word n) (Number n) (valid_register d parts.0) (record { word_is = refl; value = ltb-true n (2 ^ 62) parts.1 })
-  call-same (instrs.New d x) valid =
-      let within = valid_register d (and_parts (is_register d) (is_operand x) valid).0 in
-      parallel-bind (λ a b. a ≡ b) IsDone (IsWantAt (instrs.New d x)) _ _ _ _ (operand_read p space heap h size counted m k l r running x)
-      (λ a b is_a is_b e. rw e (parallel-bind (λ a b. (a ≡ b) × (a ≤ 4095)) IsDone (IsWantAt (instrs.New d x)) _ _ _ _ (length-same b)
-      (λ n n' is is' short. rw short.0 (new-same d x b n' within (subst (λ t. t ≤ 4095) short.0 short.1) is_b is'))))
+      loads_number d n n (valid_register d parts.0) refl (ltb-true n (2 ^ 62) parts.1)
+  call-same (instrs.Mov d a) valid =
+      done-loads p space heap m k l h r running in_heap d (event.register k a) (called.register l a) (valid_register d (and_parts (is_register d) (is_register a) valid).0) (denotes a)
+  call-same (instrs.Add d a b) valid = computes-same (IsWantAt (instrs.Add d a b)) operations.Add d a b (valid_result d a b valid)
+  call-same (instrs.Sub d a b) valid = computes-same (IsWantAt (instrs.Sub d a b)) operations.Sub d a b (valid_result d a b valid)
+  call-same (instrs.Mul d a b) valid = computes-same (IsWantAt (instrs.Mul d a b)) operations.Mul d a b (valid_result d a b valid)
+  call-same (instrs.Div d a b) valid = computes-same (IsWantAt (instrs.Div d a b)) operations.Div d a b (valid_result d a b valid)
+  call-same (instrs.Rem d a b) valid = computes-same (IsWantAt (instrs.Rem d a b)) operations.Rem d a b (valid_result d a b valid)
+  call-same (instrs.Lt d a b) valid = computes-same (IsWantAt (instrs.Lt d a b)) operations.Lt d a b (valid_result d a b valid)
+  call-same (instrs.Eq d a b) valid =
+      let same = words_same p space heap h size (event.register k a) (event.register k b) (called.register l a) (called.register l b) (denotes a) (denotes b) in
+      loads_number d _ _ (valid_result d a b valid) (ap one_if same) (one_if-small (called.are_same (called.register l a) (called.register l b)))
+  call-same (instrs.Jmp target) valid = done-jumps p space heap m k l h r running in_heap target target refl
+  call-same (instrs.Jz a target) valid =
+      let same = word_zero p space heap h size (event.register k a) (called.register l a) (denotes a) in
+      done-jumps p space heap m k l h r running in_heap _ _ (jump_as _ _ target _ _ same (next-same_number p space heap m k l h r running in_heap))
+  call-same (instrs.Jal d target) valid =
+      let next = next-same_number p space heap m k l h r running in_heap in
+      done-links p space heap m k l h r running in_heap d (number_word (event.next_of k)) target (Number (called.next_of l)) (valid_register d (and_parts (is_register d) (is_target target) valid).0)
+      (record { word_is = ap number_word next; value = omega arith })
+  call-same (instrs.Jr a) valid =
+      parallel-bind (λ a b. (a ≡ b) × (b < 2 ^ 62)) IsDone (IsWantAt (instrs.Jr a)) _ _ _ _ (number_read p space heap h size counted m k l r running a)
+      (λ n n' is is' e. done-jumps p space heap m k l h r running in_heap n n' e.0)
+  call-same (instrs.New d x) valid = makes_new-same Fields d x (valid_register d (and_parts (is_register d) (is_operand x) valid).0)
+  call-same (instrs.Raw d x) valid = makes_new-same Raw d x (valid_register d (and_parts (is_register d) (is_operand x) valid).0)
   call-same (instrs.Ld d a x) valid =
       let within = valid_register d (and_parts (is_register d) (is_register a) (and_parts (is_register d && is_register a) (is_operand x) valid).0).0 in
-      let F = IsWantAt (instrs.Ld d a x) in
-      parallel-bind (IsPlaced p heap) IsDone F _ _ _ _ (address_read p space heap h size counted m k l r running a)
-      (λ address i is_address is_i placed. parallel-bind (λ a b. a ≡ b) IsDone F _ _ _ _ (operand_read p space heap h size counted m k l r running x)
-      (λ y y' is_y is_y' e. parallel-bind (IsWordAt p heap i y') IsDone F _ _ _ _ (place_read p space heap h size counted m k l r running address i y y' placed e)
-      (λ place v is_place is_v is. done-loads p space heap m k l h r running in_heap d (slice_index space.words place) v within (field-denotes i y' place v placed.made is))))
+      at_word (IsWantAt (instrs.Ld d a x)) a x _ _
+      (λ address i y place v placed is. done-loads p space heap m k l h r running in_heap d _ v within (read-denotes p space heap h size counted address i y place v placed is))
   call-same (instrs.St a x b) valid =
-      let F = IsWantAt (instrs.St a x b) in
-      parallel-bind (IsPlaced p heap) IsDone F _ _ _ _ (address_read p space heap h size counted m k l r running a)
-      (λ address i is_address is_i placed. parallel-bind (λ a b. a ≡ b) IsDone F _ _ _ _ (operand_read p space heap h size counted m k l r running x)
-      (λ y y' is_y is_y' e. parallel-bind (IsWordAt p heap i y') IsDone F _ _ _ _ (place_read p space heap h size counted m k l r running address i y y' placed e)
-      (λ place v is_place is_v is. store-same F i y' place b v placed.made is)))
+      at_word (IsWantAt (instrs.St a x b)) a x _ _ (λ address i y place v placed is. store-same (IsWantAt (instrs.St a x b)) address i y place b v placed is)
+  call-same (instrs.Len d a) valid =
+      parallel-bind (IsPlaced p heap) IsDone (IsWantAt (instrs.Len d a)) _ _ _ _ (address_read p space heap h size counted m k l r running a)
+      (λ address i is_address is_i placed.
+      let same = length-same p space heap h size counted address i placed in
+      loads_number d _ _ (valid_register d (and_parts (is_register d) (is_register a) valid).0) same.0 same.1)
+  call-same (instrs.Isp d a) valid =
+      let same = word_pointer p space heap h size (event.register k a) (called.register l a) (denotes a) in
+      loads_number d _ _ (valid_register d (and_parts (is_register d) (is_register a) valid).0) (ap one_if same) (one_if-small (called.is_reference (called.register l a)))
+  call-same (instrs.Get d x) valid =
+      at_board (IsWantAt (instrs.Get d x)) x _ _
+      (λ y place v is. done-loads p space heap m k l h r running in_heap d _ v (valid_register d (and_parts (is_register d) (is_operand x) valid).0) is.denotes)
+  call-same (instrs.Put x a) valid =
+      at_board (IsWantAt (instrs.Put x a)) x _ _
+      (λ y place v is. rw is.place_is (done-puts p space heap m k l h r running in_heap y (called.register l a) (event.register k a) is.inside (denotes a)))
+  call-same (instrs.Swap d x) valid =
+      at_board (IsWantAt (instrs.Swap d x)) x _ _
+      (λ y place v is. swapped y place v is (valid_register d (and_parts (is_register d) (is_operand x) valid).0))
+    where
+      swapped : (y place : ℕ) (v : Value) → IsOnBoard p space heap y place v → d < 8
+          → IsDone (event.loads (event.with_word space place (event.register k d)) k d (slice_index space.words place)) (called.loads (called.with_board heap y (called.register l d)) l d v)
+      swapped y place v is within =
+          subst (λ t. IsDone (event.loads (event.with_word space t (event.register k d)) k d (slice_index space.words place)) (called.loads (called.with_board heap y (called.register l d)) l d v)) (sym is.place_is)
+          (done-swaps p space heap m k l h r running in_heap y (called.register l d) v (event.register k d) d (slice_index space.words place) is.inside (denotes d) within is.denotes)
   call-same (instrs.Out a) valid =
-      parallel-bind (λ a b. a ≡ b) (Done p space heap m) (IsWantAt (instrs.Out a)) _ _ _ _ (number_read p space heap h size counted m k l r running a)
-      (λ n n' is is' e. rw e (prints-same p space heap m k l h r running in_heap (IsWantAt (instrs.Out a)) n'))
+      parallel-bind (λ a b. (a ≡ b) × (b < 2 ^ 62)) IsDone (IsWantAt (instrs.Out a)) _ _ _ _ (number_read p space heap h size counted m k l r running a)
+      (λ n n' is is' e. rw e.0 (prints-same p space heap m k l h r running in_heap (IsWantAt (instrs.Out a)) n'))
   call-same instrs.Halt valid = (refl, tt)

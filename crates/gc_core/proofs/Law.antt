@@ -1,5 +1,5 @@
 -- Each event meets the law.
-use Rattle.std.proofs.Common.{◌≡◌, ℕ, ◌*◌, ◌^◌, ◌<◌, ◌≤◌, ◌⊎◌, inl, inr, Bool, true, false, cond, nat_le, List, length, Option, Some, None, Result, Ok, Err, slice_get, slice_set, refl, ap, sym, ◌∙◌, subst, arith}
+use Rattle.std.proofs.Common.{◌≡◌, ℕ, ◌+◌, ◌*◌, ◌^◌, ◌<◌, ◌≤◌, ◌⊎◌, inl, inr, Bool, true, false, cond, nat_le, List, length, Option, Some, None, Result, Ok, Err, slice_get, slice_set, refl, ap, sym, ◌∙◌, subst, arith}
 use Rattle.std.specs.Bool.{IsTrue}
 use Rattle.std.specs.Option.{ok_or, option_map, IfSome}
 use Rattle.std.specs.List.{list_all}
@@ -27,7 +27,8 @@ use Rattle.gc_core.proofs.Lists.{slice_get-set_same}
 use Rattle.gc_core.proofs.Heaps.{made_by-past}
 use Rattle.gc_core.proofs.Next.{RepresentsHeap, heap_of, next-same, represents-next}
 use Rattle.gc_core.proofs.Parallel.{IsPlain, IsWant, Parallel, Same, parallel-bind}
-use Rattle.gc_core.proofs.Calling.{Done, call-same}
+use Rattle.gc_core.proofs.Calling.{call-same}
+use Rattle.gc_core.proofs.Effects.{Done}
 
 -- ---- the instruction that comes next
 
@@ -49,7 +50,7 @@ valid_fetched code turns m l i valid is =
 
 module _ (code : List (List Instr)) (turns : ℕ) (p : Placement) (space : Space) (heap : plain.Heap) (m : ℕ) (k : Mutator) (l : plain.Mutator) (h : RepresentsHeap p space heap)
     (r : RepresentsMutator heap p (length space.words) m k l) (running : l.end ≡ None) (in_heap : m < length heap.records)
-    (size : length space.words ≤ 64 * 2048) (counted : (m : ℕ) → plain.serial_of heap m < 2 ^ 40) (valid : IsTrue (list_all (list_all is_valid) code)) where
+    (size : length space.words ≤ 64 * 2048 + 16) (counted : (m : ℕ) → plain.serial_of heap m < 2 ^ 40) (valid : IsTrue (list_all (list_all is_valid) code)) where
   fetch-same : Same (λ i j. i ≡ j) (event.fetch code turns m k) (step.fetch code turns m l)
   fetch-same = rw (r.executed, r.counter) (fetch_ends (nat_le turns l.executed) (instr_at code m l.counter))
 

@@ -4,8 +4,12 @@ pub mod Lists
 pub mod Heaps
 pub mod Next
 pub mod Storing
+pub mod Boarding
 pub mod Making
+pub mod Comparing
 pub mod Reading
+pub mod Effects
+pub mod Rooms
 pub mod Calling
 pub mod Law
 pub mod Steady

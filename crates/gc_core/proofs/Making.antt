@@ -4,22 +4,22 @@ use Rattle.std.proofs.lemmas.Bool.{cases_eq, cases_lt, true≢false, le-leb, lt-
 use Rattle.std.proofs.lemmas.List.{get_or-set_same, get_or-set_other, length-replicate}
 use Rattle.std.proofs.lemmas.Option.{same_Some, slice_get_within}
 use Rattle.heap_words.specs.Word.{number_word, header_word}
-use Rattle.heap_words.specs.declared.kind.Kind.TheVariants as kinds
-use Rattle.plain_state.specs.declared.kind.Kind.TheVariants.{Fields}
+use Rattle.plain_state.specs.declared.kind.Kind.{Kind}
+use Rattle.plain_state.specs.declared.kind.Kind.TheVariants.{Fields, Raw}
 use Rattle.plain_state.specs.declared.value.Identity.{Identity}
 use Rattle.plain_state.specs.declared.value.Value.{Value}
 use Rattle.plain_state.specs.declared.value.Value.TheVariants.{Number}
 use Rattle.plain_state.specs.State as plain
 use Rattle.gc_core.specs.Configuration.{Space}
-use Rattle.gc_core.specs.Represents.{Owner, InRun, Part, Placement, is_part, Denotes, StandsAt, IsOfRecord}
+use Rattle.gc_core.specs.Represents.{Owner, InRun, Part, Placement, is_part, spelled, DenotesIn, StandsAt, IsOfRecord}
 use Rattle.gc_core.proofs.Lists.{slice_get-replicate}
 use Rattle.gc_core.proofs.Heaps.{same_identity, cases_identity, record_made, newest, added, newest-made, newest-new, made-added, older, record_of-newest, record_of-added, serial_of-added_other}
-use Rattle.gc_core.proofs.Next.{identity_in, word_in, RepresentsHeap, IsNext, IsKept, stands-next}
+use Rattle.gc_core.proofs.Next.{identity_in, word_in, RepresentsHeap, IsNext, IsKept, board-next, stands-next}
 
 -- the words from low up to high have room for a record of n words of mutator m
 pub record IsRoom (p : Placement) (space : Space) (m n at end low : ℕ) : Type 0 where
   pub fits : at + n + 1 ≤ end
-  pub within : end ≤ length space.words
+  pub within : end + 16 ≤ length space.words
   pub low_below : low ≤ at
   pub low_sinks : low ≤ space.low
   pub own : (a : ℕ) → at ≤ a → a < end → is_part (p.owner a) ≡ false
@@ -89,11 +89,11 @@ not_part o i x is no_part = true≢false (ap is_part (sym is) ∙ no_part)
 
 -- ---- the heap with the new record
 
-module _ (p : Placement) (space : Space) (heap : plain.Heap) (m n at end low serial : ℕ) (h : RepresentsHeap p space heap) (in_heap : m < length heap.records)
+module _ (p : Placement) (space : Space) (heap : plain.Heap) (m : ℕ) (kind : Kind) (n at end low serial : ℕ) (h : RepresentsHeap p space heap) (in_heap : m < length heap.records)
     (room : IsRoom p space m n at end low) (short : n ≤ 4095) (serial_is : serial ≡ plain.serial_of heap m) where
   -- the record that is made
   abbrev zeros : plain.Record
-  zeros = record { kind = Fields; values = replicate n (Number 0) }
+  zeros = record { kind = kind; values = replicate n (Number 0) }
 
   abbrev next : plain.Heap
   next = added heap m zeros
@@ -102,7 +102,7 @@ module _ (p : Placement) (space : Space) (heap : plain.Heap) (m n at end low ser
   q = placement_with p (newest heap m) m n at end
 
   abbrev new_words : List ℕ
-  new_words = slice_set space.words at (header_word kinds.Fields n (serial + 1) m)
+  new_words = slice_set space.words at (header_word (spelled kind) n (serial + 1) m)
 
   -- ---- what stays
 
@@ -118,7 +118,7 @@ module _ (p : Placement) (space : Space) (heap : plain.Heap) (m n at end low ser
   kept : (a : ℕ) (i : Identity) (x : ℕ) → p.owner a ≡ Part i x → IsKept p q space.words new_words a i x
   kept a i x own =
       let stays = part-stays_as a i x own (region n at end a) in
-      record { owner = stays.1; word = get_or-set_other space.words at a (header_word kinds.Fields n (serial + 1) m) 0 stays.0 }
+      record { owner = stays.1; word = get_or-set_other space.words at a (header_word (spelled kind) n (serial + 1) m) 0 stays.0 }
 
   runs_as : (j a : ℕ) → (j ≡ m → ⊥) → p.owner a ≡ InRun j → Region n at end a → q.owner a ≡ InRun j
   runs_as j a other own (Below below) = owner-below p.owner (newest heap m) m n at end a below ∙ own
@@ -146,29 +146,29 @@ module _ (p : Placement) (space : Space) (heap : plain.Heap) (m n at end low ser
 
   word-new : (x : ℕ) → x < n → slice_index new_words (at + 1 + x) ≡ 0
   word-new x lt =
-      get_or-set_other space.words at (at + 1 + x) (header_word kinds.Fields n (serial + 1) m) 0 (λ e. omega arith)
-      ∙ h.rest (at + 1 + x) (room.own (at + 1 + x) (omega arith) (omega (arith, room.fits)))
+      get_or-set_other space.words at (at + 1 + x) (header_word (spelled kind) n (serial + 1) m) 0 (λ e. omega arith)
+      ∙ h.rest (at + 1 + x) (omega (arith, room.fits, room.within)) (room.own (at + 1 + x) (omega arith) (omega (arith, room.fits)))
 
-  zero-denotes : Denotes next q.place 0 (Number 0)
+  zero-denotes : (kind : Kind) → DenotesIn kind next q.place 0 (Number 0)
   unfolding number_word
-  zero-denotes = record { word_is = refl; value = omega arith }
+  zero-denotes Fields = record { word_is = refl; value = omega arith }
+  zero-denotes Raw = record { number = refl; small = omega arith }
 
-  field-new : (x : ℕ) (v : Value) → slice_get (replicate n (Number 0)) x ≡ Some v → Denotes next q.place (slice_index new_words (at + 1 + x)) v
+  field-new : (x : ℕ) (v : Value) → slice_get (replicate n (Number 0)) x ≡ Some v → DenotesIn kind next q.place (slice_index new_words (at + 1 + x)) v
   field-new x v is =
       let lt : x < n = omega (arith, slice_get_within (replicate n (Number 0)) x v is, length-replicate n (Number 0)) in
-      rw (word-new x lt) (subst (λ t. Denotes next q.place 0 t) (sym (slice_get-replicate n x (Number 0) v is)) zero-denotes)
+      rw (word-new x lt) (subst (λ t. DenotesIn kind next q.place 0 t) (sym (slice_get-replicate n x (Number 0) v is)) (zero-denotes kind))
 
   stands-new : StandsAt next q new_words (newest heap m) zeros
   stands-new =
       let len : length (replicate n (Number 0)) ≡ n = length-replicate n (Number 0) in
-      let same_length : length new_words ≡ length space.words = length-set space.words at (header_word kinds.Fields n (serial + 1) m) in
+      let same_length : length new_words ≡ length space.words = length-set space.words at (header_word (spelled kind) n (serial + 1) m) in
       record {
-        kind = refl;
         short = rw len short;
         within = rw (len, place-newest, same_length) (omega (arith, room.fits, room.within));
         own = λ x le. rw place-newest (own-new x (subst (λ t. x ≤ t) len le));
-        header = rw (len, place-newest) (get_or-set_same space.words at (header_word kinds.Fields n (serial + 1) m) 0 (omega (arith, room.fits, room.within))
-            ∙ ap (λ t. header_word kinds.Fields n (t + 1) m) serial_is);
+        header = rw (len, place-newest) (get_or-set_same space.words at (header_word (spelled kind) n (serial + 1) m) 0 (omega (arith, room.fits, room.within))
+            ∙ ap (λ t. header_word (spelled kind) n (t + 1) m) serial_is);
         fields = λ x v is. rw place-newest (field-new x v is);
       }
 
@@ -181,7 +181,7 @@ module _ (p : Placement) (space : Space) (heap : plain.Heap) (m n at end low ser
   records_as i r first is (inr other) =
       let made = older heap m zeros in_heap i (record_made next i r first is) other in
       let was : plain.record_of heap i ≡ Some r = sym (record_of-added heap m zeros in_heap i made (cases_eq i.mutator m)) ∙ is in
-      stands-next next-made space.words new_words i r made (sym (length-set space.words at (header_word kinds.Fields n (serial + 1) m))) (λ a x own. kept a i x own) (h.records i r first was)
+      stands-next next-made space.words new_words i r made (sym (length-set space.words at (header_word (spelled kind) n (serial + 1) m))) (λ a x own. kept a i x own) (h.records i r first was)
 
   part-older : (a : ℕ) (i : Identity) (x : ℕ) → p.owner a ≡ Part i x → IsOfRecord next q a i x
   part-older a i x own =
@@ -212,26 +212,27 @@ module _ (p : Placement) (space : Space) (heap : plain.Heap) (m n at end low ser
       absurd (not_part (InRun m) i x (sym (owner-rest p.owner (newest heap m) m n at end a from to) ∙ own) refl)
   parts_as a i x own (Above from above) = part-older a i x (sym (owner-above p.owner (newest heap m) m n at end a from above) ∙ own)
 
-  rest_at : (a : ℕ) → (a ≡ at → ⊥) → is_part (p.owner a) ≡ false → slice_index new_words a ≡ 0
-  rest_at a other no_part = get_or-set_other space.words at a (header_word kinds.Fields n (serial + 1) m) 0 other ∙ h.rest a no_part
+  rest_at : (a : ℕ) → a + 16 < length space.words → (a ≡ at → ⊥) → is_part (p.owner a) ≡ false → slice_index new_words a ≡ 0
+  rest_at a inside other no_part = get_or-set_other space.words at a (header_word (spelled kind) n (serial + 1) m) 0 other ∙ h.rest a inside no_part
 
-  rest_as : (a : ℕ) → is_part (q.owner a) ≡ false → Region n at end a → slice_index new_words a ≡ 0
-  rest_as a no_part (Below below) = rest_at a (λ e. omega arith) (ap is_part (sym (owner-below p.owner (newest heap m) m n at end a below)) ∙ no_part)
-  rest_as a no_part (InRecord from to) =
+  rest_as : (a : ℕ) → a + 16 < length space.words → is_part (q.owner a) ≡ false → Region n at end a → slice_index new_words a ≡ 0
+  rest_as a inside no_part (Below below) = rest_at a inside (λ e. omega arith) (ap is_part (sym (owner-below p.owner (newest heap m) m n at end a below)) ∙ no_part)
+  rest_as a inside no_part (InRecord from to) =
       absurd (not_part (q.owner a) (newest heap m) (a - at) (owner-record p.owner (newest heap m) m n at end a from to) no_part)
-  rest_as a no_part (InRest from to) = rest_at a (λ e. omega arith) (room.own a (omega arith) to)
-  rest_as a no_part (Above from above) = rest_at a (λ e. omega arith) (ap is_part (sym (owner-above p.owner (newest heap m) m n at end a from above)) ∙ no_part)
+  rest_as a inside no_part (InRest from to) = rest_at a inside (λ e. omega arith) (room.own a (omega arith) to)
+  rest_as a inside no_part (Above from above) = rest_at a inside (λ e. omega arith) (ap is_part (sym (owner-above p.owner (newest heap m) m n at end a from above)) ∙ no_part)
 
-  pub heap-made : RepresentsHeap q (record { words = slice_set space.words at (header_word kinds.Fields n (serial + 1) m); low = low }) next
+  pub heap-made : RepresentsHeap q (record { words = slice_set space.words at (header_word (spelled kind) n (serial + 1) m); low = low }) next
   heap-made =
-      let same_length : length new_words ≡ length space.words = length-set space.words at (header_word kinds.Fields n (serial + 1) m) in
+      let same_length : length new_words ≡ length space.words = length-set space.words at (header_word (spelled kind) n (serial + 1) m) in
       record {
         records = λ i r first is. records_as i r first is (cases_identity i (newest heap m));
         parts = λ a i x own. parts_as a i x own (region n at end a);
-        rest = λ a no_part. rest_as a no_part (region n at end a);
+        rest = λ a inside no_part. rest_as a (omega (arith, inside, same_length)) no_part (region n at end a);
         low = omega (arith, h.low, room.low_sinks, same_length);
         unclaimed = λ a below. owner-below p.owner (newest heap m) m n at end a (omega (arith, room.low_below)) ∙ h.unclaimed a (omega (arith, room.low_sinks));
-        board = h.board;
+        board = board-next next-made space.words new_words (sym same_length) refl
+            (λ a behind. get_or-set_other space.words at a (header_word (spelled kind) n (serial + 1) m) 0 (λ e. omega (arith, room.fits, room.within))) h.board;
       }
 
   -- what is left of the run is the mutator's

@@ -1,14 +1,17 @@
 -- From what an instruction of one mutator changes to the whole configuration after it.
-use Rattle.std.proofs.Common.{◌≡◌, ℕ, ◌+◌, ◌<◌, ◌≤◌, ◌⊎◌, inl, inr, false, List, length, Some, slice_get, slice_index, slice_set, replicate, refl, ap, sym, ◌∙◌, subst, arith, length-set}
+use Rattle.std.proofs.Common.{◌≡◌, ℕ, ◌+◌, ◌-◌, ◌<◌, ◌≤◌, ◌⊎◌, inl, inr, false, List, length, Some, slice_get, slice_index, slice_set, refl, ap, sym, ◌∙◌, subst, arith, length-set}
 use Rattle.std.proofs.lemmas.Bool.{cases_eq}
 use Rattle.std.proofs.lemmas.Option.{slice_get_within}
 use Rattle.heap_words.specs.Word.{pointer_word}
+use Rattle.plain_state.specs.declared.kind.Kind.{Kind}
+use Rattle.plain_state.specs.declared.kind.Kind.TheVariants.{Fields, Raw}
 use Rattle.plain_state.specs.declared.value.Identity.{Identity}
 use Rattle.plain_state.specs.declared.value.Value.{Value}
 use Rattle.plain_state.specs.declared.value.Value.TheVariants.{Number, Reference}
 use Rattle.plain_state.specs.State as plain
 use Rattle.gc_core.specs.Configuration.{Space, Mutator, Configuration}
-use Rattle.gc_core.specs.Represents.{Owner, Free, InRun, Part, Placement, is_part, Denotes, StandsAt, IsOfRecord, RepresentsMutator, RepresentsBy}
+use Rattle.gc_core.specs.Represents.{Owner, Free, InRun, Part, Placement, is_part, Denotes, DenotesIn, StandsAt, IsOfRecord, RepresentsBoard, RepresentsMutator, RepresentsBy}
+use Rattle.gc_core.proofs.Heaps.{made_record}
 use Rattle.gc_core.proofs.Lists.{slice_get-set_other, set-found}
 
 -- ---- what an owner is made of, or else a default
@@ -34,13 +37,20 @@ mutator_in (Part i x) = 0
 pub record RepresentsHeap (p : Placement) (space : Space) (heap : plain.Heap) : Type 0 where
   pub records : (i : Identity) (r : plain.Record) → 1 ≤ i.serial → plain.record_of heap i ≡ Some r → StandsAt heap p space.words i r
   pub parts : (a : ℕ) (i : Identity) (x : ℕ) → p.owner a ≡ Part i x → IsOfRecord heap p a i x
-  pub rest : (a : ℕ) → is_part (p.owner a) ≡ false → slice_index space.words a ≡ 0
-  pub low : space.low ≤ length space.words
+  pub rest : (a : ℕ) → a + 16 < length space.words → is_part (p.owner a) ≡ false → slice_index space.words a ≡ 0
+  pub low : space.low + 16 ≤ length space.words
   pub unclaimed : (a : ℕ) → a < space.low → p.owner a ≡ Free
-  pub board : heap.board ≡ replicate 16 (Number 0)
+  pub board : RepresentsBoard heap p.place space.words
 
 pub heap_of : (p : Placement) (c : Configuration) (s : plain.Plain) → RepresentsBy p c s → RepresentsHeap p c.space s.heap
 heap_of p c s r = record { records = r.records; parts = r.parts; rest = r.rest; low = r.low; unclaimed = r.unclaimed; board = r.board }
+
+-- each word that belongs to a record lies before the board
+pub part-below : (p : Placement) (space : Space) (heap : plain.Heap) → RepresentsHeap p space heap → (a : ℕ) (i : Identity) (x : ℕ) → p.owner a ≡ Part i x → a + 16 < length space.words
+part-below p space heap h a i x own =
+    let part = h.parts a i x own in
+    let found = made_record heap i part.made in
+    omega (arith, part.place, part.within found.0 found.1, (h.records i found.0 part.made.first found.1).within)
 
 -- what an instruction of mutator m leaves of a placement and of a plain heap
 pub record IsNext (p q : Placement) (heap next : plain.Heap) (m : ℕ) : Type 0 where
@@ -62,30 +72,49 @@ module _ {p q : Placement} {heap next : plain.Heap} {m : ℕ} (n : IsNext p q he
   denotes-next word (Number k) d = record { word_is = d.word_is; value = d.value }
   denotes-next word (Reference i) d = record { word_is = d.word_is ∙ ap pointer_word (sym (n.places i d.value)); value = n.made i d.value }
 
-  other_mutator : (size j : ℕ) (k : Mutator) (l : plain.Mutator) → (j ≡ m → ⊥) → RepresentsMutator heap p size j k l → RepresentsMutator next q size j k l
-  other_mutator size j k l other r = record {
+  pub denotes_in-next : (kind : Kind) (word : ℕ) (v : Value) → DenotesIn kind heap p.place word v → DenotesIn kind next q.place word v
+  denotes_in-next Fields word v d = denotes-next word v d
+  denotes_in-next Raw word v d = d
+
+  -- the board stays where its words and its values do
+  pub board-next : (words new_words : List ℕ) → length words ≡ length new_words → next.board ≡ heap.board
+      → ((a : ℕ) → length words ≤ a + 16 → slice_index new_words a ≡ slice_index words a) → RepresentsBoard heap p.place words → RepresentsBoard next q.place new_words
+  board-next words new_words same_length same_board stays b = record {
+    sixteen = ap length same_board ∙ b.sixteen;
+    values = λ x v is.
+        let at : length new_words - 16 + x ≡ length words - 16 + x = ap (λ n. n - 16 + x) (sym same_length) in
+        rw (at, stays (length words - 16 + x) (omega arith)) (denotes-next _ v (b.values x v (ap (λ values. slice_get values x) (sym same_board) ∙ is)));
+  }
+
+  -- a mutator that makes nothing itself, of whom the placement keeps what there is
+  pub mutator-next : (size j : ℕ) (k : Mutator) (l : plain.Mutator) → plain.serial_of next j ≡ plain.serial_of heap j → ((a : ℕ) → p.owner a ≡ InRun j → q.owner a ≡ InRun j)
+      → RepresentsMutator heap p size j k l → RepresentsMutator next q size j k l
+  mutator-next size j k l same_serial runs r = record {
     counter = r.counter;
     printed = r.printed;
     executed = r.executed;
     end = r.end;
-    serial = r.serial ∙ sym (n.serials j other);
+    serial = r.serial ∙ sym same_serial;
     eight = r.eight;
     eight_values = r.eight_values;
     registers = λ no_end x within. denotes-next _ _ (r.registers no_end x within);
     run_from = r.run_from;
     run_to = r.run_to;
-    run_own = λ a from to. n.runs j a other (r.run_own a from to);
+    run_own = λ a from to. runs a (r.run_own a from to);
   }
+
+  other_mutator : (size j : ℕ) (k : Mutator) (l : plain.Mutator) → (j ≡ m → ⊥) → RepresentsMutator heap p size j k l → RepresentsMutator next q size j k l
+  other_mutator size j k l other r = mutator-next size j k l (n.serials j other) (λ a own. n.runs j a other own) r
 
   field-next : (words new_words : List ℕ) (i : Identity) (r : plain.Record) → StandsAt heap p words i r
       → ((x : ℕ) → x ≤ length r.values → IsKept p q words new_words (p.place i + x) i x)
-      → (x : ℕ) (v : Value) → slice_get r.values x ≡ Some v → Denotes next q.place (slice_index new_words (p.place i + 1 + x)) v
+      → (x : ℕ) (v : Value) → slice_get r.values x ≡ Some v → DenotesIn r.kind next q.place (slice_index new_words (p.place i + 1 + x)) v
   field-next words new_words i r s kept_at x v is =
       let short : x < length r.values = slice_get_within r.values x v is in
       let e : p.place i + (1 + x) ≡ p.place i + 1 + x = omega arith in
       let stays : slice_index new_words (p.place i + 1 + x) ≡ slice_index words (p.place i + 1 + x) =
       subst (λ a. slice_index new_words a ≡ slice_index words a) e (kept_at (1 + x) (omega arith)).word in
-      subst (λ w. Denotes next q.place w v) (sym stays) (denotes-next _ v (s.fields x v is))
+      subst (λ w. DenotesIn r.kind next q.place w v) (sym stays) (denotes_in-next r.kind _ v (s.fields x v is))
 
   pub stands-next : (words new_words : List ℕ) (i : Identity) (r : plain.Record) → plain.IsMade heap i → length words ≡ length new_words
       → ((a x : ℕ) → p.owner a ≡ Part i x → IsKept p q words new_words a i x) → StandsAt heap p words i r → StandsAt next q new_words i r
@@ -94,7 +123,6 @@ module _ {p q : Placement} {heap next : plain.Heap} {m : ℕ} (n : IsNext p q he
       let kept_at : (x : ℕ) → x ≤ length r.values → IsKept p q words new_words (p.place i + x) i x = λ x short. kept (p.place i + x) x (s.own x short) in
       let start : p.place i + 0 ≡ p.place i = omega arith in
       record {
-        kind = s.kind;
         short = s.short;
         within = omega (arith, s.within);
         own = λ x short. rw e (kept_at x short).owner;

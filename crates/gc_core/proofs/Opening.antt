@@ -1,5 +1,5 @@
 -- The opening configuration represents the plain state in which a program begins.
-use Rattle.std.proofs.Common.{◌≡◌, ℕ, zero, suc, ◌-◌, ◌*◌, ◌<◌, ◌≤◌, ◌⊎◌, inl, inr, List, [], ◌∷◌, length, map, replicate, Some, None, slice_get, slice_index_or, get_or, refl, ap, sym, ◌∙◌, subst, arith}
+use Rattle.std.proofs.Common.{◌≡◌, ℕ, ◌+◌, zero, suc, ◌-◌, ◌*◌, ◌<◌, ◌≤◌, ◌⊎◌, inl, inr, List, [], ◌∷◌, length, map, replicate, Some, None, slice_get, slice_index_or, get_or, refl, ap, sym, ◌∙◌, subst, arith}
 use Rattle.std.specs.Bool.{IsTrue}
 use Rattle.std.specs.List.{list_all}
 use Rattle.std.proofs.lemmas.Bool.{cases_lt}
@@ -13,15 +13,15 @@ use Rattle.mutator_asm.specs.declared.instr.Instr.{Instr}
 use Rattle.mutator_asm.specs.Program.{is_valid}
 use Rattle.plain_heap.specs.Order.{opening as plain_opening, fresh as plain_fresh}
 use Rattle.gc_core.specs.Configuration.{opening, fresh}
-use Rattle.gc_core.specs.Represents.{Free, Placement, RepresentsMutator, Represents}
+use Rattle.gc_core.specs.Represents.{Free, Placement, Denotes, RepresentsBoard, RepresentsMutator, Represents}
 use Rattle.gc_core.specs.Steady.{IsCounted, IsSteady}
-use Rattle.gc_core.proofs.Lists.{slice_get-map_const}
+use Rattle.gc_core.proofs.Lists.{slice_get-map_const, slice_get-replicate}
 
 pub opening_steady : (code : List (List Instr)) (pages turns : ℕ) → IsTrue (list_all (list_all is_valid) code) → pages ≤ 2048 → turns ≤ 10000000 → IsSteady code turns (opening code pages)
 opening_steady code pages turns valid small few = record {
   valid = valid;
   sections = length-map code (λ section. fresh);
-  size = omega (arith, length-replicate {A = ℕ} (64 * pages) 0);
+  size = omega (arith, length-replicate {A = ℕ} (64 * pages + 16) 0);
   turns_fit = few;
   counted = λ m k is. subst (IsCounted turns) (sym (slice_get-map_const code m fresh k is)) (record { serial = omega arith; executed = omega arith });
 }
@@ -49,7 +49,7 @@ module _ (code : List (List Instr)) (pages : ℕ) where
   no_record : (i : Identity) (r : plain.Record) → plain.record_of start.heap i ≡ Some r → ⊥
   no_record i r is = let e : None ≡ Some r = sym (ap (λ rs. slice_get rs (i.serial - 1)) (none_made code i.mutator)) ∙ is in cc
 
-  fresh_represents : (m : ℕ) → RepresentsMutator start.heap nowhere (length {A = ℕ} (replicate (64 * pages) 0)) m fresh plain_fresh
+  fresh_represents : (m : ℕ) → RepresentsMutator start.heap nowhere (length {A = ℕ} (replicate (64 * pages + 16) 0)) m fresh plain_fresh
   unfolding number_word
   fresh_represents m = record {
     counter = refl;
@@ -61,8 +61,16 @@ module _ (code : List (List Instr)) (pages : ℕ) where
     eight_values = refl;
     registers = λ running x within. rw (element {A = ℕ} 8 x 0, element {A = Value} 8 x (Number 0)) (record { word_is = refl; value = omega arith });
     run_from = omega arith;
-    run_to = omega arith;
+    run_to = omega (arith, length-replicate {A = ℕ} (64 * pages + 16) 0);
     run_own = λ a from to. absurd (omega arith);
+  }
+
+  board_represents : RepresentsBoard start.heap nowhere.place (replicate (64 * pages + 16) 0)
+  unfolding number_word
+  board_represents = record {
+    sixteen = refl;
+    values = λ x v is. rw (element {A = ℕ} (64 * pages + 16) (length {A = ℕ} (replicate (64 * pages + 16) 0) - 16 + x) 0)
+        (subst (λ t. Denotes start.heap nowhere.place 0 t) (sym (slice_get-replicate 16 x (Number 0) v is)) (record { word_is = refl; value = omega arith }));
   }
 
   pub opening_represents : Represents (opening code pages) (plain_opening code)
@@ -71,14 +79,14 @@ module _ (code : List (List Instr)) (pages : ℕ) where
     by = record {
       records = λ i r first is. absurd (no_record i r is);
       parts = λ a i x own. cc;
-      rest = λ a no_part. element {A = ℕ} (64 * pages) a 0;
-      low = omega (arith, length-replicate {A = ℕ} (64 * pages) 0);
+      rest = λ a inside no_part. element {A = ℕ} (64 * pages + 16) a 0;
+      low = omega (arith, length-replicate {A = ℕ} (64 * pages + 16) 0);
       unclaimed = λ a below. refl;
-      board = refl;
+      board = board_represents;
       as_many = length-map code (λ section. fresh) ∙ sym (length-map code (λ section. plain_fresh));
       heaps = length-map {B = List plain.Record} code (λ section. []) ∙ sym (length-map code (λ section. plain_fresh));
       mutators = λ m k l is_k is_l.
-          subst (λ t. RepresentsMutator start.heap nowhere (length {A = ℕ} (replicate (64 * pages) 0)) m t l) (sym (slice_get-map_const code m fresh k is_k))
-          (subst (λ t. RepresentsMutator start.heap nowhere (length {A = ℕ} (replicate (64 * pages) 0)) m fresh t) (sym (slice_get-map_const code m plain_fresh l is_l)) (fresh_represents m));
+          subst (λ t. RepresentsMutator start.heap nowhere (length {A = ℕ} (replicate (64 * pages + 16) 0)) m t l) (sym (slice_get-map_const code m fresh k is_k))
+          (subst (λ t. RepresentsMutator start.heap nowhere (length {A = ℕ} (replicate (64 * pages + 16) 0)) m fresh t) (sym (slice_get-map_const code m plain_fresh l is_l)) (fresh_represents m));
     };
   }

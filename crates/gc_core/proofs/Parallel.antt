@@ -49,6 +49,18 @@ parallel-bind R S F f g (Ok a) (Err why) same next = absurd same
 parallel-bind R S F f g (Err why) (Ok b) same next = absurd same
 parallel-bind R S F f g (Err why) (Err plain_why) same next = same
 
+-- what holds of both holds of less, too
+pub same-weak : {A B : Type 0} (R S : A → B → Type 0) (o : Result A End) (p : Result B End) → ((a : A) (b : B) → R a b → S a b) → Same R o p → Same S o p
+same-weak R S (Ok a) (Ok b) less same = less a b same
+same-weak R S (Ok a) (Err why) less same = same
+same-weak R S (Err why) (Ok b) less same = same
+same-weak R S (Err why) (Err plain_why) less same = same
+
+-- two steps after one
+pub bind-bind : {A B C : Type 0} (o : Result A End) (f : A → Result B End) (g : B → Result C End) → ((o >>= f) >>= g) ≡ (o >>= (λ a. f a >>= g))
+bind-bind (Ok a) f g = refl
+bind-bind (Err why) f g = refl
+
 pub parallel-from : {A B : Type 0} (R : A → B → Type 0) (F : End → Type 0) (o new_o : Result A End) (p new_p : Result B End)
     → o ≡ new_o → p ≡ new_p → Parallel R F new_o new_p → Parallel R F o p
 parallel-from R F o new_o p new_p eo ep is = rw (eo, ep) is

@@ -1,14 +1,17 @@
 -- What an instruction reads from words is what the plain machine reads from values.
-use Rattle.std.proofs.Common.{◌≡◌, ℕ, ◌+◌, ◌*◌, ◌^◌, ◌<◌, ◌≤◌, ◌⊎◌, inl, inr, length, Some, None, Ok, Err, slice_get, slice_index, refl, ap, ◌∙◌, arith}
+use Rattle.std.proofs.Common.{◌≡◌, ℕ, ◌+◌, ◌-◌, ◌*◌, ◌%◌, ◌^◌, ◌<◌, ◌≤◌, ◌⊎◌, inl, inr, length, Some, None, Ok, Err, slice_get, slice_index, refl, ap, sym, ◌∙◌, subst, arith}
 use Rattle.std.specs.Option.{option_map_or}
 use Rattle.std.proofs.lemmas.Bool.{cases_lt, lt-ltb, le-ltb}
 use Rattle.std.proofs.lemmas.List.{get_or_past}
 use Rattle.std.proofs.lemmas.Option.{slice_get-get_or, slice_get_past}
 use Rattle.heap_words.specs.Word.{number_word, pointer_word, header_word}
+use Rattle.heap_words.specs.declared.kind.Kind as words
 use Rattle.heap_words.specs.declared.kind.Kind.TheVariants as kinds
 use Rattle.heap_words.proofs.Decoding.{decode-number_word, decode-pointer_word, decode-header_word}
 use Rattle.record_layout.proofs.Rereading.{header_in-said}
 use Rattle.plain_state.specs.declared.end.End.TheVariants as ends
+use Rattle.plain_state.specs.declared.kind.Kind.{Kind}
+use Rattle.plain_state.specs.declared.kind.Kind.TheVariants.{Fields, Raw}
 use Rattle.plain_state.specs.declared.value.Identity.{Identity}
 use Rattle.plain_state.specs.declared.value.Value.{Value}
 use Rattle.plain_state.specs.declared.value.Value.TheVariants.{Number, Reference}
@@ -17,11 +20,12 @@ use Rattle.mutator_asm.specs.declared.operand.Operand.{Operand}
 use Rattle.mutator_asm.specs.declared.operand.Operand.TheVariants as operands
 use Rattle.plain_heap.specs.Call as called
 use Rattle.gc_core.specs.Configuration.{Space, Mutator}
-use Rattle.gc_core.specs.Event.{register, number_of, address_of, operand, length_told, place_of}
-use Rattle.gc_core.specs.Represents.{Placement, Denotes, RepresentsMutator}
+use Rattle.gc_core.specs.Event.{register, number_of, address_of, operand, length_told, kind_told, place_of, board_place, as_read, as_held}
+use Rattle.gc_core.specs.Represents.{Placement, Denotes, DenotesIn, spelled, RepresentsMutator}
 use Rattle.gc_core.proofs.Heaps.{made_record}
 use Rattle.gc_core.proofs.Next.{RepresentsHeap}
-use Rattle.gc_core.proofs.Parallel.{Same}
+use Rattle.gc_core.proofs.Comparing.{address_fits}
+use Rattle.gc_core.proofs.Parallel.{Same, same-weak}
 
 -- ---- words
 
@@ -37,10 +41,16 @@ address_of-number n = rw (decode-number_word n) refl
 address_of-pointer : (a : ℕ) → a < 2 ^ 32 → address_of (pointer_word a) ≡ Ok a
 address_of-pointer a fits = rw (decode-pointer_word a fits) refl
 
-length_told-header : (len serial mutator : ℕ) → len ≤ 4095 → serial < 2 ^ 40 → length_told (header_word kinds.Fields len serial mutator) ≡ len
-length_told-header len serial mutator short counted =
-    let said = header_in-said (header_word kinds.Fields len serial mutator) kinds.Fields len serial mutator (decode-header_word kinds.Fields len serial mutator short counted) in
-    ap (λ o. option_map_or (λ header. header.len) o 0) said.1 ∙ said.3
+module _ (kind : words.Kind) (len serial mutator : ℕ) (short : len ≤ 4095) (counted : serial < 2 ^ 40) where
+  length_told-header : length_told (header_word kind len serial mutator) ≡ len
+  length_told-header =
+      let said = header_in-said (header_word kind len serial mutator) kind len serial mutator (decode-header_word kind len serial mutator short counted) in
+      ap (λ o. option_map_or (λ header. header.len) o 0) said.1 ∙ said.3
+
+  kind_told-header : kind_told (header_word kind len serial mutator) ≡ kind
+  kind_told-header =
+      let said = header_in-said (header_word kind len serial mutator) kind len serial mutator (decode-header_word kind len serial mutator short counted) in
+      ap (λ o. option_map_or (λ header. header.kind) o kinds.Fields) said.1 ∙ said.2
 
 -- a reference to a made record is a pointer to its place
 pub record IsPlaced (p : Placement) (heap : plain.Heap) (a : ℕ) (i : Identity) : Type 0 where
@@ -54,19 +64,24 @@ pub record IsWordAt (p : Placement) (heap : plain.Heap) (i : Identity) (x place 
   pub is_word : slice_get of.values x ≡ Some v
   pub place_is : place ≡ p.place i + 1 + x
 
-module _ (p : Placement) (space : Space) (heap : plain.Heap) (h : RepresentsHeap p space heap) (size : length space.words ≤ 64 * 2048) (counted : (m : ℕ) → plain.serial_of heap m < 2 ^ 40) where
-  address_fits : (i : Identity) → plain.IsMade heap i → p.place i < 2 ^ 32
-  address_fits i made =
-      let found = made_record heap i made in
-      omega (arith, (h.records i found.0 made.first found.1).within)
+-- word x of the board stands at a place, and denotes its value
+pub record IsOnBoard (p : Placement) (space : Space) (heap : plain.Heap) (x place : ℕ) (v : Value) : Type 0 where
+  pub inside : x < 16
+  pub place_is : place ≡ length space.words - 16 + x
+  pub denotes : Denotes heap p.place (slice_index space.words place) v
 
-  number-same : (word : ℕ) (v : Value) → Denotes heap p.place word v → Same (λ a b. a ≡ b) (number_of word) (called.number_in v)
-  number-same word (Number n) d = rw (d.word_is, number_of-number n) refl
-  number-same word (Reference i) d = rw (d.word_is, number_of-pointer (p.place i) (address_fits i d.value)) (refl, tt)
+module _ (p : Placement) (space : Space) (heap : plain.Heap) (h : RepresentsHeap p space heap) (size : length space.words ≤ 64 * 2048 + 16) (counted : (m : ℕ) → plain.serial_of heap m < 2 ^ 40) where
+  -- two numbers are one, and it is a number of the language
+  abbrev IsNumber : ℕ → ℕ → Type 0
+  IsNumber a b = (a ≡ b) × (b < 2 ^ 62)
+
+  number-same : (word : ℕ) (v : Value) → Denotes heap p.place word v → Same IsNumber (number_of word) (called.number_in v)
+  number-same word (Number n) d = rw (d.word_is, number_of-number n) (refl, d.value)
+  number-same word (Reference i) d = rw (d.word_is, number_of-pointer (p.place i) (address_fits p space heap h size i d.value)) (refl, tt)
 
   address-same : (word : ℕ) (v : Value) → Denotes heap p.place word v → Same (IsPlaced p heap) (address_of word) (called.reference_in v)
   address-same word (Number n) d = rw (d.word_is, address_of-number n) (refl, tt)
-  address-same word (Reference i) d = rw (d.word_is, address_of-pointer (p.place i) (address_fits i d.value)) (record { made = d.value; place = refl })
+  address-same word (Reference i) d = rw (d.word_is, address_of-pointer (p.place i) (address_fits p space heap h size i d.value)) (record { made = d.value; place = refl })
 
   place-same_as : (i : Identity) (x : ℕ) (r : plain.Record) → plain.record_of heap i ≡ Some r → length_told (slice_index space.words (p.place i)) ≡ length r.values
       → (x < length r.values) ⊎ (length r.values ≤ x) → Same (IsWordAt p heap i x) (place_of space (p.place i) x) (called.word_of heap i x)
@@ -76,14 +91,59 @@ module _ (p : Placement) (space : Space) (heap : plain.Heap) (h : RepresentsHeap
   place-same_as i x r is_record told (inr past) =
       rw (told, le-ltb x (length r.values) past, is_record, slice_get_past r.values x past) (refl, tt)
 
+  -- what the header of a record tells
+  header-told : (i : Identity) (r : plain.Record) → plain.IsMade heap i → plain.record_of heap i ≡ Some r
+      → (length_told (slice_index space.words (p.place i)) ≡ length r.values) × (kind_told (slice_index space.words (p.place i)) ≡ spelled r.kind)
+  header-told i r made is =
+      let stands = h.records i r made.first is in
+      let fits : i.serial < 2 ^ 40 = omega (arith, made.last, counted i.mutator) in
+      (ap length_told stands.header ∙ length_told-header (spelled r.kind) (length r.values) i.serial i.mutator stands.short fits,
+      ap kind_told stands.header ∙ kind_told-header (spelled r.kind) (length r.values) i.serial i.mutator stands.short fits)
+
   place-same : (a : ℕ) (i : Identity) (x : ℕ) → IsPlaced p heap a i → Same (IsWordAt p heap i x) (place_of space a x) (called.word_of heap i x)
   place-same a i x is =
       let found = made_record heap i is.made in
-      let stands = h.records i found.0 is.made.first found.1 in
-      let fits : i.serial < 2 ^ 40 = omega (arith, is.made.last, counted i.mutator) in
-      let told : length_told (slice_index space.words (p.place i)) ≡ length found.0.values =
-      ap length_told stands.header ∙ length_told-header (length found.0.values) i.serial i.mutator stands.short fits in
-      rw is.place (place-same_as i x found.0 found.1 told (cases_lt x (length found.0.values)))
+      rw is.place (place-same_as i x found.0 found.1 (header-told i found.0 is.made found.1).0 (cases_lt x (length found.0.values)))
+
+  pub length-same : (a : ℕ) (i : Identity) → IsPlaced p heap a i → IsNumber (length_told (slice_index space.words a)) (length (called.values_of heap i))
+  length-same a i is =
+      let found = made_record heap i is.made in
+      rw (is.place, found.1) ((header-told i found.0 is.made found.1).0, omega (arith, (h.records i found.0 is.made.first found.1).short))
+
+  -- ---- words of records
+
+  as_read-denotes : (kind : Kind) (word : ℕ) (v : Value) → DenotesIn kind heap p.place word v → Denotes heap p.place (as_read (spelled kind) word) v
+  as_read-denotes Fields word v d = d
+  as_read-denotes Raw word v d =
+      let small : word % 2 ^ 62 ≡ word = omega (arith, d.small) in
+      subst (λ t. Denotes heap p.place (number_word (word % 2 ^ 62)) t) (sym d.number) (record { word_is = ap number_word small; value = d.small })
+
+  pub read-denotes : (a : ℕ) (i : Identity) (x place : ℕ) (v : Value) → IsPlaced p heap a i → IsWordAt p heap i x place v
+      → Denotes heap p.place (as_read (kind_told (slice_index space.words a)) (slice_index space.words place)) v
+  read-denotes a i x place v placed is =
+      rw (placed.place, (header-told i is.of placed.made is.is_record).1, is.place_is)
+      (as_read-denotes is.of.kind (slice_index space.words (p.place i + 1 + x)) v ((h.records i is.of placed.made.first is.is_record).fields x v is.is_word))
+
+  held_as : (kind : Kind) (word : ℕ) (v : Value) → Denotes heap p.place word v → Same (DenotesIn kind heap p.place) (as_held (spelled kind) word) (called.may_hold kind v)
+  held_as Fields word v d = d
+  held_as Raw word (Number n) d = rw (d.word_is, decode-number_word n) (record { number = refl; small = d.value })
+  held_as Raw word (Reference i) d = rw (d.word_is, decode-pointer_word (p.place i) (address_fits p space heap h size i d.value)) (refl, tt)
+
+  pub held-same : (a : ℕ) (i : Identity) (x place : ℕ) (old v : Value) (word : ℕ) → IsPlaced p heap a i → (is : IsWordAt p heap i x place old) → Denotes heap p.place word v
+      → Same (DenotesIn is.of.kind heap p.place) (as_held (kind_told (slice_index space.words a)) word) (called.may_hold is.of.kind v)
+  held-same a i x place old v word placed is d =
+      rw (placed.place, (header-told i is.of placed.made is.is_record).1) (held_as is.of.kind word v d)
+
+  -- ---- the board
+
+  board_as : (x : ℕ) → (x < 16) ⊎ (16 ≤ x) → Same (IsOnBoard p space heap x) (board_place space x) (called.board_word heap x)
+  board_as x (inl inside) =
+      let is_value = slice_get-get_or heap.board x (Number 0) (omega (arith, h.board.sixteen)) in
+      rw (lt-ltb x 16 inside, is_value) (record { inside = inside; place_is = refl; denotes = h.board.values x _ is_value })
+  board_as x (inr past) = rw (le-ltb x 16 past, slice_get_past heap.board x (omega (arith, h.board.sixteen))) (refl, tt)
+
+  pub board_read : (x y : ℕ) → x ≡ y → Same (IsOnBoard p space heap y) (board_place space x) (called.board_word heap y)
+  board_read x y e = rw e (board_as y (cases_lt y 16))
 
   -- ---- registers
 
@@ -99,14 +159,14 @@ module _ (p : Placement) (space : Space) (heap : plain.Heap) (h : RepresentsHeap
     pub register-denotes : (x : ℕ) → Denotes heap p.place (register k x) (called.register l x)
     register-denotes x = register_as x (cases_lt x 8)
 
-    pub number_read : (x : ℕ) → Same (λ a b. a ≡ b) (number_of (register k x)) (called.number_in (called.register l x))
+    pub number_read : (x : ℕ) → Same IsNumber (number_of (register k x)) (called.number_in (called.register l x))
     number_read x = number-same (register k x) (called.register l x) (register-denotes x)
 
     pub address_read : (x : ℕ) → Same (IsPlaced p heap) (address_of (register k x)) (called.reference_in (called.register l x))
     address_read x = address-same (register k x) (called.register l x) (register-denotes x)
 
     pub operand_read : (x : Operand) → Same (λ a b. a ≡ b) (operand k x) (called.operand l x)
-    operand_read (operands.Reg x) = number_read x
+    operand_read (operands.Reg x) = same-weak IsNumber (λ a b. a ≡ b) (number_of (register k x)) (called.number_in (called.register l x)) (λ a b is. is.0) (number_read x)
     operand_read (operands.Number n) = refl
 
     pub place_read : (a : ℕ) (i : Identity) (x y : ℕ) → IsPlaced p heap a i → x ≡ y → Same (IsWordAt p heap i y) (place_of space a x) (called.word_of heap i y)

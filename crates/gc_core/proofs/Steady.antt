@@ -4,14 +4,19 @@ use Rattle.std.specs.Bool.{⊤}
 use Rattle.std.proofs.lemmas.Bool.{cases_eq, cases_lt, leb-false}
 use Rattle.std.proofs.lemmas.Option.{slice_get-get_or, slice_get_within}
 use Rattle.heap_words.specs.Word.{number_word, header_word}
-use Rattle.heap_words.specs.declared.kind.Kind.TheVariants.{Fields}
+use Rattle.heap_words.specs.declared.kind.Kind.{Kind}
+use Rattle.heap_words.specs.declared.kind.Kind.TheVariants.{Fields, Raw}
 use Rattle.plain_state.specs.declared.end.End.{End}
+use Rattle.plain_state.specs.declared.operation.Operation.{Operation}
+use Rattle.plain_state.specs.declared.operation.Operation.TheVariants as operations
+use Rattle.plain_state.specs.Operation.{applied}
 use Rattle.mutator_asm.specs.declared.instr.Instr.{Instr}
 use Rattle.mutator_asm.specs.declared.instr.Instr.TheVariants as instrs
+use Rattle.mutator_asm.specs.declared.operand.Operand.{Operand}
 use Rattle.mutator_asm.specs.Program.{instr_at}
 use Rattle.plain_heap.specs.Call.{◌>>=◌, length_of}
 use Rattle.gc_core.specs.Configuration.{Space, Mutator, Configuration, fresh}
-use Rattle.gc_core.specs.Event.{After, Claim, call, fetch, made, event, settled, left_by, register, number_of, address_of, operand, place_of, room_for, prints, loads, makes, with_word, went_on}
+use Rattle.gc_core.specs.Event.{After, Claim, call, fetch, made, event, settled, left_by, register, number_of, address_of, operand, place_of, board_place, kind_told, as_held, room_for, prints, loads, jumped, makes, computes, makes_new, with_word, went_on}
 use Rattle.gc_core.specs.Steady.{IsCounted, IsSteady}
 use Rattle.gc_core.proofs.Events.{event-scanner, event-ended, event-turn}
 use Rattle.gc_core.proofs.Lists.{slice_get-set_other, set-found}
@@ -37,27 +42,66 @@ module _ (m : ℕ) (space : Space) (k : Mutator) where
   prints-more n true is = rw is (record { size = refl; executed = refl; serial = omega arith })
   prints-more n false is = rw is tt
 
-  makes-more : (d n : ℕ) (c : Claim) → IsOneMore space k (makes m space k d n c)
-  makes-more d n c = record { size = length-set space.words c.run.at (header_word Fields n (k.serial + 1) m); executed = refl; serial = omega arith }
+  makes-more : (kind : Kind) (d n : ℕ) (c : Claim) → IsOneMore space k (makes m space k kind d n c)
+  makes-more kind d n c = record { size = length-set space.words c.run.at (header_word kind n (k.serial + 1) m); executed = refl; serial = omega arith }
 
   loads-more : (d word : ℕ) → IsOneMore space k (loads space k d word)
   loads-more d word = record { size = refl; executed = refl; serial = omega arith }
 
+  jumps-more : (target : ℕ) → IsOneMore space k (record { space = space; mutator = jumped k target })
+  jumps-more target = record { size = refl; executed = refl; serial = omega arith }
+
   stores-more : (place word : ℕ) → IsOneMore space k (record { space = with_word space place word; mutator = went_on k })
   stores-more place word = record { size = length-set space.words place word; executed = refl; serial = omega arith }
+
+  computes-more : (operation : Operation) (d a b : ℕ) → OnMade (IsOneMore space k) (computes operation space k d a b)
+  computes-more operation d a b =
+      made-bind (IsOneMore space k) (number_of (register k a)) _ (λ x is_x. made-bind (IsOneMore space k) (number_of (register k b)) _
+      (λ y is_y. made-bind (IsOneMore space k) (applied operation x y) _ (λ n is_n. loads-more d (number_word n))))
+
+  makes_new-more : (kind : Kind) (d : ℕ) (x : Operand) → OnMade (IsOneMore space k) (makes_new m space k kind d x)
+  makes_new-more kind d x =
+      made-bind (IsOneMore space k) (operand k x) _ (λ a is_a. made-bind (IsOneMore space k) (length_of a) _
+      (λ n is_n. made-bind (IsOneMore space k) (room_for space.low k.run n) _ (λ c is_c. makes-more kind d n c)))
+
+  -- with word x of a record
+  word-more : (a : ℕ) (x : Operand) (f : ℕ → ℕ → Result After End) → ((address place : ℕ) → OnMade (IsOneMore space k) (f address place))
+      → OnMade (IsOneMore space k) (address_of (register k a) >>= (λ address. operand k x >>= (λ y. place_of space address y >>= (λ place. f address place))))
+  word-more a x f next =
+      made-bind (IsOneMore space k) (address_of (register k a)) _ (λ address is_address. made-bind (IsOneMore space k) (operand k x) _
+      (λ y is_y. made-bind (IsOneMore space k) (place_of space address y) _ (λ place is_place. next address place)))
+
+  -- with word x of the board
+  board-more : (x : Operand) (f : ℕ → Result After End) → ((place : ℕ) → OnMade (IsOneMore space k) (f place))
+      → OnMade (IsOneMore space k) (operand k x >>= (λ y. board_place space y >>= (λ place. f place)))
+  board-more x f next =
+      made-bind (IsOneMore space k) (operand k x) _ (λ y is_y. made-bind (IsOneMore space k) (board_place space y) _ (λ place is_place. next place))
 
   call-more : (i : Instr) → OnMade (IsOneMore space k) (call m space k i)
   unfolding call
   call-more (instrs.Li d n) = loads-more d (number_word n)
-  call-more (instrs.New d x) =
-      made-bind (IsOneMore space k) (operand k x) _ (λ a is_a. made-bind (IsOneMore space k) (length_of a) _
-      (λ n is_n. made-bind (IsOneMore space k) (room_for space.low k.run n) _ (λ c is_c. makes-more d n c)))
-  call-more (instrs.Ld d a x) =
-      made-bind (IsOneMore space k) (address_of (register k a)) _ (λ address is_address. made-bind (IsOneMore space k) (operand k x) _
-      (λ y is_y. made-bind (IsOneMore space k) (place_of space address y) _ (λ place is_place. loads-more d (slice_index space.words place))))
+  call-more (instrs.Mov d a) = loads-more d (register k a)
+  call-more (instrs.Add d a b) = computes-more operations.Add d a b
+  call-more (instrs.Sub d a b) = computes-more operations.Sub d a b
+  call-more (instrs.Mul d a b) = computes-more operations.Mul d a b
+  call-more (instrs.Div d a b) = computes-more operations.Div d a b
+  call-more (instrs.Rem d a b) = computes-more operations.Rem d a b
+  call-more (instrs.Lt d a b) = computes-more operations.Lt d a b
+  call-more (instrs.Eq d a b) = loads-more d _
+  call-more (instrs.Jmp target) = jumps-more target
+  call-more (instrs.Jz a target) = jumps-more _
+  call-more (instrs.Jal d target) = record { size = refl; executed = refl; serial = omega arith }
+  call-more (instrs.Jr a) = made-bind (IsOneMore space k) (number_of (register k a)) _ (λ n is_n. jumps-more n)
+  call-more (instrs.New d x) = makes_new-more Fields d x
+  call-more (instrs.Raw d x) = makes_new-more Raw d x
+  call-more (instrs.Ld d a x) = word-more a x _ (λ address place. loads-more d _)
   call-more (instrs.St a x b) =
-      made-bind (IsOneMore space k) (address_of (register k a)) _ (λ address is_address. made-bind (IsOneMore space k) (operand k x) _
-      (λ y is_y. made-bind (IsOneMore space k) (place_of space address y) _ (λ place is_place. stores-more place (register k b))))
+      word-more a x _ (λ address place. made-bind (IsOneMore space k) (as_held (kind_told (slice_index space.words address)) (register k b)) _ (λ word is_word. stores-more place word))
+  call-more (instrs.Len d a) = made-bind (IsOneMore space k) (address_of (register k a)) _ (λ address is_address. loads-more d _)
+  call-more (instrs.Isp d a) = loads-more d _
+  call-more (instrs.Get d x) = board-more x _ (λ place. loads-more d _)
+  call-more (instrs.Put x a) = board-more x _ (λ place. stores-more place (register k a))
+  call-more (instrs.Swap d x) = board-more x _ (λ place. record { size = length-set space.words place (register k d); executed = refl; serial = omega arith })
   call-more (instrs.Out a) = made-bind (IsOneMore space k) (number_of (register k a)) _ (λ n is_n. prints-more n (nat_lt (length k.printed) 65536) refl)
   call-more instrs.Halt = tt
 

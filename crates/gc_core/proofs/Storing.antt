@@ -9,14 +9,14 @@ use Rattle.plain_state.specs.State as plain
 use Rattle.plain_heap.specs.Call.{with_word, stored}
 use Rattle.gc_core.specs.Configuration.{Space}
 use Rattle.gc_core.specs.Event as event
-use Rattle.gc_core.specs.Represents.{Part, Placement, is_part, Denotes, StandsAt, IsOfRecord}
+use Rattle.gc_core.specs.Represents.{Part, Placement, is_part, DenotesIn, StandsAt, IsOfRecord}
 use Rattle.gc_core.proofs.Lists.{slice_get-set_other, set-found}
 use Rattle.gc_core.proofs.Heaps.{cases_identity, record_made, record_of-stored_same, record_of-stored_other, serial_of-stored}
-use Rattle.gc_core.proofs.Next.{identity_in, RepresentsHeap, IsNext, IsKept, denotes-next, stands-next}
+use Rattle.gc_core.proofs.Next.{identity_in, RepresentsHeap, IsNext, IsKept, denotes_in-next, board-next, stands-next}
 
 module _ (p : Placement) (space : Space) (heap : plain.Heap) (i : Identity) (r : plain.Record) (x : ℕ) (old v : Value) (word : ℕ) (m : ℕ)
     (h : RepresentsHeap p space heap) (made : plain.IsMade heap i) (is_record : plain.record_of heap i ≡ Some r)
-    (is_word : slice_get r.values x ≡ Some old) (denotes : Denotes heap p.place word v) where
+    (is_word : slice_get r.values x ≡ Some old) (denotes : DenotesIn r.kind heap p.place word v) where
   -- the plain heap and the words after the write
   abbrev next : plain.Heap
   next = stored heap i r x v
@@ -38,7 +38,7 @@ module _ (p : Placement) (space : Space) (heap : plain.Heap) (i : Identity) (r :
   short : x < length r.values
   short = slice_get_within r.values x old is_word
 
-  spot_within : p.place i + 1 + x < length space.words
+  spot_within : p.place i + 1 + x + 16 < length space.words
   spot_within = omega (arith, stands.within, short)
 
   spot_own : p.owner (p.place i + 1 + x) ≡ Part i (1 + x)
@@ -58,20 +58,19 @@ module _ (p : Placement) (space : Space) (heap : plain.Heap) (i : Identity) (r :
   }
 
   field_as : (y : ℕ) (u : Value) → (y ≡ x) ⊎ (y ≡ x → ⊥) → slice_get (slice_set r.values x v) y ≡ Some u
-      → Denotes next p.place (slice_index new_words (p.place i + 1 + y)) u
+      → DenotesIn r.kind next p.place (slice_index new_words (p.place i + 1 + y)) u
   field_as y u (inl e) is =
       let same_word : slice_index new_words (p.place i + 1 + y) ≡ word =
-      rw e (get_or-set_same space.words (p.place i + 1 + x) word 0 spot_within) in
-      rw same_word (subst (λ t. Denotes next p.place word t) (set-found r.values x y v u e short is) (denotes-next next-stored word v denotes))
+      rw e (get_or-set_same space.words (p.place i + 1 + x) word 0 (omega (arith, spot_within))) in
+      rw same_word (subst (λ t. DenotesIn r.kind next p.place word t) (set-found r.values x y v u e short is) (denotes_in-next next-stored r.kind word v denotes))
   field_as y u (inr other) is =
       rw (stays (p.place i + 1 + y) (λ e. other (omega arith)))
-      (denotes-next next-stored _ u (stands.fields y u (sym (slice_get-set_other r.values x y v other) ∙ is)))
+      (denotes_in-next next-stored r.kind _ u (stands.fields y u (sym (slice_get-set_other r.values x y v other) ∙ is)))
 
   stands_written : StandsAt next p new_words i (with_word r x v)
   stands_written =
       let same_values = length-set r.values x v in
       record {
-        kind = stands.kind;
         short = omega (arith, stands.short, same_values);
         within = omega (arith, stands.within, same_values, same_length);
         own = λ y le. stands.own y (omega (arith, same_values, le));
@@ -105,8 +104,8 @@ module _ (p : Placement) (space : Space) (heap : plain.Heap) (i : Identity) (r :
       place = part.place;
       within = λ t is. within_as a j y part t (cases_identity j i) is;
     };
-    rest = λ a no_part. stays a (λ e. true≢false (ap is_part (sym spot_own) ∙ ap (λ n. is_part (p.owner n)) (sym e) ∙ no_part)) ∙ h.rest a no_part;
+    rest = λ a inside no_part. stays a (λ e. true≢false (ap is_part (sym spot_own) ∙ ap (λ n. is_part (p.owner n)) (sym e) ∙ no_part)) ∙ h.rest a (omega (arith, same_length, inside)) no_part;
     low = omega (arith, h.low, same_length);
     unclaimed = h.unclaimed;
-    board = h.board;
+    board = board-next next-stored space.words new_words same_length refl (λ a behind. stays a (λ e. omega (arith, spot_within))) h.board;
   }

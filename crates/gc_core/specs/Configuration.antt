@@ -1,14 +1,19 @@
 -- What the machine with a collected heap is between two events.
-use Rattle.std.specs.Prelude.{ℕ, ◌+◌, ◌*◌, ◌&&◌, nat_le, Bool, List, [], length, map, Option, None, replicate, slice_index_or}
+use Rattle.std.specs.Prelude.{ℕ, ◌+◌, ◌-◌, ◌*◌, ◌&&◌, nat_le, Bool, List, [], length, map, Option, None, replicate, slice_index_or}
 use Rattle.plain_state.specs.declared.end.End.{End}
 use Rattle.mutator_asm.specs.declared.instr.Instr.{Instr}
 use Rattle.gc_core.specs.declared.config.Config.{Config}
 use Rattle.gc_core.specs.declared.run.Run.{Run}
 
--- the words of the heap by their addresses, and the address from which pages were claimed
+-- The words of the heap by their addresses, the 16 of the board behind them, and the address from
+-- which pages were claimed.
 pub record Space : Type 0 where
   pub words : List ℕ
   pub low : ℕ
+
+-- where the board begins, which is where the heap ends
+abbrev pub board_of : Space → ℕ
+board_of space = length space.words - 16
 
 -- a mutator's own state: its registers are words, and it makes its next records in its run
 pub record Mutator : Type 0 where
@@ -29,7 +34,7 @@ pub record Configuration : Type 0 where
 
 -- no page is claimed, and all words are 0
 abbrev pub empty_space : ℕ → Space
-empty_space pages = record { words = replicate (64 * pages) 0; low = 64 * pages }
+empty_space pages = record { words = replicate (64 * pages + 16) 0; low = 64 * pages }
 
 -- the numbers of pages that a space may have
 abbrev pub is_size : ℕ → Bool

@@ -1,13 +1,17 @@
 -- One event: what one turn of a worker does to the configuration, and what is told of it. As long
 -- as the heap has no pages that are scanned, an event is one whole instruction of a mutator.
-use Rattle.std.specs.Prelude.{ℕ, ◌+◌, ◌-◌, ◌*◌, ◌%◌, ◌^◌, List, [], ◌∷◌, ◌++◌, length, Option, Some, None, Result, Ok, Err, nat_lt, nat_le, if◌then◌else◌, slice_get, slice_index, slice_set}
-use Rattle.std.specs.Option.{ok_or, option_map_or}
+use Rattle.std.specs.Prelude.{ℕ, ◌+◌, ◌-◌, ◌*◌, ◌%◌, ◌^◌, Bool, List, [], ◌∷◌, ◌++◌, length, Option, Some, None, Result, Ok, Err, nat_lt, nat_le, ◌==◌, if◌then◌else◌, slice_get, slice_index, slice_set}
+use Rattle.std.specs.Option.{is_some, ok_or, option_map_or}
 use Rattle.heap_words.specs.Word.{number_word, pointer_word, header_word}
 use Rattle.heap_words.specs.Decoded.{decode, number_in, pointer_in}
 use Rattle.record_layout.specs.Layout.{header_in}
-use Rattle.heap_words.specs.declared.kind.Kind.TheVariants.{Fields}
+use Rattle.heap_words.specs.declared.kind.Kind.{Kind}
+use Rattle.heap_words.specs.declared.kind.Kind.TheVariants.{Fields, Raw}
 use Rattle.plain_state.specs.declared.end.End.{End}
-use Rattle.plain_state.specs.declared.end.End.TheVariants.{Halt, NotPointer, NotNumber, OutOfRange, JumpOut, TurnsOut, OutputFull, HeapFull}
+use Rattle.plain_state.specs.declared.end.End.TheVariants.{Halt, NotPointer, NotNumber, OutOfRange, IntoRaw, JumpOut, TurnsOut, OutputFull, HeapFull}
+use Rattle.plain_state.specs.declared.operation.Operation.{Operation}
+use Rattle.plain_state.specs.declared.operation.Operation.TheVariants as operations
+use Rattle.plain_state.specs.Operation.{one_if, applied}
 use Rattle.mutator_asm.specs.declared.instr.Instr.{Instr}
 use Rattle.mutator_asm.specs.declared.instr.Instr.TheVariants as instrs
 use Rattle.mutator_asm.specs.declared.operand.Operand.{Operand}
@@ -18,7 +22,7 @@ use Rattle.plain_heap.specs.Step.{pages_for}
 use Rattle.gc_core.specs.declared.run.Run.{Run}
 use Rattle.gc_core.specs.declared.stepped.Stepped.{Stepped}
 use Rattle.gc_core.specs.declared.stepped.Stepped.TheVariants.{Idle, Effect, Ended}
-use Rattle.gc_core.specs.Configuration.{Space, Mutator, Configuration, CoreState}
+use Rattle.gc_core.specs.Configuration.{Space, Mutator, Configuration, CoreState, board_of}
 
 -- what an instruction leaves: the heap, and the mutator that made it
 pub record After : Type 0 where
@@ -36,6 +40,9 @@ number_of word = ok_or (number_in (decode word)) NotNumber
 abbrev pub address_of : ℕ → Result ℕ End
 address_of word = ok_or (pointer_in (decode word)) NotPointer
 
+abbrev pub is_pointer : ℕ → Bool
+is_pointer word = is_some (pointer_in (decode word))
+
 abbrev pub operand : Mutator → Operand → Result ℕ End
 operand k (operands.Reg r) = number_of (register k r)
 operand k (operands.Number n) = Ok n
@@ -44,14 +51,36 @@ operand k (operands.Number n) = Ok n
 abbrev pub length_told : ℕ → ℕ
 length_told word = option_map_or (λ header. header.len) (header_in (decode word)) 0
 
+-- the kind that a word tells, which is that of fields where it is no header
+abbrev pub kind_told : ℕ → Kind
+kind_told word = option_map_or (λ header. header.kind) (header_in (decode word)) Fields
+
 -- where word x of the record at address a stands
 abbrev pub place_of : Space → ℕ → ℕ → Result ℕ End
 place_of space a x = if nat_lt x (length_told (slice_index space.words a)) then Ok (a + 1 + x) else Err OutOfRange
 
+-- where word x of the board stands
+abbrev pub board_place : Space → ℕ → Result ℕ End
+board_place space x = if nat_lt x 16 then Ok (board_of space + x) else Err OutOfRange
+
+-- a word of a record as a register holds it: a word of a raw record is a number of 62 bits
+abbrev pub as_read : Kind → ℕ → ℕ
+as_read Fields word = word
+as_read Raw word = number_word (word % 2 ^ 62)
+
 -- ---- what an instruction writes
 
+-- the number of the next instruction
+abbrev pub next_of : Mutator → ℕ
+next_of k = (k.counter + 1) % 2 ^ 62
+
+-- the mutator goes on at an instruction
+abbrev pub jumped : Mutator → ℕ → Mutator
+jumped k target = record k { counter = target; executed = k.executed + 1 }
+
+-- the mutator goes on with the next instruction
 abbrev pub went_on : Mutator → Mutator
-went_on k = record k { counter = (k.counter + 1) % 2 ^ 62; executed = k.executed + 1 }
+went_on k = jumped k (next_of k)
 
 abbrev pub set_register : Mutator → ℕ → ℕ → Mutator
 set_register k d word = record k { registers = slice_set k.registers d word }
@@ -62,6 +91,11 @@ loads space k d word = record { space = space; mutator = went_on (set_register k
 
 abbrev pub with_word : Space → ℕ → ℕ → Space
 with_word space place word = record space { words = slice_set space.words place word }
+
+-- the word of a register as a record holds it: a raw record holds no pointer
+abbrev pub as_held : Kind → ℕ → Result ℕ End
+as_held Fields word = Ok word
+as_held Raw word = ok_or (number_in (decode word)) IntoRaw
 
 abbrev pub prints : Space → Mutator → ℕ → Result After End
 prints space k n =
@@ -89,31 +123,75 @@ abbrev pub room_for : ℕ → Run → ℕ → Result Claim End
 room_for low run n = if nat_le (run.at + n + 1) run.end then Ok (record { low = low; run = run }) else claim low n
 
 -- mutator m makes a record of n words, all 0 already, and register d points to it
-abbrev pub makes : ℕ → Space → Mutator → ℕ → ℕ → Claim → After
-makes m space k d n c = record {
-  space = record { words = slice_set space.words c.run.at (header_word Fields n (k.serial + 1) m); low = c.low };
+abbrev pub makes : ℕ → Space → Mutator → Kind → ℕ → ℕ → Claim → After
+makes m space k kind d n c = record {
+  space = record { words = slice_set space.words c.run.at (header_word kind n (k.serial + 1) m); low = c.low };
   mutator = went_on (record (set_register k d (pointer_word c.run.at)) { serial = k.serial + 1; run = record { at = c.run.at + n + 1; end = c.run.end } });
 }
 
 -- ---- the instructions, made by mutator m
 
-unfoldable pub call : ℕ → Space → Mutator → Instr → Result After End
-call m space k (instrs.Li d n) = Ok (loads space k d (number_word n))
-call m space k (instrs.New d x) = do
+-- register d takes what an operation computes of the numbers in registers a and b
+abbrev pub computes : Operation → Space → Mutator → ℕ → ℕ → ℕ → Result After End
+computes operation space k d a b = do
+  a ← number_of (register k a)
+  b ← number_of (register k b)
+  n ← applied operation a b
+  Ok (loads space k d (number_word n))
+
+-- register d points to a new record, whose length an operand names
+abbrev pub makes_new : ℕ → Space → Mutator → Kind → ℕ → Operand → Result After End
+makes_new m space k kind d x = do
   x ← operand k x
   n ← length_of x
   c ← room_for space.low k.run n
-  Ok (makes m space k d n c)
+  Ok (makes m space k kind d n c)
+
+unfoldable pub call : ℕ → Space → Mutator → Instr → Result After End
+call m space k (instrs.Li d n) = Ok (loads space k d (number_word n))
+call m space k (instrs.Mov d a) = Ok (loads space k d (register k a))
+call m space k (instrs.Add d a b) = computes operations.Add space k d a b
+call m space k (instrs.Sub d a b) = computes operations.Sub space k d a b
+call m space k (instrs.Mul d a b) = computes operations.Mul space k d a b
+call m space k (instrs.Div d a b) = computes operations.Div space k d a b
+call m space k (instrs.Rem d a b) = computes operations.Rem space k d a b
+call m space k (instrs.Lt d a b) = computes operations.Lt space k d a b
+call m space k (instrs.Eq d a b) = Ok (loads space k d (number_word (one_if (register k a == register k b))))
+call m space k (instrs.Jmp target) = Ok (record { space = space; mutator = jumped k target })
+call m space k (instrs.Jz a target) = Ok (record { space = space; mutator = jumped k (if register k a == number_word 0 then target else next_of k) })
+call m space k (instrs.Jal d target) = Ok (record { space = space; mutator = jumped (set_register k d (number_word (next_of k))) target })
+call m space k (instrs.Jr a) = do
+  n ← number_of (register k a)
+  Ok (record { space = space; mutator = jumped k n })
+call m space k (instrs.New d x) = makes_new m space k Fields d x
+call m space k (instrs.Raw d x) = makes_new m space k Raw d x
 call m space k (instrs.Ld d a x) = do
   a ← address_of (register k a)
   x ← operand k x
   place ← place_of space a x
-  Ok (loads space k d (slice_index space.words place))
+  Ok (loads space k d (as_read (kind_told (slice_index space.words a)) (slice_index space.words place)))
 call m space k (instrs.St a x b) = do
   a ← address_of (register k a)
   x ← operand k x
   place ← place_of space a x
-  Ok (record { space = with_word space place (register k b); mutator = went_on k })
+  word ← as_held (kind_told (slice_index space.words a)) (register k b)
+  Ok (record { space = with_word space place word; mutator = went_on k })
+call m space k (instrs.Len d a) = do
+  a ← address_of (register k a)
+  Ok (loads space k d (number_word (length_told (slice_index space.words a))))
+call m space k (instrs.Isp d a) = Ok (loads space k d (number_word (one_if (is_pointer (register k a)))))
+call m space k (instrs.Get d x) = do
+  x ← operand k x
+  place ← board_place space x
+  Ok (loads space k d (slice_index space.words place))
+call m space k (instrs.Put x a) = do
+  x ← operand k x
+  place ← board_place space x
+  Ok (record { space = with_word space place (register k a); mutator = went_on k })
+call m space k (instrs.Swap d x) = do
+  x ← operand k x
+  place ← board_place space x
+  Ok (loads (with_word space place (register k d)) k d (slice_index space.words place))
 call m space k (instrs.Out a) = do
   n ← number_of (register k a)
   prints space k n

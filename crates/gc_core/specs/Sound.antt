@@ -1,9 +1,8 @@
 -- What a mutator's own state keeps.
-use Rattle.std.specs.Prelude.{ℕ, ◌*◌, ◌^◌, ◌<◌, ◌≤◌}
+use Rattle.std.specs.Prelude.{ℕ, ◌*◌, ◌≤◌}
 
 -- each record took an instruction, there is room for all numbers, and the run lies in a space
-pub record IsSound (counter serial executed capacity at end : ℕ) : Type 0 where
-  pub counter_fits : counter < 2 ^ 62
+pub record IsSound (serial executed capacity at end : ℕ) : Type 0 where
   pub serial_counted : serial ≤ executed
   pub printed_fits : 65536 ≤ capacity
   pub run_from : at ≤ end

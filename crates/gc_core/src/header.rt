@@ -1,9 +1,8 @@
-//! The headers of records of fields.
+//! Headers of records.
 
 ghost use Rattle.std.specs.Prelude.{◌≡◌, ◌<◌, ◌≤◌, ◌^◌};
 ghost use Rattle.heap_words.specs.Word.{header_word};
-ghost use Rattle.heap_words.specs.declared.kind.Kind.TheVariants.{Fields};
-ghost use Rattle.gc_core.specs.Event.{length_told};
+ghost use Rattle.gc_core.specs.Event.{length_told, kind_told};
 
 use heap_words::Kind;
 use record_layout::{Header, pack, read};
@@ -19,14 +18,24 @@ pub fn len_of(word: u64) -> u64
     }
 }
 
-/// The header of a record of fields.
-pub fn header(mutator: u8, serial: u64, len: u16) -> u64
+/// The kind that a word tells, which is `Fields` where it is no header.
+pub fn kind_of(word: u64) -> Kind
+    ensures { result ≡ kind_told word }
+{
+    match read(word) {
+        Some(header) => header.kind,
+        None => Kind::Fields,
+    }
+}
+
+/// The header of a record.
+pub fn header(kind: Kind, mutator: u8, serial: u64, len: u16) -> u64
     requires serial { serial < 2 ^ 40 }
     requires len { len ≤ 4095 }
-    ensures { result ≡ header_word Fields len serial mutator }
+    ensures { result ≡ header_word kind len serial mutator }
 {
     pack(&Header {
-        kind: Kind::Fields,
+        kind,
         len,
         serial,
         mutator,

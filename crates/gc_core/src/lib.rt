@@ -1,15 +1,21 @@
 //! The machine whose heap is collected: mutators over words, stepped in any order.
 #![tactic(auto)]
 
+mod board;
 mod config;
 mod header;
 mod instructions;
+mod jumps;
 mod laws;
 mod machine;
 mod mutator;
+mod numbers;
+mod records;
 mod run;
 mod space;
 mod stepped;
+mod turn;
+mod values;
 
 pub use config::{Config, OpenError};
 pub use laws::{runs_are_plain_runs, runs_follow};

@@ -10,10 +10,10 @@ ghost use Rattle.plain_heap.specs.Order.{opening};
 ghost use Rattle.plain_state.specs.State.{Plain};
 
 use crate::config::{Config, OpenError};
-use crate::instructions::turn;
 use crate::mutator::Mutator;
 use crate::space::Space;
 use crate::stepped::Stepped;
+use crate::turn::turn;
 use mutator_asm::Program;
 use plain_heap::End;
 use std::alloc::{AllocError, Global};
@@ -126,7 +126,7 @@ impl<'p> Core<'p> {
         self.mutators.iter().all(|k| k.end().is_some())
     }
 
-    /// The words of the heap, by their addresses.
+    /// The words of the heap by their addresses, then the 16 of the board.
     pub fn words(&self) -> &[u64]
         ensures { result.now ≡ self.now.configuration.space.words }
     {

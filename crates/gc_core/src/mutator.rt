@@ -3,7 +3,7 @@
 ghost use Rattle.std.specs.Prelude.{◌≡◌, ◌+◌, ◌^◌, ◌<◌, ◌≤◌, [], ◌∷◌, ◌++◌, length, Some, Ok, Err, IfOk, MatchResult};
 
 use crate::run::Run;
-use heap_words::Word;
+use heap_words::{Kind, Word};
 use mutator_asm::Operand;
 use plain_heap::End;
 use std::alloc::{AllocError, Global};
@@ -11,6 +11,9 @@ use std::marker::Model;
 
 /// The most numbers that a mutator prints.
 const MAX_PRINTED: usize = 65536;
+
+/// One more than the greatest number.
+const MODULUS: u64 = 1 << 62;
 
 /// A mutator between two instructions. Its registers are words of the heap. Contracts see it so.
 #[derive(Debug, Drop)]
@@ -33,12 +36,12 @@ impl Model for Mutator {
 
     ghost view = { λ k. record { counter = k.counter; registers = k.registers; printed = k.printed.items; serial = k.serial; executed = k.executed; end = k.end; run = k.run } };
 
-    ghost invariant = { λ k. IsSound k.counter k.serial k.executed (vec_capacity k.printed) k.run.at k.run.end };
+    ghost invariant = { λ k. IsSound k.serial k.executed (vec_capacity k.printed) k.run.at k.run.end };
 }
 
 impl Mutator {
     ghost use Rattle.gc_core.specs.Configuration.{fresh};
-    ghost use Rattle.gc_core.specs.Event.{register, number_of, address_of, operand, went_on, set_register};
+    ghost use Rattle.gc_core.specs.Event.{register, number_of, address_of, operand, next_of, jumped, went_on, set_register, as_held};
 
     /// A mutator before its first instruction, with room for all that it may print.
     pub fn new(alloc: Global) -> Result<Mutator, AllocError>
@@ -113,7 +116,8 @@ impl Mutator {
 
     /// The number in a register, else the end for a reference.
     pub fn number(&self, r: u8) -> Result<u64, End>
-        ensures { result ≡ number_of (register self.now r) }
+        ensures exact { result ≡ number_of (register self.now r) }
+        ensures in_range { IfOk result (λ n. n < 2 ^ 62) }
     {
         Word(self.register(r)).as_number().ok_or(End::NotNumber)
     }
@@ -135,15 +139,43 @@ impl Mutator {
         }
     }
 
+    /// The word in a register, as a record of this kind holds it.
+    pub fn held(&self, kind: Kind, r: u8) -> Result<u64, End>
+        ensures { result ≡ as_held kind (register self.now r) }
+    {
+        let word = self.register(r);
+        match kind {
+            Kind::Fields => Ok(word),
+            Kind::Raw => Word(word).as_number().ok_or(End::IntoRaw),
+        }
+    }
+
+    /// The number of the next instruction.
+    pub fn next(&self) -> u64
+        ensures exact { result ≡ next_of self.now }
+        ensures number { result < 2 ^ 62 }
+    {
+        (self.counter % MODULUS + 1) % MODULUS
+    }
+
+    /// Goes on at an instruction.
+    pub fn jump(&mut self, target: u64)
+        requires { self.old.executed + 1 < 2 ^ 32 }
+        ensures { self.new ≡ jumped self.old target }
+    {
+        self.counter = target;
+        self.executed += 1;
+    }
+
     /// Goes on with the next instruction.
     pub fn go_on(&mut self)
         requires { self.old.executed + 1 < 2 ^ 32 }
         ensures { self.new ≡ went_on self.old }
     {
-        self.counter = (self.counter + 1) % (1 << 62);
-        self.executed += 1;
+        self.jump(self.next());
     }
 
+    /// Puts a word into a register. Where there is no such register, nothing changes.
     pub fn set_register(&mut self, d: u8, word: u64)
         ensures { self.new ≡ set_register self.old d word }
     {
@@ -151,6 +183,15 @@ impl Mutator {
         if d < self.registers.len() {
             self.registers[d] = word;
         }
+    }
+
+    /// A register takes a word, and the mutator goes on with the next instruction.
+    pub fn load(&mut self, d: u8, word: u64)
+        requires { self.old.executed + 1 < 2 ^ 32 }
+        ensures { self.new ≡ went_on (set_register self.old d word) }
+    {
+        self.set_register(d, word);
+        self.go_on();
     }
 
     /// Prints a number, where fewer than 65,536 were printed.
@@ -174,8 +215,7 @@ impl Mutator {
         ensures { self.new ≡ went_on (record (set_register self.old d pointer) { serial = self.old.serial + 1; run = run }) }
     {
         let serial = self.serial();
-        self.set_register(d, pointer);
-        self.go_on();
+        self.load(d, pointer);
         self.serial = serial + 1;
         self.run = run;
     }

@@ -2,17 +2,25 @@
 
 ghost use Rattle.std.specs.Prelude.{◌≡◌, ◌+◌, ◌*◌, ◌^◌, ◌<◌, ◌≤◌, IfOk, OnOk, OnErr, Ok, Err, MatchResult, slice_index};
 
-use crate::header::len_of;
+use crate::header::{kind_of, len_of};
 use crate::run::Run;
+use heap_words::{Kind, Word};
 use plain_heap::End;
 use std::alloc::{AllocError, Global};
 use std::marker::Model;
 
-/// The most words that a space has.
-const MAX_WORDS: usize = 64 * 2048;
+/// The words of the board, which stand behind those of the heap.
+const BOARD: usize = 16;
 
-/// The words of the heap by their addresses. New records are made in pages claimed downward from
-/// the end. Contracts see the words, and the address from which pages were claimed.
+/// The most words that a space and the board have.
+const MAX_WORDS: usize = 64 * 2048 + 16;
+
+/// One more than the greatest number.
+const MODULUS: u64 = 1 << 62;
+
+/// The words of the heap by their addresses, and those of the board. New records are made in pages
+/// claimed downward from the end of the heap. Contracts see the words, and the address from which
+/// pages were claimed.
 #[derive(Debug, Drop)]
 pub struct Space {
     words: Vec<u64>,
@@ -20,7 +28,7 @@ pub struct Space {
 }
 
 impl Model for Space {
-    ghost use Rattle.std.specs.Prelude.{◌≤◌, vec_len};
+    ghost use Rattle.std.specs.Prelude.{◌+◌, ◌≤◌, vec_len};
     ghost use Rattle.gc_core.specs.Configuration.{Space};
     ghost use Rattle.gc_core.specs.declared.space.TheConstants.{MAX_WORDS};
 
@@ -28,12 +36,12 @@ impl Model for Space {
 
     ghost view = { λ s. record { words = s.words.items; low = s.low } };
 
-    ghost invariant = { λ s. (s.low ≤ vec_len s.words) × (vec_len s.words ≤ MAX_WORDS) };
+    ghost invariant = { λ s. (s.low + 16 ≤ vec_len s.words) × (vec_len s.words ≤ MAX_WORDS) };
 }
 
 impl Space {
     ghost use Rattle.gc_core.specs.Configuration.{empty_space};
-    ghost use Rattle.gc_core.specs.Event.{place_of, with_word};
+    ghost use Rattle.gc_core.specs.Event.{place_of, board_place, kind_told, length_told, as_read, with_word};
 
     /// A space of so many pages, none of them claimed.
     pub fn new(alloc: Global, pages: u32) -> Result<Space, AllocError>
@@ -42,11 +50,12 @@ impl Space {
     {
         let size = 64 * pages;
         Ok(Space {
-            words: vec![in alloc; 0; size as usize]?,
+            words: vec![in alloc; 0; size as usize + BOARD]?,
             low: size,
         })
     }
 
+    /// The words of the heap, then those of the board.
     pub fn words(&self) -> &[u64]
         ensures { result.now ≡ self.now.words }
     {
@@ -67,14 +76,51 @@ impl Space {
     pub fn place(&self, address: u32, x: u64) -> Result<usize, End>
         ensures { result ≡ place_of self.now address x }
     {
-        let address = address as usize;
-        if x < len_of(self.word(address)) {
-            Ok(address + 1 + x as usize)
+        if x < self.len(address) {
+            Ok(address as usize + 1 + x as usize)
         } else {
             Err(End::OutOfRange)
         }
     }
 
+    /// Where word `x` of the board stands.
+    pub fn board_place(&self, x: u64) -> Result<usize, End>
+        ensures { result ≡ board_place self.now x }
+    {
+        if x < BOARD as u64 {
+            Ok(self.words.len() - BOARD + x as usize)
+        } else {
+            Err(End::OutOfRange)
+        }
+    }
+
+    /// The kind of the record at an address.
+    pub fn kind(&self, address: u32) -> Kind
+        ensures { result ≡ kind_told (slice_index self.now.words address) }
+    {
+        kind_of(self.word(address as usize))
+    }
+
+    /// The length of the record at an address.
+    pub fn len(&self, address: u32) -> u64
+        ensures exact { result ≡ length_told (slice_index self.now.words address) }
+        ensures small { result ≤ 4095 }
+    {
+        len_of(self.word(address as usize))
+    }
+
+    /// A word of a record of this kind as a register holds it.
+    pub fn read(&self, kind: Kind, place: usize) -> u64
+        ensures { result ≡ as_read kind (slice_index self.now.words place) }
+    {
+        let word = self.word(place);
+        match kind {
+            Kind::Fields => word,
+            Kind::Raw => Word::number(word % MODULUS).0,
+        }
+    }
+
+    /// Puts a word of the heap or of the board. Where there is none, nothing changes.
     pub fn set_word(&mut self, place: usize, word: u64)
         ensures { self.new ≡ with_word self.old place word }
     {
