@@ -19,7 +19,7 @@ use Rattle.plain_state.specs.State as plain
 use Rattle.mutator_asm.specs.declared.instr.Instr.{Instr}
 use Rattle.mutator_asm.specs.declared.instr.Instr.TheVariants as instrs
 use Rattle.mutator_asm.specs.declared.operand.Operand.{Operand}
-use Rattle.mutator_asm.specs.Program.{is_valid, is_register, is_number, is_operand, is_target, are_registers}
+use Rattle.mutator_asm.specs.Program.{is_valid, is_register, is_number, is_operand, is_target}
 use Rattle.plain_heap.specs.Call as called
 use Rattle.plain_heap.specs.Call.{◌>>=◌, length_of, call as plain_call}
 use Rattle.plain_heap.specs.Step.{pages_for, length_made, length_named}
@@ -81,7 +81,7 @@ module _ (p : Placement) (space : Space) (heap : plain.Heap) (m : ℕ) (k : Muta
   valid_register : (d : ℕ) → is_register d ≡ true → d < 8
   valid_register d valid = ltb-true d 8 valid
 
-  valid_result : (d a b : ℕ) → are_registers d a b ≡ true → d < 8
+  valid_result : (d a b : ℕ) → is_register d && is_register a && is_register b ≡ true → d < 8
   valid_result d a b valid = valid_register d (and_parts (is_register d) (is_register a) (and_parts (is_register d && is_register a) (is_register b) valid).0).0
 
   abbrev IsWantAt : Instr → End → Type 0

@@ -17,3 +17,4 @@ pub mod Opening
 pub mod Running
 pub mod Lawful
 pub mod Whole
+pub mod Lone

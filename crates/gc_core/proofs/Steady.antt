@@ -23,17 +23,17 @@ use Rattle.gc_core.proofs.Lists.{slice_get-set_other, set-found}
 use Rattle.gc_core.proofs.Law.{fetched}
 
 -- the space keeps its size, and the mutator executed one instruction, which made a record at most
-record IsOneMore (space : Space) (k : Mutator) (a : After) : Type 0 where
-  size : length a.space.words ≡ length space.words
-  executed : a.mutator.executed ≡ k.executed + 1
-  serial : a.mutator.serial ≤ k.serial + 1
+pub record IsOneMore (space : Space) (k : Mutator) (a : After) : Type 0 where
+  pub size : length a.space.words ≡ length space.words
+  pub executed : a.mutator.executed ≡ k.executed + 1
+  pub serial : a.mutator.serial ≤ k.serial + 1
 
 -- what holds of a result that is no end
-abbrev OnMade : (After → Type 0) → Result After End → Type 0
+abbrev pub OnMade : (After → Type 0) → Result After End → Type 0
 OnMade P (Ok a) = P a
 OnMade P (Err why) = ⊤
 
-made-bind : {A : Type 0} (P : After → Type 0) (o : Result A End) (f : A → Result After End) → ((a : A) → o ≡ Ok a → OnMade P (f a)) → OnMade P (o >>= f)
+pub made-bind : {A : Type 0} (P : After → Type 0) (o : Result A End) (f : A → Result After End) → ((a : A) → o ≡ Ok a → OnMade P (f a)) → OnMade P (o >>= f)
 made-bind P (Ok a) f next = next a refl
 made-bind P (Err why) f next = tt
 
@@ -77,7 +77,7 @@ module _ (m : ℕ) (space : Space) (k : Mutator) where
   board-more x f next =
       made-bind (IsOneMore space k) (operand k x) _ (λ y is_y. made-bind (IsOneMore space k) (board_place space y) _ (λ place is_place. next place))
 
-  call-more : (i : Instr) → OnMade (IsOneMore space k) (call m space k i)
+  pub call-more : (i : Instr) → OnMade (IsOneMore space k) (call m space k i)
   unfolding call
   call-more (instrs.Li d n) = loads-more d (number_word n)
   call-more (instrs.Mov d a) = loads-more d (register k a)

@@ -7,3 +7,4 @@ pub mod Steady
 pub mod Represents
 pub mod Run
 pub mod Whole
+pub mod Lone

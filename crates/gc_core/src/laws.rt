@@ -10,6 +10,7 @@ ghost use Rattle.gc_core.specs.declared.config.Config.{Config};
 ghost use Rattle.gc_core.specs.Configuration.{CoreState, is_size, opening_core};
 ghost use Rattle.gc_core.specs.Represents.{Represents};
 ghost use Rattle.gc_core.specs.Steady.{IsSteady};
+ghost use Rattle.gc_core.specs.Lone.{LoneMutatorsGoOn};
 ghost use Rattle.gc_core.specs.Run.{run_from};
 ghost use Rattle.gc_core.specs.Whole.{RunsFollow};
 
@@ -29,4 +30,9 @@ pub fn runs_are_plain_runs()
 /// seen of each mutator is what is seen of its plain mutator, and each mark of the order acts.
 pub fn runs_follow()
     ensures { RunsFollow }
+{}
+
+/// A mutator that has the heap to itself is never kept from its instructions.
+pub fn lone_mutators_go_on()
+    ensures { LoneMutatorsGoOn }
 {}

@@ -6,11 +6,14 @@ use Rattle.std.specs.Str.Parse.{digits_value}
 use Rattle.std.specs.Prelude.{codes}
 use Rattle.std.proofs.lemmas.Bool.{lt-ltb, leb-true}
 use Rattle.mutator_asm.specs.declared.instr.Instr.{Instr}
+use Rattle.mutator_asm.specs.declared.instr.Instr.TheVariants.{Li, Mov, Add, Sub, Mul, Div, Rem, Lt, Eq, Jr, New, Raw, Ld, St, Len, Isp, Get, Put, Swap, Out, Halt}
 use Rattle.mutator_asm.specs.declared.mistake.Mistake.{Mistake}
 use Rattle.mutator_asm.specs.declared.mistake.Mistake.TheVariants.{UnknownInstr}
+use Rattle.mutator_asm.specs.declared.operand.Operand.{Operand}
 use Rattle.mutator_asm.specs.Program.{is_register, is_number, is_operand, is_valid}
 use Rattle.mutator_asm.specs.Token.{is_register_name, is_numeral, register_of, number_of, number_or, register_or, operand_of, tokens_of}
-use Rattle.mutator_asm.specs.Line.{Line, Blank, Begins, Does, Bad, ◌>>=◌, li_of, new_of, ld_of, st_of, out_of, halt_of, instr_of, does_or, begins_alone, line_from, line_of, lines_of}
+use Rattle.mutator_asm.specs.Instr.{◌>>=◌, made, nothing, one_register, two_registers, three_registers, register_number, register_operand, operand_register, two_registers_operand, register_operand_register, instr_of}
+use Rattle.mutator_asm.specs.Line.{Line, Blank, Begins, Does, Bad, does_or, begins_alone, line_from, line_of, lines_of}
 
 -- what was read passes the test
 abbrev pub good : {A : Type 0} → (A → Bool) → Result A Mistake → Bool
@@ -65,61 +68,109 @@ operand_if (Err mistake) (Err other) h k = refl
 operand_good : (t : List ℕ) → good is_operand (operand_of t) ≡ true
 operand_good t = operand_if (register_of t) (number_of t) (register_good t) (number_good t)
 
+-- ---- operands
+
+made_good : {A B : Type 0} (q : B → Bool) (f : A → B) (r : Result A Mistake) → good (λ x. q (f x)) r ≡ true → good q (made f r) ≡ true
+made_good q f (Ok x) h = h
+made_good q f (Err mistake) h = refl
+
+nothing_good : (operands : List (List ℕ)) → good (λ o. true) (nothing operands) ≡ true
+nothing_good [] = refl
+nothing_good (more ∷ others) = refl
+
+one_good : (operands : List (List ℕ)) → good is_register (one_register operands) ≡ true
+one_good [] = refl
+one_good (a ∷ []) = register_good a
+one_good (a ∷ more ∷ others) = refl
+
+two_good : (operands : List (List ℕ)) → good (λ o. is_register o.0 && is_register o.1) (two_registers operands) ≡ true
+two_good [] = refl
+two_good (d ∷ []) = refl
+two_good (d ∷ a ∷ []) =
+    good_bind is_register _ (register_of d) _ (register_good d) (λ rd hd.
+    good_bind is_register _ (register_of a) _ (register_good a) (λ ra ha. both _ _ hd ha))
+two_good (d ∷ a ∷ more ∷ others) = refl
+
+three_good : (operands : List (List ℕ)) → good (λ o. is_register o.0 && is_register o.1 && is_register o.2) (three_registers operands) ≡ true
+three_good [] = refl
+three_good (d ∷ []) = refl
+three_good (d ∷ a ∷ []) = refl
+three_good (d ∷ a ∷ b ∷ []) =
+    good_bind is_register _ (register_of d) _ (register_good d) (λ rd hd.
+    good_bind is_register _ (register_of a) _ (register_good a) (λ ra ha.
+    good_bind is_register _ (register_of b) _ (register_good b) (λ rb hb. both _ _ (both _ _ hd ha) hb)))
+three_good (d ∷ a ∷ b ∷ more ∷ others) = refl
+
+register_number_good : (operands : List (List ℕ)) → good (λ o. is_register o.0 && is_number o.1) (register_number operands) ≡ true
+register_number_good [] = refl
+register_number_good (d ∷ []) = refl
+register_number_good (d ∷ k ∷ []) =
+    good_bind is_register _ (register_of d) _ (register_good d) (λ rd hd.
+    good_bind is_number _ (number_of k) _ (number_good k) (λ n hn. both _ _ hd hn))
+register_number_good (d ∷ k ∷ more ∷ others) = refl
+
+register_operand_good : (operands : List (List ℕ)) → good (λ o. is_register o.0 && is_operand o.1) (register_operand operands) ≡ true
+register_operand_good [] = refl
+register_operand_good (d ∷ []) = refl
+register_operand_good (d ∷ x ∷ []) =
+    good_bind is_register _ (register_of d) _ (register_good d) (λ rd hd.
+    good_bind is_operand _ (operand_of x) _ (operand_good x) (λ o ho. both _ _ hd ho))
+register_operand_good (d ∷ x ∷ more ∷ others) = refl
+
+operand_register_good : (operands : List (List ℕ)) → good (λ o. is_operand o.0 && is_register o.1) (operand_register operands) ≡ true
+operand_register_good [] = refl
+operand_register_good (x ∷ []) = refl
+operand_register_good (x ∷ a ∷ []) =
+    good_bind is_register _ (register_of a) _ (register_good a) (λ ra ha.
+    good_bind is_operand _ (operand_of x) _ (operand_good x) (λ o ho. both _ _ ho ha))
+operand_register_good (x ∷ a ∷ more ∷ others) = refl
+
+two_registers_operand_good : (operands : List (List ℕ)) → good (λ o. is_register o.0 && is_register o.1 && is_operand o.2) (two_registers_operand operands) ≡ true
+two_registers_operand_good [] = refl
+two_registers_operand_good (d ∷ []) = refl
+two_registers_operand_good (d ∷ a ∷ []) = refl
+two_registers_operand_good (d ∷ a ∷ x ∷ []) =
+    good_bind is_register _ (register_of d) _ (register_good d) (λ rd hd.
+    good_bind is_register _ (register_of a) _ (register_good a) (λ ra ha.
+    good_bind is_operand _ (operand_of x) _ (operand_good x) (λ o ho. both _ _ (both _ _ hd ha) ho)))
+two_registers_operand_good (d ∷ a ∷ x ∷ more ∷ others) = refl
+
+register_operand_register_good : (operands : List (List ℕ)) → good (λ o. is_register o.0 && is_operand o.1 && is_register o.2) (register_operand_register operands) ≡ true
+register_operand_register_good [] = refl
+register_operand_register_good (a ∷ []) = refl
+register_operand_register_good (a ∷ x ∷ []) = refl
+register_operand_register_good (a ∷ x ∷ b ∷ []) =
+    good_bind is_register _ (register_of a) _ (register_good a) (λ ra ha.
+    good_bind is_register _ (register_of b) _ (register_good b) (λ rb hb.
+    good_bind is_operand _ (operand_of x) _ (operand_good x) (λ o ho. both _ _ (both _ _ ha ho) hb)))
+register_operand_register_good (a ∷ x ∷ b ∷ more ∷ others) = refl
+
 -- ---- instructions
 
-li_good : (operands : List (List ℕ)) → good is_valid (li_of operands) ≡ true
-li_good [] = refl
-li_good (d ∷ []) = refl
-li_good (d ∷ k ∷ []) =
-    good_bind is_register is_valid (register_of d) _ (register_good d) (λ rd hd.
-    good_bind is_number is_valid (number_of k) _ (number_good k) (λ n hn. both _ _ hd hn))
-li_good (d ∷ k ∷ more ∷ others) = refl
-
-new_good : (operands : List (List ℕ)) → good is_valid (new_of operands) ≡ true
-new_good [] = refl
-new_good (d ∷ []) = refl
-new_good (d ∷ x ∷ []) =
-    good_bind is_register is_valid (register_of d) _ (register_good d) (λ rd hd.
-    good_bind is_operand is_valid (operand_of x) _ (operand_good x) (λ o ho. both _ _ hd ho))
-new_good (d ∷ x ∷ more ∷ others) = refl
-
-ld_good : (operands : List (List ℕ)) → good is_valid (ld_of operands) ≡ true
-ld_good [] = refl
-ld_good (d ∷ []) = refl
-ld_good (d ∷ a ∷ []) = refl
-ld_good (d ∷ a ∷ x ∷ []) =
-    good_bind is_register is_valid (register_of d) _ (register_good d) (λ rd hd.
-    good_bind is_register is_valid (register_of a) _ (register_good a) (λ ra ha.
-    good_bind is_operand is_valid (operand_of x) _ (operand_good x) (λ o ho. both _ _ (both _ _ hd ha) ho)))
-ld_good (d ∷ a ∷ x ∷ more ∷ others) = refl
-
-st_good : (operands : List (List ℕ)) → good is_valid (st_of operands) ≡ true
-st_good [] = refl
-st_good (a ∷ []) = refl
-st_good (a ∷ x ∷ []) = refl
-st_good (a ∷ x ∷ b ∷ []) =
-    good_bind is_register is_valid (register_of a) _ (register_good a) (λ ra ha.
-    good_bind is_operand is_valid (operand_of x) _ (operand_good x) (λ o ho.
-    good_bind is_register is_valid (register_of b) _ (register_good b) (λ rb hb. both _ _ (both _ _ ha ho) hb)))
-st_good (a ∷ x ∷ b ∷ more ∷ others) = refl
-
-out_good : (operands : List (List ℕ)) → good is_valid (out_of operands) ≡ true
-out_good [] = refl
-out_good (a ∷ []) = good_bind is_register is_valid (register_of a) _ (register_good a) (λ ra ha. ha)
-out_good (a ∷ more ∷ others) = refl
-
-halt_good : (operands : List (List ℕ)) → good is_valid (halt_of operands) ≡ true
-halt_good [] = refl
-halt_good (more ∷ others) = refl
-
 instr_good : (name : List ℕ) (operands : List (List ℕ)) → good is_valid (instr_of name operands) ≡ true
+unfolding instr_of
 instr_good name operands =
-    good_if is_valid (bytes_eq name (codes "li")) _ _ (li_good operands)
-    (good_if is_valid (bytes_eq name (codes "new")) _ _ (new_good operands)
-    (good_if is_valid (bytes_eq name (codes "ld")) _ _ (ld_good operands)
-    (good_if is_valid (bytes_eq name (codes "st")) _ _ (st_good operands)
-    (good_if is_valid (bytes_eq name (codes "out")) _ _ (out_good operands)
-    (good_if is_valid (bytes_eq name (codes "halt")) _ _ (halt_good operands) refl)))))
+    good_if is_valid (bytes_eq name (codes "li")) _ _ (made_good is_valid (λ (o : ℕ × ℕ). Li o.0 o.1) (register_number operands) (register_number_good operands))
+    (good_if is_valid (bytes_eq name (codes "mov")) _ _ (made_good is_valid (λ (o : ℕ × ℕ). Mov o.0 o.1) (two_registers operands) (two_good operands))
+    (good_if is_valid (bytes_eq name (codes "add")) _ _ (made_good is_valid (λ (o : ℕ × ℕ × ℕ). Add o.0 o.1 o.2) (three_registers operands) (three_good operands))
+    (good_if is_valid (bytes_eq name (codes "sub")) _ _ (made_good is_valid (λ (o : ℕ × ℕ × ℕ). Sub o.0 o.1 o.2) (three_registers operands) (three_good operands))
+    (good_if is_valid (bytes_eq name (codes "mul")) _ _ (made_good is_valid (λ (o : ℕ × ℕ × ℕ). Mul o.0 o.1 o.2) (three_registers operands) (three_good operands))
+    (good_if is_valid (bytes_eq name (codes "div")) _ _ (made_good is_valid (λ (o : ℕ × ℕ × ℕ). Div o.0 o.1 o.2) (three_registers operands) (three_good operands))
+    (good_if is_valid (bytes_eq name (codes "rem")) _ _ (made_good is_valid (λ (o : ℕ × ℕ × ℕ). Rem o.0 o.1 o.2) (three_registers operands) (three_good operands))
+    (good_if is_valid (bytes_eq name (codes "lt")) _ _ (made_good is_valid (λ (o : ℕ × ℕ × ℕ). Lt o.0 o.1 o.2) (three_registers operands) (three_good operands))
+    (good_if is_valid (bytes_eq name (codes "eq")) _ _ (made_good is_valid (λ (o : ℕ × ℕ × ℕ). Eq o.0 o.1 o.2) (three_registers operands) (three_good operands))
+    (good_if is_valid (bytes_eq name (codes "jr")) _ _ (made_good is_valid (λ (o : ℕ). Jr o) (one_register operands) (one_good operands))
+    (good_if is_valid (bytes_eq name (codes "new")) _ _ (made_good is_valid (λ (o : ℕ × Operand). New o.0 o.1) (register_operand operands) (register_operand_good operands))
+    (good_if is_valid (bytes_eq name (codes "raw")) _ _ (made_good is_valid (λ (o : ℕ × Operand). Raw o.0 o.1) (register_operand operands) (register_operand_good operands))
+    (good_if is_valid (bytes_eq name (codes "ld")) _ _ (made_good is_valid (λ (o : ℕ × ℕ × Operand). Ld o.0 o.1 o.2) (two_registers_operand operands) (two_registers_operand_good operands))
+    (good_if is_valid (bytes_eq name (codes "st")) _ _ (made_good is_valid (λ (o : ℕ × Operand × ℕ). St o.0 o.1 o.2) (register_operand_register operands) (register_operand_register_good operands))
+    (good_if is_valid (bytes_eq name (codes "len")) _ _ (made_good is_valid (λ (o : ℕ × ℕ). Len o.0 o.1) (two_registers operands) (two_good operands))
+    (good_if is_valid (bytes_eq name (codes "isp")) _ _ (made_good is_valid (λ (o : ℕ × ℕ). Isp o.0 o.1) (two_registers operands) (two_good operands))
+    (good_if is_valid (bytes_eq name (codes "get")) _ _ (made_good is_valid (λ (o : ℕ × Operand). Get o.0 o.1) (register_operand operands) (register_operand_good operands))
+    (good_if is_valid (bytes_eq name (codes "put")) _ _ (made_good is_valid (λ (o : Operand × ℕ). Put o.0 o.1) (operand_register operands) (operand_register_good operands))
+    (good_if is_valid (bytes_eq name (codes "swap")) _ _ (made_good is_valid (λ (o : ℕ × Operand). Swap o.0 o.1) (register_operand operands) (register_operand_good operands))
+    (good_if is_valid (bytes_eq name (codes "out")) _ _ (made_good is_valid (λ (o : ℕ). Out o) (one_register operands) (one_good operands))
+    (good_if is_valid (bytes_eq name (codes "halt")) _ _ (made_good is_valid (λ (o : Unit {0}). Halt) (nothing operands) (nothing_good operands)) refl))))))))))))))))))))
 
 -- ---- lines
 

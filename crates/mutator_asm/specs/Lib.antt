@@ -2,6 +2,7 @@ pub mod AsmError
 pub mod Program
 pub mod Mistake
 pub mod Token
+pub mod Instr
 pub mod Line
 pub mod Read
 pub mod Text

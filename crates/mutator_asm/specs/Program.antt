@@ -2,7 +2,7 @@
 use Rattle.std.specs.Prelude.{ℕ, ◌^◌, ◌≤◌, Bool, true, ◌&&◌, List, [], length, Option, slice_get, slice_index_or, nat_lt, nat_le, sum_by, IsTrue}
 use Rattle.std.specs.List.{list_all}
 use Rattle.mutator_asm.specs.declared.instr.Instr.{Instr}
-use Rattle.mutator_asm.specs.declared.instr.Instr.TheVariants as instrs
+use Rattle.mutator_asm.specs.declared.instr.Instr.TheVariants.{Li, Mov, Add, Sub, Mul, Div, Rem, Lt, Eq, Jmp, Jz, Jal, Jr, New, Raw, Ld, St, Len, Isp, Get, Put, Swap, Out, Halt}
 use Rattle.mutator_asm.specs.declared.item.Item.{Item}
 use Rattle.mutator_asm.specs.declared.operand.Operand.{Operand}
 use Rattle.mutator_asm.specs.declared.operand.Operand.TheVariants.{Reg, Number}
@@ -24,40 +24,36 @@ abbrev pub is_operand : Operand → Bool
 is_operand (Reg r) = is_register r
 is_operand (Number n) = is_number n
 
--- there are three registers
-abbrev pub are_registers : ℕ → ℕ → ℕ → Bool
-are_registers d a b = is_register d && is_register a && is_register b
-
--- a jump leads to an instruction that a text may have, or past the last
+-- a jump leads to an instruction of its section or behind the last one
 abbrev pub is_target : ℕ → Bool
-is_target target = nat_le target 65536
+is_target t = nat_le t 65536
 
 -- each operand of an instruction is one that its place allows
 abbrev pub is_valid : Instr → Bool
-is_valid (instrs.Li d k) = is_register d && is_number k
-is_valid (instrs.Mov d a) = is_register d && is_register a
-is_valid (instrs.Add d a b) = are_registers d a b
-is_valid (instrs.Sub d a b) = are_registers d a b
-is_valid (instrs.Mul d a b) = are_registers d a b
-is_valid (instrs.Div d a b) = are_registers d a b
-is_valid (instrs.Rem d a b) = are_registers d a b
-is_valid (instrs.Lt d a b) = are_registers d a b
-is_valid (instrs.Eq d a b) = are_registers d a b
-is_valid (instrs.Jmp t) = is_target t
-is_valid (instrs.Jz a t) = is_register a && is_target t
-is_valid (instrs.Jal d t) = is_register d && is_target t
-is_valid (instrs.Jr a) = is_register a
-is_valid (instrs.New d x) = is_register d && is_operand x
-is_valid (instrs.Raw d x) = is_register d && is_operand x
-is_valid (instrs.Ld d a x) = is_register d && is_register a && is_operand x
-is_valid (instrs.St a x b) = is_register a && is_operand x && is_register b
-is_valid (instrs.Len d a) = is_register d && is_register a
-is_valid (instrs.Isp d a) = is_register d && is_register a
-is_valid (instrs.Get d x) = is_register d && is_operand x
-is_valid (instrs.Put x a) = is_operand x && is_register a
-is_valid (instrs.Swap d x) = is_register d && is_operand x
-is_valid (instrs.Out a) = is_register a
-is_valid instrs.Halt = true
+is_valid (Li d k) = is_register d && is_number k
+is_valid (Mov d a) = is_register d && is_register a
+is_valid (Add d a b) = is_register d && is_register a && is_register b
+is_valid (Sub d a b) = is_register d && is_register a && is_register b
+is_valid (Mul d a b) = is_register d && is_register a && is_register b
+is_valid (Div d a b) = is_register d && is_register a && is_register b
+is_valid (Rem d a b) = is_register d && is_register a && is_register b
+is_valid (Lt d a b) = is_register d && is_register a && is_register b
+is_valid (Eq d a b) = is_register d && is_register a && is_register b
+is_valid (Jmp t) = is_target t
+is_valid (Jz a t) = is_register a && is_target t
+is_valid (Jal d t) = is_register d && is_target t
+is_valid (Jr a) = is_register a
+is_valid (New d x) = is_register d && is_operand x
+is_valid (Raw d x) = is_register d && is_operand x
+is_valid (Ld d a x) = is_register d && is_register a && is_operand x
+is_valid (St a x b) = is_register a && is_operand x && is_register b
+is_valid (Len d a) = is_register d && is_register a
+is_valid (Isp d a) = is_register d && is_register a
+is_valid (Get d x) = is_register d && is_operand x
+is_valid (Put x a) = is_operand x && is_register a
+is_valid (Swap d x) = is_register d && is_operand x
+is_valid (Out a) = is_register a
+is_valid Halt = true
 
 -- a part of a schedule names a worker from 0 to 23 and 1 to 1,000,000 of its steps
 abbrev pub is_item : Item → Bool

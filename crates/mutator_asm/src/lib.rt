@@ -10,6 +10,7 @@ mod laws;
 mod line;
 mod mistake;
 mod operand;
+mod operands;
 mod program;
 mod schedule;
 mod section;

@@ -2,12 +2,17 @@
 
 ghost use Rattle.std.specs.Prelude.{◌≡◌, ◌==◌, IfOk, map};
 ghost use Rattle.std.specs.List.{slice_split};
-ghost use Rattle.mutator_asm.specs.Line.{line_of, line_from, lines_of, begins_alone, does_or, instr_of, li_of, new_of, ld_of, st_of, out_of, halt_of};
+ghost use Rattle.mutator_asm.specs.Line.{line_of, line_from, lines_of, begins_alone, does_or};
+ghost use Rattle.mutator_asm.specs.Instr.{instr_of};
 ghost use Rattle.mutator_asm.specs.Read.{line_view, lines_view, tokens_view};
 
 use crate::instr::Instr;
 use crate::mistake::Mistake;
-use crate::token::{number, operand, register, tokens};
+use crate::operands::{
+    nothing, one_register, operand_register, register_number, register_operand,
+    register_operand_register, three_registers, two_registers, two_registers_operand,
+};
+use crate::token::tokens;
 use std::alloc::{AllocError, Global};
 
 /// What a line says.
@@ -53,91 +58,33 @@ impl Line {
     }
 }
 
-/// `li rd k`, from the operands.
-fn li(operands: &[&[u8]]) -> Result<Instr, Mistake>
-    ensures { result ≡ li_of (tokens_view operands.now) }
-{
-    match operands {
-        [d, k] => {
-            let d = register(d)?;
-            Ok(Instr::Li(d, number(k)?))
-        }
-        _ => Err(Mistake::UnknownInstr),
-    }
-}
-
-/// `new rd x`, from the operands.
-fn new(operands: &[&[u8]]) -> Result<Instr, Mistake>
-    ensures { result ≡ new_of (tokens_view operands.now) }
-{
-    match operands {
-        [d, x] => {
-            let d = register(d)?;
-            Ok(Instr::New(d, operand(x)?))
-        }
-        _ => Err(Mistake::UnknownInstr),
-    }
-}
-
-/// `ld rd ra x`, from the operands.
-fn ld(operands: &[&[u8]]) -> Result<Instr, Mistake>
-    ensures { result ≡ ld_of (tokens_view operands.now) }
-{
-    match operands {
-        [d, a, x] => {
-            let d = register(d)?;
-            let a = register(a)?;
-            Ok(Instr::Ld(d, a, operand(x)?))
-        }
-        _ => Err(Mistake::UnknownInstr),
-    }
-}
-
-/// `st ra x rb`, from the operands.
-fn st(operands: &[&[u8]]) -> Result<Instr, Mistake>
-    ensures { result ≡ st_of (tokens_view operands.now) }
-{
-    match operands {
-        [a, x, b] => {
-            let a = register(a)?;
-            let x = operand(x)?;
-            Ok(Instr::St(a, x, register(b)?))
-        }
-        _ => Err(Mistake::UnknownInstr),
-    }
-}
-
-/// `out ra`, from the operands.
-fn out(operands: &[&[u8]]) -> Result<Instr, Mistake>
-    ensures { result ≡ out_of (tokens_view operands.now) }
-{
-    match operands {
-        [a] => Ok(Instr::Out(register(a)?)),
-        _ => Err(Mistake::UnknownInstr),
-    }
-}
-
-/// `halt`, from the operands.
-fn halt(operands: &[&[u8]]) -> Result<Instr, Mistake>
-    ensures { result ≡ halt_of (tokens_view operands.now) }
-{
-    match operands {
-        [] => Ok(Instr::Halt),
-        _ => Err(Mistake::UnknownInstr),
-    }
-}
-
 /// The instruction of a name.
+#[tactic(auto, unfolding(crate::specs::Instr::instr_of))]
 fn instr(name: &[u8], operands: &[&[u8]]) -> Result<Instr, Mistake>
     ensures { result ≡ instr_of name.now (tokens_view operands.now) }
 {
     match name {
-        b"li" => li(operands),
-        b"new" => new(operands),
-        b"ld" => ld(operands),
-        b"st" => st(operands),
-        b"out" => out(operands),
-        b"halt" => halt(operands),
+        b"li" => register_number(operands).map(|(d, k)| Instr::Li(d, k)),
+        b"mov" => two_registers(operands).map(|(d, a)| Instr::Mov(d, a)),
+        b"add" => three_registers(operands).map(|(d, a, b)| Instr::Add(d, a, b)),
+        b"sub" => three_registers(operands).map(|(d, a, b)| Instr::Sub(d, a, b)),
+        b"mul" => three_registers(operands).map(|(d, a, b)| Instr::Mul(d, a, b)),
+        b"div" => three_registers(operands).map(|(d, a, b)| Instr::Div(d, a, b)),
+        b"rem" => three_registers(operands).map(|(d, a, b)| Instr::Rem(d, a, b)),
+        b"lt" => three_registers(operands).map(|(d, a, b)| Instr::Lt(d, a, b)),
+        b"eq" => three_registers(operands).map(|(d, a, b)| Instr::Eq(d, a, b)),
+        b"jr" => one_register(operands).map(Instr::Jr),
+        b"new" => register_operand(operands).map(|(d, x)| Instr::New(d, x)),
+        b"raw" => register_operand(operands).map(|(d, x)| Instr::Raw(d, x)),
+        b"ld" => two_registers_operand(operands).map(|(d, a, x)| Instr::Ld(d, a, x)),
+        b"st" => register_operand_register(operands).map(|(a, x, b)| Instr::St(a, x, b)),
+        b"len" => two_registers(operands).map(|(d, a)| Instr::Len(d, a)),
+        b"isp" => two_registers(operands).map(|(d, a)| Instr::Isp(d, a)),
+        b"get" => register_operand(operands).map(|(d, x)| Instr::Get(d, x)),
+        b"put" => operand_register(operands).map(|(x, a)| Instr::Put(x, a)),
+        b"swap" => register_operand(operands).map(|(d, x)| Instr::Swap(d, x)),
+        b"out" => one_register(operands).map(Instr::Out),
+        b"halt" => nothing(operands).map(|()| Instr::Halt),
         _ => Err(Mistake::UnknownInstr),
     }
 }
