@@ -1,17 +1,16 @@
 -- A word of the board is written in both heaps.
-use Rattle.std.proofs.Common.{◌≡◌, ℕ, ◌+◌, ◌-◌, ◌<◌, ◌≤◌, ◌⊎◌, inl, inr, List, length, Some, slice_get, slice_index, slice_set, refl, ap, sym, ◌∙◌, subst, arith, length-set}
+use Rattle.std.proofs.Common.{◌≡◌, ℕ, ◌+◌, ◌-◌, ◌<◌, ◌⊎◌, inl, inr, List, length, Some, slice_get, slice_index, slice_set, refl, ap, sym, ◌∙◌, subst, arith, length-set}
 use Rattle.std.proofs.lemmas.Bool.{cases_eq}
 use Rattle.std.proofs.lemmas.List.{get_or-set_same, get_or-set_other}
-use Rattle.plain_state.specs.declared.value.Identity.{Identity}
 use Rattle.plain_state.specs.declared.value.Value.{Value}
 use Rattle.plain_state.specs.State as plain
 use Rattle.plain_heap.specs.Call.{with_board}
 use Rattle.gc_core.specs.Configuration.{Space}
 use Rattle.gc_core.specs.Event as event
-use Rattle.gc_core.specs.Represents.{Part, Placement, Denotes, StandsAt, IsOfRecord, RepresentsBoard}
+use Rattle.gc_core.specs.Represents.{Placement, Denotes, RepresentsBoard}
 use Rattle.gc_core.proofs.Heaps.{record_made}
 use Rattle.gc_core.proofs.Lists.{slice_get-set_other, set-found}
-use Rattle.gc_core.proofs.Next.{RepresentsHeap, IsNext, IsKept, part-below, denotes-next, stands-next}
+use Rattle.gc_core.proofs.Next.{RepresentsHeap, IsNext, part-below, denotes-next, stands-next}
 
 module _ (p : Placement) (space : Space) (heap : plain.Heap) (x : ℕ) (v : Value) (word m : ℕ) (h : RepresentsHeap p space heap) (inside : x < 16) (denotes : Denotes heap p.place word v) where
   -- the plain heap and the words after the write

@@ -1,5 +1,5 @@
 -- One instruction does the same on both heaps, but for an end for want of room.
-use Rattle.std.proofs.Common.{◌≡◌, ℕ, ◌/◌, ◌%◌, ◌==◌, ◌+◌, ◌-◌, ◌*◌, ◌^◌, ◌<◌, ◌≤◌, Bool, true, false, ◌&&◌, cond, nat_le, nat_lt, eqb, length, Option, Some, None, Result, Ok, Err, slice_index, refl, ap, sym, ◌∙◌, subst, arith}
+use Rattle.std.proofs.Common.{◌≡◌, ℕ, ◌/◌, ◌%◌, ◌==◌, ◌+◌, ◌*◌, ◌^◌, ◌<◌, ◌≤◌, Bool, true, false, ◌&&◌, cond, nat_le, nat_lt, length, Option, Some, None, Result, Ok, slice_index, refl, ap, sym, subst, arith}
 use Rattle.std.specs.Bool.{IsTrue}
 use Rattle.std.specs.Option.{option_map}
 use Rattle.std.proofs.Math.Nat.{div-le_self, mod-le}
@@ -8,7 +8,6 @@ use Rattle.heap_words.specs.Word.{number_word}
 use Rattle.plain_state.specs.declared.kind.Kind.{Kind}
 use Rattle.plain_state.specs.declared.kind.Kind.TheVariants.{Fields, Raw}
 use Rattle.plain_state.specs.declared.end.End.{End}
-use Rattle.plain_state.specs.declared.end.End.TheVariants as ends
 use Rattle.plain_state.specs.declared.operation.Operation.{Operation}
 use Rattle.plain_state.specs.declared.operation.Operation.TheVariants as operations
 use Rattle.plain_state.specs.declared.value.Identity.{Identity}
@@ -124,8 +123,10 @@ module _ (p : Placement) (space : Space) (heap : plain.Heap) (m : ℕ) (k : Muta
       (event.as_held (event.kind_told (slice_index space.words address)) (event.register k b) >>= (λ word. Ok (record { space = event.with_word space place word; mutator = event.went_on k })))
       (called.store_in heap i (plain.record_of heap i) x (called.register l b) >>= (λ heap. Ok (record { heap = heap; mutator = called.went_on l })))
   store-same F address i x place b old placed is =
-      rw (stores_in heap i (plain.record_of heap i) is.of x (called.register l b) is.is_record,
-      bind-bind {C = called.After} (called.may_hold is.of.kind (called.register l b)) (λ v. Ok (called.stored heap i is.of x v)) (λ heap. Ok (record { heap = heap; mutator = called.went_on l })))
+      rw (
+        stores_in heap i (plain.record_of heap i) is.of x (called.register l b) is.is_record,
+        bind-bind {C = called.After} (called.may_hold is.of.kind (called.register l b)) (λ v. Ok (called.stored heap i is.of x v)) (λ heap. Ok (record { heap = heap; mutator = called.went_on l })),
+      )
       (parallel-bind (DenotesIn is.of.kind heap p.place) IsDone F _ _ _ _ (held-same p space heap h size counted address i x place old (called.register l b) (event.register k b) placed is (denotes b))
       (λ word v is_word is_v held. rw is.place_is (done-stores p space heap m k l h r running in_heap i is.of x old v word placed.made is.is_record is.is_word held)))
 

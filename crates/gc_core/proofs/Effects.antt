@@ -1,5 +1,5 @@
 -- What an instruction leaves of both heaps and both mutators.
-use Rattle.std.proofs.Common.{◌≡◌, ℕ, ◌+◌, ◌-◌, ◌*◌, ◌%◌, ◌^◌, ◌<◌, ◌≤◌, ◌⊎◌, inl, inr, Bool, true, false, nat_lt, List, [], ◌∷◌, ◌++◌, length, Some, None, slice_get, slice_index, slice_set, replicate, refl, ap, sym, ◌∙◌, subst, arith, length-set}
+use Rattle.std.proofs.Common.{◌≡◌, ℕ, ◌+◌, ◌-◌, ◌%◌, ◌^◌, ◌<◌, ◌≤◌, ◌⊎◌, inl, inr, Bool, true, false, nat_lt, List, [], ◌∷◌, ◌++◌, length, Some, None, slice_get, slice_index, slice_set, replicate, refl, ap, sym, ◌∙◌, subst, arith, length-set}
 use Rattle.std.proofs.lemmas.Bool.{cases_eq}
 use Rattle.std.proofs.lemmas.List.{get_or-set_same, get_or-set_other}
 use Rattle.heap_words.specs.Word.{pointer_word, header_word}
@@ -144,7 +144,7 @@ module _ (p : Placement) (space : Space) (heap : plain.Heap) (m : ℕ) (k : Muta
       let next = next-stored p space heap i t x old v word m h made is_record is_word denotes in
       let same_length = length-set space.words (p.place i + 1 + x) word in
       let stays = subst (λ n. RepresentsMutator (called.stored heap i t x v) p n m k l) (sym same_length)
-          (mutator-next next (length space.words) m k l (serial_of-stored heap i t x v made m) (λ a own. own) r) in
+      (mutator-next next (length space.words) m k l (serial_of-stored heap i t x v made m) (λ a own. own) r) in
       record {
         placement = p;
         represents = heap-stored p space heap i t x old v word m h made is_record is_word denotes;

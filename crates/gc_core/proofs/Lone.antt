@@ -1,12 +1,11 @@
 -- A lone mutator makes an instruction in each step, or has its end.
-use Rattle.std.proofs.Common.{◌≡◌, ℕ, zero, suc, ◌+◌, ◌<◌, ◌≤◌, Bool, true, false, ◌&&◌, List, [], ◌∷◌, length, Option, Some, None, Result, Ok, Err, is_some, nat_le, slice_get, slice_set, refl, ap, sym, ◌∙◌, subst, arith}
+use Rattle.std.proofs.Common.{◌≡◌, ℕ, zero, suc, ◌+◌, ◌≤◌, Bool, true, false, ◌&&◌, List, [], ◌∷◌, Option, Some, None, Result, Ok, Err, is_some, slice_get, slice_set, refl, ap, arith}
 use Rattle.std.specs.List.{list_all}
 use Rattle.plain_state.specs.declared.end.End.{End}
 use Rattle.mutator_asm.specs.declared.instr.Instr.{Instr}
-use Rattle.mutator_asm.specs.Program.{instr_at}
-use Rattle.gc_core.specs.Configuration.{Space, Mutator, Configuration, CoreState}
-use Rattle.gc_core.specs.Event.{After, event, event_of, core_after, settled, left_by, made, fetch, call}
-use Rattle.gc_core.specs.Run.{run_from, all_ended, mark_of}
+use Rattle.gc_core.specs.Configuration.{Space, Mutator, CoreState}
+use Rattle.gc_core.specs.Event.{After, event, core_after, settled, left_by, made, fetch, call}
+use Rattle.gc_core.specs.Run.{run_from, all_ended}
 use Rattle.gc_core.proofs.Events.{event-turn}
 use Rattle.gc_core.proofs.Steady.{IsOneMore, OnMade, made-bind, call-more}
 

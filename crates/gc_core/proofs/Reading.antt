@@ -96,9 +96,10 @@ module _ (p : Placement) (space : Space) (heap : plain.Heap) (h : RepresentsHeap
       → (length_told (slice_index space.words (p.place i)) ≡ length r.values) × (kind_told (slice_index space.words (p.place i)) ≡ spelled r.kind)
   header-told i r made is =
       let stands = h.records i r made.first is in
-      let fits : i.serial < 2 ^ 40 = omega (arith, made.last, counted i.mutator) in
-      (ap length_told stands.header ∙ length_told-header (spelled r.kind) (length r.values) i.serial i.mutator stands.short fits,
-      ap kind_told stands.header ∙ kind_told-header (spelled r.kind) (length r.values) i.serial i.mutator stands.short fits)
+      let fits : i.serial < 2 ^ 40 = omega (arith, made.last, counted i.mutator) in (
+        ap length_told stands.header ∙ length_told-header (spelled r.kind) (length r.values) i.serial i.mutator stands.short fits,
+        ap kind_told stands.header ∙ kind_told-header (spelled r.kind) (length r.values) i.serial i.mutator stands.short fits,
+      )
 
   place-same : (a : ℕ) (i : Identity) (x : ℕ) → IsPlaced p heap a i → Same (IsWordAt p heap i x) (place_of space a x) (called.word_of heap i x)
   place-same a i x is =

@@ -8,3 +8,4 @@ pub mod Represents
 pub mod Run
 pub mod Whole
 pub mod Lone
+pub mod OpenError

@@ -2,7 +2,7 @@
 use Rattle.std.specs.Prelude.{◌≡◌, ℕ, ◌+◌, ◌*◌, ◌/◌, ◌<◌, ◌≤◌, List, length, None}
 use Rattle.mutator_asm.specs.declared.instr.Instr.{Instr}
 use Rattle.gc_core.specs.declared.config.Config.{Config}
-use Rattle.gc_core.specs.Configuration.{CoreState, opening_core, workers_of, mutator_of}
+use Rattle.gc_core.specs.Configuration.{opening_core, workers_of, mutator_of}
 use Rattle.gc_core.specs.Run.{run_from}
 
 -- the steps within which a lone mutator makes an instruction, in spaces of so many pages

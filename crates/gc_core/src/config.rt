@@ -1,5 +1,8 @@
 //! How a core is opened.
 
+ghost use Rattle.std.specs.Prelude.{Some};
+ghost use Rattle.gc_core.specs.OpenError.{text_of_open_error};
+
 use std::alloc::AllocError;
 use std::fmt;
 
@@ -24,6 +27,8 @@ pub enum OpenError {
 }
 
 impl fmt::Display for OpenError {
+    ghost output = { λ e. Some (text_of_open_error e) };
+
     fn fmt<W: fmt::Write>(&self, f: &mut fmt::Formatter<W>) -> fmt::Result {
         f.write_str(match self {
             OpenError::BadPages => "a space has 4 to 2048 pages",

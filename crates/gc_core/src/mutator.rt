@@ -1,6 +1,7 @@
 //! One mutator's own state.
 
 ghost use Rattle.std.specs.Prelude.{◌≡◌, ◌+◌, ◌^◌, ◌<◌, ◌≤◌, [], ◌∷◌, ◌++◌, length, Some, Ok, Err, IfOk, MatchResult};
+ghost use Rattle.gc_core.specs.declared.run.TheConstants.{MAX_HEAP};
 
 use crate::run::Run;
 use heap_words::{Kind, Word};
@@ -58,30 +59,35 @@ impl Mutator {
         })
     }
 
+    /// The number of its next instruction.
     pub fn counter(&self) -> u64
         ensures { result ≡ self.now.counter }
     {
         self.counter
     }
 
+    /// The words in its registers.
     pub fn registers(&self) -> [u64; 8]
         ensures { result ≡ self.now.registers }
     {
         self.registers
     }
 
+    /// The numbers that it has printed.
     pub fn printed(&self) -> &[u64]
         ensures { result.now ≡ self.now.printed }
     {
         self.printed.as_slice()
     }
 
+    /// How many instructions it has made.
     pub fn executed(&self) -> u32
         ensures { result ≡ self.now.executed }
     {
         self.executed
     }
 
+    /// Its end, where it has one.
     pub fn end(&self) -> Option<End>
         ensures { result ≡ self.now.end }
     {
@@ -96,10 +102,11 @@ impl Mutator {
         self.serial
     }
 
+    /// Where it makes its next record.
     pub fn run(&self) -> Run
         ensures exact { result ≡ self.now.run }
         ensures in_order { result.at ≤ result.end }
-        ensures within { result.end ≤ 131072 }
+        ensures within { result.end ≤ MAX_HEAP }
     {
         self.run
     }
@@ -211,7 +218,7 @@ impl Mutator {
     pub fn take_record(&mut self, d: u8, pointer: u64, run: Run)
         requires executed { self.old.executed + 1 < 2 ^ 32 }
         requires in_order { run.at ≤ run.end }
-        requires within { run.end ≤ 131072 }
+        requires within { run.end ≤ MAX_HEAP }
         ensures { self.new ≡ went_on (record (set_register self.old d pointer) { serial = self.old.serial + 1; run = run }) }
     {
         let serial = self.serial();
@@ -220,6 +227,7 @@ impl Mutator {
         self.run = run;
     }
 
+    /// The mutator gets its end.
     pub fn set_end(&mut self, end: End)
         ensures { self.new ≡ record self.old { end = Some end } }
     {

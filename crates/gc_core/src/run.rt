@@ -1,5 +1,8 @@
 //! Where a mutator makes its next records.
 
+/// The most words that a heap has: those of 2048 pages.
+pub const MAX_HEAP: u32 = 64 * 2048;
+
 /// The pages that a mutator has claimed and not yet filled.
 #[derive(Clone, Copy, Debug, PartialEq, Eq)]
 pub struct Run {

@@ -1,9 +1,10 @@
 //! The words of the heap.
 
-ghost use Rattle.std.specs.Prelude.{◌≡◌, ◌+◌, ◌*◌, ◌^◌, ◌<◌, ◌≤◌, IfOk, OnOk, OnErr, Ok, Err, MatchResult, slice_index};
+ghost use Rattle.std.specs.Prelude.{◌≡◌, ◌+◌, ◌-◌, ◌*◌, ◌^◌, ◌<◌, ◌≤◌, IfOk, OnOk, OnErr, Ok, Err, MatchResult, slice_index};
+ghost use Rattle.gc_core.specs.declared.run.TheConstants.{MAX_HEAP};
 
 use crate::header::{kind_of, len_of};
-use crate::run::Run;
+use crate::run::{MAX_HEAP, Run};
 use heap_words::{Kind, Word};
 use plain_heap::End;
 use std::alloc::{AllocError, Global};
@@ -12,8 +13,8 @@ use std::marker::Model;
 /// The words of the board, which stand behind those of the heap.
 const BOARD: usize = 16;
 
-/// The most words that a space and the board have.
-const MAX_WORDS: usize = 64 * 2048 + 16;
+/// The most words that a heap and the board have.
+const MAX_WORDS: usize = MAX_HEAP as usize + BOARD;
 
 /// One more than the greatest number.
 const MODULUS: u64 = 1 << 62;
@@ -41,7 +42,7 @@ impl Model for Space {
 
 impl Space {
     ghost use Rattle.gc_core.specs.Configuration.{empty_space};
-    ghost use Rattle.gc_core.specs.Event.{place_of, board_place, kind_told, length_told, as_read, with_word};
+    ghost use Rattle.gc_core.specs.Event.{place_of, board_place, kind_told, length_told, as_read, with_word, room_for};
 
     /// A space of so many pages, none of them claimed.
     pub fn new(alloc: Global, pages: u32) -> Result<Space, AllocError>
@@ -128,24 +129,19 @@ impl Space {
             self.words[place] = word;
         }
     }
-}
-
-impl Space {
-    ghost use Rattle.std.specs.Prelude.{◌-◌};
-    ghost use Rattle.gc_core.specs.Event.{room_for};
 
     /// The run in which a record of `len` words is made: the present one where it fits there, else
     /// new pages below those claimed, else the end for a full heap.
     pub fn room_for(&mut self, run: Run, len: u64) -> Result<Run, End>
         requires len { len ≤ 4095 }
         requires in_order { run.at ≤ run.end }
-        requires within { run.end ≤ 131072 }
+        requires within { run.end ≤ MAX_HEAP }
         ensures exact { MatchResult result
             (λ found. room_for self.old.low run len ≡ Ok (record { low = self.new.low; run = found }))
             (λ why. (room_for self.old.low run len ≡ Err why) × (self.new ≡ self.old)) }
         ensures words { self.new.words ≡ self.old.words }
         ensures fits { IfOk result (λ found. found.at + len + 1 ≤ found.end) }
-        ensures within { IfOk result (λ found. found.end ≤ 131072) }
+        ensures within { IfOk result (λ found. found.end ≤ MAX_HEAP) }
     {
         let len = len as u32;
         if run.at + len + 1 <= run.end {

@@ -1,7 +1,6 @@
-use Rattle.std.proofs.Common.{◌≡◌, ℕ, ◌+◌, ◌/◌, ◌<◌, ◌≤◌, List, [], ◌∷◌, length, map, None, slice_index_or, refl, ap, sym, ◌∙◌, subst, arith}
+use Rattle.std.proofs.Common.{◌≡◌, ℕ, ◌+◌, ◌/◌, ◌≤◌, List, [], ◌∷◌, length, map, None, slice_index_or, refl, ap, sym, ◌∙◌, arith}
 use Rattle.std.proofs.Math.Nat.{div-le_self}
 use Rattle.mutator_asm.specs.declared.instr.Instr.{Instr}
-use Rattle.gc_core.specs.declared.config.Config.{Config}
 use Rattle.gc_core.specs.Configuration.{Mutator, CoreState, fresh, opening_core, workers_of, mutator_of}
 use Rattle.gc_core.specs.Lone.{steps_of_instr}
 use Rattle.gc_core.specs.Run.{run_from}
@@ -29,7 +28,7 @@ pub returns : goal.returns
 returns c = λ code config schedule steps one alone in_core running.
     let only = one_fresh code one in
     let lone : (at : ℕ) → schedule at ≡ 0 = λ at.
-        let count : workers_of (opening_core code config) ≡ 1 = ap (λ ks. length ks + config.scanners) only ∙ ap (λ n. 1 + n) alone in
-        omega (arith, in_core at, count) in
+    let count : workers_of (opening_core code config) ≡ 1 = ap (λ ks. length ks + config.scanners) only ∙ ap (λ n. 1 + n) alone in
+    omega (arith, in_core at, count) in
     went steps (steps_of_instr config.pages) (run_from schedule 0 steps (opening_core code config)).last
     (gone schedule lone 0 steps (opening_core code config) fresh only) running
