@@ -1,5 +1,7 @@
 //! The program's answers, over sources and sinks in memory and over a file.
 
+mod instructions;
+
 use crate::job::{Job, SimOptions};
 use crate::memory::{MemSink, MemSource};
 use crate::standard::{StdSink, StdSource};
