@@ -1,5 +1,5 @@
 -- The command line of `ael`: what it takes, and what it then gives.
-use Rattle.std.proofs.Common.{◌≡◌, ◌∙◌, ◌&&◌, ℕ, Bool, cond, codes, true, false, refl, sym, ap, List, [], Option, Some, None, Result, Err, true≢false}
+use Rattle.std.proofs.Common.{◌≡◌, ◌∙◌, ℕ, Bool, cond, codes, true, false, refl, sym, ap, List, [], Option, Some, None, Result, Err, true≢false}
 use Rattle.std.specs.Prelude.{IfSome, option_map, pos}
 use Rattle.std.specs.Option.{option_map_or}
 use Rattle.clap.specs.ValueTests.{is_signed_in}
@@ -21,15 +21,10 @@ use Rattle.ael_cli.specs.declared.words.WordsError.{WordsError}
 use Rattle.ael_cli.specs.declared.words.WordsError.TheVariants.{NoMemory, Refused}
 use Rattle.ael_cli.specs.Words.{HoldsNumber, IsKnown, IsSim, error_for, job_from, job_of}
 use Rattle.ael_cli.proofs.NoFault.{taken_without_fault}
-use Rattle.ael_cli.proofs.Values.{Each, RuleFits, level_fits, one_fits}
+use Rattle.ael_cli.proofs.Values.{Each, RuleFits, left, level_fits, one_fits, right}
 
-pub simple : is_simple ael_app ≡ true
-simple = refl
-
-pub free : is_simple_and_free ael_app ≡ true
-free = refl
-
-pub taken : (words : List Text) → fault_of ael_app words ≡ [] → takes ael_app words ≡ true
+-- words without a fault are taken
+taken : (words : List Text) → fault_of ael_app words ≡ [] → takes ael_app words ≡ true
 taken words e = taken_without_fault ael_app words refl refl refl e
 
 abbrev sim : Shape
@@ -44,6 +39,7 @@ in_range least most = is_signed_in (pos least) (pos most)
 abbrev Fits : Text → Reading → (Text → Bool) → Type 0
 Fits id how ok = Each (RuleFits id how ok) sim.rules
 
+-- the rule of `pages` has its range, and no other rule has its name
 pages_fit : Fits (codes "pages") WithoutMinus (in_range 4 2048)
 pages_fit = ((refl, λ e. (refl, λ vs h. h)), ((refl, λ e. no e), tt))
 
@@ -56,6 +52,7 @@ module _ (words : List Text) (pass : level_passes sim [] nothing_held words fals
   sim_held : IsSim (rows_after sim.rules [] words)
   sim_held = record { pages = number_held (codes "pages") 4 2048 pages_fit }
 
+-- what follows of a subcommand, where one was entered
 known_at : (stop : Option (Text × List Text)) → entered_passes (built ael_app) stop ≡ true → IfSome (entered (built ael_app) stop) IsKnown
 known_at None pass = tt
 known_at (Some p) pass = go (answers_to p.0 (label_of sim)) pass
@@ -65,14 +62,7 @@ known_at (Some p) pass = go (answers_to p.0 (label_of sim)) pass
     go true f = (refl, sim_held p.1 f)
     go false f = tt
 
-left : (a b : Bool) → (a && b) ≡ true → a ≡ true
-left true b e = refl
-left false b e = e
-
-right : (a b : Bool) → (a && b) ≡ true → b ≡ true
-right true b e = e
-right false b e = no e
-
+-- a subcommand of words that are taken has rows that it may have
 pub known : (words : List Text) → takes ael_app words ≡ true → IfSome (subcommand_of ael_app words) IsKnown
 known words e =
     let stop = stop_after (built ael_app).top.rules (names_of (built ael_app)) (argument_words ael_app words) in
