@@ -3,3 +3,4 @@ pub mod Outcome
 pub mod Step
 pub mod Order
 pub mod Print
+pub mod Solo

@@ -6,6 +6,7 @@ mod board;
 mod heap;
 mod instructions;
 mod jumps;
+mod laws;
 mod made;
 mod mark;
 mod mutator;
@@ -19,6 +20,7 @@ mod step;
 mod stop;
 mod values;
 
+pub use laws::alone_mutators_are_independent;
 pub use mark::Mark;
 pub use order::plain_run;
 pub use plain_state::{End, NoMemory};

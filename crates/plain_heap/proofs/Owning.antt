@@ -1,0 +1,93 @@
+-- What a mutator holds that shares nothing: numbers, and references to records of its own.
+use Rattle.std.proofs.Common.{◌≡◌, ℕ, ◌<◌, ◌≤◌, ◌⊎◌, inl, inr, List, [], ◌∷◌, ◌++◌, length, replicate, Option, Some, None, Ok, slice_get, slice_set, get_or, refl, subst}
+use Rattle.std.specs.Bool.{⊤}
+use Rattle.std.specs.Option.{ok_or, option_map_or}
+use Rattle.std.specs.List.{All}
+use Rattle.std.proofs.lemmas.Bool.{cases_lt}
+use Rattle.std.proofs.lemmas.List.{get_or_past}
+use Rattle.std.proofs.lemmas.List.Elements.{All-get_or, All-nil, All-set, All-push, All-replicate}
+use Rattle.std.proofs.lemmas.Option.{slice_get_within, get_or_from_slice_get}
+use Rattle.plain_state.specs.declared.end.End.TheVariants.{OutOfRange}
+use Rattle.plain_state.specs.declared.kind.Kind.{Kind}
+use Rattle.plain_state.specs.declared.kind.Kind.TheVariants.{Fields, Raw}
+use Rattle.plain_state.specs.declared.value.Value.{Value}
+use Rattle.plain_state.specs.declared.value.Value.TheVariants.{Number, Reference}
+use Rattle.plain_state.specs.State.{Record, Mutator}
+use Rattle.plain_heap.specs.Call.{register, may_hold, with_word, jumped, set_register}
+
+-- a number, or a reference to a record of mutator m
+abbrev pub IsOf : ℕ → Value → Type 0
+IsOf m (Number n) = ⊤
+IsOf m (Reference i) = i.mutator ≡ m
+
+abbrev pub AllOf : ℕ → Record → Type 0
+AllOf m r = All (IsOf m) r.values
+
+-- mutator m, which is k, and its records lead to no record of another
+pub record IsOwn (m : ℕ) (records : List Record) (k : Mutator) : Type 0 where
+  pub registers : All (IsOf m) k.registers
+  pub words : All (AllOf m) records
+
+-- ---- what is read
+
+read_as : {A : Type 0} (P : A → Type 0) (xs : List A) (i : ℕ) (d : A) → All P xs → P d → (i < length xs) ⊎ (length xs ≤ i) → P (get_or xs i d)
+read_as P xs i d all none (inl within) = All-get_or P xs i d within all
+read_as P xs i d all none (inr past) = rw (get_or_past xs i d past) none
+
+-- what holds of each element and of the default holds of each place
+pub read_all : {A : Type 0} (P : A → Type 0) (xs : List A) (i : ℕ) (d : A) → All P xs → P d → P (get_or xs i d)
+read_all P xs i d all none = read_as P xs i d all none (cases_lt i (length xs))
+
+pub found_all : {A : Type 0} (P : A → Type 0) (xs : List A) (i : ℕ) (x : A) → All P xs → slice_get xs i ≡ Some x → P x
+found_all P xs i x all is = subst P (get_or_from_slice_get xs i x x is) (All-get_or P xs i x (slice_get_within xs i x is) all)
+
+pub register-own : (m : ℕ) (k : Mutator) (r : ℕ) → All (IsOf m) k.registers → IsOf m (register k r)
+register-own m k r all = read_all (IsOf m) k.registers r (Number 0) all tt
+
+values_as : (m : ℕ) (records : List Record) (n : ℕ) (o : Option Record) → All (AllOf m) records → slice_get records n ≡ o → All (IsOf m) (option_map_or (λ r. r.values) o [])
+values_as m records n None all is = All-nil (IsOf m)
+values_as m records n (Some r) all is = found_all (AllOf m) records n r all is
+
+word_as : (m : ℕ) (values : List Value) (x : ℕ) (o : Option Value) (v : Value) → All (IsOf m) values → slice_get values x ≡ o → ok_or o OutOfRange ≡ Ok v → IsOf m v
+word_as m values x None v all found is = cc
+word_as m values x (Some u) v all found is = subst (IsOf m) (same_Ok u v is) (found_all (IsOf m) values x u all found)
+  where
+    same_Ok : (u v : Value) → ok_or (Some u) OutOfRange ≡ Ok v → u ≡ v
+    same_Ok u v is = cc
+
+-- a word that is read of a record of mutator m
+pub word-own : (m : ℕ) (records : List Record) (n x : ℕ) (v : Value) → All (AllOf m) records
+    → ok_or (slice_get (option_map_or (λ r. r.values) (slice_get records n) []) x) OutOfRange ≡ Ok v → IsOf m v
+word-own m records n x v all is =
+    let values = option_map_or (λ r. r.values) (slice_get records n) [] in
+    word_as m values x (slice_get values x) v (values_as m records n (slice_get records n) all refl) refl is
+
+-- ---- what is written
+
+pub held-own : (m : ℕ) (kind : Kind) (u v : Value) → IsOf m u → may_hold kind u ≡ Ok v → IsOf m v
+held-own m Fields u v own is = subst (IsOf m) (same_Ok u v is) own
+  where
+    same_Ok : (u v : Value) → may_hold Fields u ≡ Ok v → u ≡ v
+    same_Ok u v is = cc
+held-own m Raw (Number n) v own is = subst (IsOf m) (same_Ok (Number n) v is) own
+  where
+    same_Ok : (u v : Value) → may_hold Fields u ≡ Ok v → u ≡ v
+    same_Ok u v is = cc
+held-own m Raw (Reference i) v own is = cc
+
+-- register d takes a value, and the mutator goes on
+pub loads-own : (m : ℕ) (records : List Record) (k : Mutator) (d target : ℕ) (v : Value) → IsOwn m records k → IsOf m v → IsOwn m records (jumped (set_register k d v) target)
+loads-own m records k d target v own is = record { registers = All-set (IsOf m) k.registers d v is own.registers; words = own.words }
+
+pub jumps-own : (m : ℕ) (records : List Record) (k : Mutator) (target : ℕ) → IsOwn m records k → IsOwn m records (jumped k target)
+jumps-own m records k target own = record { registers = own.registers; words = own.words }
+
+-- a word of a record takes a value
+pub stores-own : (m : ℕ) (records : List Record) (n : ℕ) (r : Record) (x : ℕ) (v : Value) → All (AllOf m) records → slice_get records n ≡ Some r → IsOf m v
+    → All (AllOf m) (slice_set records n (with_word r x v))
+stores-own m records n r x v all found is =
+    All-set (AllOf m) records n (with_word r x v) (All-set (IsOf m) r.values x v is (found_all (AllOf m) records n r all found)) all
+
+-- a new record holds zeros
+pub makes-own : (m : ℕ) (records : List Record) (kind : Kind) (n : ℕ) → All (AllOf m) records → All (AllOf m) (records ++ record { kind = kind; values = replicate n (Number 0) } ∷ [])
+makes-own m records kind n all = All-push (AllOf m) records (record { kind = kind; values = replicate n (Number 0) }) all (All-replicate (IsOf m) n (Number 0) tt)
