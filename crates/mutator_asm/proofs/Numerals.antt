@@ -10,7 +10,7 @@ use Rattle.std.proofs.lemmas.List.Sums.{AllPass-from_list_all}
 use Rattle.std.proofs.lemmas.Str.{digit_value_digit}
 use Rattle.std.proofs.lemmas.Str.Parse.{digits_value-take-le}
 use Rattle.std.proofs.lemmas.Int.Digits.{digits_value_more}
-use Rattle.mutator_asm.specs.declared.mistake.Mistake.TheVariants.{UnknownInstr}
+use Rattle.mutator_asm.specs.declared.mistake.Mistake.TheVariants.{NumberTooBig}
 use Rattle.mutator_asm.specs.Token.{number_or}
 
 in_range : (c : ℕ) → is_ascii_digit c ≡ true → IsInRange 48 57 c
@@ -27,7 +27,7 @@ value_more digits i h lt =
     omega (arith, digits_value_more 10 digits i lt, digit_value_digit (get_or digits i 0) range, range.0)
 
 -- digits whose first ones write too much write no number of the language
-pub number_or-err : (digits : List ℕ) (i : ℕ) → 2 ^ 62 ≤ digits_value 10 (take i digits) → number_or digits ≡ Err UnknownInstr
+pub number_or-err : (digits : List ℕ) (i : ℕ) → 2 ^ 62 ≤ digits_value 10 (take i digits) → number_or digits ≡ Err NumberTooBig
 number_or-err digits i large =
     let le = digits_value-take-le 10 digits i (omega arith) in
     let e : ltb (digits_value 10 digits) (2 ^ 62) ≡ false = le-ltb _ _ (omega (arith, le)) in

@@ -5,7 +5,17 @@ use Rattle.mutator_asm.specs.declared.asm_error.AsmError.TheVariants.{Text, NoMe
 
 -- the text of an error's number
 abbrev pub text_of_number : ℕ → List ℕ
-text_of_number number = if number == 1 then codes "unknown instruction" else codes ""
+text_of_number number =
+    if number == 1 then codes "unknown instruction"
+    else (if number == 2 then codes "bad operand"
+    else (if number == 3 then codes "unknown label"
+    else (if number == 4 then codes "label twice"
+    else (if number == 5 then codes "no mutator"
+    else (if number == 6 then codes "too many mutators"
+    else (if number == 7 then codes "code too long"
+    else (if number == 8 then codes "bad schedule"
+    else (if number == 9 then codes "number too big"
+    else codes ""))))))))
 
 -- what is printed for an error
 abbrev pub text_of_error : AsmError → List ℕ

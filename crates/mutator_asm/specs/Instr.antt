@@ -2,9 +2,11 @@
 use Rattle.std.specs.Prelude.{ℕ, List, [], ◌∷◌, Result, Ok, Err, if◌then◌else◌, codes}
 use Rattle.std.specs.Str.{bytes_eq}
 use Rattle.mutator_asm.specs.declared.instr.Instr.{Instr}
-use Rattle.mutator_asm.specs.declared.instr.Instr.TheVariants.{Li, Mov, Add, Sub, Mul, Div, Rem, Lt, Eq, Jr, New, Raw, Ld, St, Len, Isp, Get, Put, Swap, Out, Halt}
+use Rattle.mutator_asm.specs.declared.instr.Instr.TheVariants.{Li, Mov, Add, Sub, Mul, Div, Rem, Lt, Eq, Jmp, Jz, Jal, Jr, New, Raw, Ld, St, Len, Isp, Get, Put, Swap, Out, Halt}
+use Rattle.mutator_asm.specs.declared.jump.Jump.{Jump}
+use Rattle.mutator_asm.specs.declared.jump.Jump.TheVariants.{Always, IfZero, Link}
 use Rattle.mutator_asm.specs.declared.mistake.Mistake.{Mistake}
-use Rattle.mutator_asm.specs.declared.mistake.Mistake.TheVariants.{UnknownInstr}
+use Rattle.mutator_asm.specs.declared.mistake.Mistake.TheVariants.{UnknownInstr, BadOperand}
 use Rattle.mutator_asm.specs.declared.operand.Operand.{Operand}
 use Rattle.mutator_asm.specs.Token.{register_of, number_of, operand_of}
 
@@ -19,17 +21,17 @@ abbrev pub made : {A B : Type 0} → (A → B) → Result A Mistake → Result B
 made f (Ok x) = Ok (f x)
 made f (Err mistake) = Err mistake
 
--- ---- operands, by their kinds
+-- ---- operands, by their kinds; registers are read before the one that may be a number, which may be too big
 
 -- none
 abbrev pub nothing : List (List ℕ) → Result (Unit {0}) Mistake
 nothing [] = Ok tt
-nothing _ = Err UnknownInstr
+nothing _ = Err BadOperand
 
 -- ra
 abbrev pub one_register : List (List ℕ) → Result ℕ Mistake
 one_register (a ∷ []) = register_of a
-one_register _ = Err UnknownInstr
+one_register _ = Err BadOperand
 
 -- rd ra
 abbrev pub two_registers : List (List ℕ) → Result (ℕ × ℕ) Mistake
@@ -37,7 +39,7 @@ two_registers (d ∷ a ∷ []) = do
   d ← register_of d
   a ← register_of a
   Ok (d, a)
-two_registers _ = Err UnknownInstr
+two_registers _ = Err BadOperand
 
 -- rd ra rb
 abbrev pub three_registers : List (List ℕ) → Result (ℕ × ℕ × ℕ) Mistake
@@ -46,7 +48,7 @@ three_registers (d ∷ a ∷ b ∷ []) = do
   a ← register_of a
   b ← register_of b
   Ok (d, a, b)
-three_registers _ = Err UnknownInstr
+three_registers _ = Err BadOperand
 
 -- rd k
 abbrev pub register_number : List (List ℕ) → Result (ℕ × ℕ) Mistake
@@ -54,7 +56,7 @@ register_number (d ∷ k ∷ []) = do
   d ← register_of d
   k ← number_of k
   Ok (d, k)
-register_number _ = Err UnknownInstr
+register_number _ = Err BadOperand
 
 -- rd x
 abbrev pub register_operand : List (List ℕ) → Result (ℕ × Operand) Mistake
@@ -62,7 +64,7 @@ register_operand (d ∷ x ∷ []) = do
   d ← register_of d
   x ← operand_of x
   Ok (d, x)
-register_operand _ = Err UnknownInstr
+register_operand _ = Err BadOperand
 
 -- x ra
 abbrev pub operand_register : List (List ℕ) → Result (Operand × ℕ) Mistake
@@ -70,7 +72,7 @@ operand_register (x ∷ a ∷ []) = do
   a ← register_of a
   x ← operand_of x
   Ok (x, a)
-operand_register _ = Err UnknownInstr
+operand_register _ = Err BadOperand
 
 -- rd ra x
 abbrev pub two_registers_operand : List (List ℕ) → Result (ℕ × ℕ × Operand) Mistake
@@ -79,7 +81,7 @@ two_registers_operand (d ∷ a ∷ x ∷ []) = do
   a ← register_of a
   x ← operand_of x
   Ok (d, a, x)
-two_registers_operand _ = Err UnknownInstr
+two_registers_operand _ = Err BadOperand
 
 -- ra x rb
 abbrev pub register_operand_register : List (List ℕ) → Result (ℕ × Operand × ℕ) Mistake
@@ -88,11 +90,17 @@ register_operand_register (a ∷ x ∷ b ∷ []) = do
   b ← register_of b
   x ← operand_of x
   Ok (a, x, b)
-register_operand_register _ = Err UnknownInstr
+register_operand_register _ = Err BadOperand
 
 -- ---- instructions
 
--- the instruction of a name, with these operands
+-- a jump to an instruction
+abbrev pub jump_to : Jump → ℕ → Instr
+jump_to Always target = Jmp target
+jump_to (IfZero a) target = Jz a target
+jump_to (Link d) target = Jal d target
+
+-- the instruction of a name, with these operands; the jumps to a label are apart
 unfoldable pub instr_of : List ℕ → List (List ℕ) → Result Instr Mistake
 instr_of name operands =
     if bytes_eq name (codes "li") then made (λ o. Li o.0 o.1) (register_number operands)

@@ -2,8 +2,11 @@ pub mod AsmError
 pub mod Program
 pub mod Mistake
 pub mod Token
+pub mod Item
 pub mod Instr
 pub mod Line
 pub mod Read
 pub mod Text
+pub mod Labels
+pub mod Part
 pub mod Theorems

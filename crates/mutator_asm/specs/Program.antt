@@ -55,6 +55,17 @@ is_valid (Swap d x) = is_register d && is_operand x
 is_valid (Out a) = is_register a
 is_valid Halt = true
 
+-- where a jump in a section of n instructions leads: to one of them, or behind the last
+abbrev pub leads_within : ℕ → Instr → Bool
+leads_within n (Jmp t) = nat_le t n
+leads_within n (Jz a t) = nat_le t n
+leads_within n (Jal d t) = nat_le t n
+leads_within n _ = true
+
+-- each jump of a section stays in it
+abbrev pub is_closed : List Instr → Bool
+is_closed section = list_all (leads_within (length section)) section
+
 -- a part of a schedule names a worker from 0 to 23 and 1 to 1,000,000 of its steps
 abbrev pub is_item : Item → Bool
 is_item i = nat_le i.worker 23 && nat_le 1 i.times && nat_le i.times 1000000
@@ -65,5 +76,6 @@ pub record IsWellFormed (code : List (List Instr)) (schedule : List Item) : Type
   pub few_sections : length code ≤ 16
   pub few_instrs : sum_by length code ≤ 65536
   pub instrs : IsTrue (list_all (list_all is_valid) code)
+  pub targets : IsTrue (list_all is_closed code)
   pub few_items : length schedule ≤ 65536
   pub items : IsTrue (list_all is_item schedule)

@@ -24,6 +24,14 @@ pub fn error_text(no: u8) -> &'static str
 {
     match no {
         1 => "unknown instruction",
+        2 => "bad operand",
+        3 => "unknown label",
+        4 => "label twice",
+        5 => "no mutator",
+        6 => "too many mutators",
+        7 => "code too long",
+        8 => "bad schedule",
+        9 => "number too big",
         _ => "",
     }
 }

@@ -2,15 +2,21 @@
 #![tactic(auto)]
 
 mod asm_error;
+mod before;
 mod code;
+mod error;
 mod fault;
 mod instr;
 mod item;
+mod jump;
+mod labels;
 mod laws;
 mod line;
 mod mistake;
 mod operand;
 mod operands;
+mod part;
+mod parts;
 mod program;
 mod schedule;
 mod section;

@@ -1,64 +1,118 @@
 //! The lines of a text, and what one line says.
 
-ghost use Rattle.std.specs.Prelude.{◌≡◌, ◌==◌, IfOk, map};
+ghost use Rattle.std.specs.Prelude.{◌≡◌, ◌==◌, IfOk};
 ghost use Rattle.std.specs.List.{slice_split};
-ghost use Rattle.mutator_asm.specs.Line.{line_of, line_from, lines_of, begins_alone, does_or};
 ghost use Rattle.mutator_asm.specs.Instr.{instr_of};
-ghost use Rattle.mutator_asm.specs.Read.{line_view, lines_view, tokens_view};
+ghost use Rattle.mutator_asm.specs.Line.{jump_of, register_jump_of, jz_of, jal_of, does_or, named_of, labelled_of, begins_of, schedules_of, plain, line_with, line_from, line_of, lines_of};
+ghost use Rattle.mutator_asm.specs.Token.{label_of};
+ghost use Rattle.mutator_asm.specs.Read.{word_view, line_view, lines_view, tokens_view};
 
 use crate::instr::Instr;
+use crate::item::{Item, read_item};
+use crate::jump::Jump;
 use crate::mistake::Mistake;
 use crate::operands::{
     nothing, one_register, operand_register, register_number, register_operand,
     register_operand_register, three_registers, two_registers, two_registers_operand,
 };
-use crate::token::tokens;
+use crate::token::{is_name, label, register, tokens};
 use std::alloc::{AllocError, Global};
 
-/// What a line says.
-#[derive(Clone, Copy, Debug, PartialEq, Eq)]
-pub enum Line {
+/// What a line has beside its label.
+#[derive(Debug, Drop)]
+pub enum Word<'a> {
     /// Nothing.
-    Blank,
-    /// A mutator's section begins.
-    Begins,
+    Nothing,
+    /// A mutator's section begins; whether `.mutator` stands alone.
+    Begins(bool),
+    /// Items of the schedule.
+    Schedules(Vec<Item>),
     /// An instruction.
     Does(Instr),
-    /// It is none of the language.
+    /// A jump, and the label that it names.
+    Jumps(Jump, &'a [u8]),
+    /// Something that is wrong wherever it stands.
     Bad(Mistake),
 }
 
-impl Line {
+/// A line.
+#[derive(Debug, Drop)]
+pub struct Line<'a> {
+    pub label: Option<&'a [u8]>,
+    pub word: Word<'a>,
+}
+
+impl<'a> Line<'a> {
     ghost use Rattle.std.specs.Prelude.{◌≡◌};
-    ghost use Rattle.mutator_asm.specs.Text.{begins, counts, instr_on};
+    ghost use Rattle.mutator_asm.specs.Text.{begins, counts, items_on};
     ghost use Rattle.mutator_asm.specs.Read.{line_view};
 
     /// Whether it begins a section.
     pub fn begins(&self) -> bool
         ensures { result ≡ begins (line_view self.now) }
     {
-        matches!(self, Line::Begins)
+        matches!(self.word, Word::Begins(_))
     }
 
-    /// Whether it counts as an instruction.
+    /// Whether it has an instruction.
     pub fn counts(&self) -> bool
         ensures { result ≡ counts (line_view self.now) }
     {
-        matches!(self, Line::Does(_))
+        matches!(self.word, Word::Does(_) | Word::Jumps(_, _))
     }
 
-    /// The instruction on it.
-    pub fn instr(&self) -> Option<Instr>
-        ensures { result ≡ instr_on (line_view self.now) }
+    /// The items of the schedule that stand on it.
+    pub fn items(&self) -> &[Item]
+        ensures { result.now ≡ items_on (line_view self.now) }
     {
-        match self {
-            Line::Does(instr) => Some(*instr),
-            Line::Blank | Line::Begins | Line::Bad(_) => None,
+        match &self.word {
+            Word::Schedules(items) => items.as_slice(),
+            _ => &[],
         }
     }
 }
 
-/// The instruction of a name.
+/// A jump to the label that is its last operand.
+fn jump<'a>(jump: Jump, operands: &[&'a [u8]]) -> Word<'a>
+    ensures { word_view result ≡ jump_of jump (tokens_view operands.now) }
+{
+    match operands {
+        [label] if is_name(label) => Word::Jumps(jump, label),
+        _ => Word::Bad(Mistake::BadOperand),
+    }
+}
+
+/// A jump whose register was read, to the label that is its last operand.
+fn register_jump<'a>(read: Result<Jump, Mistake>, operands: &[&'a [u8]]) -> Word<'a>
+    ensures { word_view result ≡ register_jump_of read (tokens_view operands.now) }
+{
+    match read {
+        Ok(read) => jump(read, operands),
+        Err(mistake) => Word::Bad(mistake),
+    }
+}
+
+/// `jz ra L`, from the operands.
+fn jz<'a>(operands: &[&'a [u8]]) -> Word<'a>
+    ensures { word_view result ≡ jz_of (tokens_view operands.now) }
+{
+    match operands {
+        [] => Word::Bad(Mistake::BadOperand),
+        [a, labels @ ..] => register_jump(register(a).map(Jump::IfZero), labels),
+    }
+}
+
+/// `jal rd L`, from the operands.
+fn jal<'a>(operands: &[&'a [u8]]) -> Word<'a>
+    ensures { word_view result ≡ jal_of (tokens_view operands.now) }
+{
+    match operands {
+        [] => Word::Bad(Mistake::BadOperand),
+        [d, labels @ ..] => register_jump(register(d).map(Jump::Link), labels),
+    }
+}
+
+/// The instruction of a name that is no jump to a label.
 #[tactic(auto, unfolding(crate::specs::Instr::instr_of))]
 fn instr(name: &[u8], operands: &[&[u8]]) -> Result<Instr, Mistake>
     ensures { result ≡ instr_of name.now (tokens_view operands.now) }
@@ -89,44 +143,108 @@ fn instr(name: &[u8], operands: &[&[u8]]) -> Result<Instr, Mistake>
     }
 }
 
-/// A line with an instruction, or what is wrong with it.
-fn does(instr: Result<Instr, Mistake>) -> Line
-    ensures { line_view result ≡ does_or instr }
+/// An instruction, or what is wrong with it.
+fn does<'a>(instr: Result<Instr, Mistake>) -> Word<'a>
+    ensures { word_view result ≡ does_or instr }
 {
     match instr {
-        Ok(instr) => Line::Does(instr),
-        Err(mistake) => Line::Bad(mistake),
+        Ok(instr) => Word::Does(instr),
+        Err(mistake) => Word::Bad(mistake),
     }
 }
 
-/// A line with `.mutator`, which stands alone.
-fn begins_alone(operands: &[&[u8]]) -> Line
-    ensures { line_view result ≡ begins_alone (tokens_view operands.now) }
+/// A name with its operands.
+#[tactic(auto, unfolding(crate::specs::Line::named_of))]
+fn named<'a>(name: &[u8], operands: &[&'a [u8]]) -> Word<'a>
+    ensures { word_view result ≡ named_of name.now (tokens_view operands.now) }
+{
+    match name {
+        b"jmp" => jump(Jump::Always, operands),
+        b"jz" => jz(operands),
+        b"jal" => jal(operands),
+        _ => does(instr(name, operands)),
+    }
+}
+
+/// What stands behind a label.
+fn labelled<'a>(tokens: &[&'a [u8]]) -> Word<'a>
+    ensures { word_view result ≡ labelled_of (tokens_view tokens.now) }
+{
+    match tokens {
+        [] => Word::Nothing,
+        [name, operands @ ..] => named(name, operands),
+    }
+}
+
+/// `.mutator`, from what stands behind it.
+fn begins<'a>(operands: &[&'a [u8]]) -> Word<'a>
+    ensures { word_view result ≡ begins_of (tokens_view operands.now) }
 {
     match operands {
-        [] => Line::Begins,
-        _ => Line::Bad(Mistake::UnknownInstr),
+        [] => Word::Begins(true),
+        _ => Word::Begins(false),
+    }
+}
+
+/// `.schedule`, from what stands behind it.
+#[tactic(auto, unfolding(crate::specs::Line::schedules_of))]
+fn schedules<'a>(alloc: Global, operands: &[&'a [u8]]) -> Result<Word<'a>, AllocError>
+    ensures { IfOk result (λ w. word_view w ≡ schedules_of (tokens_view operands.now)) }
+{
+    if operands.is_empty() {
+        return Ok(Word::Bad(Mistake::BadSchedule));
+    }
+    let mut items = Vec::new(alloc);
+    for operand in operands {
+        match read_item(operand) {
+            Some(item) => items.push(item)?,
+            None => return Ok(Word::Bad(Mistake::BadSchedule)),
+        }
+    }
+    Ok(Word::Schedules(items))
+}
+
+/// A line without a label.
+fn plain<'a>(word: Word<'a>) -> Line<'a>
+    ensures { line_view result ≡ plain (word_view word.entry) }
+{
+    Line { label: None, word }
+}
+
+/// A line that is no directive, from its first token and the others.
+fn other<'a>(first: &'a [u8], rest: &[&'a [u8]]) -> Line<'a>
+    ensures { line_view result ≡ line_with (label_of first.now) first.now (tokens_view rest.now) }
+{
+    match label(first) {
+        Some(name) => Line {
+            label: Some(name),
+            word: labelled(rest),
+        },
+        None => plain(named(first, rest)),
     }
 }
 
 /// What the tokens of a line say.
-fn line_from(tokens: &[&[u8]]) -> Line
-    ensures { line_view result ≡ line_from (tokens_view tokens.now) }
+fn line_from<'a>(alloc: Global, tokens: &[&'a [u8]]) -> Result<Line<'a>, AllocError>
+    ensures { IfOk result (λ l. line_view l ≡ line_from (tokens_view tokens.now)) }
 {
     match tokens {
-        [] => Line::Blank,
-        [first, operands @ ..] if *first == b".mutator".as_slice() => begins_alone(operands),
-        [name, operands @ ..] => does(instr(name, operands)),
+        [] => Ok(plain(Word::Nothing)),
+        [first, rest @ ..] if *first == b".mutator".as_slice() => Ok(plain(begins(rest))),
+        [first, rest @ ..] if *first == b".schedule".as_slice() => {
+            Ok(plain(schedules(alloc, rest)?))
+        }
+        [first, rest @ ..] => Ok(other(first, rest)),
     }
 }
 
 /// What a line says.
 #[tactic(auto, unfolding(crate::specs::Line::line_of))]
-fn read_line(alloc: Global, bytes: &[u8]) -> Result<Line, AllocError>
+fn read_line<'a>(alloc: Global, bytes: &'a [u8]) -> Result<Line<'a>, AllocError>
     ensures { IfOk result (λ l. line_view l ≡ line_of bytes.now) }
 {
     let tokens = tokens(alloc, bytes)?;
-    Ok(line_from(&tokens))
+    line_from(alloc, &tokens)
 }
 
 /// The bytes of each line of a text.
@@ -138,7 +256,7 @@ fn split<'a>(alloc: Global, text: &'a [u8]) -> Result<Vec<&'a [u8]>, AllocError>
 
 /// The lines of a text.
 #[tactic(auto, unfolding(crate::specs::Line::lines_of))]
-pub fn lines(alloc: Global, text: &[u8]) -> Result<Vec<Line>, AllocError>
+pub fn lines<'a>(alloc: Global, text: &'a [u8]) -> Result<Vec<Line<'a>>, AllocError>
     ensures { IfOk result (λ v. lines_view v.items ≡ lines_of text.now) }
 {
     let mut lines = Vec::new(alloc);

@@ -6,8 +6,24 @@ ghost use Rattle.mutator_asm.specs.Mistake.{number_of_mistake};
 /// What is wrong with a line.
 #[derive(Clone, Copy, Debug, PartialEq, Eq)]
 pub enum Mistake {
-    /// It is no line of the language, or can't stand where it does.
+    /// What stands behind the label is no instruction, and no directive that may stand there.
     UnknownInstr,
+    /// An instruction or a `.mutator` has operands of a wrong count or kind.
+    BadOperand,
+    /// A jump names a label that its section lacks.
+    UnknownLabel,
+    /// The label was defined before in the section.
+    LabelTwice,
+    /// A label or an instruction stands before any section; or the text has no section.
+    NoMutator,
+    /// It begins the 17th section.
+    TooManyMutators,
+    /// It has the 65,537th instruction.
+    CodeTooLong,
+    /// A `.schedule` has no items, a wrong one, or the 65,537th of the text.
+    BadSchedule,
+    /// A number operand has more than 62 bits.
+    NumberTooBig,
 }
 
 impl Mistake {
@@ -17,6 +33,14 @@ impl Mistake {
     {
         match self {
             Mistake::UnknownInstr => 1,
+            Mistake::BadOperand => 2,
+            Mistake::UnknownLabel => 3,
+            Mistake::LabelTwice => 4,
+            Mistake::NoMutator => 5,
+            Mistake::TooManyMutators => 6,
+            Mistake::CodeTooLong => 7,
+            Mistake::BadSchedule => 8,
+            Mistake::NumberTooBig => 9,
         }
     }
 }

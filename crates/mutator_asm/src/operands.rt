@@ -1,4 +1,5 @@
-//! The operands of an instruction, by their kinds.
+//! The operands of an instruction, by their kinds. Registers are read before the one that may be a
+//! number, since a wrong operand counts before a number that is too big.
 
 ghost use Rattle.std.specs.Prelude.{◌≡◌};
 ghost use Rattle.mutator_asm.specs.Instr.{nothing, one_register, two_registers, three_registers, register_number, register_operand, operand_register, two_registers_operand, register_operand_register};
@@ -14,7 +15,7 @@ pub fn nothing(operands: &[&[u8]]) -> Result<(), Mistake>
 {
     match operands {
         [] => Ok(()),
-        _ => Err(Mistake::UnknownInstr),
+        _ => Err(Mistake::BadOperand),
     }
 }
 
@@ -24,7 +25,7 @@ pub fn one_register(operands: &[&[u8]]) -> Result<u8, Mistake>
 {
     match operands {
         [a] => register(a),
-        _ => Err(Mistake::UnknownInstr),
+        _ => Err(Mistake::BadOperand),
     }
 }
 
@@ -37,7 +38,7 @@ pub fn two_registers(operands: &[&[u8]]) -> Result<(u8, u8), Mistake>
             let d = register(d)?;
             Ok((d, register(a)?))
         }
-        _ => Err(Mistake::UnknownInstr),
+        _ => Err(Mistake::BadOperand),
     }
 }
 
@@ -51,7 +52,7 @@ pub fn three_registers(operands: &[&[u8]]) -> Result<(u8, u8, u8), Mistake>
             let a = register(a)?;
             Ok((d, a, register(b)?))
         }
-        _ => Err(Mistake::UnknownInstr),
+        _ => Err(Mistake::BadOperand),
     }
 }
 
@@ -64,7 +65,7 @@ pub fn register_number(operands: &[&[u8]]) -> Result<(u8, u64), Mistake>
             let d = register(d)?;
             Ok((d, number(k)?))
         }
-        _ => Err(Mistake::UnknownInstr),
+        _ => Err(Mistake::BadOperand),
     }
 }
 
@@ -77,7 +78,7 @@ pub fn register_operand(operands: &[&[u8]]) -> Result<(u8, Operand), Mistake>
             let d = register(d)?;
             Ok((d, operand(x)?))
         }
-        _ => Err(Mistake::UnknownInstr),
+        _ => Err(Mistake::BadOperand),
     }
 }
 
@@ -90,7 +91,7 @@ pub fn operand_register(operands: &[&[u8]]) -> Result<(Operand, u8), Mistake>
             let a = register(a)?;
             Ok((operand(x)?, a))
         }
-        _ => Err(Mistake::UnknownInstr),
+        _ => Err(Mistake::BadOperand),
     }
 }
 
@@ -104,7 +105,7 @@ pub fn two_registers_operand(operands: &[&[u8]]) -> Result<(u8, u8, Operand), Mi
             let a = register(a)?;
             Ok((d, a, operand(x)?))
         }
-        _ => Err(Mistake::UnknownInstr),
+        _ => Err(Mistake::BadOperand),
     }
 }
 
@@ -118,6 +119,6 @@ pub fn register_operand_register(operands: &[&[u8]]) -> Result<(u8, Operand, u8)
             let b = register(b)?;
             Ok((a, operand(x)?, b))
         }
-        _ => Err(Mistake::UnknownInstr),
+        _ => Err(Mistake::BadOperand),
     }
 }

@@ -1,22 +1,75 @@
-use Rattle.std.proofs.Common.{◌+◌, arith, inl, sym, ap, ◌∙◌, cond}
-use Rattle.std.proofs.Common.{subst, ℕ}
-use Rattle.mutator_asm.specs.Read.{lines_view}
-use Rattle.mutator_asm.specs.Text.{begins, counts, IsFirstError}
-use Rattle.mutator_asm.proofs.Clean.{read_clean, read_error, count_more, one-le, none_from}
+use Rattle.std.proofs.Common.{◌≡◌, ℕ, ◌+◌, arith, inl, inr, subst, refl, sym, ap, ◌∙◌}
+use Rattle.std.proofs.lemmas.List.{length-map}
+use Rattle.mutator_asm.specs.declared.before.Before.{Before}
+use Rattle.mutator_asm.specs.Labels.{and_line}
+use Rattle.mutator_asm.specs.Read.{line_view, lines_view}
+use Rattle.mutator_asm.specs.Text.{IsFirstError}
+use Rattle.mutator_asm.proofs.Clean.{first_error, clean_more, none_from}
+use Rattle.mutator_asm.proofs.Counts.{few_before, before_more, parts_enough, read_at, error_here, all_read}
+use Rattle.mutator_asm.proofs.Limits.{within_step, within_up_to}
 use Rattle.mutator_asm.proofs.text.check.Goals as goal
+
+pub offset_bounds-parts-before : goal.offset_bounds-parts-before
+offset_bounds-parts-before c =
+    let inside = length-map c.args.lines.now line_view in
+    let few = few_before (lines_view c.args.lines.now) c.loop-i.i c.loop-i.before (omega arith) c.loop-i.invariant.before in
+    omega arith
+
+pub bounds-parts-before : goal.bounds-parts-before
+bounds-parts-before c = parts_enough c.args.parts.now (lines_view c.args.lines.now) c.loop-i.i c.loop-i.before c.requires.parts c.loop-i.invariant.before
 
 pub returns-in-Some-clause-fault : goal.returns-in-Some-clause-fault
 returns-in-Some-clause-fault c =
-    inl (subst (λ (n : ℕ). IsFirstError (lines_view c.args.lines.now) n (c.loop-i.i + 1)) (sym c.number.ensures) (read_error c.args.lines.now c.loop-i.i c.loop-i.sections c.loop-i.instrs _ c.in-Some.mistake (omega arith) c.loop-i.invariant.sections c.loop-i.invariant.instrs c.in-Some.ensures c.loop-i.invariant.clean))
+    let lines = lines_view c.args.lines.now in
+    let inside = length-map c.args.lines.now line_view in
+    let error = error_here c.args.lines.now c.args.parts.now c.loop-i.i c.index-lines-i.result c.index-parts-before.result c.loop-i.before _ c.loop-i-test.true c.index-lines-i.is c.loop-i.invariant.before c.requires.parts c.index-parts-before.is c.in-Some.ensures in
+    inl (subst (λ (n : ℕ). IsFirstError lines n (c.loop-i.i + 1)) (sym c.number.ensures) (first_error lines c.loop-i.i (line_view c.index-lines-i.result) c.in-Some.mistake (omega arith) error c.loop-i.invariant.clean))
+
+pub and-before-requires-clause-sections : goal.and-before-requires-clause-sections
+and-before-requires-clause-sections c =
+    let inside = length-map c.args.lines.now line_view in
+    let few = few_before (lines_view c.args.lines.now) c.loop-i.i c.loop-i.before (omega arith) c.loop-i.invariant.before in
+    omega arith
+
+pub and-before-requires-clause-lines : goal.and-before-requires-clause-lines
+and-before-requires-clause-lines c =
+    let inside = length-map c.args.lines.now line_view in
+    let few = few_before (lines_view c.args.lines.now) c.loop-i.i c.loop-i.before (omega arith) c.loop-i.invariant.before in
+    omega arith
+
+pub and-before-requires-clause-instrs : goal.and-before-requires-clause-instrs
+and-before-requires-clause-instrs c =
+    let inside = length-map c.args.lines.now line_view in
+    let few = few_before (lines_view c.args.lines.now) c.loop-i.i c.loop-i.before (omega arith) c.loop-i.invariant.before in
+    omega arith
+
+pub and-before-requires-clause-items : goal.and-before-requires-clause-items
+and-before-requires-clause-items c =
+    let lines = lines_view c.args.lines.now in
+    let inside = length-map c.args.lines.now line_view in
+    let none = none_from c.error.result c.in_default.not-Some ∙ c.error.ensures in
+    let within = rw (← c.loop-i.invariant.before) at (within_up_to lines c.loop-i.i c.loop-i.i (omega arith) (omega arith) c.loop-i.invariant.clean) in
+    let more = within_step _ _ c.loop-i.before (line_view c.index-lines-i.result) (sym none) within in
+    omega (arith, more.items)
 
 pub loop-i-preserved : goal.loop-i-preserved
 loop-i-preserved c =
-    let begun = c.one_if-sections.ensures ∙ ap (λ b. cond b 1 0) c.begins.ensures in
-    let counted = c.one_if-instrs.ensures ∙ ap (λ b. cond b 1 0) c.counts.ensures in
+    let lines = lines_view c.args.lines.now in
+    let inside = length-map c.args.lines.now line_view in
+    let none = none_from c.error.result c.in_default.not-Some ∙ c.error.ensures in
+    let error = error_here c.args.lines.now c.args.parts.now c.loop-i.i c.index-lines-i.result c.index-parts-before.result c.loop-i.before _ c.loop-i-test.true c.index-lines-i.is c.loop-i.invariant.before c.requires.parts c.index-parts-before.is none in
     record {
-      few_sections = omega (arith, one-le _ _ begun);
-      few_instrs = omega (arith, one-le _ _ counted);
-      sections = count_more begins c.args.lines.now c.loop-i.i c.loop-i.sections _ _ (omega arith) c.loop-i.invariant.sections begun;
-      instrs = count_more counts c.args.lines.now c.loop-i.i c.loop-i.instrs _ _ (omega arith) c.loop-i.invariant.instrs counted;
-      clean = read_clean c.args.lines.now c.loop-i.i c.loop-i.sections c.loop-i.instrs _ (omega arith) c.loop-i.invariant.sections c.loop-i.invariant.instrs (none_from c.error.result c.in_default.not-Some ∙ c.error.ensures) c.loop-i.invariant.clean;
+      before = c.and-before.ensures ∙ ap (λ (b : Before). and_line b (line_view c.index-lines-i.result)) c.loop-i.invariant.before ∙ before_more lines c.loop-i.i (line_view c.index-lines-i.result) (omega arith) (read_at c.args.lines.now c.loop-i.i c.index-lines-i.result c.loop-i-test.true c.index-lines-i.is);
+      clean = clean_more lines c.loop-i.i (line_view c.index-lines-i.result) error c.loop-i.invariant.clean;
     }
+
+pub returns-then-before-eq0-clause-fault : goal.returns-then-before-eq0-clause-fault
+returns-then-before-eq0-clause-fault c =
+    let lines = lines_view c.args.lines.now in
+    let whole = all_read c.args.lines.now c.loop-i.i c.loop-i.before (omega arith) (omega arith) c.loop-i.invariant.before c.loop-i.invariant.clean in
+    inr (record { clean = whole.clean; none_begun = sym whole.sections ∙ c.if-before-eq0.true; error = c.number-then-before-eq0.ensures; place = refl })
+
+pub returns-clause-begun : goal.returns-clause-begun
+returns-clause-begun c =
+    let whole = all_read c.args.lines.now c.loop-i.i c.loop-i.before (omega arith) (omega arith) c.loop-i.invariant.before c.loop-i.invariant.clean in
+    omega (arith, whole.sections)

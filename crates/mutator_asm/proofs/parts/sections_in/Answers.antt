@@ -5,7 +5,7 @@ use Rattle.std.proofs.lemmas.Iterator.Splits.{YieldsList-from_slice_split}
 use Rattle.mutator_asm.specs.Read.{line_view}
 use Rattle.mutator_asm.specs.Text.{begins}
 use Rattle.mutator_asm.proofs.Sections.{sections_view}
-use Rattle.mutator_asm.proofs.text.sections_in.Goals as goal
+use Rattle.mutator_asm.proofs.parts.sections_in.Goals as goal
 
 pub returns : goal.returns
 returns c =

@@ -1,0 +1,51 @@
+-- What the code keeps of a section and of the lines before one.
+use Rattle.std.specs.Prelude.{◌≡◌, ℕ, ◌+◌, List, [], length, Option, Some, None, if◌then◌else◌, count_by, slice_index_or}
+use Rattle.std.specs.List.{before_first, slice_split}
+use Rattle.std.specs.Ordering.{nat_cmp}
+use Rattle.std.specs.Cmp.Lexicographic.{slice_cmp}
+use Rattle.std.specs.BTreeMap.{BTreeMap, get_by}
+use denote.Ref.{Bor}
+use Rattle.mutator_asm.specs.declared.labels.Place.{Place}
+use Rattle.mutator_asm.specs.declared.before.Before.{Before}
+use Rattle.mutator_asm.specs.Line.{Line}
+use Rattle.mutator_asm.specs.Text.{begins, counts, defines, items_on, has_label, schedule_of}
+
+-- ---- labels
+
+-- where a label stands first in a section
+abbrev pub place_of : List Line → List ℕ → Option Place
+place_of section name =
+    let before = before_first (defines name) section in
+    if has_label section name then Some (record { lines = length before; instrs = count_by counts before }) else None
+
+-- the place that is kept for a name
+abbrev pub get_place : BTreeMap (Bor (List ℕ)) Place → List ℕ → Option Place
+get_place labels name = get_by (λ k. slice_cmp nat_cmp name k.now) labels
+
+-- the places that are kept are those of a section's labels
+abbrev pub KnowsLabels : BTreeMap (Bor (List ℕ)) Place → List Line → Type 0
+KnowsLabels labels section = (name : List ℕ) → get_place labels name ≡ place_of section name
+
+-- ---- the lines before one
+
+-- the lines since the last that begins a section, or all where none does
+abbrev pub lines_since : List Line → List Line
+lines_since lines = slice_index_or (slice_split begins lines) (count_by begins lines) []
+
+-- how much stands before a line
+unfoldable pub before_of : List Line → Before
+before_of lines = record {
+  sections = count_by begins lines;
+  lines = length (lines_since lines);
+  instrs = count_by counts lines;
+  items = length (schedule_of lines);
+}
+
+-- the same with one line more
+abbrev pub and_line : Before → Line → Before
+and_line before line = record {
+  sections = before.sections + (if begins line then 1 else 0);
+  lines = if begins line then 0 else before.lines + 1;
+  instrs = before.instrs + (if counts line then 1 else 0);
+  items = before.items + length (items_on line);
+}
