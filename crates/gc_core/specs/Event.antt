@@ -235,7 +235,7 @@ event_if code turns c m k None =
     let outcome = made code turns m c.space k in
     settled c m outcome (left_by c.space k outcome)
 
--- a worker that is no mutator is a scanner, and has nothing to scan
+-- a worker that is no mutator is a scanner, and has nothing to scan; nor has a number that is no worker
 abbrev pub event_as : List (List Instr) → ℕ → Configuration → ℕ → Option Mutator → Event
 event_as code turns c w None = idle c
 event_as code turns c w (Some k) = event_if code turns c w k k.end

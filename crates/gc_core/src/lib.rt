@@ -1,4 +1,4 @@
-//! The machine whose heap is collected: mutators over words, stepped in any order.
+//! The machine whose heap will be collected: mutators over words, stepped in any order.
 #![tactic(auto)]
 
 mod board;

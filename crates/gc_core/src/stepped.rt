@@ -5,7 +5,7 @@ use plain_heap::{End, Mark};
 /// What a worker's step was.
 #[derive(Clone, Copy, Debug, PartialEq, Eq)]
 pub enum Stepped {
-    /// The worker has left, and nothing changed.
+    /// The worker is a mutator that has its end, or a scanner, which has nothing to do yet; nothing changed.
     Idle,
     /// The step was no step of the plain machine.
     Moved,

@@ -44,7 +44,7 @@ pub record IsAsAlone (code : List (List Instr)) (turns m : ℕ) (k : Mutator) : 
   pub numbers : StartsWith alone.printed k.printed
   pub whole : (why : End) → k.end ≡ Some why → is_full why ≡ false → k ≡ alone
 
--- in a program whose mutators share nothing no order makes a difference to a mutator
+-- in a program whose mutators share nothing, whatever the order, each of them is as far as it came alone
 abbrev pub AlwaysTheSame : Type 0
 AlwaysTheSame = (code : List (List Instr)) (turns : ℕ) (order : List Mark) (m : ℕ) (k : Mutator) → IsTrue (is_alone code)
     → slice_get (plain code turns order).mutators m ≡ Some k → IsAsAlone code turns m k

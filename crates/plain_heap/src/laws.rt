@@ -2,8 +2,9 @@
 
 ghost use Rattle.plain_heap.specs.Solo.{AlwaysTheSame, EndsAlone};
 
-/// In a program without `get`, `put` and `swap` each mutator prints what it prints alone, whatever
-/// the order, up to an end for want of room.
+/// In a program without `get`, `put` and `swap`, whatever the order, each mutator has printed the
+/// first of the numbers that it prints alone, and all of them where it has its end and that isn't
+/// for want of room.
 pub fn alone_mutators_are_independent()
     ensures same { AlwaysTheSame }
     ensures ends { EndsAlone }
