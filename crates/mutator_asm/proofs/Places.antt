@@ -84,24 +84,40 @@ place_end o ls i k name le so_far =
 
 -- ---- a label that is kept
 
-absent : (o : Option Place) → is_some o ≡ false → o ≡ None
-absent None h = refl
-absent (Some p) h = absurd cc
+abbrev Labels : Type 0
+Labels = BTreeMap (Bor (List ℕ)) Place
 
 by_test : (b : Bool) (o : Option Place) (p : Place) → (b ≡ true → o ≡ None) → cond b (Some p) o ≡ option_or o (cond b (Some p) None)
 by_test true o p h = rw (h refl) refl
 by_test false None p h = refl
 by_test false (Some x) p h = refl
 
-kept : (labels : BTreeMap (Bor (List ℕ)) Place) (label name : List ℕ) (p : Place) → is_some (get_place labels label) ≡ false → cond (bytes_eq label name) (Some p) (get_place labels name) ≡ option_or (get_place labels name) (cond (bytes_eq label name) (Some p) None)
-kept labels label name p h = by_test (bytes_eq label name) (get_place labels name) p (λ e. subst (λ (q : List ℕ). get_place labels q ≡ None) ((bytes_eq-Decides label name).0 e) (absent (get_place labels label) h))
+by_test_again : (b : Bool) (o : Option Place) (p first : Place) → (b ≡ true → o ≡ Some first) → cond b (Some first) (cond b (Some p) o) ≡ option_or o (cond b (Some p) None)
+by_test_again true o p first h = rw (h refl) refl
+by_test_again false None p first h = refl
+by_test_again false (Some x) p first h = refl
 
-pub kept_line : (old new : BTreeMap (Bor (List ℕ)) Place) (l : Read) (label : Bor (List ℕ)) (p : Place) → l.label ≡ Some label → is_some (get_place old label.now) ≡ false
+at_name : (labels : Labels) (label name : List ℕ) (o : Option Place) → get_place labels label ≡ o → bytes_eq label name ≡ true → get_place labels name ≡ o
+at_name labels label name o h e = subst (λ (q : List ℕ). get_place labels q ≡ o) ((bytes_eq-Decides label name).0 e) h
+
+defines_is : (l : Read) (label : Bor (List ℕ)) (name : List ℕ) → l.label ≡ Some label → defines name (line_view l) ≡ bytes_eq label.now name
+defines_is l label name h = ap (λ (o : Option (Bor (List ℕ))). is_label name (label_view o)) h
+
+-- a label that was not there
+pub kept_new : (old new : Labels) (l : Read) (label : Bor (List ℕ)) (p : Place) → l.label ≡ Some label → get_place old label.now ≡ None
     → ((q : List ℕ) → get_place new q ≡ cond (bytes_eq label.now q) (Some p) (get_place old q))
     → (name : List ℕ) → get_place new name ≡ option_or (get_place old name) (cond (defines name (line_view l)) (Some p) None)
-kept_line old new l label p h away up name =
-    let e : defines name (line_view l) ≡ bytes_eq label.now name = ap (λ (o : Option (Bor (List ℕ))). is_label name (label_view o)) h in
-    rw e (up name ∙ kept old label.now name p away)
+kept_new old new l label p h away up name =
+    rw (defines_is l label name h) (up name ∙ by_test (bytes_eq label.now name) (get_place old name) p (at_name old label.now name None away))
+
+-- a label that was there, and has its first place again
+pub kept_first : (old mid new : Labels) (l : Read) (label : Bor (List ℕ)) (p first : Place) → l.label ≡ Some label → get_place old label.now ≡ Some first
+    → ((q : List ℕ) → get_place mid q ≡ cond (bytes_eq label.now q) (Some p) (get_place old q))
+    → ((q : List ℕ) → get_place new q ≡ cond (bytes_eq label.now q) (Some first) (get_place mid q))
+    → (name : List ℕ) → get_place new name ≡ option_or (get_place old name) (cond (defines name (line_view l)) (Some p) None)
+kept_first old mid new l label p first h there up again name =
+    let both : get_place new name ≡ cond (bytes_eq label.now name) (Some first) (cond (bytes_eq label.now name) (Some p) (get_place old name)) = again name ∙ ap (λ (o : Option Place). cond (bytes_eq label.now name) (Some first) o) (up name) in
+    rw (defines_is l label name h) (both ∙ by_test_again (bytes_eq label.now name) (get_place old name) p first (at_name old label.now name (Some first) there))
 
 -- ---- a label among the first lines
 
@@ -121,3 +137,7 @@ within_some labels ls n name place knows found = ap (is_before n) (sym found ∙
 
 pub within_none : (labels : BTreeMap (Bor (List ℕ)) Place) (ls : List Line) (n : ℕ) (name : List ℕ) → get_place labels name ≡ place_of ls name → get_place labels name ≡ None → false ≡ has_label (take n ls) name
 within_none labels ls n name knows found = ap (is_before n) (sym found ∙ knows) ∙ within ls n name
+
+pub none_if_not : (o : Option Place) → ((p : Place) → o ≡ Some p → ⊥) → o ≡ None
+none_if_not None h = refl
+none_if_not (Some p) h = absurd (h p refl)
