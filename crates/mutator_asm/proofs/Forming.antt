@@ -1,14 +1,14 @@
 -- The program of a text without an error is well formed.
-use Rattle.std.proofs.Common.{◌≡◌, ℕ, zero, suc, ◌+◌, ◌^◌, ◌<◌, ◌≤◌, Bool, true, false, cond, ◌&&◌, eqb, leb, List, [], ◌∷◌, ◌++◌, length, take, drop, map, Option, Some, None, refl, sym, ap, ◌∙◌, arith}
+use Rattle.std.proofs.Common.{◌≡◌, ℕ, ◌+◌, ◌^◌, ◌<◌, ◌≤◌, Bool, true, false, cond, ◌&&◌, eqb, List, [], ◌∷◌, length, drop, map, refl, sym, ap, ◌∙◌, arith}
 use Rattle.std.specs.Prelude.{count_by, sum_by}
-use Rattle.std.specs.List.{slice_split, onto_first, filter_map, flat_map, cons_option, list_all, before_first, position_or_len}
-use Rattle.std.proofs.lemmas.Bool.{le-leb, leb-true}
-use Rattle.std.proofs.lemmas.List.{length-map, length-drop, drop-map, take_all}
+use Rattle.std.specs.List.{slice_split, onto_first, filter_map, cons_option, list_all, before_first, position_or_len}
+use Rattle.std.proofs.lemmas.Bool.{le-leb}
+use Rattle.std.proofs.lemmas.List.{length-map, length-drop, take_all}
 use Rattle.std.proofs.lemmas.List.Folds.{list_all-append}
 use Rattle.std.proofs.lemmas.List.Splits.{length-slice_split}
 use Rattle.std.proofs.lemmas.List.Sums.{sum_by-cons, sum_by-take-le, count_by-le-length}
 use Rattle.mutator_asm.specs.declared.instr.Instr.{Instr}
-use Rattle.mutator_asm.specs.declared.instr.Instr.TheVariants.{Li, Mov, Add, Sub, Mul, Div, Rem, Lt, Eq, Jmp, Jz, Jal, Jr, New, Raw, Ld, St, Len, Isp, Get, Put, Swap, Out, Halt}
+use Rattle.mutator_asm.specs.declared.instr.Instr.TheVariants.{Jmp, Jz, Jal}
 use Rattle.mutator_asm.specs.declared.item.Item.{Item}
 use Rattle.mutator_asm.specs.declared.jump.Jump.{Jump}
 use Rattle.mutator_asm.specs.declared.jump.Jump.TheVariants.{Always, IfZero, Link}
@@ -17,12 +17,12 @@ use Rattle.mutator_asm.specs.declared.part.Part.{Part}
 use Rattle.mutator_asm.specs.Instr.{jump_to}
 use Rattle.mutator_asm.specs.Labels.{before_of}
 use Rattle.mutator_asm.specs.Line.{Word, Nothing, Begins, Schedules, Does, Jumps, Bad, Line, line_of, lines_of}
-use Rattle.mutator_asm.specs.Program.{IsWellFormed, is_valid, is_register, is_item, leads_within, is_closed}
+use Rattle.mutator_asm.specs.Program.{IsWellFormed, is_valid, is_item, leads_within, is_closed}
 use Rattle.mutator_asm.specs.Part.{parts_view}
 use Rattle.mutator_asm.specs.Read.{line_view, lines_view}
 use Rattle.mutator_asm.specs.Text.{begins, counts, is_begin, has_instr, items_on, items_in, defines, has_label, target_of, instr_by, section_of, sections_in, code_of, schedule_of, IsCleanUpTo, IsText}
 use Rattle.mutator_asm.proofs.Limits.{within_up_to}
-use Rattle.mutator_asm.proofs.Sound.{is_plain, is_plain_valid, is_jump_valid, is_sound, is_sound_line, lines_sound, and_parts, both}
+use Rattle.mutator_asm.proofs.Sound.{is_plain, is_jump_valid, is_sound, is_sound_line, lines_sound, and_parts, both}
 
 -- ---- a section's instructions
 

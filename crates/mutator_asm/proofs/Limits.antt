@@ -1,5 +1,5 @@
 -- How many sections, instructions and items a text without an error has.
-use Rattle.std.proofs.Common.{◌≡◌, ℕ, zero, suc, ◌+◌, ◌<◌, ◌≤◌, Bool, true, false, cond, ◌&&◌, ◌||◌, eqb, leb, ltb, List, [], ◌∷◌, length, get_or, take, Option, Some, None, refl, sym, ap, ◌∙◌, add-one, arith}
+use Rattle.std.proofs.Common.{◌≡◌, ℕ, zero, suc, ◌+◌, ◌<◌, ◌≤◌, Bool, true, false, cond, ◌&&◌, ◌||◌, eqb, leb, List, [], ◌∷◌, length, get_or, take, Option, Some, None, refl, ◌∙◌, add-one, arith}
 use Rattle.std.specs.Option.{is_some}
 use Rattle.std.proofs.lemmas.Bool.{leb-false, ltb-false}
 use Rattle.mutator_asm.specs.declared.before.Before.{Before}
@@ -7,8 +7,8 @@ use Rattle.mutator_asm.specs.declared.mistake.Mistake.{Mistake}
 use Rattle.mutator_asm.specs.declared.mistake.Mistake.TheVariants.{UnknownInstr, BadOperand, UnknownLabel, LabelTwice, NoMutator, TooManyMutators, CodeTooLong, BadSchedule, NumberTooBig}
 use Rattle.mutator_asm.specs.Labels.{before_of, and_line}
 use Rattle.mutator_asm.specs.Line.{Word, Nothing, Begins, Schedules, Does, Jumps, Bad, Line, plain}
-use Rattle.mutator_asm.specs.Text.{begins, counts, items_on, items_in, is_begin, has_instr, is_instr, is_bad, is_begin_with_more, is_lost, is_again, is_overlong, error_by, section_no, has_label, IsCleanUpTo}
-use Rattle.mutator_asm.proofs.Clean.{error_at, clean_at}
+use Rattle.mutator_asm.specs.Text.{items_in, is_begin, has_instr, is_instr, is_bad, is_begin_with_more, is_lost, is_again, is_overlong, error_by, section_no, has_label, IsCleanUpTo}
+use Rattle.mutator_asm.proofs.Clean.{clean_at}
 use Rattle.mutator_asm.proofs.Counts.{before_more, error_row}
 
 -- ---- what the table allows

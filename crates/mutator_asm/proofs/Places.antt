@@ -1,12 +1,11 @@
 -- Where the labels of a section stand, line by line.
-use Rattle.std.proofs.Common.{◌≡◌, ℕ, suc, ◌+◌, ◌<◌, ◌≤◌, Bool, true, false, cond, not, ◌||◌, ltb, List, [], ◌∷◌, ◌++◌, length, map, get_or, take, drop, Option, Some, None, refl, sym, ap, subst, ◌∙◌, drop-cons, add-one, arith}
+use Rattle.std.proofs.Common.{◌≡◌, ℕ, ◌+◌, ◌<◌, ◌≤◌, Bool, true, false, cond, ◌||◌, ltb, List, [], ◌∷◌, length, get_or, take, drop, Option, Some, None, refl, sym, ap, subst, ◌∙◌, drop-cons, add-one, arith}
 use Rattle.std.specs.Prelude.{count_by}
-use Rattle.std.specs.BTreeMap.{BTreeMap}
-use Rattle.std.specs.List.{before_first, position_or_len, list_any}
-use Rattle.std.specs.Option.{option_or, is_some}
+use Rattle.std.specs.HashMap.{HashMap}
+use Rattle.std.specs.List.{before_first}
+use Rattle.std.specs.Option.{option_or}
 use Rattle.std.specs.Str.{bytes_eq}
 use Rattle.std.proofs.Math.ListN.{drop_of_length-le}
-use Rattle.std.proofs.lemmas.Bool.{lt-ltb, le-ltb}
 use Rattle.std.proofs.lemmas.List.Sums.{sum_by-cons}
 use Rattle.std.proofs.lemmas.Slice.Eq.{bytes_eq-Decides}
 use denote.Ref.{Bor}
@@ -84,8 +83,8 @@ place_end o ls i k name le so_far =
 
 -- ---- a label that is kept
 
-abbrev Labels : Type 0
-Labels = BTreeMap (Bor (List ℕ)) Place
+abbrev Labels : Type 0 → Type 0
+Labels S = HashMap (Bor (List ℕ)) Place S
 
 by_test : (b : Bool) (o : Option Place) (p : Place) → (b ≡ true → o ≡ None) → cond b (Some p) o ≡ option_or o (cond b (Some p) None)
 by_test true o p h = rw (h refl) refl
@@ -97,21 +96,21 @@ by_test_again true o p first h = rw (h refl) refl
 by_test_again false None p first h = refl
 by_test_again false (Some x) p first h = refl
 
-at_name : (labels : Labels) (label name : List ℕ) (o : Option Place) → get_place labels label ≡ o → bytes_eq label name ≡ true → get_place labels name ≡ o
+at_name : {S : Type 0} (labels : Labels S) (label name : List ℕ) (o : Option Place) → get_place labels label ≡ o → bytes_eq label name ≡ true → get_place labels name ≡ o
 at_name labels label name o h e = subst (λ (q : List ℕ). get_place labels q ≡ o) ((bytes_eq-Decides label name).0 e) h
 
 defines_is : (l : Read) (label : Bor (List ℕ)) (name : List ℕ) → l.label ≡ Some label → defines name (line_view l) ≡ bytes_eq label.now name
 defines_is l label name h = ap (λ (o : Option (Bor (List ℕ))). is_label name (label_view o)) h
 
 -- a label that was not there
-pub kept_new : (old new : Labels) (l : Read) (label : Bor (List ℕ)) (p : Place) → l.label ≡ Some label → get_place old label.now ≡ None
+pub kept_new : {S : Type 0} (old new : Labels S) (l : Read) (label : Bor (List ℕ)) (p : Place) → l.label ≡ Some label → get_place old label.now ≡ None
     → ((q : List ℕ) → get_place new q ≡ cond (bytes_eq label.now q) (Some p) (get_place old q))
     → (name : List ℕ) → get_place new name ≡ option_or (get_place old name) (cond (defines name (line_view l)) (Some p) None)
 kept_new old new l label p h away up name =
     rw (defines_is l label name h) (up name ∙ by_test (bytes_eq label.now name) (get_place old name) p (at_name old label.now name None away))
 
 -- a label that was there, and has its first place again
-pub kept_first : (old mid new : Labels) (l : Read) (label : Bor (List ℕ)) (p first : Place) → l.label ≡ Some label → get_place old label.now ≡ Some first
+pub kept_first : {S : Type 0} (old mid new : Labels S) (l : Read) (label : Bor (List ℕ)) (p first : Place) → l.label ≡ Some label → get_place old label.now ≡ Some first
     → ((q : List ℕ) → get_place mid q ≡ cond (bytes_eq label.now q) (Some p) (get_place old q))
     → ((q : List ℕ) → get_place new q ≡ cond (bytes_eq label.now q) (Some first) (get_place mid q))
     → (name : List ℕ) → get_place new name ≡ option_or (get_place old name) (cond (defines name (line_view l)) (Some p) None)
@@ -132,10 +131,10 @@ within_if false ls n name h = sym (none_within (defines name) ls n h)
 within : (ls : List Line) (n : ℕ) (name : List ℕ) → is_before n (place_of ls name) ≡ has_label (take n ls) name
 within ls n name = within_if (has_label ls name) ls n name refl
 
-pub within_some : (labels : BTreeMap (Bor (List ℕ)) Place) (ls : List Line) (n : ℕ) (name : List ℕ) (place : Place) → get_place labels name ≡ place_of ls name → get_place labels name ≡ Some place → ltb place.lines n ≡ has_label (take n ls) name
+pub within_some : {S : Type 0} (labels : Labels S) (ls : List Line) (n : ℕ) (name : List ℕ) (place : Place) → get_place labels name ≡ place_of ls name → get_place labels name ≡ Some place → ltb place.lines n ≡ has_label (take n ls) name
 within_some labels ls n name place knows found = ap (is_before n) (sym found ∙ knows) ∙ within ls n name
 
-pub within_none : (labels : BTreeMap (Bor (List ℕ)) Place) (ls : List Line) (n : ℕ) (name : List ℕ) → get_place labels name ≡ place_of ls name → get_place labels name ≡ None → false ≡ has_label (take n ls) name
+pub within_none : {S : Type 0} (labels : Labels S) (ls : List Line) (n : ℕ) (name : List ℕ) → get_place labels name ≡ place_of ls name → get_place labels name ≡ None → false ≡ has_label (take n ls) name
 within_none labels ls n name knows found = ap (is_before n) (sym found ∙ knows) ∙ within ls n name
 
 pub none_if_not : (o : Option Place) → ((p : Place) → o ≡ Some p → ⊥) → o ≡ None

@@ -11,12 +11,12 @@ use Rattle.mutator_asm.specs.declared.jump.Jump.{Jump}
 use Rattle.mutator_asm.specs.declared.jump.Jump.TheVariants.{Always, IfZero, Link}
 use Rattle.mutator_asm.specs.declared.item.Item.{Item}
 use Rattle.mutator_asm.specs.declared.mistake.Mistake.{Mistake}
-use Rattle.mutator_asm.specs.declared.mistake.Mistake.TheVariants.{UnknownInstr, BadOperand, BadSchedule, NumberTooBig}
+use Rattle.mutator_asm.specs.declared.mistake.Mistake.TheVariants.{BadOperand, BadSchedule, NumberTooBig}
 use Rattle.mutator_asm.specs.declared.operand.Operand.{Operand}
 use Rattle.mutator_asm.specs.Program.{is_register, is_number, is_operand, is_valid, is_item}
 use Rattle.mutator_asm.specs.Token.{is_register_name, is_numeral, register_of, number_of, number_or, register_or, operand_of, is_name, label_of, tokens_of}
 use Rattle.mutator_asm.specs.Instr.{◌>>=◌, made, nothing, one_register, two_registers, three_registers, register_number, register_operand, operand_register, two_registers_operand, register_operand_register, instr_of}
-use Rattle.mutator_asm.specs.Line.{Word, Nothing, Begins, Schedules, Does, Jumps, Bad, Line, plain, jump_of, register_jump_of, jz_of, jal_of, does_or, named_of, labelled_of, begins_of, is_item_token, schedules_of, line_with, line_from, line_of, lines_of}
+use Rattle.mutator_asm.specs.Line.{Word, Nothing, Begins, Schedules, Does, Jumps, Bad, Line, plain, jump_of, register_jump_of, jz_of, jal_of, does_or, named_of, labelled_of, begins_of, schedules_of, line_with, line_from, line_of, lines_of}
 use Rattle.mutator_asm.specs.Item.{is_star, within, worker_of, times_of, item_from, item_of}
 
 -- what was read passes the test

@@ -1,9 +1,8 @@
 -- What the code keeps of a section and of the lines before one.
 use Rattle.std.specs.Prelude.{◌≡◌, ℕ, ◌+◌, List, [], length, Option, Some, None, if◌then◌else◌, count_by, slice_index_or}
 use Rattle.std.specs.List.{before_first, slice_split}
-use Rattle.std.specs.Ordering.{nat_cmp}
-use Rattle.std.specs.Cmp.Lexicographic.{slice_cmp}
-use Rattle.std.specs.BTreeMap.{BTreeMap, get_by}
+use Rattle.std.specs.HashMap.{HashMap, get_by}
+use Rattle.std.specs.Str.{bytes_eq}
 use denote.Ref.{Bor}
 use Rattle.mutator_asm.specs.declared.labels.Place.{Place}
 use Rattle.mutator_asm.specs.declared.before.Before.{Before}
@@ -19,11 +18,11 @@ place_of section name =
     if has_label section name then Some (record { lines = length before; instrs = count_by counts before }) else None
 
 -- the place that is kept for a name
-abbrev pub get_place : BTreeMap (Bor (List ℕ)) Place → List ℕ → Option Place
-get_place labels name = get_by (λ k. slice_cmp nat_cmp name k.now) labels
+abbrev pub get_place : {S : Type 0} → HashMap (Bor (List ℕ)) Place S → List ℕ → Option Place
+get_place labels name = get_by (λ k. bytes_eq name k.now) labels
 
 -- the places that are kept are those of a section's labels
-abbrev pub KnowsLabels : BTreeMap (Bor (List ℕ)) Place → List Line → Type 0
+abbrev pub KnowsLabels : {S : Type 0} → HashMap (Bor (List ℕ)) Place S → List Line → Type 0
 KnowsLabels labels section = (name : List ℕ) → get_place labels name ≡ place_of section name
 
 -- ---- the lines before one

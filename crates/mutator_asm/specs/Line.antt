@@ -8,7 +8,7 @@ use Rattle.mutator_asm.specs.declared.item.Item.{Item}
 use Rattle.mutator_asm.specs.declared.jump.Jump.{Jump}
 use Rattle.mutator_asm.specs.declared.jump.Jump.TheVariants.{Always, IfZero, Link}
 use Rattle.mutator_asm.specs.declared.mistake.Mistake.{Mistake}
-use Rattle.mutator_asm.specs.declared.mistake.Mistake.TheVariants.{UnknownInstr, BadOperand, BadSchedule}
+use Rattle.mutator_asm.specs.declared.mistake.Mistake.TheVariants.{BadOperand, BadSchedule}
 use Rattle.mutator_asm.specs.Token.{tokens_of, is_name, label_of, register_of}
 use Rattle.mutator_asm.specs.Item.{item_of}
 use Rattle.mutator_asm.specs.Instr.{instr_of, made}

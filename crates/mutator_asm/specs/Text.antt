@@ -11,7 +11,7 @@ use Rattle.mutator_asm.specs.declared.mistake.Mistake.{Mistake}
 use Rattle.mutator_asm.specs.declared.mistake.Mistake.TheVariants.{UnknownInstr, BadOperand, UnknownLabel, LabelTwice, NoMutator, TooManyMutators, CodeTooLong, BadSchedule, NumberTooBig}
 use Rattle.mutator_asm.specs.Mistake.{number_of_mistake}
 use Rattle.mutator_asm.specs.Instr.{jump_to}
-use Rattle.mutator_asm.specs.Line.{Word, Nothing, Begins, Schedules, Does, Jumps, Bad, Line, lines_of}
+use Rattle.mutator_asm.specs.Line.{Word, Begins, Schedules, Does, Jumps, Bad, Line, lines_of}
 
 -- ---- what a word is
 

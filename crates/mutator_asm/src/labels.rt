@@ -8,7 +8,7 @@ ghost use Rattle.mutator_asm.specs.Text.{counts, defines};
 
 use crate::line::Line;
 use std::alloc::{AllocError, Global};
-use std::collections::BTreeMap;
+use std::collections::HashMap;
 
 /// Where a label stands first in its section.
 #[derive(Clone, Copy, Debug, PartialEq, Eq)]
@@ -28,7 +28,7 @@ fn weight(line: &Line) -> u32
 
 /// Keeps the label of a line at this place, if it has one that is not kept yet.
 fn keep<'a>(
-    labels: &mut BTreeMap<&'a [u8], Place>,
+    labels: &mut HashMap<&'a [u8], Place>,
     line: &Line<'a>,
     place: Place,
 ) -> Result<(), AllocError>
@@ -43,14 +43,11 @@ fn keep<'a>(
 }
 
 /// The labels of a section, each at its first place.
-pub fn labels<'a>(
-    alloc: Global,
-    lines: &[Line<'a>],
-) -> Result<BTreeMap<&'a [u8], Place>, AllocError>
+pub fn labels<'a>(alloc: Global, lines: &[Line<'a>]) -> Result<HashMap<&'a [u8], Place>, AllocError>
     requires { length lines.now < 2 ^ 32 }
     ensures { IfOk result (λ m. KnowsLabels m (lines_view lines.now)) }
 {
-    let mut labels = BTreeMap::new(alloc);
+    let mut labels = HashMap::new(alloc);
     let mut instrs = 0;
     for (at, line) in lines.iter().enumerate() {
         keep(&mut labels, line, Place { lines: at, instrs })?;

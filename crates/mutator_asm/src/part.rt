@@ -6,13 +6,13 @@ ghost use Rattle.mutator_asm.specs.Read.{lines_view};
 use crate::instr::Instr;
 use crate::labels::Place;
 use crate::line::{Line, Word};
-use std::collections::BTreeMap;
+use std::collections::HashMap;
 
 /// A section's lines, and the places of its labels.
 #[derive(Drop)]
 pub struct Part<'a> {
     pub lines: &'a [Line<'a>],
-    pub labels: BTreeMap<&'a [u8], Place>,
+    pub labels: HashMap<&'a [u8], Place>,
     pub ghost knows: { KnowsLabels labels (lines_view lines.now) },
 }
 

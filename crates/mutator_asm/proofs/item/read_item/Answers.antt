@@ -1,5 +1,5 @@
 use Rattle.std.proofs.Common.{sym, ap, ◌∙◌}
-use Rattle.mutator_asm.specs.Item.{is_star, item_of, worker_of, times_of, item_from}
+use Rattle.mutator_asm.specs.Item.{is_star, item_of, times_of}
 use Rattle.mutator_asm.proofs.Firsts.{found_before, found_after, found_one, found_none}
 use Rattle.mutator_asm.proofs.item.read_item.Goals as goal
 

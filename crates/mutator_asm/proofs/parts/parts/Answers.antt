@@ -1,4 +1,4 @@
-use Rattle.std.proofs.Common.{sym, ap, ◌∙◌, List, ◌∷◌, [], arith}
+use Rattle.std.proofs.Common.{ap, ◌∙◌, List, ◌∷◌, [], arith}
 use Rattle.std.proofs.lemmas.Iterator.Adapters.{YieldsList-from_vec}
 use Rattle.std.proofs.lemmas.Iterator.Consumers.{YieldsList-turn, YieldsList-end}
 use Rattle.mutator_asm.specs.Line.{Line}

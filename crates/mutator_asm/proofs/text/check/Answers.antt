@@ -1,4 +1,4 @@
-use Rattle.std.proofs.Common.{◌≡◌, ℕ, ◌+◌, arith, inl, inr, subst, refl, sym, ap, ◌∙◌}
+use Rattle.std.proofs.Common.{ℕ, ◌+◌, arith, inl, inr, subst, refl, sym, ap, ◌∙◌}
 use Rattle.std.proofs.lemmas.List.{length-map}
 use Rattle.mutator_asm.specs.declared.before.Before.{Before}
 use Rattle.mutator_asm.specs.Labels.{and_line}
