@@ -1,5 +1,5 @@
 -- What the getters read, by the rows.
-use Rattle.std.proofs.Common.{◌≡◌, ◌∙◌, ◌<◌, ◌≤◌, ◌^◌, ℕ, false, List, Option, Some, None, Result, Ok, refl, sym, ap, subst}
+use Rattle.std.proofs.Common.{◌≡◌, ◌∙◌, ◌<◌, ◌≤◌, ◌^◌, ℕ, false, List, Option, Some, None, Result, Ok, Err, refl, sym, ap, subst, arith}
 use Rattle.std.specs.Prelude.{find, option_map, option_and_then, pos, unwrap_or}
 use Rattle.std.specs.Option.{option_map_or}
 use Rattle.std.specs.Str.{bytes_eq}
@@ -7,7 +7,7 @@ use Rattle.std.specs.Str.Parse.{ParsesUnsigned}
 use Rattle.clap.specs.Lexer.{without_minus}
 use Rattle.clap.specs.Matches.{ReadsOne, matched_of}
 use Rattle.clap.specs.Facts.{Entry}
-use Rattle.clap.specs.Values.{IsSignedIn}
+use Rattle.clap.specs.Values.{IsSignedIn, IsUnsignedIn}
 use Rattle.clap.specs.Walk.{Text, rows_of}
 use Rattle.clap.specs.declared.parser.matches.Found.{Found}
 use Rattle.clap.proofs.WalkLemmas.{find_row}
@@ -43,3 +43,14 @@ module _ (E : Type 0) (G : List ℕ → Result ℕ E → Type 0) (k : ℕ) (only
       let x = fits t refl in
       let got = signed_reads E G k least most x.0 r (subst (λ (u : Text). ReadsOne G u r) x.1 (some t refl)) only small x.2 in
       rw got.1 (got.2, got.3)
+
+  pub unsigned_is : (most : ℕ) (o : Option Text) (r : Option ℕ) → most < 2 ^ k → (o ≡ None → r ≡ None) → ((t : Text) → o ≡ Some t → ReadsOne G t r)
+      → ((t : Text) → o ≡ Some t → IsUnsignedIn 0 most t) → r ≡ option_map number_in o
+  unsigned_is most None r lt none some fits = none refl
+  unsigned_is most (Some t) r lt none some fits = go r (some t refl)
+    where
+      go : (q : Option ℕ) → ReadsOne G t q → q ≡ Some (number_in t)
+      go (Some n) h = ap Some (read_as_number t (Some n) n refl h)
+      go None h =
+          let fit = fits t refl in
+          absurd (only t (Err h.0) h.1 (fit.0, omega arith))

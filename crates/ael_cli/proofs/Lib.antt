@@ -1,5 +1,6 @@
 pub mod Growing
 pub mod Runs
+pub mod Rounds
 pub mod Seeing
 pub mod Simulating
 pub mod Plainly

@@ -1,10 +1,11 @@
 -- The command line of `ael`: what it takes, and what it then gives.
-use Rattle.std.proofs.Common.{◌≡◌, ◌∙◌, ℕ, Bool, cond, codes, true, false, refl, sym, ap, List, [], Option, Some, None, Result, Err, true≢false}
+use Rattle.std.proofs.Common.{◌≡◌, ◌∙◌, ◌&&◌, ℕ, Bool, cond, codes, true, false, refl, sym, ap, List, [], Option, Some, None, Result, Err, true≢false}
 use Rattle.std.specs.Prelude.{IfSome, option_map, pos}
 use Rattle.std.specs.Option.{option_map_or}
-use Rattle.clap.specs.ValueTests.{is_signed_in}
+use Rattle.clap.specs.ValueTests.{is_signed_in, is_unsigned_in}
 use Rattle.clap.specs.declared.builder.value_parser.Reading.{Reading}
-use Rattle.clap.specs.declared.builder.value_parser.Reading.TheVariants.{WithoutMinus}
+use Rattle.clap.specs.declared.builder.value_parser.Reading.TheVariants.{AsWritten, WithoutMinus}
+use Rattle.clap.specs.declared.builder.value_parser.ValueParser.TheVariants as vp
 use Rattle.clap.specs.Walk.{Row, Text, answers_to, nothing_held, rows_after, stop_after}
 use Rattle.clap.specs.Simple.{built_leaf, inherited, marked_built}
 use Rattle.ael_cli.specs.CommandLine.{ael_app, number, sim_app}
@@ -19,12 +20,17 @@ use Rattle.clap.specs.declared.error.kind.ErrorKind.TheVariants.{OutOfMemory}
 use Rattle.ael_cli.specs.declared.job.Job.{Job}
 use Rattle.ael_cli.specs.declared.words.WordsError.{WordsError}
 use Rattle.ael_cli.specs.declared.words.WordsError.TheVariants.{NoMemory, Refused}
-use Rattle.ael_cli.specs.Words.{HoldsNumber, IsKnown, IsSim, error_for, job_from, job_of}
+use Rattle.ael_cli.specs.Words.{HoldsNumber, HoldsSeed, IsKnown, IsSim, error_for, job_from, job_of}
 use Rattle.ael_cli.proofs.NoFault.{taken_without_fault}
-use Rattle.ael_cli.proofs.Values.{Each, RuleFits, left, level_fits, one_fits, right}
+use Rattle.ael_cli.proofs.Values.{Each, RuleFits, level_fits, one_fits}
 
--- words without a fault are taken
-taken : (words : List Text) → fault_of ael_app words ≡ [] → takes ael_app words ≡ true
+pub simple : is_simple ael_app ≡ true
+simple = refl
+
+pub free : is_simple_and_free ael_app ≡ true
+free = refl
+
+pub taken : (words : List Text) → fault_of ael_app words ≡ [] → takes ael_app words ≡ true
 taken words e = taken_without_fault ael_app words refl refl refl e
 
 abbrev sim : Shape
@@ -39,9 +45,20 @@ in_range least most = is_signed_in (pos least) (pos most)
 abbrev Fits : Text → Reading → (Text → Bool) → Type 0
 Fits id how ok = Each (RuleFits id how ok) sim.rules
 
--- the rule of `pages` has its range, and no other rule has its name
 pages_fit : Fits (codes "pages") WithoutMinus (in_range 4 2048)
-pages_fit = ((refl, λ e. (refl, λ vs h. h)), ((refl, λ e. no e), tt))
+pages_fit = ((refl, λ e. (refl, λ vs h. h)), ((refl, λ e. no e), ((refl, λ e. no e), ((refl, λ e. no e), ((refl, λ e. no e), ((refl, λ e. no e), tt))))))
+
+scanners_fit : Fits (codes "scanners") WithoutMinus (in_range 0 8)
+scanners_fit = ((refl, λ e. no e), ((refl, λ e. (refl, λ vs h. h)), ((refl, λ e. no e), ((refl, λ e. no e), ((refl, λ e. no e), ((refl, λ e. no e), tt))))))
+
+turns_fit : Fits (codes "turns") WithoutMinus (in_range 1 10000000)
+turns_fit = ((refl, λ e. no e), ((refl, λ e. no e), ((refl, λ e. (refl, λ vs h. h)), ((refl, λ e. no e), ((refl, λ e. no e), ((refl, λ e. no e), tt))))))
+
+steps_fit : Fits (codes "steps") WithoutMinus (in_range 1 100000000)
+steps_fit = ((refl, λ e. no e), ((refl, λ e. no e), ((refl, λ e. no e), ((refl, λ e. (refl, λ vs h. h)), ((refl, λ e. no e), ((refl, λ e. no e), tt))))))
+
+seed_fit : Fits (codes "seed") AsWritten (is_unsigned_in 0 18446744073709551615)
+seed_fit = ((refl, λ e. no e), ((refl, λ e. no e), ((refl, λ e. no e), ((refl, λ e. no e), ((refl, λ e. (refl, λ vs h. h)), ((refl, λ e. no e), tt))))))
 
 module _ (words : List Text) (pass : level_passes sim [] nothing_held words false ≡ true) where
   number_held : (id : Text) (least most : ℕ) → Fits id WithoutMinus (in_range least most) → HoldsNumber least most id (rows_after sim.rules [] words)
@@ -49,10 +66,21 @@ module _ (words : List Text) (pass : level_passes sim [] nothing_held words fals
       let got = one_fits id WithoutMinus (in_range least most) (rows_after sim.rules [] words) t (level_fits id WithoutMinus (in_range least most) sim [] fit words false pass) is in
       (got.0, got.1, accepts-Accepts false (number least most) got.0 got.2)
 
-  sim_held : IsSim (rows_after sim.rules [] words)
-  sim_held = record { pages = number_held (codes "pages") 4 2048 pages_fit }
+  seed_held : HoldsSeed (rows_after sim.rules [] words)
+  seed_held t is =
+      let ok = is_unsigned_in 0 18446744073709551615 in
+      let got = one_fits (codes "seed") AsWritten ok (rows_after sim.rules [] words) t (level_fits (codes "seed") AsWritten ok sim [] seed_fit words false pass) is in
+      accepts-Accepts false (vp.Unsigned 0 18446744073709551615) t (ap ok got.1 ∙ got.2)
 
--- what follows of a subcommand, where one was entered
+  sim_held : IsSim (rows_after sim.rules [] words)
+  sim_held = record {
+    pages = number_held (codes "pages") 4 2048 pages_fit;
+    scanners = number_held (codes "scanners") 0 8 scanners_fit;
+    turns = number_held (codes "turns") 1 10000000 turns_fit;
+    steps = number_held (codes "steps") 1 100000000 steps_fit;
+    seed = seed_held;
+  }
+
 known_at : (stop : Option (Text × List Text)) → entered_passes (built ael_app) stop ≡ true → IfSome (entered (built ael_app) stop) IsKnown
 known_at None pass = tt
 known_at (Some p) pass = go (answers_to p.0 (label_of sim)) pass
@@ -62,7 +90,14 @@ known_at (Some p) pass = go (answers_to p.0 (label_of sim)) pass
     go true f = (refl, sim_held p.1 f)
     go false f = tt
 
--- a subcommand of words that are taken has rows that it may have
+left : (a b : Bool) → (a && b) ≡ true → a ≡ true
+left true b e = refl
+left false b e = e
+
+right : (a b : Bool) → (a && b) ≡ true → b ≡ true
+right true b e = e
+right false b e = no e
+
 pub known : (words : List Text) → takes ael_app words ≡ true → IfSome (subcommand_of ael_app words) IsKnown
 known words e =
     let stop = stop_after (built ael_app).top.rules (names_of (built ael_app)) (argument_words ael_app words) in

@@ -1,7 +1,8 @@
 -- The headline and completeness, from the answer and its cause.
-use Rattle.std.proofs.Common.{◌≡◌, ◌≤◌, ℕ, List, [], length, refl, ap, ◌∙◌, subst, inl, inr, arith}
+use Rattle.std.proofs.Common.{◌≡◌, ◌≤◌, ℕ, List, length, refl, ap, ◌∙◌, subst, inl, inr, arith}
 use Rattle.std.specs.Prelude.{◌⊎◌, Option, Some}
 use Rattle.mutator_asm.specs.declared.instr.Instr.{Instr}
+use Rattle.mutator_asm.specs.declared.item.Item.{Item}
 use Rattle.mutator_asm.specs.Text.{IsText, IsFault}
 use Rattle.mutator_asm.specs.Theorems.{MeansOneProgram, HasNoFault}
 use Rattle.ael_cli.specs.declared.reading.TheConstants.{MAX_INPUT}
@@ -18,23 +19,23 @@ use Rattle.ael_cli.specs.Status.{code_of}
 use Rattle.ael_cli.specs.Stream.{Grows}
 use Rattle.ael_cli.specs.Words.{job_of}
 
-module _ (one : MeansOneProgram) (no_fault : HasNoFault) (options : SimOptions) (bytes : List ℕ) (program : List (List Instr)) (text : IsText bytes program []) where
+module _ (one : MeansOneProgram) (no_fault : HasNoFault) (options : SimOptions) (bytes : List ℕ) (items : List Item) (program : List (List Instr)) (text : IsText bytes program items) where
   -- what a run answers
-  ran : (output : List ℕ) (status : Status) → IsRun options (Some bytes) output status → IsSimulated options program output status
+  ran : (output : List ℕ) (status : Status) → IsRun options (Some bytes) output status → IsSimulated options items program output status
   ran output status r =
-      let its_text : IsText bytes r.code [] = subst (λ bs. IsText bs r.code []) r.whole.all r.text in
-      let same : r.code ≡ program = (one bytes r.code program [] [] its_text text).0 in
-      subst (λ code. IsSimulated options code output status) same r.simulated
+      let its_text : IsText bytes r.code r.items = subst (λ bs. IsText bs r.code r.items) r.whole.all r.text in
+      let same = one bytes r.code program r.items items its_text text in
+      rw (← same.0, ← same.1) r.simulated
 
   -- what any answer is, where nothing failed
   caused : (source : Drawn) (output : List ℕ) (status : Status) → source.left ≡ Some bytes → length bytes ≤ MAX_INPUT → IsFaultless source.before source.after
-      → IsCaused options source output status → IsSimulated options program output status ⊎ (status ≡ NoMemory)
+      → IsCaused options source output status → IsSimulated options items program output status ⊎ (status ≡ NoMemory)
   caused source output Done given within sound is = inl (ran output Done (rw given at is))
   caused source output Ended given within sound is = inl (ran output Ended (rw given at is))
   caused source output StepsOut given within sound is = inl (ran output StepsOut (rw given at is))
   caused source output (Text number line) given within sound is =
       let its = rw given at is.1.whole.all in
-      absurd (no_fault bytes program [] number line text (subst (λ bs. IsFault bs number line) its is.1.fault))
+      absurd (no_fault bytes program items number line text (subst (λ bs. IsFault bs number line) its is.1.fault))
   caused source output ReadFault given within sound is = absurd (sound is.1)
   caused source output TooLong given within sound is = let past = rw given at is.1 in absurd (omega (arith, within, past))
   caused source output NoMemory given within sound is = inr refl
@@ -55,24 +56,24 @@ answered job options source output status asked is = rw asked at is
 
 module _ (one : MeansOneProgram) (no_fault : HasNoFault) (words : List (List ℕ)) (source : Drawn) (out err : Filled) (code : ℕ) (a : IsAnswered words source out err code) where
   -- the answer is that of the simulation and is written whole, or there was no memory
-  went : (options : SimOptions) (program : List (List Instr)) → GoesWell words source out err options program
-      → (IsSimulated options program a.output a.status ⊎ (a.status ≡ NoMemory)) × (code ≡ code_of a.status) × Grows out.held a.output out.holds
-  went options program well =
+  went : (options : SimOptions) (items : List Item) (program : List (List Instr)) → GoesWell words source out err options items program
+      → (IsSimulated options items program a.output a.status ⊎ (a.status ≡ NoMemory)) × (code ≡ code_of a.status) × Grows out.held a.output out.holds
+  went options items program well =
       let w = written a.output a.status a.final out err well.printed well.told a.emitted in
       let is = answered (job_of words) options source a.output a.status well.asked a.answer in
-      (caused one no_fault options well.bytes program well.text source a.output a.status well.given well.within well.read is, a.code_is ∙ ap code_of w.0, w.1)
+      (caused one no_fault options well.bytes items program well.text source a.output a.status well.given well.within well.read is, a.code_is ∙ ap code_of w.0, w.1)
 
   pub prints_plainly : PrintsPlainly words source out err code
-  prints_plainly options program well memory =
-      let w = went options program well in
+  prints_plainly options items program well memory =
+      let w = went options items program well in
       elim w.0 [
         | inl simulated ↦ (subst (λ output. Grows out.held output out.holds) simulated.prints w.2, simulated.acts)
         | inr none ↦ absurd (memory (w.1 ∙ ap code_of none))
       ]
 
   pub ends_as_ordered : EndsAsOrdered words source out err code
-  ends_as_ordered options program well =
-      let w = went options program well in
+  ends_as_ordered options items program well =
+      let w = went options items program well in
       elim w.0 [
         | inl simulated ↦ inl (w.1 ∙ ap code_of simulated.status_is)
         | inr none ↦ inr (w.1 ∙ ap code_of none)

@@ -4,6 +4,7 @@ use Rattle.std.specs.Prelude.{map}
 use Rattle.std.specs.List.{list_all}
 use Rattle.plain_state.specs.State as plain
 use Rattle.mutator_asm.specs.declared.instr.Instr.{Instr}
+use Rattle.mutator_asm.specs.declared.item.Item.{Item}
 use Rattle.plain_heap.specs.declared.mark.Mark.{Mark}
 use Rattle.plain_heap.specs.Print.{lines_from, order_line}
 use Rattle.gc_core.specs.Configuration.{Mutator, CoreState}
@@ -43,14 +44,14 @@ flag_lines-same options order all kept = by_flag options.order kept where
   by_flag true same = ap order_line (same refl)
   by_flag false same = refl
 
-pub simulated : (options : SimOptions) (code : List (List Instr)) (last : CoreState) (order : List Mark) (output : List ℕ) (status : Status)
-    → Follows code (config options).turns (run_of options code) → last ≡ (run_of options code).last → (options.order ≡ true → order ≡ order_of options code)
+pub simulated : (options : SimOptions) (items : List Item) (code : List (List Instr)) (last : CoreState) (order : List Mark) (output : List ℕ) (status : Status)
+    → Follows code (config options).turns (run_of options items code) → last ≡ (run_of options items code).last → (options.order ≡ true → order ≡ order_of options items code)
     → output ≡ lines_seen 0 (seen_of last.configuration) ++ flag_lines options order → status ≡ status_seen (seen_of last.configuration)
-    → IsSimulated options code output status
-simulated options code last order output status follows is_last kept printed went =
-    let seen : seen_of last.configuration ≡ plain_seen (plain_of options code) = rw is_last follows.seen in
+    → IsSimulated options items code output status
+simulated options items code last order output status follows is_last kept printed went =
+    let seen : seen_of last.configuration ≡ plain_seen (plain_of options items code) = rw is_last follows.seen in
     record {
-      prints = printed ∙ rw (seen, lines_seen-plain 0 (plain_of options code).mutators, flag_lines-same options order (order_of options code) kept) refl;
+      prints = printed ∙ rw (seen, lines_seen-plain 0 (plain_of options items code).mutators, flag_lines-same options order (order_of options items code) kept) refl;
       status_is = went ∙ ap status_seen seen;
       acts = follows.acts;
     }

@@ -1,6 +1,7 @@
 -- What a command answers to the words and the input.
 use Rattle.std.specs.Prelude.{◌≡◌, ◌⊎◌, ℕ, List, [], Option, Some, None}
 use Rattle.mutator_asm.specs.declared.instr.Instr.{Instr}
+use Rattle.mutator_asm.specs.declared.item.Item.{Item}
 use Rattle.mutator_asm.specs.Text.{IsText, IsFault}
 use Rattle.ael_cli.specs.declared.job.Job.{Job}
 use Rattle.ael_cli.specs.declared.job.Job.TheVariants.{Sim}
@@ -17,8 +18,9 @@ pub record IsRun (options : SimOptions) (left : Option (List ℕ)) (output : Lis
   pub bytes : List ℕ
   pub whole : IsWhole left bytes
   pub code : List (List Instr)
-  pub text : IsText bytes code []
-  pub simulated : IsSimulated options code output status
+  pub items : List Item
+  pub text : IsText bytes code items
+  pub simulated : IsSimulated options items code output status
 
 -- the whole input is a text with this fault
 pub record IsFaulty (left : Option (List ℕ)) (number line : ℕ) : Type 0 where

@@ -18,11 +18,17 @@ flag_rule id = record (new_rule id) { long = Some id; action = Some SetTrue }
 abbrev pub number : ℕ → ℕ → ValueParser
 number least most = vp.Signed (pos least) (pos most)
 
--- `sim [--pages N] [--order]`
+-- `sim [--pages N] [--scanners C] [--turns T] [--steps S] [--seed X] [--order]`
 abbrev pub sim_app : App
 sim_app = record {
   top = record (new_shape (codes "sim")) {
-    rules = value_rule (codes "pages") (number 4 2048) ∷ flag_rule (codes "order") ∷ [];
+    rules = value_rule (codes "pages") (number 4 2048)
+        ∷ value_rule (codes "scanners") (number 0 8)
+        ∷ value_rule (codes "turns") (number 1 10000000)
+        ∷ value_rule (codes "steps") (number 1 100000000)
+        ∷ value_rule (codes "seed") (vp.Unsigned 0 18446744073709551615)
+        ∷ flag_rule (codes "order")
+        ∷ [];
   };
   subs = [];
 }

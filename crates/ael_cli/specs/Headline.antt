@@ -1,6 +1,7 @@
 -- The headline: what a call of the program answers, and what its sinks hold then.
-use Rattle.std.specs.Prelude.{◌≡◌, ◌≢◌, ◌⊎◌, ◌≤◌, ℕ, List, [], length, Option, Some, None}
+use Rattle.std.specs.Prelude.{◌≡◌, ◌≢◌, ◌⊎◌, ◌≤◌, ℕ, List, length, Option, Some, None}
 use Rattle.mutator_asm.specs.declared.instr.Instr.{Instr}
+use Rattle.mutator_asm.specs.declared.item.Item.{Item}
 use Rattle.mutator_asm.specs.Text.{IsText}
 use Rattle.plain_heap.specs.Order.{opening}
 use Rattle.gc_core.specs.Whole.{EachActs}
@@ -46,12 +47,12 @@ pub record IsAnswered (words : List (List ℕ)) (source : Drawn) (out err : Fill
 
 -- Nothing fails in a call: the words ask for this simulation, the input is the text of this program,
 -- and no count of faults rose.
-pub record GoesWell (words : List (List ℕ)) (source : Drawn) (out err : Filled) (options : SimOptions) (program : List (List Instr)) : Type 0 where
+pub record GoesWell (words : List (List ℕ)) (source : Drawn) (out err : Filled) (options : SimOptions) (items : List Item) (program : List (List Instr)) : Type 0 where
   pub asked : job_of words ≡ Some (Sim options)
   pub bytes : List ℕ
   pub given : source.left ≡ Some bytes
   pub within : length bytes ≤ MAX_INPUT
-  pub text : IsText bytes program []
+  pub text : IsText bytes program items
   pub read : IsFaultless source.before source.after
   pub printed : IsFaultless out.before out.after
   pub told : IsFaultless err.before err.after
@@ -61,11 +62,11 @@ pub record GoesWell (words : List (List ℕ)) (source : Drawn) (out err : Filled
 -- flags. Each mark of the order acts: each mutator's marks execute its program from the start, none
 -- skipped and none twice, and heap full comes only where fewer words are free than are asked for.
 abbrev pub PrintsPlainly : List (List ℕ) → Drawn → Filled → Filled → ℕ → Type 0
-PrintsPlainly words source out err code = (options : SimOptions) (program : List (List Instr)) → GoesWell words source out err options program → code ≢ 7
-    → Grows out.held (output_of options program) out.holds × EachActs program (config options).turns (opening program) (order_of options program)
+PrintsPlainly words source out err code = (options : SimOptions) (items : List Item) (program : List (List Instr)) → GoesWell words source out err options items program → code ≢ 7
+    → Grows out.held (output_of options items program) out.holds × EachActs program (config options).turns (opening program) (order_of options items program)
 
 -- Completeness. Where nothing fails the exit status is 0, 3 or 4, as the plain machine's ends say
 -- that executes the order of the run; or there was no memory.
 abbrev pub EndsAsOrdered : List (List ℕ) → Drawn → Filled → Filled → ℕ → Type 0
-EndsAsOrdered words source out err code = (options : SimOptions) (program : List (List Instr)) → GoesWell words source out err options program
-    → (code ≡ code_of (status_of options program)) ⊎ (code ≡ 7)
+EndsAsOrdered words source out err code = (options : SimOptions) (items : List Item) (program : List (List Instr)) → GoesWell words source out err options items program
+    → (code ≡ code_of (status_of options items program)) ⊎ (code ≡ 7)

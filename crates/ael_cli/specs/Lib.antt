@@ -1,9 +1,12 @@
 pub mod Answer
+pub mod Coming
 pub mod CommandLine
 pub mod Ends
 pub mod Headline
 pub mod Input
 pub mod Memory
+pub mod Schedule
+pub mod Scheduler
 pub mod Seen
 pub mod Simulation
 pub mod Status

@@ -1,10 +1,10 @@
 -- What the words of the command line ask for.
-use Rattle.std.specs.Prelude.{◌≡◌, ◌<◌, ◌^◌, ℕ, IsTrue, Bool, pos, true, false, List, Option, Some, None, codes, find, option_map, if◌then◌else◌}
+use Rattle.std.specs.Prelude.{◌≡◌, ◌<◌, ◌≤◌, ◌^◌, ℕ, IsTrue, Bool, pos, true, false, List, Option, Some, None, codes, find, option_map, if◌then◌else◌}
 use Rattle.std.specs.Option.{option_map_or}
 use Rattle.std.specs.Str.{bytes_eq}
 use Rattle.std.specs.Str.Parse.{digits_value, without_leading_plus}
 use Rattle.clap.specs.Lexer.{without_minus}
-use Rattle.clap.specs.Values.{IsSignedIn}
+use Rattle.clap.specs.Values.{IsSignedIn, IsUnsignedIn}
 use Rattle.clap.specs.Walk.{Row, Text, one_of}
 use Rattle.clap.specs.Simple.{subcommand_of}
 use Rattle.clap.specs.Takes.{takes}
@@ -41,7 +41,14 @@ was_given id rows = option_map_or came_in_words (find (λ r. bytes_eq r.id id) r
 
 -- the options of a simulation, by the rows of what was given
 abbrev pub options_of : List Row → SimOptions
-options_of rows = record { pages = number_or 256 (codes "pages") rows; order = was_given (codes "order") rows }
+options_of rows = record {
+  pages = number_or 256 (codes "pages") rows;
+  scanners = number_or 1 (codes "scanners") rows;
+  turns = number_or 1000000 (codes "turns") rows;
+  steps = number_or 10000000 (codes "steps") rows;
+  seed = option_map number_in (one_of (codes "seed") rows);
+  order = was_given (codes "order") rows;
+}
 
 -- the job of a subcommand, by its name and its rows; `sim` is the only one
 abbrev pub job_from : Text × List Row → Job
@@ -62,17 +69,31 @@ abbrev pub IsReadable : Text → List Row → Type 0
 IsReadable id rows = (t : Text) → one_of id rows ≡ Some t
     → (least : ℕ) × (most : ℕ) × (v : Text) × (most < 2 ^ 32) × (t ≡ without_minus v) × IsSignedIn (pos least) (pos most) v
 
+-- the text of `--seed` is that of a number of 64 bits
+abbrev pub HoldsSeed : List Row → Type 0
+HoldsSeed rows = (t : Text) → one_of (codes "seed") rows ≡ Some t → IsUnsignedIn 0 18446744073709551615 t
+
 -- the rows of a simulation
 pub record IsSim (rows : List Row) : Type 0 where
   pub pages : HoldsNumber 4 2048 (codes "pages") rows
+  pub scanners : HoldsNumber 0 8 (codes "scanners") rows
+  pub turns : HoldsNumber 1 10000000 (codes "turns") rows
+  pub steps : HoldsNumber 1 100000000 (codes "steps") rows
+  pub seed : HoldsSeed rows
 
 -- a subcommand of the command line, with rows that it may have
 abbrev pub IsKnown : Text × List Row → Type 0
 IsKnown p = (p.0 ≡ codes "sim") × IsSim p.1
 
--- the numbers of a job are in their ranges: a space may have so many pages
+-- a space may have so many pages, there may be so many scanners, and a mutator may execute so many instructions
+pub record AreInRange (options : SimOptions) : Type 0 where
+  pub pages : IsTrue (is_size options.pages)
+  pub scanners : options.scanners ≤ 8
+  pub turns : (1 ≤ options.turns) × (options.turns ≤ 10000000)
+
+-- the numbers of a job are in their ranges
 abbrev pub IsInRange : Job → Type 0
-IsInRange (Sim options) = IsTrue (is_size options.pages)
+IsInRange (Sim options) = AreInRange options
 
 abbrev pub error_for : ErrorKind → WordsError
 error_for OutOfMemory = NoMemory

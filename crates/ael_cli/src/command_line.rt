@@ -34,8 +34,18 @@ fn sim_command<'a>(alloc: Global) -> Result<Command<'a>, AllocError>
     ensures local { IfOk result (λ r. (out-Command r).has_globals ≡ false) }
 {
     let pages = value_option(alloc, "pages", value_parser!(u32).range(4..=2048));
+    let scanners = value_option(alloc, "scanners", value_parser!(u32).range(0..=8));
+    let turns = value_option(alloc, "turns", value_parser!(u32).range(1..=10_000_000));
+    let steps = value_option(alloc, "steps", value_parser!(u32).range(1..=100_000_000));
+    let seed = value_option(alloc, "seed", value_parser!(u64));
     let order = flag(alloc, "order");
-    Command::new(alloc, "sim").arg(pages)?.arg(order)
+    Command::new(alloc, "sim")
+        .arg(pages)?
+        .arg(scanners)?
+        .arg(turns)?
+        .arg(steps)?
+        .arg(seed)?
+        .arg(order)
 }
 
 /// The subcommands of `ael`. The words have no program name before them, and a request for help is

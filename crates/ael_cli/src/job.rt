@@ -12,6 +12,14 @@ pub enum Job {
 pub struct SimOptions {
     /// The pages of a space.
     pub pages: u32,
+    /// The scanners beside the mutators.
+    pub scanners: u32,
+    /// How many instructions a mutator may execute.
+    pub turns: u32,
+    /// How many steps the run may make.
+    pub steps: u32,
+    /// What the order of steps is drawn from, in place of the program's schedule.
+    pub seed: Option<u64>,
     /// Whether the order of the run is printed.
     pub order: bool,
 }

@@ -7,6 +7,7 @@ mod job;
 mod memory;
 mod reading;
 mod run;
+mod scheduler;
 mod sim;
 mod sink;
 mod source;

@@ -1,11 +1,18 @@
-//! A run of a core by the workers in turn.
+//! A run of a core by a schedule.
 
-ghost use Rattle.std.specs.Prelude.{◌≡◌, ◌<◌, ◌++◌, IfOk, OnOk, true};
+ghost use Rattle.std.specs.Prelude.{◌≡◌, ◌<◌, ◌++◌, IfOk, IsTrue, OnOk, true};
+ghost use Rattle.std.specs.List.{list_all};
 ghost use Rattle.std.specs.Option.{option_to_list};
+ghost use Rattle.mutator_asm.specs.Program.{is_item};
 ghost use Rattle.gc_core.specs.Configuration.{workers_of};
-ghost use Rattle.gc_core.specs.Run.{run_from, in_turn, mark_of};
+ghost use Rattle.gc_core.specs.Event.{event_of, core_after};
+ghost use Rattle.gc_core.specs.Run.{run_from, mark_of};
+ghost use Rattle.ael_cli.specs.Schedule.{schedule_of};
 
+use crate::job::SimOptions;
+use crate::scheduler::Scheduler;
 use gc_core::{Core, Stepped};
+use mutator_asm::Item;
 use plain_heap::Mark;
 use std::alloc::{AllocError, Global};
 
@@ -21,21 +28,41 @@ fn note(order: &mut Vec<Mark>, keep: bool, stepped: Stepped) -> Result<(), Alloc
     Ok(())
 }
 
-/// Steps the workers in turn until every mutator has its end, or for so many steps. Each turn
-/// counts as a step. The order is kept only where it is asked for.
-pub fn run(alloc: Global, core: &mut Core, steps: u32, keep: bool) -> Result<Vec<Mark>, AllocError>
-    requires { 0 < workers_of core.old }
-    ensures core { OnOk result (core.new ≡ (run_from (in_turn (workers_of core.old)) 0 steps core.old).last) }
-    ensures order { IfOk result (λ order. keep ≡ true → order.items ≡ (run_from (in_turn (workers_of core.old)) 0 steps core.old).order) }
+/// The step of a worker, which is idle where there is no such worker.
+fn step(core: &mut Core, worker: u8) -> Stepped
+    ensures told { result ≡ (event_of core.old worker).told }
+    ensures after { core.new ≡ core_after core.old worker }
+    ensures workers { workers_of core.new ≡ workers_of core.old }
+{
+    if worker < core.workers() {
+        core.step(worker)
+    } else {
+        Stepped::Idle
+    }
+}
+
+/// Steps the workers that the schedule names until every mutator has its end, or for so many steps.
+/// Each position of the schedule counts as a step. The order is kept only where it is asked for.
+pub fn run(
+    alloc: Global,
+    core: &mut Core,
+    items: &[Item],
+    options: SimOptions,
+) -> Result<Vec<Mark>, AllocError>
+    requires some { 0 < workers_of core.old }
+    requires items { IsTrue (list_all is_item items.now) }
+    ensures core { OnOk result (core.new ≡ (run_from (schedule_of options.seed items.now (workers_of core.old)) 0 options.steps core.old).last) }
+    ensures order { IfOk result (λ order. options.order ≡ true
+        → order.items ≡ (run_from (schedule_of options.seed items.now (workers_of core.old)) 0 options.steps core.old).order) }
 {
     let mut order = Vec::new(alloc);
-    let workers = u32::from(core.workers());
-    for position in 0..steps {
+    let mut scheduler = Scheduler::new(options.seed, items, core.workers());
+    for _ in 0..options.steps {
         if core.all_ended() {
             break;
         }
-        let stepped = core.step((position % workers) as u8);
-        note(&mut order, keep, stepped)?;
+        let stepped = step(core, scheduler.next());
+        note(&mut order, options.order, stepped)?;
     }
     Ok(order)
 }

@@ -1,11 +1,12 @@
-//! The command `sim`: a program run by the workers in turn.
+//! The command `sim`: a program run by a schedule.
 
-ghost use Rattle.std.specs.Prelude.{◌≡◌, ◌++◌, IfOk, IsTrue, OnOk, map, string_bytes};
+ghost use Rattle.std.specs.Prelude.{◌≡◌, ◌++◌, IfOk, OnOk, map, string_bytes};
 ghost use Rattle.std.specs.List.{list_all};
-ghost use Rattle.gc_core.specs.Configuration.{is_size, opening_core};
+ghost use Rattle.gc_core.specs.Configuration.{opening_core};
 ghost use Rattle.gc_core.specs.Whole.{seen_of};
 ghost use Rattle.ael_cli.specs.Seen.{lines_seen, is_halt, has_halted, status_seen};
 ghost use Rattle.ael_cli.specs.Simulation.{config, flag_lines, IsSimulated};
+ghost use Rattle.ael_cli.specs.Words.{AreInRange};
 
 use crate::answer::Answer;
 use crate::job::SimOptions;
@@ -16,24 +17,15 @@ use mutator_asm::Program;
 use plain_heap::{End, Mark, NoMemory, push_lines, push_order};
 use std::alloc::Global;
 
-/// The scanners beside the mutators.
-const SCANNERS: u8 = 1;
-
-/// How many instructions a mutator may execute.
-const TURNS: u32 = 1_000_000;
-
-/// How many steps a run may make.
-const STEPS: u32 = 10_000_000;
-
 /// The core of a run.
 fn open<'p>(alloc: Global, program: &'p Program, options: SimOptions) -> Result<Core<'p>, NoMemory>
-    requires { IsTrue (is_size options.pages) }
+    requires { AreInRange options }
     ensures { IfOk result (λ core. core ≡ opening_core program.now.code (config options)) }
 {
     let config = Config {
         pages: options.pages,
-        scanners: SCANNERS,
-        turns: TURNS,
+        scanners: options.scanners as u8,
+        turns: options.turns,
     };
     match Core::open(alloc, program, &config) {
         Ok(core) => Ok(core),
@@ -99,12 +91,12 @@ fn verdict(core: &Core) -> Status
 
 /// Runs a program, and prints what its mutators printed.
 pub fn sim(alloc: Global, program: &Program, options: SimOptions) -> Result<Answer, NoMemory>
-    requires { IsTrue (is_size options.pages) }
-    ensures { IfOk result (λ answer. IsSimulated options program.now.code (string_bytes answer.output) answer.status) }
+    requires { AreInRange options }
+    ensures { IfOk result (λ answer. IsSimulated options program.now.schedule program.now.code (string_bytes answer.output) answer.status) }
 {
     runs_follow();
     let mut core = open(alloc, program, options)?;
-    let order = run(alloc, &mut core, STEPS, options.order)?;
+    let order = run(alloc, &mut core, program.schedule.as_slice(), options)?;
     let mut output = String::new(alloc);
     push_mutators(&mut output, &core)?;
     push_flags(&mut output, options, &order)?;

@@ -1,7 +1,8 @@
 //! A source and a sink that never fail.
 
-ghost use Rattle.std.specs.Prelude.{◌≡◌, ◌≤◌, ◌⊎◌, [], List, None, Some, length, map, string_bytes};
+ghost use Rattle.std.specs.Prelude.{◌≡◌, ◌≤◌, ◌⊎◌, List, None, Some, length, map, string_bytes};
 ghost use Rattle.mutator_asm.specs.declared.instr.Instr.{Instr};
+ghost use Rattle.mutator_asm.specs.declared.item.Item.{Item};
 ghost use Rattle.mutator_asm.specs.Text.{IsText};
 ghost use Rattle.ael_cli.specs.declared.job.Job.TheVariants.{Sim};
 ghost use Rattle.ael_cli.specs.declared.job.SimOptions.{SimOptions};
@@ -73,9 +74,9 @@ impl Sink for SureSink {
 
 /// The exit status of a call whose ends never fail.
 pub fn sure_status<R>(rt: &R, alloc: Global, words: &[String], input: Vec<u8>) -> u8
-    ensures { (options : SimOptions) (program : List (List Instr)) → job_of (map string_bytes words.now) ≡ Some (Sim options)
-        → length input.items ≤ MAX_INPUT → IsText input.items program []
-        → (result ≡ code_of (status_of options program)) ⊎ (result ≡ 7) }
+    ensures { (options : SimOptions) (items : List Item) (program : List (List Instr)) → job_of (map string_bytes words.now) ≡ Some (Sim options)
+        → length input.items ≤ MAX_INPUT → IsText input.items program items
+        → (result ≡ code_of (status_of options items program)) ⊎ (result ≡ 7) }
 {
     let mut src = SureSource::new(input);
     ael(rt, alloc, words, &mut src, &mut SureSink, &mut SureSink)

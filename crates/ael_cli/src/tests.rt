@@ -1,13 +1,14 @@
 //! The program's answers, over sources and sinks in memory and over a file.
 
 mod instructions;
+mod schedules;
+mod texts;
+mod words;
 
-use crate::job::{Job, SimOptions};
 use crate::memory::{MemSink, MemSource};
 use crate::standard::{StdSink, StdSource};
 use crate::sure::sure_status;
 use crate::top_call::ael;
-use crate::words::{WordsError, read_words};
 use mutator_asm::assemble;
 use plain_heap::{Mark, PlainState, plain_run, plain_step, print};
 use std::alloc::Global;
@@ -147,7 +148,7 @@ fn texts_print_what_they_should(rt: HostRuntime) -> Result<(), Fail> {
             &["sim"],
             "",
             "",
-            "ael: line 1: error 1: unknown instruction\n",
+            "ael: line 1: error 5: no mutator\n",
             1,
         ),
     ];
@@ -180,67 +181,6 @@ fn input_has_a_limit(rt: HostRuntime) -> Result<(), Fail> {
     assert_eq!(rt; past.out.bytes(), b"".as_slice());
     assert_eq!(rt; past.err.bytes(), b"ael: input too long\n".as_slice());
     assert_eq!(rt; past.status, 8);
-    Ok(())
-}
-
-/// What the words mean: the pages and whether the order is printed, or that they are refused.
-const COMMAND_LINES: [(&[&str], Option<(u32, bool)>); 44] = [
-    (&["sim"], Some((256, false))),
-    (&["sim", "--order"], Some((256, true))),
-    (&["sim", "--pages", "8"], Some((8, false))),
-    (&["sim", "--pages=8"], Some((8, false))),
-    (&["sim", "--pages", "08"], Some((8, false))),
-    (&["sim", "--pages", "+8"], Some((8, false))),
-    (&["sim", "--pages", "4", "--order"], Some((4, true))),
-    (&["sim", "--order", "--pages", "2048"], Some((2048, true))),
-    (&["sim", "--"], Some((256, false))),
-    (&["sim", "--order", "--"], Some((256, true))),
-    (&[], None),
-    (&[""], None),
-    (&["--"], None),
-    (&["--", "sim"], None),
-    (&["sim", "--pages"], None),
-    (&["sim", "--pages", "--order"], None),
-    (&["sim", "--pages", "8", "--pages", "8"], None),
-    (&["sim", "--pages", "0x8"], None),
-    (&["sim", "--pages", "8.0"], None),
-    (&["sim", "--pages", ""], None),
-    (&["sim", "--pages="], None),
-    (&["sim", "--pages", "3"], None),
-    (&["sim", "--pages", "2049"], None),
-    (&["sim", "--pages", "-8"], None),
-    (&["sim", "--order", "--order"], None),
-    (&["sim", "--order=x"], None),
-    (&["sim", "--order="], None),
-    (&["sim", "--page", "8"], None),
-    (&["sim", "--cycles"], None),
-    (&["sim", "--seed", "1"], None),
-    (&["sim", "x"], None),
-    (&["sim", "--", "x"], None),
-    (&["sim", "--", "--order"], None),
-    (&["--order", "sim"], None),
-    (&["--pages", "8", "sim"], None),
-    (&["help"], None),
-    (&["help", "sim"], None),
-    (&["--help"], None),
-    (&["-h"], None),
-    (&["-V"], None),
-    (&["--version"], None),
-    (&["sim", "--help"], None),
-    (&["asm"], None),
-    (&["bench", "1", "1"], None),
-];
-
-#[test]
-fn words_are_read_as_clap_takes_them(rt: HostRuntime) -> Result<(), Fail> {
-    for (words, meaning) in COMMAND_LINES {
-        let wanted = match meaning {
-            Some((pages, order)) => Ok(Job::Sim(SimOptions { pages, order })),
-            None => Err(WordsError::Refused),
-        };
-        let found = read_words(rt.alloc(), &owned(rt.alloc(), words)?);
-        assert_eq!(rt; found, wanted, "{words:?}");
-    }
     Ok(())
 }
 

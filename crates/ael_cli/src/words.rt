@@ -57,6 +57,10 @@ fn sim_options(matches: &ArgMatches) -> SimOptions
 {
     SimOptions {
         pages: number(matches, "pages", 256),
+        scanners: number(matches, "scanners", 1),
+        turns: number(matches, "turns", 1_000_000),
+        steps: number(matches, "steps", 10_000_000),
+        seed: matches.get_one::<u64>("seed"),
         order: is_given(matches, "order"),
     }
 }

@@ -1,15 +1,18 @@
-use Rattle.std.proofs.Common.{◌≡◌, true}
+use Rattle.std.proofs.Common.{◌≡◌, ◌+◌, ℕ, true}
 use Rattle.gc_core.specs.Configuration.{workers_of}
-use Rattle.gc_core.specs.Run.{run_from, in_turn}
+use Rattle.gc_core.specs.Run.{run_from}
+use Rattle.ael_cli.specs.Schedule.{schedule_of}
+use Rattle.ael_cli.specs.Scheduler.{to_come}
 use Rattle.ael_cli.proofs.Runs.{ComesTo, ComesToOrder}
 use Rattle.ael_cli.proofs.run.run.Given as goal
 
-abbrev pub invariant-loop-position : goal.invariant-loop-position
-invariant-loop-position l =
-    let schedule = in_turn l.workers in
-    let all = run_from schedule 0 l.steps l.fn.core in
+abbrev pub invariant-loop : goal.invariant-loop
+invariant-loop l =
+    let steps = l.options.steps in
+    let schedule = schedule_of l.options.seed l.items (workers_of l.fn.core) in
+    let all = run_from schedule 0 steps l.fn.core in
     record {
-      workers : workers_of l.core ≡ l.workers;
-      core : ComesTo schedule l.position l.steps l.core all;
-      order : l.keep ≡ true → ComesToOrder schedule l.position l.steps l.core l.order.items all;
+      names : (at : ℕ) → to_come l.scheduler at ≡ schedule (l.counter + at);
+      core : ComesTo schedule l.counter steps l.core all;
+      order : l.options.order ≡ true → ComesToOrder schedule l.counter steps l.core l.order.items all;
     }
