@@ -62,7 +62,7 @@ pub record IsFew (before : Before) (n : ℕ) : Type 0 where
   pub lines : before.lines ≤ n
   pub instrs : before.instrs ≤ n
 
-pub few_before : (lines : List Line) (i : ℕ) (before : Before) → i ≤ length lines → before ≡ before_of (take i lines) → IsFew before i
+few_before : (lines : List Line) (i : ℕ) (before : Before) → i ≤ length lines → before ≡ before_of (take i lines) → IsFew before i
 unfolding before_of
 few_before lines i before le is =
     let xs = take i lines in
@@ -73,6 +73,10 @@ few_before lines i before le is =
       lines = omega (arith, part_short begins xs (count_by begins xs) [] inside);
       instrs = omega (arith, count_by-le-length counts xs);
     })
+
+-- the same before a line that was read
+pub few_read : (ls : List Read) (i : ℕ) (before : Before) → i < length ls → before ≡ before_of (take i (lines_view ls)) → IsFew before i
+few_read ls i before lt is = few_before (lines_view ls) i before (omega (arith, length-map ls line_view)) is
 
 -- ---- the section of a line
 

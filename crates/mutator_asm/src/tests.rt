@@ -164,6 +164,7 @@ fn the_first_line_counts_and_then_the_lowest_number(rt: HostRuntime) {
         (".mutator\na:\na: li r1", 2, 3),
         (".mutator\na:\na: jmp b", 3, 3),
         (".mutator\na:\na: li r0 4611686018427387904", 4, 3),
+        (".mutator\na:\na:\nfoo", 4, 3),
         ("li r0 4611686018427387904", 5, 1),
         ("jmp x\n.mutator\nx:", 3, 1),
         ("halt\n.mutator x", 5, 1),
@@ -197,8 +198,11 @@ fn limits_are_those_of_the_whole_text(rt: HostRuntime) -> Result<(), Fail> {
     let rows = [
         ("", ".mutator\n", 16, "", (0, 0)),
         ("", ".mutator\n", 16, ".mutator", (6, 17)),
+        ("", ".mutator\n", 17, "foo", (6, 17)),
         ("", ".mutator\n", 16, ".mutator x", (2, 17)),
         (".mutator\n", "halt\n", 65536, "", (0, 0)),
+        (".mutator\n", "halt\n", 65537, "", (7, 65538)),
+        (".mutator\n", "halt\n", 65537, "foo", (7, 65538)),
         (".mutator\n", "halt\n", 65536, ".mutator\nhalt", (7, 65539)),
         (
             ".mutator\n",

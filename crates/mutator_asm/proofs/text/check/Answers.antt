@@ -5,14 +5,13 @@ use Rattle.mutator_asm.specs.Labels.{and_line}
 use Rattle.mutator_asm.specs.Read.{line_view, lines_view}
 use Rattle.mutator_asm.specs.Text.{IsFirstError}
 use Rattle.mutator_asm.proofs.Clean.{first_error, clean_more, none_from}
-use Rattle.mutator_asm.proofs.Counts.{few_before, before_more, parts_enough, read_at, error_here, all_read}
+use Rattle.mutator_asm.proofs.Counts.{few_read, before_more, parts_enough, read_at, error_here, all_read}
 use Rattle.mutator_asm.proofs.Limits.{within_step, within_up_to}
 use Rattle.mutator_asm.proofs.text.check.Goals as goal
 
 pub offset_bounds-parts-before : goal.offset_bounds-parts-before
 offset_bounds-parts-before c =
-    let inside = length-map c.args.lines.now line_view in
-    let few = few_before (lines_view c.args.lines.now) c.loop-i.i c.loop-i.before (omega arith) c.loop-i.invariant.before in
+    let few = few_read c.args.lines.now c.loop-i.i c.loop-i.before c.loop-i-test.true c.loop-i.invariant.before in
     omega arith
 
 pub bounds-parts-before : goal.bounds-parts-before
@@ -27,20 +26,17 @@ returns-in-Some-clause-fault c =
 
 pub and-before-requires-clause-sections : goal.and-before-requires-clause-sections
 and-before-requires-clause-sections c =
-    let inside = length-map c.args.lines.now line_view in
-    let few = few_before (lines_view c.args.lines.now) c.loop-i.i c.loop-i.before (omega arith) c.loop-i.invariant.before in
+    let few = few_read c.args.lines.now c.loop-i.i c.loop-i.before c.loop-i-test.true c.loop-i.invariant.before in
     omega arith
 
 pub and-before-requires-clause-lines : goal.and-before-requires-clause-lines
 and-before-requires-clause-lines c =
-    let inside = length-map c.args.lines.now line_view in
-    let few = few_before (lines_view c.args.lines.now) c.loop-i.i c.loop-i.before (omega arith) c.loop-i.invariant.before in
+    let few = few_read c.args.lines.now c.loop-i.i c.loop-i.before c.loop-i-test.true c.loop-i.invariant.before in
     omega arith
 
 pub and-before-requires-clause-instrs : goal.and-before-requires-clause-instrs
 and-before-requires-clause-instrs c =
-    let inside = length-map c.args.lines.now line_view in
-    let few = few_before (lines_view c.args.lines.now) c.loop-i.i c.loop-i.before (omega arith) c.loop-i.invariant.before in
+    let few = few_read c.args.lines.now c.loop-i.i c.loop-i.before c.loop-i-test.true c.loop-i.invariant.before in
     omega arith
 
 pub and-before-requires-clause-items : goal.and-before-requires-clause-items
