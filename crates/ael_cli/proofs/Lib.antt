@@ -3,6 +3,7 @@ pub mod Runs
 pub mod Rounds
 pub mod Seeing
 pub mod Simulating
+pub mod Staying
 pub mod Plainly
 pub mod NoFault
 pub mod Values

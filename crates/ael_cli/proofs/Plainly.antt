@@ -5,6 +5,7 @@ use Rattle.mutator_asm.specs.declared.instr.Instr.{Instr}
 use Rattle.mutator_asm.specs.declared.item.Item.{Item}
 use Rattle.mutator_asm.specs.Text.{IsText, IsFault}
 use Rattle.mutator_asm.specs.Theorems.{MeansOneProgram, HasNoFault}
+use Rattle.plain_heap.specs.Solo.{AlwaysTheSame}
 use Rattle.ael_cli.specs.declared.reading.TheConstants.{MAX_INPUT}
 use Rattle.ael_cli.specs.declared.job.Job.{Job}
 use Rattle.ael_cli.specs.declared.job.Job.TheVariants.{Sim}
@@ -13,11 +14,12 @@ use Rattle.ael_cli.specs.declared.status.Status.{Status}
 use Rattle.ael_cli.specs.declared.status.Status.TheVariants.{Done, Text, Usage, Ended, StepsOut, ReadFault, WriteFault, NoMemory, TooLong}
 use Rattle.ael_cli.specs.Answer.{IsRun, IsCaused, IsAnswer}
 use Rattle.ael_cli.specs.Ends.{Drawn, Filled, IsFaultless}
-use Rattle.ael_cli.specs.Headline.{Emits, AllWritten, OutFailed, BothFailed, ErrFailed, IsAnswered, GoesWell, PrintsPlainly, EndsAsOrdered}
-use Rattle.ael_cli.specs.Simulation.{IsSimulated}
+use Rattle.ael_cli.specs.Headline.{Emits, AllWritten, OutFailed, BothFailed, ErrFailed, IsAnswered, GoesWell, PrintsPlainly, EndsAsOrdered, IsAlwaysTheSame}
+use Rattle.ael_cli.specs.Simulation.{IsSimulated, order_of, plain_of}
 use Rattle.ael_cli.specs.Status.{code_of}
 use Rattle.ael_cli.specs.Stream.{Grows}
 use Rattle.ael_cli.specs.Words.{job_of}
+use Rattle.ael_cli.proofs.Staying.{plain_count}
 
 module _ (one : MeansOneProgram) (no_fault : HasNoFault) (options : SimOptions) (bytes : List ℕ) (items : List Item) (program : List (List Instr)) (text : IsText bytes program items) where
   -- what a run answers
@@ -78,3 +80,11 @@ module _ (one : MeansOneProgram) (no_fault : HasNoFault) (words : List (List ℕ
         | inl simulated ↦ inl (w.1 ∙ ap code_of simulated.status_is)
         | inr none ↦ inr (w.1 ∙ ap code_of none)
       ]
+
+  pub is_always_the_same : AlwaysTheSame → IsAlwaysTheSame words source out err code
+  is_always_the_same same options items program well memory shares_nothing = record {
+    mutators = (plain_of options items program).mutators;
+    all = plain_count program options.turns (order_of options items program);
+    printed = (prints_plainly options items program well memory).0;
+    alone = λ m k at. same program options.turns (order_of options items program) m k shares_nothing at;
+  }

@@ -7,6 +7,7 @@ pub record Turn : Type 0 where
   pub next : ℕ
   pub workers : ℕ
 
+-- the next of them comes first
 abbrev pub in_turn_from : Turn → ℕ → ℕ
 in_turn_from turn at = (turn.next + at) % turn.workers
 
@@ -21,6 +22,7 @@ then_repeated [] steps at = repeated steps at
 then_repeated (worker ∷ rest) steps zero = worker
 then_repeated (worker ∷ rest) steps (suc at) = then_repeated rest steps at
 
+-- the rest of the round comes first
 abbrev pub listed_from : Round → ℕ → ℕ
 listed_from round at = then_repeated round.rest round.steps at
 
@@ -29,5 +31,6 @@ pub record Draw : Type 0 where
   pub state : ℕ
   pub workers : ℕ
 
+-- the word that the state gives comes first
 abbrev pub drawn_from : Draw → ℕ → ℕ
 drawn_from draw at = drawn draw.state draw.workers at

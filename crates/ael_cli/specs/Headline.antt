@@ -1,9 +1,12 @@
 -- The headline: what a call of the program answers, and what its sinks hold then.
-use Rattle.std.specs.Prelude.{◌≡◌, ◌≢◌, ◌⊎◌, ◌≤◌, ℕ, List, length, Option, Some, None}
+use Rattle.std.specs.Prelude.{◌≡◌, ◌≢◌, ◌⊎◌, ◌≤◌, ◌++◌, ℕ, List, length, Option, Some, None, IsTrue, slice_get}
 use Rattle.mutator_asm.specs.declared.instr.Instr.{Instr}
 use Rattle.mutator_asm.specs.declared.item.Item.{Item}
 use Rattle.mutator_asm.specs.Text.{IsText}
+use Rattle.plain_state.specs.State.{Mutator}
 use Rattle.plain_heap.specs.Order.{opening}
+use Rattle.plain_heap.specs.Print.{lines_from}
+use Rattle.plain_heap.specs.Solo.{IsAsAlone, is_alone}
 use Rattle.gc_core.specs.Whole.{EachActs}
 use Rattle.ael_cli.specs.declared.reading.TheConstants.{MAX_INPUT}
 use Rattle.ael_cli.specs.declared.job.Job.{Job}
@@ -14,7 +17,7 @@ use Rattle.ael_cli.specs.declared.status.Status.TheVariants.{ReadFault, WriteFau
 use Rattle.ael_cli.specs.Answer.{IsAnswer}
 use Rattle.ael_cli.specs.Ends.{Drawn, Filled, IsFaultless, IsWritten, IsCutOff}
 use Rattle.ael_cli.specs.Input.{IsBounded}
-use Rattle.ael_cli.specs.Simulation.{config, order_of, output_of, status_of}
+use Rattle.ael_cli.specs.Simulation.{config, flag_lines, order_of, output_of, status_of}
 use Rattle.ael_cli.specs.Status.{code_of, line_of}
 use Rattle.ael_cli.specs.Stream.{Grows}
 use Rattle.ael_cli.specs.Words.{job_of}
@@ -70,3 +73,18 @@ PrintsPlainly words source out err code = (options : SimOptions) (items : List I
 abbrev pub EndsAsOrdered : List (List ℕ) → Drawn → Filled → Filled → ℕ → Type 0
 EndsAsOrdered words source out err code = (options : SimOptions) (items : List Item) (program : List (List Instr)) → GoesWell words source out err options items program
     → (code ≡ code_of (status_of options items program)) ⊎ (code ≡ 7)
+
+-- The bytes held grow by the lines of mutators, one for each section, and those of the flags. Each
+-- mutator printed the first of the numbers that it prints alone on the plain machine; where it has
+-- an end, and that isn't heap full, it printed all of them and the end is the same.
+pub record PrintsAsAlone (options : SimOptions) (items : List Item) (program : List (List Instr)) (out : Filled) : Type 0 where
+  pub mutators : List Mutator
+  pub all : length mutators ≡ length program
+  pub printed : Grows out.held (lines_from 0 mutators ++ flag_lines options (order_of options items program)) out.holds
+  pub alone : (m : ℕ) (k : Mutator) → slice_get mutators m ≡ Some k → IsAsAlone program options.turns m k
+
+-- The second sentence of the headline. Where nothing fails and memory was not wanting, the mutators
+-- of a program without `get`, `put` and `swap` print what they print alone, whatever the schedule is.
+abbrev pub IsAlwaysTheSame : List (List ℕ) → Drawn → Filled → Filled → ℕ → Type 0
+IsAlwaysTheSame words source out err code = (options : SimOptions) (items : List Item) (program : List (List Instr)) → GoesWell words source out err options items program → code ≢ 7
+    → IsTrue (is_alone program) → PrintsAsAlone options items program out

@@ -2,7 +2,7 @@
 
 ghost use Rattle.std.specs.Prelude.{◌≡◌, ◌≢◌, [], Err, IsSome, IfOk, IfErr, IfSome, map, string_bytes};
 ghost use Rattle.ael_cli.specs.Answer.{IsAnswer, IsCaused};
-ghost use Rattle.ael_cli.specs.Headline.{EndsAsOrdered, IsAnswered, IsDrawn, PrintsPlainly};
+ghost use Rattle.ael_cli.specs.Headline.{EndsAsOrdered, IsAlwaysTheSame, IsAnswered, IsDrawn, PrintsPlainly};
 ghost use Rattle.ael_cli.specs.declared.status.Status.TheVariants.{ReadFault};
 ghost use Rattle.ael_cli.specs.Ends.{drawn, filled};
 ghost use Rattle.ael_cli.specs.Input.{IsBounded};
@@ -18,6 +18,7 @@ use crate::status::Status;
 use crate::words::{WordsError, read_words};
 use crate::writing::emit;
 use mutator_asm::{assemble, never_both, one_program};
+use plain_heap::alone_mutators_are_independent;
 use std::alloc::Global;
 
 /// Runs the command that the words after the program's name ask for, and answers the exit status.
@@ -35,6 +36,8 @@ pub fn ael<R, S: Source, O: Sink, E: Sink>(
     ensures complete { EndsAsOrdered (map string_bytes words.now) (drawn S.left S.faults src.old src.new)
         (filled O.held O.faults out.old out.new) (filled E.held E.faults err.old err.new) result }
     ensures prints { PrintsPlainly (map string_bytes words.now) (drawn S.left S.faults src.old src.new)
+        (filled O.held O.faults out.old out.new) (filled E.held E.faults err.old err.new) result }
+    ensures always_the_same { IsAlwaysTheSame (map string_bytes words.now) (drawn S.left S.faults src.old src.new)
         (filled O.held O.faults out.old out.new) (filled E.held E.faults err.old err.new) result }
 {
     ael_still(alloc, words, src, out, err).unwrap()
@@ -56,9 +59,12 @@ pub fn ael_still<S: Source, O: Sink, E: Sink>(
         (filled O.held O.faults out.old out.new) (filled E.held E.faults err.old err.new)) }
     ensures prints { IfSome result (PrintsPlainly (map string_bytes words.now) (drawn S.left S.faults src.old src.new)
         (filled O.held O.faults out.old out.new) (filled E.held E.faults err.old err.new)) }
+    ensures always_the_same { IfSome result (IsAlwaysTheSame (map string_bytes words.now) (drawn S.left S.faults src.old src.new)
+        (filled O.held O.faults out.old out.new) (filled E.held E.faults err.old err.new)) }
 {
     one_program();
     never_both();
+    alone_mutators_are_independent();
     let answer = answer(alloc, words, src);
     let status = emit(&answer, out, err);
     Some(status.code())

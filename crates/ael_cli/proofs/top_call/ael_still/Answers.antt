@@ -2,7 +2,7 @@ use Rattle.std.proofs.Common.{refl}
 use Rattle.std.specs.Prelude.{string_bytes, map}
 use Rattle.ael_cli.specs.Ends.{Drawn, Filled, drawn, filled}
 use Rattle.ael_cli.specs.Headline.{IsAnswered}
-use Rattle.ael_cli.proofs.Plainly.{prints_plainly, ends_as_ordered}
+use Rattle.ael_cli.proofs.Plainly.{prints_plainly, ends_as_ordered, is_always_the_same}
 use Rattle.ael_cli.proofs.top_call.ael_still.Goals as goal
 
 pub returns : goal.returns
@@ -29,4 +29,5 @@ returns g c =
       headline = answered;
       complete = ends_as_ordered one no_fault words source out err code answered;
       prints = prints_plainly one no_fault words source out err code answered;
+      always_the_same = is_always_the_same one no_fault words source out err code answered c.alone_mutators_are_independent.ensures.same;
     }
