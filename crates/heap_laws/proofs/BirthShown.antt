@@ -1,0 +1,159 @@
+-- The plain heap gains the record that begins to stand.
+use Rattle.std.proofs.Common.{◌≡◌, ◌≢◌, ℕ, ◌+◌, ◌-◌, ◌<◌, length, get_or, slice_get, Some, None, refl, sym, ap, ◌∙◌, arith, lt-ltb, ⊎_elim, ◌⊎◌}
+use Rattle.std.proofs.lemmas.Bool.{cases_eq}
+use Rattle.std.proofs.lemmas.List.{length-replicate}
+use Rattle.std.proofs.lemmas.Option.{slice_get-get_or, slice_get_within}
+use Rattle.heap_words.specs.declared.kind.Kind.{Kind}
+use Rattle.plain_state.specs.State as plain
+use Rattle.plain_state.specs.declared.value.Identity.{Identity}
+use Rattle.plain_state.specs.declared.value.Value.TheVariants.{Number}
+use Rattle.heap_state.specs.Era.{Era, IsLaidOut, Memory}
+use Rattle.heap_state.specs.Functions.{put}
+use Rattle.heap_state.specs.Ghost.{Ghost, Lands}
+use Rattle.heap_state.specs.Inductive.{Invariant}
+use Rattle.heap_state.specs.Values.{value_of, Shows, ShowsAll, Accounts, RegistersShow, BoardShows, Shown}
+use Rattle.heap_state.specs.Worker.{Worker, Team, Stock}
+use Rattle.heap_state.proofs.Puts.{put_at, put_other, put_same, proj_put}
+use Rattle.heap_laws.specs.Steps.{with_word, with_worker}
+use Rattle.heap_laws.specs.Fields.{with_heap}
+use Rattle.heap_laws.specs.Opening.{opening_mutator}
+use Rattle.heap_laws.specs.Placing.{next_identity, born, placed, gained, PlacesNext, PlacingShows}
+use Rattle.heap_laws.proofs.AllocFree.{IsFree, word_same, board_same}
+use Rattle.heap_laws.proofs.AllocHeader.{cradle, free, mutator, zeros}
+use Rattle.heap_laws.proofs.BirthParts.{Cradle, unused as unused_place, was, same_size, same_writer}
+use Rattle.heap_laws.proofs.BirthValues.{field_lands, value_born}
+use Rattle.heap_laws.proofs.FieldStore.{board_here}
+use Rattle.heap_laws.proofs.Opening.{zero_word}
+use Rattle.heap_laws.proofs.PlainGains.{fresh_record, gained_there, gained_elsewhere, gained_serial, gained_serial_other, gained_makers}
+use Rattle.heap_laws.proofs.PlainLists.{slice_get-of_replicate}
+
+zero_value : (identity : ℕ → Identity) (w : ℕ) → w ≡ 0 → value_of identity w ≡ Some (Number 0)
+unfolding value_of
+zero_value identity w e = rw (e, zero_word) refl
+
+module _ (E : Era) (m : Memory) (team : Team) (g : Ghost) (p : plain.Plain) (k : ℕ) (q : Stock) (c : Kind) (z v : ℕ) (lay : IsLaidOut E) (inv : Invariant E m team g) (places : PlacesNext E team k q c z v) (s : Shown E m team g p) where
+  abbrev i : Identity
+  i = next_identity team k
+
+  abbrev heap : ℕ → ℕ
+  heap = put m.heap q.at v
+
+  abbrev g' : Ghost
+  g' = born g q.at z c i
+
+  abbrev w : Worker
+  w = placed team k q z
+
+  abbrev after : plain.Heap
+  after = gained p.heap k c (z - 1)
+
+  is_free : IsFree E g.size q.at
+  is_free = free E m team g k q c z v lay inv places
+
+  is_cradle : Cradle E m.front m.low g.size g.copy g.keeper q.at z
+  is_cradle = cradle E m team g k q c z v lay inv places
+
+  within : k < length p.heap.records
+  within = let u = mutator E m team g k q c z v lay inv places in let n = s.makers in omega arith
+
+  -- its serial is the next one
+  serial : (team.worker k).account.serial ≡ plain.serial_of p.heap k
+  serial =
+      let u = mutator E m team g k q c z v lay inv places in
+      let n = s.as_many in
+      (s.accounts k (get_or p.mutators k opening_mutator) (slice_get-get_or p.mutators k opening_mutator (omega arith))).serial
+
+  -- what leads to a record before denotes what it denoted
+  value_on : (x : ℕ) → Lands g.size g.writer x → value_of g'.identity x ≡ value_of g.identity x
+  value_on x lands = value_born g.size g.writer g.identity q.at i x (unused_place is_cradle) lands
+
+  -- ---- values
+
+  shows_new : Shows (value_of g'.identity) heap q.at c z (fresh_record p.heap k c (z - 1) within)
+  shows_new = record {
+    kind = refl;
+    size = let n = length-replicate (z - 1) (Number 0) in let l = places.some in omega arith;
+    fields = λ j l u t. zero_value g'.identity (heap (q.at + j)) (zeros E m team g k q c z v lay inv places j l u) ∙ sym (slice_get-of_replicate (z - 1) (j - 1) (Number 0) (omega arith));
+    words = λ j l u t. ap (λ x. Some (Number x)) (zeros E m team g k q c z v lay inv places j l u) ∙ sym (slice_get-of_replicate (z - 1) (j - 1) (Number 0) (omega arith));
+  }
+
+  shows_old : (b : ℕ) → 0 < g.size b → g.writer b ≡ 0 → (g.copy b ≡ 0) ⊎ (0 < g.keeper b)
+      → (r : plain.Record) × (plain.record_of after (g.identity b) ≡ Some r) × Shows (value_of g'.identity) heap b (g.kind b) (g.size b) r
+  shows_old b st w o =
+      let a = s.objects.shows b st w o in
+      let t : Shows (value_of g.identity) m.heap b (g.kind b) (g.size b) a.0 = a.2 in (
+        a.0,
+        gained_elsewhere p.heap k c (z - 1) within (g.identity b) a.0 a.1,
+        record {
+          kind = t.kind;
+          size = t.size;
+          fields = λ j l u f. rw (word_same is_free g.writer g.kind m.heap v b j u) (value_on (m.heap (b + j)) (field_lands E m team g b j inv st w f l u) ∙ t.fields j l u f);
+          words = λ j l u f. rw (word_same is_free g.writer g.kind m.heap v b j u) (t.words j l u f);
+        },
+      )
+
+  objects : ShowsAll g'.size g'.writer g'.copy g'.keeper g'.kind g'.identity heap after
+  objects = record {
+    shows = λ b st w o. ⊎_elim
+        (λ (e : b ≡ q.at). rw (put_at g.size q.at z b e, put_at g.kind q.at c b e, put_at g.identity q.at i b e, e)
+        (fresh_record p.heap k c (z - 1) within, gained_there p.heap k c (z - 1) within i refl (let n = serial in omega arith), shows_new))
+        (λ (d : b ≢ q.at). rw (same_size is_cradle b d, put_other g.kind q.at c b d, put_other g.identity q.at i b d)
+        (shows_old b (was is_cradle b d st) (rw (same_writer is_cradle g.writer b d) at w) o))
+        (cases_eq b q.at);
+  }
+
+  board : BoardShows E (value_of g'.identity) heap after
+  board = record {
+    sixteen = s.board.sixteen;
+    board = λ x l. rw (board_same is_free g.writer g.kind m.heap v (E.board + x) (omega arith))
+        (value_on (m.heap (E.board + x)) (inv.landing.lands (E.board + x) (board_here E g.size g.writer g.kind x l)) ∙ s.board.board x l);
+  }
+
+  accounts : (j : ℕ) (r : plain.Mutator) → slice_get p.mutators j ≡ Some r → Accounts after j (put team.worker k w j).account r
+  accounts j r e = ⊎_elim
+      (λ (d : j ≡ k). let a : Accounts p.heap k (team.worker k).account r = rw d at (s.accounts j r e) in rw (d, put_same team.worker k w) (record {
+        counter = a.counter;
+        printed = a.printed;
+        executed = a.executed;
+        end = a.end;
+        serial = let n = a.serial in let t = gained_serial p.heap k c (z - 1) within in omega arith;
+      }))
+      (λ (d : j ≢ k). let a = s.accounts j r e in rw (put_other team.worker k w j d) (record {
+        counter = a.counter;
+        printed = a.printed;
+        executed = a.executed;
+        end = a.end;
+        serial = a.serial ∙ sym (gained_serial_other p.heap k c (z - 1) within j d);
+      }))
+      (cases_eq j k)
+
+  registers : (j : ℕ) (r : plain.Mutator) → slice_get p.mutators j ≡ Some r → RegistersShow (value_of g'.identity) (put team.worker k w j).registers r
+  registers j r e = rw (proj_put (λ u. u.registers) team.worker k w j refl) (shown_on (s.registers j r e))
+    where
+      shown_on : RegistersShow (value_of g.identity) (team.worker j).registers r → RegistersShow (value_of g'.identity) (team.worker j).registers r
+      shown_on t = record {
+        eight = t.eight;
+        registers_show = λ n x l. value_on ((team.worker j).registers x) (lands n x l) ∙ t.registers_show n x l;
+      }
+        where
+          lands : r.end ≡ None → (x : ℕ) → x < 8 → Lands g.size g.writer ((team.worker j).registers x)
+          lands n x l =
+              let u = slice_get_within p.mutators j r e in
+              let a = s.as_many in
+              let f = inv.staffed.few in
+              let b : j < team.mutators = omega arith in
+              let d : j < team.count = omega arith in
+              ((inv.workers j d).registers (inv.staffed.posts j d ∙ lt-ltb j team.mutators b) ((s.accounts j r e).end ∙ n)).lands x l
+
+  pub shows_placed : Shown E (with_word m q.at v) (with_worker team k w) g' (with_heap p after)
+  shows_placed = record {
+    objects = objects;
+    board = board;
+    as_many = s.as_many;
+    makers = gained_makers p.heap k c (z - 1) within ∙ s.makers;
+    accounts = accounts;
+    registers = registers;
+  }
+
+pub placing_shows : PlacingShows
+placing_shows = shows_placed

@@ -1,0 +1,273 @@
+-- The header of an old record is taken by the worker that is to copy it.
+use Rattle.std.proofs.Common.{◌≡◌, ◌≢◌, ℕ, ◌+◌, ◌-◌, ◌<◌, ◌≤◌, true, refl, sym, ap, ◌∙◌, arith, Some, None, ⊎_elim, ◌⊎◌, inl, inr, add-zero}
+use Rattle.std.proofs.lemmas.Bool.{cases_eq}
+use Rattle.heap_words.specs.declared.kind.Kind.{Kind}
+use Rattle.heap_words.specs.Decoded.{HeaderWord, BusyWord, ForwardWord, decode}
+use Rattle.plain_state.specs.State as plain
+use Rattle.heap_state.specs.Cycle.{Copying}
+use Rattle.heap_state.specs.Era.{Era, Memory}
+use Rattle.heap_state.specs.Functions.{put}
+use Rattle.heap_state.specs.Ghost.{Ghost}
+use Rattle.heap_state.specs.Inductive.{Invariant, Knows}
+use Rattle.heap_state.specs.Parts.Copies.{Copied, Kept}
+use Rattle.heap_state.specs.Parts.Copying.{IsOrigin, Copies, Licensed}
+use Rattle.heap_state.specs.Parts.Records.{Headed}
+use Rattle.heap_state.specs.Reachable.{Reachable}
+use Rattle.heap_state.specs.Worker.{Worker, Team, Quest, Copy, Scan, Origin, Register, Scanned, is_late}
+use Rattle.heap_state.proofs.Holding.{First, OwnHeader, KeptBy, GoneTo, first}
+use Rattle.heap_state.proofs.Frames.{counted_put, staffed_put, scanned_put, stocks_put, numbered_put}
+use Rattle.heap_state.proofs.Puts.{put_at, put_other, put_same, team_put, some_same, none≢some}
+use Rattle.heap_laws.specs.Copying.{copying, begun, taken}
+use Rattle.heap_laws.specs.Steps.{Ready, Alike, with_worker, with_word, Preserves}
+use Rattle.heap_laws.proofs.CopyingRoots.{asked_reachable}
+use Rattle.heap_laws.proofs.CopyingSpot.{Spot, opened_spot, landing_spot, older_spot, new_spot, space_spot, raw_spot, stocks_spot, origin_spot, scans_spot, objects_spot, board_spot}
+use Rattle.heap_laws.proofs.CopyingTeam.{same_standing, accounts_alike, registers_alike, rooted_alike}
+use Rattle.heap_laws.proofs.CopyingWord.{knows_spot, copying_spot, rooted_spot}
+
+-- a record whose own header stands in its place was not copied, and nobody keeps its header
+record Untaken (g : Ghost) (a len : ℕ) : Type 0 where
+  copy : g.copy a ≡ 0
+  keeper : g.keeper a ≡ 0
+  sized : g.size a ≡ len + 1
+
+untaken : (E : Era) (m : Memory) (team : Team) (g : Ghost) (inv : Invariant E m team g) (a : ℕ) (kind : Kind) (len serial mutator : ℕ) → 0 < g.size a → g.writer a ≡ 0
+    → decode (m.heap a) ≡ HeaderWord kind len serial mutator → Untaken g a len
+untaken E m team g inv a kind len serial mutator st w e = by_first (first E m team g inv a st w)
+  where
+    by_first : First E m team g inv a → Untaken g a len
+    by_first (OwnHeader n y h) = record { copy = n; keeper = y; sized = let q : HeaderWord kind len serial mutator ≡ HeaderWord (g.kind a) (g.size a - 1) (g.identity a).serial (g.identity a).mutator = sym e ∙ h in let z : len ≡ g.size a - 1 = cc in omega (arith, z, st) }
+    by_first (KeptBy k y h) = absurd (let q : HeaderWord kind len serial mutator ≡ BusyWord (g.size a - 1) k = sym e ∙ h in cc)
+    by_first (GoneTo b y c h) = absurd (let q : HeaderWord kind len serial mutator ≡ ForwardWord (g.size a - 1) b = sym e ∙ h in cc)
+
+module _ (E : Era) (m : Memory) (team : Team) (g : Ghost) (k : ℕ) (q : Quest) (kind : Kind) (len serial mutator v : ℕ) (ready : Ready E m team g k)
+    (idle : (team.worker k).copy ≡ None) (asks : (team.worker k).quest ≡ Some q) (seeks : q.found ≡ None)
+    (header : decode (m.heap q.old) ≡ HeaderWord kind len serial mutator) (word : decode v ≡ BusyWord len k) where
+  abbrev inv : Invariant E m team g
+  inv = ready.invariant
+
+  abbrev a : ℕ
+  a = q.old
+
+  abbrev c : Copy
+  c = begun (m.heap a) a (len + 1)
+
+  abbrev w' : Worker
+  w' = copying (team.worker k) c
+
+  abbrev g' : Ghost
+  g' = taken g k a
+
+  abbrev heap' : ℕ → ℕ
+  heap' = put m.heap (a + 0) v
+
+  me : Knows E m.gate m.traced m.front m.low m.old_front m.old_low m.old_owed g m.page m.cross m.announced m.heap k (team.worker k)
+  me = inv.workers k ready.member
+
+  old : (0 < g.size a) × (E.old_start ≤ a) × (a < E.old_start + E.old_span)
+  old = (me.quest q asks).old
+
+  walked : g.writer a ≡ 0
+  walked = inv.older.written a old.1 old.2
+
+  found : Untaken g a len
+  found = untaken E m team g inv a kind len serial mutator old.0 walked header
+
+  ends : a + g.size a ≤ E.old_start + E.old_span
+  ends = let y = inv.laid.lies a old.0 in omega (arith, y, ready.laid_out.apart, old, inv.laid.order)
+
+  spot : Spot E m.front m.low g.size g.writer k a 0
+  spot = record { laid_out = ready.laid_out; laid = inv.laid; inside = old.0; hidden = inl refl; own = inl walked }
+
+  unkept : g.kept k ≡ 0
+  unkept = me.licensed.idle idle
+
+  is : decode (m.heap a) ≡ HeaderWord (g.kind a) (g.size a - 1) (g.identity a).serial (g.identity a).mutator
+  is = inv.headed.own a old.0 walked found.copy found.keeper
+
+  headed : Headed g.size g.writer g.copy g'.keeper g.kind g.identity heap'
+  headed = record {
+    own = λ b st w y z. let d : b ≢ a = λ e. let p = put_at g.keeper a (k + 1) b e in omega arith in
+        rw (put_other m.heap (a + 0) v b (λ e. d (omega arith))) (inv.headed.own b st w y (rw (put_other g.keeper a (k + 1) b d) at z));
+    kept = λ b j st y. ⊎_elim
+        (λ (e : b ≡ a). let p = put_at g.keeper a (k + 1) b e in let n : j ≡ k = omega arith in let s : len ≡ g.size a - 1 = omega (arith, found.sized) in
+        rw (put_at m.heap (a + 0) v b (omega arith), n, e) (word ∙ ap (λ x. BusyWord x k) s))
+        (λ (d : b ≢ a). rw (put_other m.heap (a + 0) v b (λ e. d (omega arith))) (inv.headed.kept b j st (rw (put_other g.keeper a (k + 1) b d) at y)))
+        (cases_eq b a);
+    gone = λ b x st y z. let d : b ≢ a = λ e. let p = put_at g.keeper a (k + 1) b e in omega arith in
+        rw (put_other m.heap (a + 0) v b (λ e. d (omega arith))) (inv.headed.gone b x st y (rw (put_other g.keeper a (k + 1) b d) at z));
+  }
+
+  copied : Copied E m.front g.size g.writer g.copy g'.keeper g.kind g.identity g'.kept
+  copied = record {
+    target = λ b x st y. let d : b ≢ a = (λ e. let p : g.copy b ≡ g.copy a = ap g.copy e in omega (arith, found.copy)) in rw (put_other g.keeper a (k + 1) b d) (inv.copied.target b x st y);
+    origin = inv.copied.origin;
+    blank = λ b z. let d : b ≢ a = (λ e. let p : g.size b ≡ g.size a = ap g.size e in omega (arith, old.0)) in rw (put_other g.keeper a (k + 1) b d) (inv.copied.blank b z);
+    keeper_of = λ b j st y. ⊎_elim
+        (λ (e : b ≡ a). let p = put_at g.keeper a (k + 1) b e in let n : j ≡ k = omega arith in let z : put g.kept k (a + 1) j ≡ b + 1 = rw (put_at g.kept k (a + 1) j n) (omega arith) in (z, omega (arith, old, e), omega (arith, old, e)))
+        (λ (d : b ≢ a). let p = inv.copied.keeper_of b j st (rw (put_other g.keeper a (k + 1) b d) at y) in let n : j ≢ k = λ e. let z : g.kept j ≡ g.kept k = ap g.kept e in omega (arith, p.0, unkept) in (rw (put_other g.kept k (a + 1) j n) (p.0), p.1, p.2))
+        (cases_eq b a);
+  }
+
+  kept : Kept g.size g'.keeper team.count
+  kept = record {
+    kept = λ b j st y. ⊎_elim
+        (λ (e : b ≡ a). let p = put_at g.keeper a (k + 1) b e in omega (arith, ready.member))
+        (λ (d : b ≢ a). inv.kept.kept b j st (rw (put_other g.keeper a (k + 1) b d) at y))
+        (cases_eq b a);
+  }
+
+  -- ---- what the workers know
+
+  others : (j : ℕ) → j < team.count → j ≢ k → Knows E m.gate m.traced m.front m.low m.old_front m.old_low m.old_owed g' m.page m.cross m.announced heap' j (team.worker j)
+  others j l d =
+      let u = knows_spot E m.gate m.traced m.front m.low m.old_front m.old_low m.old_owed g m.page m.cross m.announced m.heap k a 0 v spot j (team.worker j) d inv.older (inv.workers j l) in
+      let n : put g.kept k (a + 1) j ≡ g.kept j = put_other g.kept k (a + 1) j d in
+      let x = λ (c : Copy) (y : (team.worker j).copy ≡ Some c). copies c (u.copy c y) n in
+      let z : Licensed m.gate.behind g'.kept j (is_late E.epoch (team.worker j)) (team.worker j).copy (team.worker j).quest (team.worker j).scan =
+      record { licensed = u.licensed.licensed; asked = u.licensed.asked; counted = u.licensed.counted; idle = λ e. rw n (u.licensed.idle e) } in
+      assumption
+    where
+      copies : (c : Copy) → Copies E m.front g.size g.writer g.copy g.keeper g.kept m.announced m.cross heap' j c → put g.kept k (a + 1) j ≡ g.kept j
+          → Copies E m.front g.size g.writer g.copy g'.keeper g'.kept m.announced m.cross heap' j c
+      copies c p n =
+          let f : c.from ≢ a = λ e. let y : g.keeper c.from ≡ g.keeper a = ap g.keeper e in omega (arith, p.old.2, found.keeper) in
+          record {
+            old = rw (n, put_other g.keeper a (k + 1) c.from f) (p.old);
+            loose = p.loose;
+            aimed = p.aimed;
+            named = p.named;
+            place = p.place;
+            same = p.same;
+            bound = p.bound;
+            loaded = p.loaded;
+            crossings = p.crossings;
+          }
+
+  licence : ((s : Scan) × ((team.worker k).scan ≡ Some s)) ⊎ (is_late E.epoch (team.worker k) ≡ true)
+  licence = by_origin q.origin (me.origin q asks)
+    where
+      by_origin : (o : Origin) → IsOrigin E g.size g.writer g.kind m.heap (is_late E.epoch (team.worker k)) (team.worker k).done (team.worker k).registers (team.worker k).scan q.old o
+          → ((s : Scan) × ((team.worker k).scan ≡ Some s)) ⊎ (is_late E.epoch (team.worker k) ≡ true)
+      by_origin (Register r) x = inr x.0
+      by_origin (Scanned y) x = inl (x.0.0, x.0.1)
+
+  own : Knows E m.gate m.traced m.front m.low m.old_front m.old_low m.old_owed g' m.page m.cross m.announced heap' k w'
+  own = record {
+    timely = me.timely;
+    ends = me.ends;
+    outside = me.outside;
+    stock = me.stock;
+    registers = me.registers;
+    active = me.active;
+    access = me.access;
+    board = me.board;
+    origin = λ q e. origin_spot spot m.heap v g.kind _ (team.worker k).done (team.worker k).registers (team.worker k).scan q.old q.origin (me.origin q e);
+    quest = me.quest;
+    licensed = record {
+      licensed = λ x n. licence;
+      asked = λ x n. (q, asks, ap (λ (y : Copy). y.from) (some_same n), seeks);
+      counted = me.licensed.counted;
+      idle = λ e. absurd (none≢some (sym e));
+    };
+    copy = λ x n. rw (← some_same n) (record {
+      old = (omega arith, found.sized, put_same g.keeper a (k + 1), put_same g.kept k (a + 1), old.1, omega (arith, ends, found.sized));
+      loose = λ _. (found.copy, refl);
+      aimed = λ e. absurd (cc);
+      named = λ e. absurd (cc);
+      place = λ e. absurd (cc);
+      same = λ i p l. absurd (omega arith);
+      bound = omega arith;
+      loaded = λ y e. none≢some e;
+      crossings = λ e. absurd (cc);
+    });
+    keeps = λ x n. rw (← some_same n) (record { head = λ l. absurd (omega arith); keeps = let s : len + 1 - 1 ≡ g.size a - 1 = omega (arith, found.sized) in rw s is });
+    present = me.present;
+    scan = λ s e. scans_spot spot m.heap v g.kind m.page k s (me.scan s e);
+    stepping = me.stepping;
+    round = me.round;
+    claim = me.claim;
+    look = me.look;
+    last_look = me.last_look;
+    seen_traced = me.seen_traced;
+    flips = me.flips;
+    passage = me.passage;
+    resets = me.resets;
+    reset = me.reset;
+  }
+
+  alike : Alike w' (team.worker k)
+  alike = record { post = refl; epoch = refl; account = refl; registers = refl; done = refl; stock = refl; scan = refl }
+
+  invariant : Invariant E (with_word m (a + 0) v) (with_worker team k w') g'
+  invariant = record {
+    counted = counted_put team.worker k w' (same_standing alike) m.gate team.count inv.counted;
+    staffed = staffed_put team.worker k w' (same_standing alike) team.mutators team.count inv.staffed;
+    laid = inv.laid;
+    headed = headed;
+    copied = copied;
+    once = inv.once;
+    kept = kept;
+    room = inv.room;
+    raw_words = raw_spot spot m.heap v g.kind inv.raw_words;
+    shut = inv.shut;
+    filling = inv.filling;
+    tracing = inv.tracing;
+    aged = inv.aged;
+    scanned = scanned_put team.worker k w' (same_standing alike) E team.count m.page inv.scanned;
+    opened = opened_spot spot m.heap v g.kind m.page inv.opened;
+    landing = landing_spot spot m.heap v g.kind inv.landing;
+    older = older_spot spot m.heap v g.kind inv.older;
+    new = new_spot spot m.heap v m.low (E.start + E.span) E.epoch m.page inv.new;
+    new_written = inv.new_written;
+    old_space = record { walks = λ t d e. space_spot spot m.heap v E.old_start m.old_front m.old_low (E.old_start + E.old_span) d m.page (inv.old_space.walks t d e) };
+    old_pages = inv.old_pages;
+    crossing = inv.crossing;
+    stocks = stocks_put team.worker k w' (same_standing alike) E m.low team.count g.size heap' m.page (stocks_spot spot m.heap v team.count m.page team.worker inv.stocks);
+    numbered = numbered_put team.worker k w' (same_standing alike) team.mutators g.size g.identity inv.numbered;
+    workers = team_put team.count (Knows E m.gate m.traced m.front m.low m.old_front m.old_low m.old_owed g' m.page m.cross m.announced heap') team.worker k w' others own;
+  }
+
+  cycle_taken : (p : plain.Plain) → Reachable p (g.identity a) → Copying E m.front g.size g.writer g.copy g.keeper g.kind g.identity heap' p
+      → Copying E m.front g.size g.writer g.copy g'.keeper g.kind g.identity heap' p
+  cycle_taken p re cy = record {
+    old = λ b st l n y. ⊎_elim
+        (λ (e : b ≡ a). cy.old b st l n (inl (rw e (found.copy))))
+        (λ (d : b ≢ a). cy.old b st l n (rw (put_other g.keeper a (k + 1) b d) at y))
+        (cases_eq b a);
+    sound = cy.sound;
+    reached = λ b st l n y. ⊎_elim
+        (λ (e : b ≡ a). rw e re)
+        (λ (d : b ≢ a). cy.reached b st l n (rw (put_other g.keeper a (k + 1) b d) at y))
+        (cases_eq b a);
+    sizes = cy.sizes;
+    complete = cy.complete;
+    from = cy.from;
+  }
+
+  preserves : Preserves E m (with_word m (a + 0) v) team (with_worker team k w') g g'
+  preserves = record {
+    invariant = invariant;
+    ages = λ page. omega arith;
+    shown = λ p s. record {
+      objects = let o = objects_spot spot m.heap v g.copy g.keeper g.kind g.identity p.heap s.objects in record {
+        shows = λ b st w y. ⊎_elim
+            (λ (e : b ≡ a). o.shows b st w (inl (rw e (found.copy))))
+            (λ (d : b ≢ a). o.shows b st w (rw (put_other g.keeper a (k + 1) b d) at y))
+            (cases_eq b a);
+      };
+      board = board_spot spot m.heap v g.identity p.heap s.board;
+      as_many = s.as_many;
+      makers = s.makers;
+      accounts = λ j q e. accounts_alike team.worker k w' alike p.heap j q (s.accounts j q e);
+      registers = λ j q e. registers_alike team.worker k w' alike _ j q (s.registers j q e);
+    };
+    cycle = λ p cy. record {
+      copying = cycle_taken p (asked_reachable E m team g k inv ready.member q p asks cy)
+          (copying_spot E m.gate m.traced m.front m.low m.old_front m.old_low m.old_owed g m.page m.cross m.announced m.heap k a 0 v spot p inv.older cy.copying);
+      rooted = rooted_alike team.worker k w' alike E m.front team.count g.size g.writer g.identity heap' p
+          (rooted_spot E m.gate m.traced m.front m.low m.old_front m.old_low m.old_owed g m.page m.cross m.announced m.heap k a 0 v spot team.count team.worker p cy.rooted);
+    };
+  }
+
+  pub header_taken : Preserves E m (with_word m a v) team (with_worker team k w') g g'
+  header_taken = rw (add-zero a) at preserves

@@ -1,0 +1,175 @@
+-- A write of a heap word that is no field and no board word: what reads only fields, board words and the places of others
+-- stays as it is.
+use Rattle.std.proofs.Common.{◌≡◌, ◌≢◌, ℕ, refl, ◌+◌, ◌<◌, ◌≤◌, Bool, true, false, sym, ap, ◌∙◌, arith, Option, ⊎_elim, ◌⊎◌, inl, inr}
+use Rattle.std.proofs.lemmas.Bool.{cases_lt}
+use Rattle.heap_words.specs.declared.kind.Kind.{Kind}
+use Rattle.heap_words.specs.Decoded.{decode}
+use Rattle.plain_state.specs.State as plain
+use Rattle.plain_state.specs.declared.value.Identity.{Identity}
+use Rattle.space_map.specs.declared.page_word.PageWord.{PageWord}
+use Rattle.heap_state.specs.Era.{Era, IsLaidOut}
+use Rattle.heap_state.specs.Functions.{put}
+use Rattle.heap_state.specs.Ghost.{IsField, Here}
+use Rattle.heap_state.specs.Parts.Copying.{IsOrigin, Copies, Keeps}
+use Rattle.heap_state.specs.Parts.Leading.{Opened, Landing, Older}
+use Rattle.heap_state.specs.Parts.Records.{Laid, NewArea, SpaceOf, RawWords}
+use Rattle.heap_state.specs.Parts.Scanning.{Scans}
+use Rattle.heap_state.specs.Parts.Stocks.{Stocked, Stocks}
+use Rattle.heap_state.specs.Values.{Shows, ShowsAll, BoardShows, value_of}
+use Rattle.heap_state.specs.Worker.{Worker, Copy, Scan, Stock, Register, Scanned, Origin}
+use Rattle.heap_state.proofs.Puts.{put_other}
+
+-- two records that share a word are one
+pub one_place : (size : ℕ → ℕ) (a b i j : ℕ) → ((a b : ℕ) → 0 < size a → 0 < size b → a < b → a + size a ≤ b) → i < size a → j < size b → a + i ≡ b + j → a ≡ b
+one_place size a b i j apart l m e = ⊎_elim
+    (λ (y : a < b). absurd (let q = apart a b (omega arith) (omega arith) y in omega arith))
+    (λ (n : b ≤ a). ⊎_elim (λ (y : b < a). absurd (let q = apart b a (omega arith) (omega arith) y in omega arith)) (λ (o : a ≤ b). omega arith) (cases_lt b a))
+    (cases_lt a b)
+
+-- Word i of the record at a is its first, or one of a place that is still written; and nobody but worker k writes there.
+pub record Spot (E : Era) (front low : ℕ) (size writer : ℕ → ℕ) (k a i : ℕ) : Type 0 where
+  pub laid_out : IsLaidOut E
+  pub laid : Laid E front low size
+  pub inside : i < size a
+  pub hidden : (i ≡ 0) ⊎ (0 < writer a)
+  pub own : (writer a ≡ 0) ⊎ (writer a ≡ k + 1)
+
+module _ {E : Era} {front low : ℕ} {size writer : ℕ → ℕ} {k a0 i0 : ℕ} (sp : Spot E front low size writer k a0 i0) (heap : ℕ → ℕ) (v : ℕ) where
+  open sp use {laid_out, laid, inside, hidden, own}
+
+  abbrev stored : ℕ → ℕ
+  stored = put heap (a0 + i0) v
+
+  pub same_place : (a i : ℕ) → i < size a → a + i ≡ a0 + i0 → (a ≡ a0) × (i ≡ i0)
+  same_place a i l e = let q = one_place size a a0 i i0 laid.apart l inside e in (q, omega arith)
+
+  pub off_inner : (a i : ℕ) → writer a ≡ 0 → 0 < i → i < size a → a + i ≢ a0 + i0
+  off_inner a i w p l e = let q = same_place a i l e in let y : writer a ≡ writer a0 = ap writer q.0 in omega (arith, hidden, q.1, y)
+
+  pub off_board : (x : ℕ) → E.board ≤ x → x ≢ a0 + i0
+  off_board x l e = let q = laid.lies a0 (omega (arith, inside)) in omega (arith, q, laid_out.below, laid_out.old_below, laid.order, inside)
+
+  pub off_here : (kind : ℕ → Kind) (x : ℕ) → Here E size writer kind x → x ≢ a0 + i0
+  unfolding Here
+  off_here kind x (inl f) e = let u : IsField size writer kind f.a f.i = f.field in off_inner f.a f.i u.written u.first u.last (sym (f.at) ∙ e)
+  off_here kind x (inr b) e = off_board x b.0 e
+
+  pub off_written : (j b i : ℕ) → j ≢ k → writer b ≡ j + 1 → i < size b → b + i ≢ a0 + i0
+  off_written j b i n y l e = let q = same_place b i l e in let w : writer b ≡ writer a0 = ap writer q.0 in n (omega (arith, own))
+
+  pub here_same : (kind : ℕ → Kind) (x : ℕ) → Here E size writer kind x → stored x ≡ heap x
+  here_same kind x p = put_other heap (a0 + i0) v x (off_here kind x p)
+
+  pub inner_same : (a i : ℕ) → writer a ≡ 0 → 0 < i → i < size a → stored (a + i) ≡ heap (a + i)
+  inner_same a i w p l = put_other heap (a0 + i0) v (a + i) (off_inner a i w p l)
+
+  pub board_same : (x : ℕ) → stored (E.board + x) ≡ heap (E.board + x)
+  board_same x = put_other heap (a0 + i0) v (E.board + x) (off_board (E.board + x) (omega arith))
+
+  -- a word of no record
+  pub outside_same : (x : ℕ) → ((a : ℕ) → 0 < size a → (x < a) ⊎ (a + size a ≤ x)) → stored x ≡ heap x
+  outside_same x n = put_other heap (a0 + i0) v x (λ e. let q = n a0 (omega (arith, inside)) in omega (arith, q, inside, e))
+
+  -- ---- the parts
+
+  pub opened_spot : (kind : ℕ → Kind) (page : ℕ → PageWord) → Opened E size writer kind heap page → Opened E size writer kind stored page
+  opened_spot kind page p = record { opened = λ x u o. rw (here_same kind x u) (p.opened x u o) }
+
+  pub landing_spot : (kind : ℕ → Kind) → Landing E size writer kind heap → Landing E size writer kind stored
+  landing_spot kind p = record { lands = λ x u. rw (here_same kind x u) (p.lands x u) }
+
+  pub older_spot : (kind : ℕ → Kind) → Older E size writer kind heap → Older E size writer kind stored
+  older_spot kind p = record { older = λ a i b f l m d. p.older a i b f l m (rw (inner_same a i f.written f.first f.last) at d); written = p.written }
+
+  pub new_spot : (start end epoch : ℕ) (page : ℕ → PageWord) → NewArea start end epoch size heap page → NewArea start end epoch size stored page
+  new_spot start end epoch page p = record { opened = p.opened; prior = p.prior; blank = λ x l m o n. rw (outside_same x n) (p.blank x l m o n) }
+
+  pub space_spot : (start begun free end epoch : ℕ) (page : ℕ → PageWord) → SpaceOf start begun free end epoch size heap page → SpaceOf start begun free end epoch size stored page
+  space_spot start begun free end epoch page p = record { lies = p.lies; order = p.order; aligned = p.aligned; first = p.first; next = p.next; new = new_spot free end epoch page p.new }
+
+  pub raw_spot : (kind : ℕ → Kind) → RawWords size writer kind heap → RawWords size writer kind stored
+  raw_spot kind p = record { raw = λ a i st w f l n. rw (inner_same a i w f l) (p.raw a i st w f l n) }
+
+  pub stocked_spot : (page : ℕ → PageWord) (q : Stock) → Stocked E low size heap page q → Stocked E low size stored page q
+  stocked_spot page q p = record {
+    lies = p.lies;
+    so_far = p.so_far;
+    aligned = p.aligned;
+    empty = p.empty;
+    shut = p.shut;
+    opens = p.opens;
+    order = p.order;
+    whole = p.whole;
+    after = p.after;
+    zeros = λ x l m. rw (put_other heap (a0 + i0) v x (λ e. let y = p.empty a0 (omega (arith, inside)) in omega (arith, y, inside, e, p.so_far, l, m))) (p.zeros x l m);
+  }
+
+  pub stocks_spot : (count : ℕ) (page : ℕ → PageWord) (worker : ℕ → Worker) → Stocks E low count size heap page worker → Stocks E low count size stored page worker
+  stocks_spot count page worker p = record { stocked = λ j l q e n. stocked_spot page q (p.stocked j l q e n); apart = p.apart }
+
+  -- ---- what other workers know
+
+  pub origin_spot : (kind : ℕ → Kind) (late : Bool) (done : ℕ) (registers : ℕ → ℕ) (scan : Option Scan) (old : ℕ) (o : Origin)
+      → IsOrigin E size writer kind heap late done registers scan old o → IsOrigin E size writer kind stored late done registers scan old o
+  origin_spot kind late done registers scan old (Register r) p = p
+  origin_spot kind late done registers scan old (Scanned x) p = (p.0, p.1, ap decode (here_same kind x p.1) ∙ p.2)
+
+  pub scans_spot : (kind : ℕ → Kind) (page : ℕ → PageWord) (j : ℕ) (r : Scan) → Scans E front size writer kind heap page j r → Scans E front size writer kind stored page j r
+  scans_spot kind page j r p = record { claimed = p.claimed; place = p.place; cursor = p.cursor; above = p.above; passed = λ x u m l. rw (here_same kind x u) (p.passed x u m l) }
+
+  -- a copy that has words is in a place that is reserved
+  pub has_place : (copy keeper kept announced cross h : ℕ → ℕ) (j : ℕ) (c : Copy) → Copies E front size writer copy keeper kept announced cross h j c → 0 < c.done → c.reserved ≡ true
+  has_place copy keeper kept announced cross h j c p l = by_bool c.reserved (λ y. absurd (let z = p.loose y in omega (arith, z)))
+    where
+      by_bool : (b : Bool) → (b ≡ false → b ≡ true) → b ≡ true
+      by_bool true f = refl
+      by_bool false f = f refl
+
+  module _ (copy keeper kept announced cross : ℕ → ℕ) (kind : ℕ → Kind) (j : ℕ) (c : Copy) (other : j ≢ k) (older : Older E size writer kind heap)
+      (p : Copies E front size writer copy keeper kept announced cross heap j c) where
+    source_same : (i : ℕ) → 0 < i → i < c.size → stored (c.from + i) ≡ heap (c.from + i)
+    source_same i g l = inner_same c.from i (older.written c.from (omega (arith, p.old)) (omega (arith, p.old))) g (omega (arith, p.old))
+
+    copy_same : (i : ℕ) → 0 < c.done → i < c.size → stored (c.to + i) ≡ heap (c.to + i)
+    copy_same i d l =
+        let r = p.place (has_place copy keeper kept announced cross heap j c p d) in
+        put_other heap (a0 + i0) v (c.to + i) (off_written j c.to i other r.2 (omega (arith, r.3)))
+
+    pub copies_spot : Copies E front size writer copy keeper kept announced cross stored j c
+    copies_spot = record {
+      old = p.old;
+      loose = p.loose;
+      aimed = p.aimed;
+      named = p.named;
+      place = p.place;
+      bound = p.bound;
+      crossings = p.crossings;
+      same = λ i g l. rw (copy_same i (omega arith) (omega (arith, p.bound)), source_same i g (omega (arith, p.bound))) (p.same i g l);
+      loaded = λ w e. let q = p.loaded w e in (q.0, q.1, source_same c.done q.0 q.1 ∙ q.2);
+    }
+
+    pub keeps_spot : (identity : ℕ → Identity) → Keeps kind identity heap c → Keeps kind identity stored c
+    keeps_spot identity q = record { keeps = q.keeps; head = λ d. rw (first_same d) (q.head d) }
+      where
+        first_same : 0 < c.done → stored c.to ≡ heap c.to
+        first_same d =
+            let r = p.place (has_place copy keeper kept announced cross heap j c p d) in
+            let z : c.to + 0 ≢ a0 + i0 = off_written j c.to 0 other r.2 (omega (arith, r.3, p.old)) in
+            put_other heap (a0 + i0) v c.to (λ e. z (omega arith))
+
+  -- ---- what is shown
+
+  pub shows_spot : (identity : ℕ → Identity) (a : ℕ) (l : Kind) (z : ℕ) (r : plain.Record) → writer a ≡ 0 → z ≡ size a → Shows (value_of identity) heap a l z r → Shows (value_of identity) stored a l z r
+  shows_spot identity a l z r w e p = record {
+    kind = p.kind;
+    size = p.size;
+    fields = λ i f m y. rw (inner_same a i w f (omega arith)) (p.fields i f m y);
+    words = λ i f m y. rw (inner_same a i w f (omega arith)) (p.words i f m y);
+  }
+
+  pub objects_spot : (copy keeper : ℕ → ℕ) (kind : ℕ → Kind) (identity : ℕ → Identity) (records : plain.Heap)
+      → ShowsAll size writer copy keeper kind identity heap records → ShowsAll size writer copy keeper kind identity stored records
+  objects_spot copy keeper kind identity records p = record { shows = λ a st w y. let o = p.shows a st w y in (o.0, o.1, shows_spot identity a (kind a) (size a) o.0 w refl o.2) }
+
+  pub board_spot : (identity : ℕ → Identity) (records : plain.Heap) → BoardShows E (value_of identity) heap records → BoardShows E (value_of identity) stored records
+  board_spot identity records p = record { sixteen = p.sixteen; board = λ x l. ap (value_of identity) (board_same x) ∙ p.board x l }

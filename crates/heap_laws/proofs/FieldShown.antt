@@ -1,0 +1,205 @@
+-- A mutator's store changes the plain heap at one word, and a load gives what stands there.
+use Rattle.std.proofs.Common.{◌≡◌, ◌≢◌, ℕ, zero, suc, ◌+◌, ◌-◌, ◌<◌, ◌≤◌, slice_set, Some, refl, sym, ap, ◌∙◌, arith, ⊎_elim, ◌⊎◌, inl}
+use Rattle.std.proofs.Math.ListN.{length-set}
+use Rattle.std.proofs.lemmas.Bool.{cases_eq}
+use Rattle.plain_state.specs.State as plain
+use Rattle.plain_state.specs.declared.value.Identity.{Identity}
+use Rattle.plain_state.specs.declared.value.Value.{Value}
+use Rattle.heap_state.specs.Era.{Era, IsLaidOut, Memory}
+use Rattle.heap_state.specs.Functions.{put}
+use Rattle.heap_state.specs.Ghost.{Ghost, is_field, Leads, Lands}
+use Rattle.heap_state.specs.Inductive.{Invariant}
+use Rattle.heap_state.specs.Values.{value_at, value_of, Shows, Shown}
+use Rattle.heap_state.specs.Worker.{Team}
+use Rattle.heap_state.proofs.Puts.{put_at, put_other, some_same}
+use Rattle.heap_laws.specs.Steps.{with_word}
+use Rattle.heap_laws.specs.Fields.{IsWordOf, StandsFor, stored, with_heap, StoresShow, BoardStoresShow, HeadersAreRead, RegistersAreHeld, NumbersAreHeld}
+use Rattle.heap_laws.proofs.FieldSlot.{one_place}
+use Rattle.heap_laws.proofs.PlainHeaps.{stored_there, stored_elsewhere, stored_serial, stored_makers}
+use Rattle.heap_laws.proofs.PlainLists.{slice_get-set_same, slice_get-set_other}
+
+-- ---- records of the epoch's space
+
+abbrev of_parts : ℕ → ℕ → Identity
+of_parts mutator serial = record { mutator = mutator; serial = serial }
+
+module _ (E : Era) (m : Memory) (team : Team) (g : Ghost) (lay : IsLaidOut E) (inv : Invariant E m team g) where
+  -- a record of the epoch's space has no copy
+  pub uncopied : (a : ℕ) → 0 < g.size a → E.start ≤ a → a < E.start + E.span → g.copy a ≡ 0
+  uncopied a st l u = by_copy (g.copy a) refl
+    where
+      by_copy : (y : ℕ) → g.copy a ≡ y → g.copy a ≡ 0
+      by_copy zero e = e
+      by_copy (suc y) e = absurd (let t = inv.copied.target a y st (omega (arith, e)) in omega (arith, t, l, u, lay.apart))
+
+  -- and where nobody writes it, it is alone in showing its identity
+  pub alone : (a : ℕ) → 0 < g.size a → g.writer a ≡ 0 → E.start ≤ a → a < E.start + E.span → (b : ℕ) → 0 < g.size b → (g.copy b ≡ 0) ⊎ (0 < g.keeper b) → g.identity b ≡ g.identity a → b ≡ a
+  alone a st w l u b sb o e = ⊎_elim (λ y. y)
+      (λ y. absurd (⊎_elim
+      (λ (z : g.copy b ≡ a + 1). let t = inv.copied.target b a sb z in omega (arith, o, z, t, w))
+      (λ (z : g.copy a ≡ b + 1). let n = uncopied a st l u in omega (arith, z, n))
+      y))
+      (inv.once.once b a sb st e)
+
+  -- two places of which nobody else shows the identity have identities apart
+  pub apart : (a b : ℕ) → 0 < g.size a → 0 < g.size b → (b ≢ a) → (g.identity b ≡ g.identity a → b ≡ a) → (g.identity b).mutator ≡ (g.identity a).mutator → (g.identity b).serial - 1 ≢ (g.identity a).serial - 1
+  apart a b sa sb d alone e f =
+      let x = inv.numbered.first a sa in
+      let y = inv.numbered.first b sb in
+      let s : (g.identity b).serial ≡ (g.identity a).serial = omega arith in
+      d (alone (same_identity (g.identity b) (g.identity a) e s))
+    where
+      same_parts : (a b c d : ℕ) → a ≡ c → b ≡ d → of_parts a b ≡ of_parts c d
+      same_parts a b c d e f = rw (e, f) refl
+
+      same_identity : (i j : Identity) → i.mutator ≡ j.mutator → i.serial ≡ j.serial → i ≡ j
+      same_identity i j m s = same_parts i.mutator i.serial j.mutator j.serial m s
+
+-- ---- stores
+
+-- the store in a word of a record
+module _ (E : Era) (m : Memory) (team : Team) (g : Ghost) (p : plain.Plain) (a i v : ℕ) (r : plain.Record) (y : Value) (lay : IsLaidOut E) (inv : Invariant E m team g)
+    (f : IsWordOf E g.size g.writer a i) (is : plain.record_of p.heap (g.identity a) ≡ Some r) (may : StandsFor g (is_field (g.kind a) i) v y) (s : Shown E m team g p) where
+  abbrev h : ℕ → ℕ
+  h = put m.heap (a + i) v
+
+  abbrev changed : plain.Record
+  changed = record r { values = slice_set r.values (i - 1) y }
+
+  abbrev after : plain.Heap
+  after = stored p.heap (g.identity a) r (i - 1) y
+
+  was : Shows (value_of g.identity) m.heap a (g.kind a) (g.size a) r
+  was =
+      let q = s.objects.shows a f.stands f.written (inl (uncopied E m team g lay inv a f.stands f.inside.0 f.inside.1)) in
+      let e : q.0 ≡ r = some_same (sym q.1 ∙ is) in
+      rw (← e) q.2
+
+  value_there : (j : ℕ) → j ≡ i → value_at changed j ≡ Some y
+  value_there j e = rw e (slice_get-set_same r.values (i - 1) y (let z = was.size in omega (arith, z, f.first, f.last)))
+
+  value_elsewhere : (j : ℕ) → 0 < j → j ≢ i → value_at changed j ≡ value_at r j
+  value_elsewhere j l d = slice_get-set_other r.values (i - 1) (j - 1) y (λ e. d (omega (arith, e, l, f.first)))
+
+  shows_there : Shows (value_of g.identity) h a (g.kind a) (g.size a) changed
+  shows_there = record {
+    kind = was.kind;
+    size = let e = length-set r.values (i - 1) y in let z = was.size in omega arith;
+    fields = λ j l u t. ⊎_elim
+        (λ (e : j ≡ i). rw (put_at m.heap (a + i) v (a + j) (omega (arith, e)), value_there j e) (may.denotes (rw e at t)))
+        (λ (d : j ≢ i). rw (put_other m.heap (a + i) v (a + j) (λ e. d (omega (arith, e))), value_elsewhere j l d) (was.fields j l u t))
+        (cases_eq j i);
+    words = λ j l u t. ⊎_elim
+        (λ (e : j ≡ i). rw (put_at m.heap (a + i) v (a + j) (omega (arith, e)), value_there j e) (ap Some (may.number (rw e at t))))
+        (λ (d : j ≢ i). rw (put_other m.heap (a + i) v (a + j) (λ e. d (omega (arith, e))), value_elsewhere j l d) (was.words j l u t))
+        (cases_eq j i);
+  }
+
+  elsewhere : (b : ℕ) → 0 < g.size b → g.writer b ≡ 0 → (g.copy b ≡ 0) ⊎ (0 < g.keeper b) → b ≢ a
+      → (q : plain.Record) × (plain.record_of after (g.identity b) ≡ Some q) × Shows (value_of g.identity) h b (g.kind b) (g.size b) q
+  elsewhere b st w o d =
+      let q = s.objects.shows b st w o in
+      let t : Shows (value_of g.identity) m.heap b (g.kind b) (g.size b) q.0 = q.2 in
+      let n = apart E m team g lay inv a b f.stands st d (alone E m team g lay inv a f.stands f.written f.inside.0 f.inside.1 b st o) in (
+        q.0,
+        stored_elsewhere p.heap (g.identity a) r (i - 1) y is (g.identity b) n ∙ q.1,
+        record {
+          kind = t.kind;
+          size = t.size;
+          fields = λ j l u x. rw (off j u) (t.fields j l u x);
+          words = λ j l u x. rw (off j u) (t.words j l u x);
+        },
+      )
+    where
+      off : (j : ℕ) → j < g.size b → h (b + j) ≡ m.heap (b + j)
+      off j l = put_other m.heap (a + i) v (b + j) (λ e. d (one_place g.size b a j i inv.laid.apart l f.last e))
+
+  board_stays : (x : ℕ) → x < 16 → h (E.board + x) ≡ m.heap (E.board + x)
+  board_stays x l = put_other m.heap (a + i) v (E.board + x) (λ e. let q = inv.laid.lies a f.stands in omega (arith, e, q, inv.laid.order, lay.below, lay.old_below, f.last))
+
+  pub shows_store : Shown E (with_word m (a + i) v) team g (with_heap p after)
+  shows_store = record {
+    objects = record {
+      shows = λ b st w o. ⊎_elim
+          (λ (e : b ≡ a). rw e (changed, stored_there p.heap (g.identity a) r (i - 1) y is, shows_there))
+          (λ (d : b ≢ a). elsewhere b st w o d)
+          (cases_eq b a);
+    };
+    board = record { sixteen = s.board.sixteen; board = λ x l. rw (board_stays x l) (s.board.board x l) };
+    as_many = s.as_many;
+    makers = stored_makers p.heap (g.identity a) r (i - 1) y is ∙ s.makers;
+    accounts = λ k q e. let c = s.accounts k q e in record { counter = c.counter; printed = c.printed; executed = c.executed; end = c.end; serial = c.serial ∙ sym (stored_serial p.heap (g.identity a) r (i - 1) y is k) };
+    registers = s.registers;
+  }
+
+pub stores_show : StoresShow
+stores_show = shows_store
+
+-- the store on the board
+pub board_stores_show : BoardStoresShow
+board_stores_show E m team g p x v y lay inv l denotes s = record {
+  objects = record {
+    shows = λ b st w o.
+        let q = s.objects.shows b st w o in
+        let t : Shows (value_of g.identity) m.heap b (g.kind b) (g.size b) q.0 = q.2 in (
+          q.0,
+          q.1,
+          record {
+            kind = t.kind;
+            size = t.size;
+            fields = λ j f u z. rw (off b st j u) (t.fields j f u z);
+            words = λ j f u z. rw (off b st j u) (t.words j f u z);
+          },
+        );
+  };
+  board = record {
+    sixteen = length-set p.heap.board x y ∙ s.board.sixteen;
+    board = λ z u. ⊎_elim
+        (λ (e : z ≡ x). rw (put_at m.heap (E.board + x) v (E.board + z) (omega (arith, e)), e) (denotes ∙ sym (slice_get-set_same p.heap.board x y (let n = s.board.sixteen in omega (arith, n, l)))))
+        (λ (d : z ≢ x). rw (put_other m.heap (E.board + x) v (E.board + z) (λ e. d (omega (arith, e))), slice_get-set_other p.heap.board x z y d) (s.board.board z u))
+        (cases_eq z x);
+  };
+  as_many = s.as_many;
+  makers = s.makers;
+  accounts = λ k q e. let c = s.accounts k q e in record { counter = c.counter; printed = c.printed; executed = c.executed; end = c.end; serial = c.serial };
+  registers = s.registers;
+}
+  where
+    off : (b : ℕ) → 0 < g.size b → (j : ℕ) → j < g.size b → put m.heap (E.board + x) v (b + j) ≡ m.heap (b + j)
+    off b st j u = put_other m.heap (E.board + x) v (b + j) (λ e. let q = inv.laid.lies b st in omega (arith, e, q, inv.laid.order, lay.below, lay.old_below, u))
+
+-- ---- loads
+
+pub headers_are_read : HeadersAreRead
+unfolding Lands Leads
+headers_are_read E m team g p w a lay inv s may d =
+    let q = may.lands a d in
+    let n : ¬ ((E.old_start ≤ a) × (a < E.old_start + E.old_span)) = (λ o. may.clean (a, d, o.0, o.1)) in
+    let inside : (E.start ≤ a) × (a < E.start + E.span) = place a q.0 n in
+    let none = uncopied E m team g lay inv a q.0 inside.0 inside.1 in
+    record {
+      stands = q;
+      inside = inside;
+      header = inv.headed.own a q.0 q.1 none (unkept a q.0 inside);
+      shows = s.objects.shows a q.0 q.1 (inl none);
+    }
+  where
+    place : (a : ℕ) → 0 < g.size a → ¬ ((E.old_start ≤ a) × (a < E.old_start + E.old_span)) → (E.start ≤ a) × (a < E.start + E.span)
+    place a st n = ⊎_elim
+        (λ q. (q.0, omega (arith, q, st, inv.laid.order)))
+        (λ t. ⊎_elim (λ q. (omega (arith, q, inv.laid.order), omega (arith, q, st))) (λ q. absurd (n (q.0, omega (arith, q, st)))) t)
+        (inv.laid.lies a st)
+
+    unkept : (a : ℕ) → 0 < g.size a → (E.start ≤ a) × (a < E.start + E.span) → g.keeper a ≡ 0
+    unkept a st l = by_keeper (g.keeper a) refl
+      where
+        by_keeper : (y : ℕ) → g.keeper a ≡ y → g.keeper a ≡ 0
+        by_keeper zero e = e
+        by_keeper (suc y) e = absurd (let t = inv.copied.keeper_of a y st (omega (arith, e)) in omega (arith, t, l, lay.apart))
+
+pub registers_are_held : RegistersAreHeld
+registers_are_held E m team g k j inv l mu late n s = let c = (inv.workers k l).registers mu n in record { clean = c.clean j s (λ t. absurd (let q = sym late ∙ t in cc)); lands = c.lands j s }
+
+pub numbers_are_held : NumbersAreHeld
+unfolding Lands Leads
+numbers_are_held E size writer w n e = record { clean = λ l. absurd (let q = sym e ∙ l.1 in cc); lands = λ b d. absurd (let q = sym e ∙ d in cc) }

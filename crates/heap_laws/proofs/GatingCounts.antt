@@ -1,0 +1,92 @@
+-- The gate's counts where one worker changes, and what else speaks of all workers.
+use Rattle.std.proofs.Common.{◌≡◌, ◌≢◌, ℕ, zero, suc, ◌+◌, ◌<◌, ◌≤◌, Bool, true, false, Some, sym, ap, ◌∙◌, arith, ⊎_elim, inl, inr}
+use Rattle.plain_state.specs.declared.value.Identity.{Identity}
+use Rattle.plain_state.specs.State as plain
+use Rattle.space_map.specs.declared.gate_word.GateWord.{GateWord}
+use Rattle.space_map.specs.declared.page_word.PageWord.{PageWord}
+use Rattle.heap_state.specs.Cycle.{Rooted, RootLeads, ByBoard, ByRegister}
+use Rattle.heap_state.specs.Era.{Era}
+use Rattle.heap_state.specs.Functions.{put, sum_below, one_if}
+use Rattle.heap_state.specs.Parts.Gate.{Counted, Staffed}
+use Rattle.heap_state.specs.Parts.Stocks.{Stocks}
+use Rattle.heap_state.specs.Worker.{Worker, Post, Stock, is_mutator, is_live, is_running, is_flipper, is_gone, is_late}
+use Rattle.heap_state.proofs.Puts.{put_other, put_same, each_put, proj_put, sum_below-change}
+use Rattle.heap_laws.specs.Gating.{GatesFit}
+
+-- the sum of ones is at most their number
+ones : (n : ℕ) (is : ℕ → Bool) → sum_below n (λ j. one_if (is j)) ≤ n
+unfolding sum_below
+ones zero is = omega arith
+ones (suc n) is = let a = ones n is in let b = at_most_one (is n) in omega (arith, a, b)
+  where
+    at_most_one : (b : Bool) → one_if b ≤ 1
+    at_most_one true = omega arith
+    at_most_one false = omega arith
+
+pub fits : GatesFit
+fits E m team g inv =
+    let c = inv.counted in let f = inv.staffed.few in
+    let a = ones team.count (λ j. is_live (team.worker j).post) in
+    let b = ones team.count (λ j. is_running (team.worker j).post) in
+    let d = ones team.count (λ j. is_late m.gate.epoch (team.worker j)) in
+    let e = ones team.count (λ j. is_gone (team.worker j).post) in
+    record { epoch_fits = c.epoch_fits; live_fits = omega (arith, c.live, a, f); running_fits = omega (arith, c.running, b, f); behind_fits = omega (arith, c.behind, d, f); left_fits = omega (arith, c.left, e, f) }
+
+-- what one worker's change makes of a count
+count_moves : (worker : ℕ → Worker) (count k : ℕ) (w : Worker) (is : Worker → Bool) → k < count
+    → sum_below count (λ j. one_if (is (put worker k w j))) + one_if (is (worker k)) ≡ sum_below count (λ j. one_if (is (worker j))) + one_if (is w)
+count_moves worker count k w is l =
+    let c = sum_below-change count (λ j. one_if (is (worker j))) (λ j. one_if (is (put worker k w j))) k l (λ x n d. ap (λ u. one_if (is u)) (sym (put_other worker k w x d))) in
+    let s : one_if (is (put worker k w k)) ≡ one_if (is w) = ap (λ u. one_if (is u)) (put_same worker k w) in
+    omega (arith, c, s)
+
+-- the gate counts the team in which worker k is another, of the post q instead of p
+pub counted_moves : (worker : ℕ → Worker) (count k : ℕ) (w : Worker) (p q : Post) (gate gate' : GateWord) (late late' : Bool) → k < count → (worker k).post ≡ p → w.post ≡ q
+    → is_late gate.epoch (worker k) ≡ late → is_late gate.epoch w ≡ late' → gate'.epoch ≡ gate.epoch
+    → gate'.live + one_if (is_live p) ≡ gate.live + one_if (is_live q)
+    → gate'.running + one_if (is_running p) ≡ gate.running + one_if (is_running q)
+    → gate'.behind + one_if late ≡ gate.behind + one_if late'
+    → gate'.left + one_if (is_gone p) ≡ gate.left + one_if (is_gone q)
+    → one_if gate'.request + one_if (is_flipper p) ≡ one_if gate.request + one_if (is_flipper q)
+    → (0 < gate'.behind → (gate'.running ≡ 0) × (gate'.request ≡ false))
+    → Counted gate count worker → Counted gate' count (put worker k w)
+counted_moves worker count k w p q gate gate' late late' l ep eq la lb same live running behind left request still c = record {
+  live = let t = count_moves worker count k w (λ u. is_live u.post) l in let a = ap (λ x. one_if (is_live x)) ep in let b = ap (λ x. one_if (is_live x)) eq in omega (arith, t, a, b, live, c.live);
+  running = let t = count_moves worker count k w (λ u. is_running u.post) l in let a = ap (λ x. one_if (is_running x)) ep in let b = ap (λ x. one_if (is_running x)) eq in omega (arith, t, a, b, running, c.running);
+  behind = rw same (let t = count_moves worker count k w (is_late gate.epoch) l in let a = ap one_if la in let b = ap one_if lb in let z : gate'.behind ≡ sum_below count (λ j. one_if (is_late gate.epoch (put worker k w j))) = omega (arith, t, a, b, behind, c.behind) in z);
+  left = let t = count_moves worker count k w (λ u. is_gone u.post) l in let a = ap (λ x. one_if (is_gone x)) ep in let b = ap (λ x. one_if (is_gone x)) eq in omega (arith, t, a, b, left, c.left);
+  request = let t = count_moves worker count k w (λ u. is_flipper u.post) l in let a = ap (λ x. one_if (is_flipper x)) ep in let b = ap (λ x. one_if (is_flipper x)) eq in omega (arith, t, a, b, request, c.request);
+  still = still;
+  epoch_fits = rw same c.epoch_fits;
+}
+
+pub staffed_moves : {mutators count : ℕ} (worker : ℕ → Worker) (k : ℕ) (w : Worker) → is_mutator w.post ≡ is_mutator (worker k).post → Staffed mutators count worker → Staffed mutators count (put worker k w)
+staffed_moves worker k w e s = record { few = s.few; posts = λ j l. proj_put (λ u. is_mutator u.post) worker k w j e ∙ s.posts j l }
+
+-- a worker that keeps its stock or gives it up
+pub stocks_move : {E : Era} {low count : ℕ} {size heap : ℕ → ℕ} {page : ℕ → PageWord} (worker : ℕ → Worker) (k : ℕ) (w : Worker) → ((q : Stock) → w.stock ≡ Some q → (worker k).stock ≡ Some q)
+    → Stocks E low count size heap page worker → Stocks E low count size heap page (put worker k w)
+stocks_move worker k w less s = record {
+  stocked = λ j l q e n. s.stocked j l q (had j q e) n;
+  apart = λ i j li lj d p q e f. s.apart i j li lj d p q (had i p e) (had j q f);
+}
+  where
+    had : (j : ℕ) (q : Stock) → (put worker k w j).stock ≡ Some q → (worker j).stock ≡ Some q
+    had j q e = each_put (λ i u. u.stock ≡ Some q → (worker i).stock ≡ Some q) worker k w j (λ d f. f) (λ y f. let z : (worker k).stock ≡ Some q = less q f in rw y z) e
+
+-- roots: a worker of which no register is left to forward
+pub rooted_moves : {E : Era} {front count : ℕ} {size writer : ℕ → ℕ} {identity : ℕ → Identity} {heap : ℕ → ℕ} {p : plain.Plain} (worker : ℕ → Worker) (k : ℕ) (w : Worker)
+    → ((r : ℕ) → r < 8 → is_late E.epoch (worker k) ≡ true → (worker k).done ≤ r → ⊥) → is_mutator w.post ≡ is_mutator (worker k).post → w.account ≡ (worker k).account → w.registers ≡ (worker k).registers
+    → Rooted E front count size writer identity heap worker p → Rooted E front count size writer identity heap (put worker k w) p
+rooted_moves {E} {front} {count} {size} {writer} {identity} {heap} worker k w none mu account registers r = record {
+  roots = λ i root. ⊎_elim (λ c. inl c) (λ l. inr (by_root i l)) (r.roots i root);
+  sound = λ j n i l m end small t. r.sound j n i l (sym (proj_put (λ u. is_mutator u.post) worker k w j mu) ∙ m)
+      (sym (ap (λ a. a.end) (proj_put (λ u. u.account) worker k w j account)) ∙ end) small (rw (proj_put (λ u. u.registers) worker k w j registers) at t);
+}
+  where
+    by_root : (i : Identity) → RootLeads E count identity heap worker i → RootLeads E count identity heap (put worker k w) i
+    by_root i (ByBoard x l t) = ByBoard x l t
+    by_root i (ByRegister j n l s late d t) =
+        let o : j ≢ k = (λ e. none n s (rw e at late) (rw e at d)) in
+        let same : put worker k w j ≡ worker j = put_other worker k w j o in
+        ByRegister j n l s (rw same late) (rw same d) (rw same t)

@@ -1,0 +1,436 @@
+-- The passages of the gate.
+use Rattle.std.proofs.Common.{◌≡◌, ◌≢◌, ℕ, ◌+◌, ◌-◌, ◌<◌, ◌≤◌, Bool, true, false, Some, None, is_some, refl, sym, ap, ◌∙◌, arith, ⊎_elim, ◌⊎◌, inl, inr}
+use Rattle.std.proofs.lemmas.Bool.{eq-eqb}
+use Rattle.plain_state.specs.State as plain
+use Rattle.space_map.specs.declared.gate_word.GateWord.{GateWord}
+use Rattle.heap_state.specs.Era.{Era, Memory}
+use Rattle.heap_state.specs.Functions.{put, one_if}
+use Rattle.heap_state.specs.Ghost.{Ghost}
+use Rattle.heap_state.specs.Inductive.{Invariant, Knows}
+use Rattle.heap_state.specs.Parts.Copying.{IsOrigin, Licensed}
+use Rattle.heap_state.specs.Parts.Gate.{Counted, Staffed}
+use Rattle.heap_state.specs.Parts.Knowledge.{Clean, Passes, Resets}
+use Rattle.heap_state.specs.Parts.Pages.{Quiet, Filling, Tracing, ScannedBy}
+use Rattle.heap_state.specs.Parts.Scanning.{Claims, Looks, LastLooks}
+use Rattle.heap_state.specs.Parts.Stocks.{Stocks, Numbered}
+use Rattle.heap_state.specs.Values.{Shown}
+use Rattle.heap_state.specs.Worker.{Worker, Team, Post, Scanner, Outside, Running, Stopped, Flipping, Gone, Passage, Enter, Park, Request, Forwarded, Resume, Leave, Origin, Register, Scanned, Quest, Stock, Claim, Look, LastLook, GateStep, Reset, is_mutator, is_live, is_running, is_late}
+use Rattle.heap_state.proofs.Puts.{proj_put, team_put, none≢some}
+use Rattle.heap_laws.specs.Gating.{with_gate, gate_after, worker_after, WinsGate, PassingGateKeeps}
+use Rattle.heap_laws.specs.Keeping.{Keeps}
+use Rattle.heap_laws.specs.Steps.{with_worker}
+use Rattle.heap_laws.proofs.FlippingSums.{sum_below-term, sum_below-two}
+use Rattle.heap_laws.proofs.GatingCounts.{counted_moves, staffed_moves, stocks_move, rooted_moves}
+use Rattle.heap_laws.proofs.GatingWorker.{false_true, now_not_late, no_reset, knows_then}
+
+runs : (p : Post) → is_running p ≡ true → p ≡ Running
+runs Scanner e = absurd (cc)
+runs Outside e = absurd (cc)
+runs Running e = refl
+runs Stopped e = absurd (cc)
+runs (Flipping asked) e = absurd (cc)
+runs Gone e = absurd (cc)
+
+one_of : (b : Bool) → b ≡ true → one_if b ≡ 1
+one_of b e = rw e refl
+
+-- worker k, which had this to do at the gate, passes it
+pub record Passing (E : Era) (m : Memory) (team : Team) (g : Ghost) (k : ℕ) (w' : Worker) : Type 0 where
+  pub inv : Invariant E m team g
+  pub below : k < team.count
+  pub mutator : is_mutator w'.post ≡ is_mutator (team.worker k).post
+  pub account : w'.account ≡ (team.worker k).account
+  pub registers : w'.registers ≡ (team.worker k).registers
+  pub scan : w'.scan ≡ (team.worker k).scan
+  pub stock : (q : Stock) → w'.stock ≡ Some q → (team.worker k).stock ≡ Some q
+  pub none_left : (r : ℕ) → r < 8 → is_late E.epoch (team.worker k) ≡ true → (team.worker k).done ≤ r → ⊥
+
+module _ {E : Era} {m : Memory} {team : Team} {g : Ghost} {k : ℕ} {w' : Worker} (passing : Passing E m team g k w') (gate' : GateWord) where
+  inv : Invariant E m team g
+  inv = passing.inv
+
+  account_same : (j : ℕ) → (put team.worker k w' j).account ≡ (team.worker j).account
+  account_same j = proj_put (λ u. u.account) team.worker k w' j passing.account
+
+  shown : (p : plain.Plain) → Shown E m team g p → Shown E (with_gate m gate') (with_worker team k w') g p
+  shown p s = record {
+    objects = s.objects;
+    board = s.board;
+    as_many = s.as_many;
+    makers = s.makers;
+    accounts = λ j q e. rw (account_same j) (s.accounts j q e);
+    registers = λ j q e. rw (proj_put (λ u. u.registers) team.worker k w' j passing.registers) (s.registers j q e);
+  }
+
+  -- the new gate and team keep all
+  pub passing_keeps : Counted gate' team.count (put team.worker k w') → Filling E gate'.behind m.front m.page → Tracing E m.traced gate'.behind m.front m.page
+      → ((j : ℕ) → j < team.count → j ≢ k → Knows E gate' m.traced m.front m.low m.old_front m.old_low m.old_owed g m.page m.cross m.announced m.heap j (team.worker j))
+      → Knows E gate' m.traced m.front m.low m.old_front m.old_low m.old_owed g m.page m.cross m.announced m.heap k w'
+      → Keeps E m (with_gate m gate') team (with_worker team k w') g
+  passing_keeps counted filling tracing others own = record {
+    invariant =
+        let p1 : Staffed team.mutators team.count (put team.worker k w') = staffed_moves team.worker k w' passing.mutator inv.staffed in
+        let p2 : ScannedBy E team.count m.page (put team.worker k w') = record { scanned = λ p j e. let q = inv.scanned.scanned p j e in (q.0, (q.1.0, rw (proj_put (λ u. u.scan) team.worker k w' j passing.scan) q.1.1, q.1.2)) } in
+        let p3 : Stocks E m.low team.count g.size m.heap m.page (put team.worker k w') = stocks_move team.worker k w' passing.stock inv.stocks in
+        let p4 : Numbered team.mutators g.size g.identity (put team.worker k w') = record { maker = inv.numbered.maker; first = inv.numbered.first; last = λ a st. rw (account_same (g.identity a).mutator) (inv.numbered.last a st) } in
+        let p5 = team_put team.count (Knows E gate' m.traced m.front m.low m.old_front m.old_low m.old_owed g m.page m.cross m.announced m.heap) team.worker k w' others own in
+        assumption;
+    shown = shown;
+    cycle = λ p c. record { copying = c.copying; rooted = rooted_moves team.worker k w' passing.none_left passing.mutator passing.account passing.registers c.rooted };
+    ages = λ p. omega arith;
+  }
+
+-- a passage that leaves as many behind as there were
+pub usual : (E : Era) (m : Memory) (team : Team) (g : Ghost) (k : ℕ) (w' : Worker) (live running left : ℕ) (request : Bool) → Passing E m team g k w' → (m.gate.request ≡ false) ⊎ ((0 < m.gate.running) ⊎ (0 < m.gate.behind))
+    → Counted (record m.gate { live = live; running = running; left = left; request = request }) team.count (put team.worker k w')
+    → Knows E (record m.gate { live = live; running = running; left = left; request = request }) m.traced m.front m.low m.old_front m.old_low m.old_owed g m.page m.cross m.announced m.heap k w'
+    → Keeps E m (with_gate m (record m.gate { live = live; running = running; left = left; request = request })) team (with_worker team k w') g
+usual E m team g k w' live running left request passing busy counted own = passing_keeps passing (record m.gate { live = live; running = running; left = left; request = request })
+    counted passing.inv.filling passing.inv.tracing (λ j l d. others j l) own
+  where
+    others : (j : ℕ) → j < team.count → Knows E (record m.gate { live = live; running = running; left = left; request = request }) m.traced m.front m.low m.old_front m.old_low m.old_owed g m.page m.cross m.announced m.heap j (team.worker j)
+    others j l =
+        let u = passing.inv.workers j l in
+        let a : (r : Reset) → (team.worker j).reset ≡ Some r → Resets E (record m.gate { live = live; running = running; left = left; request = request }) m.front m.low m.old_front m.old_low m.old_owed r = λ r e. absurd (no_reset E m team g passing.inv busy j r l e) in
+        assumption
+
+module _ (E : Era) (m : Memory) (team : Team) (g : Ghost) (k : ℕ) (s : GateStep) (inv : Invariant E m team g) (wins : WinsGate E m team k s) where
+  abbrev w : Worker
+  w = team.worker k
+
+  me : Knows E m.gate m.traced m.front m.low m.old_front m.old_low m.old_owed g m.page m.cross m.announced m.heap k w
+  me = inv.workers k wins.below
+
+  no_flip : (m.gate.request ≡ false) ⊎ ((0 < m.gate.running) ⊎ (0 < m.gate.behind)) → (r : Reset) → w.reset ≡ Some r → ⊥
+  no_flip busy r e = no_reset E m team g inv busy k r wins.below e
+
+  -- one that runs is counted
+  running_some : is_running w.post ≡ true → 0 < m.gate.running
+  running_some e = let t = sum_below-term team.count (λ j. one_if (is_running (team.worker j).post)) k wins.below in let a = one_of (is_running w.post) e in let c = inv.counted.running in omega (arith, t, a, c)
+
+  live_some : is_live w.post ≡ true → 0 < m.gate.live
+  live_some e = let t = sum_below-term team.count (λ j. one_if (is_live (team.worker j).post)) k wins.below in let a = one_of (is_live w.post) e in let c = inv.counted.live in omega (arith, t, a, c)
+
+  -- one of the current epoch has forwarded nothing
+  done_none : w.epoch ≡ E.epoch → w.done ≡ 0
+  done_none now = me.timely.rest (now_not_late E.epoch w.epoch w.post now)
+
+  not_late : {A : Type 0} → w.epoch ≡ E.epoch → is_late E.epoch w ≡ true → A
+  not_late now late = false_true (is_late E.epoch w) (now_not_late E.epoch w.epoch w.post now) late
+
+  request_read : (b : Bool) → s.read.request ≡ b → m.gate.request ≡ b
+  request_read b e = ap (λ (x : GateWord). x.request) wins.unchanged ∙ e
+
+  behind_read : s.read.behind ≡ 0 → m.gate.behind ≡ 0
+  behind_read e = ap (λ (x : GateWord). x.behind) wins.unchanged ∙ e
+
+  -- its registers lead nowhere old
+  clean_now : w.epoch ≡ E.epoch → is_mutator w.post ≡ true → w.account.end ≡ None → Clean E g.size g.writer false 0 w.registers
+  clean_now now mu end = let c = me.registers mu end in record { clean = λ j l f. c.clean j l (λ t. not_late now t); lands = c.lands }
+
+  -- ---- in
+
+  enters : w.post ≡ Outside → s.read.request ≡ false → s.read.behind ≡ 0 → Keeps E m (with_gate m (gate_after Enter m.gate)) team (with_worker team k (worker_after m.gate.epoch Enter w)) g
+  enters at request behind =
+      let q = request_read false request in
+      let b = behind_read behind in
+      let late : (e : ℕ) → is_late e w ≡ false = λ e. rw at refl in
+      usual E m team g k (worker_after m.gate.epoch Enter w) (m.gate.live + 1) (m.gate.running + 1) m.gate.left m.gate.request
+      (record {
+        inv = inv;
+        below = wins.below;
+        mutator = sym (ap is_mutator at);
+        account = refl;
+        registers = refl;
+        scan = refl;
+        stock = λ y e. none≢some e;
+        none_left = λ r l y d. false_true (is_late E.epoch w) (late E.epoch) y;
+      })
+      (inl q)
+      (counted_moves team.worker team.count k (worker_after m.gate.epoch Enter w) Outside Running m.gate (gate_after Enter m.gate) false false wins.below at refl (late m.gate.epoch) (now_not_late m.gate.epoch m.gate.epoch Running refl)
+      refl (omega arith) (omega arith) refl refl refl (λ y. absurd (omega (arith, y, b))) inv.counted)
+      (knows_then E m team g k (gate_after Enter m.gate) inv wins.below (no_flip (inl q)) Running m.gate.epoch 0 None w.access w.board_open None None None None w.traced_seen
+      (record {
+        now = wins.at_gate;
+        done_none = refl;
+        inside = λ e. absurd (cc);
+        ends = record { stays = λ e. inl refl; gone = λ e. absurd (cc) };
+        not_asked = λ y l e. false_true (is_late E.epoch w) (late E.epoch) l;
+        clean = λ mu end. let c = me.registers (ap is_mutator at) end in record { clean = λ j l f. c.clean j l (λ t. false_true (is_late E.epoch w) (late E.epoch) t); lands = c.lands };
+        stocks = λ y e. none≢some e;
+        accesses = λ f e. (refl, me.access f e);
+        board = λ e. (refl, (me.board e).1);
+        rounds = λ y e. none≢some e;
+        claims = λ y e. none≢some e;
+        looks = λ y e. none≢some e;
+        last_looks = λ y e. none≢some e;
+        seen = λ e. (inl refl, (me.seen_traced e).1);
+        flips = λ e. absurd (cc);
+      }))
+
+  resumes : w.post ≡ Stopped → s.read.epoch ≡ w.epoch → s.read.request ≡ false → s.read.behind ≡ 0 → Keeps E m (with_gate m (gate_after Resume m.gate)) team (with_worker team k (worker_after m.gate.epoch Resume w)) g
+  resumes at epoch request behind =
+      let q = request_read false request in
+      let b = behind_read behind in
+      let same : m.gate.epoch ≡ s.read.epoch = ap (λ (x : GateWord). x.epoch) wins.unchanged in
+      let gate_now : w.epoch ≡ m.gate.epoch = sym (same ∙ epoch) in
+      let now : w.epoch ≡ E.epoch = gate_now ∙ wins.at_gate in
+      usual E m team g k (worker_after m.gate.epoch Resume w) m.gate.live (m.gate.running + 1) m.gate.left m.gate.request
+      (record {
+        inv = inv;
+        below = wins.below;
+        mutator = sym (ap is_mutator at);
+        account = refl;
+        registers = refl;
+        scan = refl;
+        stock = λ y e. e;
+        none_left = λ r l y d. not_late now y;
+      })
+      (inl q)
+      (counted_moves team.worker team.count k (worker_after m.gate.epoch Resume w) Stopped Running m.gate (gate_after Resume m.gate) false false wins.below at refl (now_not_late m.gate.epoch w.epoch w.post gate_now) (now_not_late m.gate.epoch w.epoch Running gate_now)
+      refl refl (omega arith) refl refl refl (λ y. absurd (omega (arith, y, b))) inv.counted)
+      (knows_then E m team g k (gate_after Resume m.gate) inv wins.below (no_flip (inl q)) Running w.epoch w.done w.stock w.access w.board_open w.round w.claim w.look w.last_look w.traced_seen
+      (record {
+        now = now;
+        done_none = done_none now;
+        inside = λ e. absurd (cc);
+        ends = record { stays = λ e. inl refl; gone = λ e. absurd (cc) };
+        not_asked = λ y l e. not_late now l;
+        clean = λ mu end. clean_now now (ap is_mutator at) end;
+        stocks = me.stock;
+        accesses = λ f e. (refl, me.access f e);
+        board = λ e. (refl, (me.board e).1);
+        rounds = me.round;
+        claims = me.claim;
+        looks = me.look;
+        last_looks = me.last_look;
+        seen = λ e. (inl refl, (me.seen_traced e).1);
+        flips = λ e. absurd (cc);
+      }))
+
+  -- ---- out
+
+  parks : is_running w.post ≡ true → is_some w.account.end ≡ false → Keeps E m (with_gate m (gate_after Park m.gate)) team (with_worker team k (worker_after m.gate.epoch Park w)) g
+  parks running ended =
+      let at : w.post ≡ Running = runs w.post running in
+      let some = running_some running in
+      let now = me.timely.running running in
+      let gate_now : w.epoch ≡ m.gate.epoch = now ∙ sym wins.at_gate in
+      usual E m team g k (worker_after m.gate.epoch Park w) m.gate.live (m.gate.running - 1) m.gate.left m.gate.request
+      (record {
+        inv = inv;
+        below = wins.below;
+        mutator = sym (ap is_mutator at);
+        account = refl;
+        registers = refl;
+        scan = refl;
+        stock = λ y e. e;
+        none_left = λ r l y d. not_late now y;
+      })
+      (inr (inl some))
+      (counted_moves team.worker team.count k (worker_after m.gate.epoch Park w) Running Stopped m.gate (gate_after Park m.gate) false false wins.below at refl (now_not_late m.gate.epoch w.epoch w.post gate_now) (now_not_late m.gate.epoch w.epoch Stopped gate_now)
+      refl refl (omega (arith, some)) refl refl refl (λ y. absurd (let c = inv.counted.still y in omega (arith, c.0, some))) inv.counted)
+      (knows_then E m team g k (gate_after Park m.gate) inv wins.below (no_flip (inr (inl some))) Stopped w.epoch w.done w.stock None false w.round w.claim w.look w.last_look false
+      (record {
+        now = now;
+        done_none = done_none now;
+        inside = λ e. absurd (cc);
+        ends = record { stays = λ e. false_true (is_some w.account.end) ended e; gone = λ e. absurd (cc) };
+        not_asked = λ y l e. not_late now l;
+        clean = λ mu end. clean_now now (ap is_mutator at) end;
+        stocks = me.stock;
+        accesses = λ f e. none≢some e;
+        board = λ e. absurd (cc);
+        rounds = me.round;
+        claims = me.claim;
+        looks = me.look;
+        last_looks = me.last_look;
+        seen = λ e. absurd (cc);
+        flips = λ e. absurd (cc);
+      }))
+
+  requests : (asked : ℕ) → is_running w.post ≡ true → is_some w.account.end ≡ false → s.read.request ≡ false → w.traced_seen ≡ true → Keeps E m (with_gate m (gate_after (Request asked) m.gate)) team (with_worker team k (worker_after m.gate.epoch (Request asked) w)) g
+  requests asked running ended request seen =
+      let at : w.post ≡ Running = runs w.post running in
+      let some = running_some running in
+      let q : one_if m.gate.request ≡ 0 = ap one_if (request_read false request) in
+      let now = me.timely.running running in
+      let gate_now : w.epoch ≡ m.gate.epoch = now ∙ sym wins.at_gate in
+      usual E m team g k (worker_after m.gate.epoch (Request asked) w) m.gate.live (m.gate.running - 1) m.gate.left true
+      (record {
+        inv = inv;
+        below = wins.below;
+        mutator = sym (ap is_mutator at);
+        account = refl;
+        registers = refl;
+        scan = refl;
+        stock = λ y e. e;
+        none_left = λ r l y d. not_late now y;
+      })
+      (inr (inl some))
+      (counted_moves team.worker team.count k (worker_after m.gate.epoch (Request asked) w) Running (Flipping asked) m.gate (gate_after (Request asked) m.gate) false false wins.below at refl
+      (now_not_late m.gate.epoch w.epoch w.post gate_now) (now_not_late m.gate.epoch w.epoch (Flipping asked) gate_now)
+      refl refl (omega (arith, some)) refl refl (omega (arith, q)) (λ y. absurd (let c = inv.counted.still y in omega (arith, c.0, some))) inv.counted)
+      (knows_then E m team g k (gate_after (Request asked) m.gate) inv wins.below (no_flip (inr (inl some))) (Flipping asked) w.epoch w.done w.stock None false w.round w.claim w.look w.last_look w.traced_seen
+      (record {
+        now = now;
+        done_none = done_none now;
+        inside = λ e. absurd (cc);
+        ends = record { stays = λ e. false_true (is_some w.account.end) ended e; gone = λ e. absurd (cc) };
+        not_asked = λ y l e. not_late now l;
+        clean = λ mu end. clean_now now (ap is_mutator at) end;
+        stocks = me.stock;
+        accesses = λ f e. none≢some e;
+        board = λ e. absurd (cc);
+        rounds = me.round;
+        claims = me.claim;
+        looks = me.look;
+        last_looks = me.last_look;
+        seen = λ e. (inr refl, (me.seen_traced e).1);
+        flips = λ e. seen;
+      }))
+
+  leaves : is_running w.post ≡ true → is_some w.account.end ≡ true → Keeps E m (with_gate m (gate_after Leave m.gate)) team (with_worker team k (worker_after m.gate.epoch Leave w)) g
+  leaves running ended =
+      let at : w.post ≡ Running = runs w.post running in
+      let some = running_some running in
+      let alive = live_some (ap is_live at) in
+      let now = me.timely.running running in
+      let gate_now : w.epoch ≡ m.gate.epoch = now ∙ sym wins.at_gate in
+      usual E m team g k (worker_after m.gate.epoch Leave w) (m.gate.live - 1) (m.gate.running - 1) (m.gate.left + 1) m.gate.request
+      (record {
+        inv = inv;
+        below = wins.below;
+        mutator = sym (ap is_mutator at);
+        account = refl;
+        registers = refl;
+        scan = refl;
+        stock = λ y e. e;
+        none_left = λ r l y d. not_late now y;
+      })
+      (inr (inl some))
+      (counted_moves team.worker team.count k (worker_after m.gate.epoch Leave w) Running Gone m.gate (gate_after Leave m.gate) false false wins.below at refl (now_not_late m.gate.epoch w.epoch w.post gate_now) (now_not_late m.gate.epoch w.epoch Gone gate_now)
+      refl (omega (arith, alive)) (omega (arith, some)) refl (omega arith) refl (λ y. absurd (let c = inv.counted.still y in omega (arith, c.0, some))) inv.counted)
+      (knows_then E m team g k (gate_after Leave m.gate) inv wins.below (no_flip (inr (inl some))) Gone w.epoch w.done w.stock None false w.round w.claim w.look w.last_look false
+      (record {
+        now = now;
+        done_none = done_none now;
+        inside = λ e. absurd (cc);
+        ends = record { stays = λ e. inr refl; gone = λ e. ended };
+        not_asked = λ y l e. not_late now l;
+        clean = λ mu end. let z : is_some w.account.end ≡ false = rw end refl in false_true (is_some w.account.end) z ended;
+        stocks = me.stock;
+        accesses = λ f e. none≢some e;
+        board = λ e. absurd (cc);
+        rounds = me.round;
+        claims = me.claim;
+        looks = me.look;
+        last_looks = me.last_look;
+        seen = λ e. absurd (cc);
+        flips = λ e. absurd (cc);
+      }))
+
+  -- ---- registers forwarded
+
+  module _ (at : w.post ≡ Stopped) (epoch : s.read.epoch ≡ w.epoch + 1) (all : w.done ≡ 8) where
+    abbrev gate' : GateWord
+    gate' = gate_after Forwarded m.gate
+
+    gate_next : w.epoch + 1 ≡ m.gate.epoch
+    gate_next = sym epoch ∙ sym (ap (λ (x : GateWord). x.epoch) wins.unchanged)
+
+    next : w.epoch + 1 ≡ E.epoch
+    next = gate_next ∙ wins.at_gate
+
+    late : (e : ℕ) → w.epoch + 1 ≡ e → is_late e w ≡ true
+    late e y = rw (at, eq-eqb (w.epoch + 1) e y) refl
+
+    behind_some : 0 < m.gate.behind
+    behind_some = me.licensed.counted (late E.epoch next)
+
+    busy : (m.gate.request ≡ false) ⊎ ((0 < m.gate.running) ⊎ (0 < m.gate.behind))
+    busy = inr (inr behind_some)
+
+    unquiet : {A : Type 0} → Quiet E m.gate.behind m.front m.page → A
+    unquiet q = let b = behind_some in absurd (omega (arith, b, q.none))
+
+    not_asked : (q : Quest) → w.quest ≡ Some q → ⊥
+    not_asked q e = by_origin q.origin (me.origin q e)
+      where
+        by_origin : (o : Origin) → IsOrigin E g.size g.writer g.kind m.heap (is_late E.epoch w) w.done w.registers w.scan q.old o → ⊥
+        by_origin (Register r) y = omega (arith, y.1, y.2, all)
+        by_origin (Scanned x) y = let p = me.present y.0.0 y.0.1 in omega (arith, p, next)
+
+    others : (j : ℕ) → j < team.count → j ≢ k → Knows E gate' m.traced m.front m.low m.old_front m.old_low m.old_owed g m.page m.cross m.announced m.heap j (team.worker j)
+    others j l d =
+        let u = inv.workers j l in
+        let a : Licensed (m.gate.behind - 1) g.kept j (is_late E.epoch (team.worker j)) (team.worker j).copy (team.worker j).quest (team.worker j).scan = record {
+          licensed = u.licensed.licensed;
+          asked = u.licensed.asked;
+          idle = u.licensed.idle;
+          counted = λ e. let t = sum_below-two team.count (λ i. one_if (is_late m.gate.epoch (team.worker i))) j k l wins.below d in
+              let x = one_of (is_late m.gate.epoch (team.worker j)) (rw wins.at_gate e) in let y = one_of (is_late m.gate.epoch w) (late m.gate.epoch gate_next) in
+              let c = inv.counted.behind in omega (arith, t, x, y, c);
+        } in
+        let b : (q : Claim) → (team.worker j).claim ≡ Some q → Claims E m.front (m.gate.behind - 1) g.size g.writer m.page (team.worker j).epoch q = λ q e. claims (team.worker j).epoch q (u.claim q e) in
+        let c : (q : Look) → (team.worker j).look ≡ Some q → Looks E (m.gate.behind - 1) m.front m.page (team.worker j).epoch q = λ q e. looks (team.worker j).epoch q (u.look q e) in
+        let f : (q : LastLook) → (team.worker j).last_look ≡ Some q → LastLooks E m.traced (m.gate.behind - 1) m.front m.page (team.worker j).epoch q = λ q e. last_looks (team.worker j).epoch q (u.last_look q e) in
+        let h : (r : Reset) → (team.worker j).reset ≡ Some r → Resets E gate' m.front m.low m.old_front m.old_low m.old_owed r = λ r e. absurd (no_reset E m team g inv busy j r l e) in
+        assumption
+      where
+        claims : (d : ℕ) (q : Claim) → Claims E m.front m.gate.behind g.size g.writer m.page d q → Claims E m.front (m.gate.behind - 1) g.size g.writer m.page d q
+        claims d q p = record { earlier = p.earlier; full = p.full; clear = p.clear; late = p.late; in_place = p.in_place; last = λ e i. let v = p.last e i in (v.0, v.1, ⊎_elim (λ y. inl y) (λ y. unquiet y.1) v.2) }
+
+        looks : (d : ℕ) (q : Look) → Looks E m.gate.behind m.front m.page d q → Looks E (m.gate.behind - 1) m.front m.page d q
+        looks d q p = record { earlier = p.earlier; board = p.board; full = p.full; last = p.last; start = p.start; late = p.late; none = λ e. let n = p.none e in (omega (arith, n.0), n.1) }
+
+        last_looks : (d : ℕ) (q : LastLook) → LastLooks E m.traced m.gate.behind m.front m.page d q → LastLooks E m.traced (m.gate.behind - 1) m.front m.page d q
+        last_looks d q p = record { earlier = p.earlier; late = p.late; now = λ e t. unquiet (p.now e t).0 }
+
+    pub forwards : Keeps E m (with_gate m (gate_after Forwarded m.gate)) team (with_worker team k (worker_after m.gate.epoch Forwarded w)) g
+    forwards = passing_keeps
+        (record {
+          inv = inv;
+          below = wins.below;
+          mutator = refl;
+          account = refl;
+          registers = refl;
+          scan = refl;
+          stock = λ y e. none≢some e;
+          none_left = λ r l y d. omega (arith, l, d, all);
+        })
+        (gate_after Forwarded m.gate)
+        (counted_moves team.worker team.count k (worker_after m.gate.epoch Forwarded w) w.post w.post m.gate (gate_after Forwarded m.gate) true false wins.below refl refl (late m.gate.epoch gate_next) (now_not_late m.gate.epoch m.gate.epoch w.post refl)
+        refl refl refl (let b = behind_some in omega (arith, b)) refl refl (λ y. inv.counted.still behind_some) inv.counted)
+        (record { filling = λ p l n a. unquiet (inv.filling.filling p l n a) })
+        (record { begun = inv.tracing.begun; bottom = inv.tracing.bottom; top = inv.tracing.top; quiet = λ e. unquiet (inv.tracing.quiet e); last = inv.tracing.last })
+        others
+        (knows_then E m team g k (gate_after Forwarded m.gate) inv wins.below (no_flip busy) w.post m.gate.epoch 0 None w.access w.board_open None None None None w.traced_seen
+        (record {
+          now = wins.at_gate;
+          done_none = refl;
+          inside = λ e. absurd (let q = sym at ∙ e in cc);
+          ends = me.ends;
+          not_asked = λ y l e. not_asked y e;
+          clean = λ mu end. let c = me.registers mu end in record { clean = λ j l f. c.clean j l (λ t. omega (arith, l, all)); lands = c.lands };
+          stocks = λ y e. none≢some e;
+          accesses = λ f e. (me.active f e, me.access f e);
+          board = me.board;
+          rounds = λ y e. none≢some e;
+          claims = λ y e. none≢some e;
+          looks = λ y e. none≢some e;
+          last_looks = λ y e. none≢some e;
+          seen = me.seen_traced;
+          flips = me.flips;
+        }))
+
+  by_passage : (p : Passage) → Passes w.post w.epoch w.done (is_some w.account.end) w.traced_seen s.read p → Keeps E m (with_gate m (gate_after p m.gate)) team (with_worker team k (worker_after m.gate.epoch p w)) g
+  by_passage Enter y = enters y.0 y.1 y.2
+  by_passage Park y = parks y.0 y.1
+  by_passage (Request asked) y = requests asked y.0 y.1 y.2 y.3
+  by_passage Forwarded y = forwards y.0 y.1 y.2
+  by_passage Resume y = resumes y.0 y.1 y.2 y.3
+  by_passage Leave y = leaves y.0 y.1
+
+pub passes_gate : PassingGateKeeps
+passes_gate E m team g k s inv wins = by_passage E m team g k s inv wins s.passage ((inv.workers k wins.below).passage s wins.step)

@@ -1,0 +1,54 @@
+-- What a step makes of a configuration.
+use Rattle.std.proofs.Common.{◌≡◌, ℕ, List, Option, Some, None, refl}
+use Rattle.heap_state.specs.Entries.{Entry}
+use Rattle.heap_state.specs.Table.{table_of, IsFormed}
+use Rattle.heap_state.specs.Worker.{Team}
+use Rattle.heap_state.proofs.Placing.{laid_out}
+use Rattle.heap_state.proofs.Teams.{team_changes}
+use Rattle.heap_state.proofs.Writing.{stores_entry}
+use Rattle.heap_laws.specs.Lifting.{words_after, table_after, RowFits, StepsAreSeen, StandingIsReady, StepsStand, LawsAreLifted}
+
+pub ready : StandingIsReady
+ready c p s k l = record { laid_out = laid_out c.pages c.words; invariant = s.invariant; member = l }
+
+words_formed : (n : ℕ) (words : List ℕ) (e : Option Entry) → IsFormed n words → RowFits n e → IsFormed n (words_after n words e)
+words_formed n words None formed fits = formed
+words_formed n words (Some e) formed fits = (stores_entry n words e formed fits).formed
+
+words_say : (n : ℕ) (words : List ℕ) (e : Option Entry) → IsFormed n words → RowFits n e → table_of n (words_after n words e) ≡ table_after (table_of n words) e
+words_say n words None formed fits = refl
+words_say n words (Some e) formed fits = (stores_entry n words e formed fits).says
+
+same_team : (a b : Team) → a.mutators ≡ b.mutators → a.count ≡ b.count → a.worker ≡ b.worker → a ≡ b
+same_team a b mutators count worker = λ i. record { mutators = mutators i; count = count i; worker = worker i }
+
+pub seen : StepsAreSeen
+seen c e k w formed l fits =
+    let t = team_changes c.mutators c.workers k w l in
+    record {
+      formed = words_formed c.pages c.words e formed fits;
+      table_said = words_say c.pages c.words e formed fits;
+      team_said = same_team _ _ refl t.count t.worker;
+    }
+
+pub stand : StepsStand
+stand c p q e k w h s l fits invariant shown =
+    let y = seen c e k w s.formed l fits in
+    record {
+      stands = record {
+        size = s.size;
+        formed = y.formed;
+        ghost = h;
+        invariant = rw (y.table_said, y.team_said) invariant;
+        shown = rw (y.table_said, y.team_said) shown;
+      };
+      with_ghost = refl;
+    }
+
+pub lifted : LawsAreLifted
+lifted c p s e k w h l fits same law =
+    let y = seen c e k w s.formed l fits in
+    record {
+      standing = stand c p p e k w h s l fits (rw same law.invariant) (rw same (law.shown p s.shown));
+      cycle = λ o cy. rw (y.table_said, y.team_said, same) (law.cycle o cy);
+    }

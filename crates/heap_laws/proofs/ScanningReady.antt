@@ -1,0 +1,95 @@
+-- The loads before a page is claimed.
+use Rattle.std.proofs.Common.{◌≡◌, ◌≢◌, ℕ, ◌+◌, ◌<◌, true, Some, refl, ap, ◌∙◌, arith, ⊎_elim, inl, inr}
+use Rattle.std.proofs.lemmas.Bool.{cases_eq}
+use Rattle.heap_state.specs.Era.{Era, Memory}
+use Rattle.heap_state.specs.Ghost.{Ghost}
+use Rattle.heap_state.specs.Inductive.{Invariant}
+use Rattle.heap_state.specs.Parts.Scanning.{Claims}
+use Rattle.heap_state.specs.Worker.{Team, Claim}
+use Rattle.heap_state.proofs.Holding.{writer}
+use Rattle.heap_state.proofs.Puts.{some_same}
+use Rattle.heap_laws.specs.Keeping.{Keeps}
+use Rattle.heap_laws.specs.Steps.{with_worker}
+use Rattle.heap_laws.specs.Scanning.{claiming, claim_of, BeginningClaimKeeps, LookingAtPlaceKeeps, LookingAtGateKeeps}
+use Rattle.heap_laws.proofs.KeepingTeams.{learns}
+
+-- a worker that knows what its new claim says
+module _ (E : Era) (m : Memory) (team : Team) (g : Ghost) (k : ℕ) (q : Claim) (inv : Invariant E m team g) (below : k < team.count)
+    (new : Claims E m.front m.gate.behind g.size g.writer m.page (team.worker k).epoch q) where
+  pub claims_more : Keeps E m m team (with_worker team k (claiming (team.worker k) q)) g
+  claims_more = learns E m team g k (claiming (team.worker k) q) inv
+      (record { post = refl; epoch = refl; account = refl; registers = refl; done = refl; stock = refl })
+      (λ s e. (s, e, refl))
+      (let me = inv.workers k below in let c : (c : Claim) → Some q ≡ Some c → Claims E m.front m.gate.behind g.size g.writer m.page (team.worker k).epoch c = λ c e. rw (← some_same e) new in
+      record {
+        timely = me.timely;
+        ends = me.ends;
+        outside = me.outside;
+        stock = me.stock;
+        registers = me.registers;
+        active = me.active;
+        access = me.access;
+        board = me.board;
+        origin = me.origin;
+        quest = me.quest;
+        licensed = me.licensed;
+        copy = me.copy;
+        keeps = me.keeps;
+        present = me.present;
+        scan = me.scan;
+        stepping = me.stepping;
+        round = me.round;
+        claim = c;
+        look = me.look;
+        last_look = me.last_look;
+        seen_traced = me.seen_traced;
+        flips = me.flips;
+        passage = me.passage;
+        resets = me.resets;
+        reset = me.reset;
+      })
+
+pub begins_claim : BeginningClaimKeeps
+begins_claim E m team g k p old inv may = claims_more E m team g k (claim_of old p) inv may.below (record {
+  earlier = may.earlier;
+  full = λ now _. ⊎_elim (λ b. inr b) (λ f. inl (f.0, ⊎_elim (λ y. y) (λ y. let z = ((inv.workers k may.below).round y.0 y.2).front_then y.1 y.3 now in omega (arith, z, y.4)) f.1)) (may.full now);
+  clear = λ now i b j st w l. absurd (omega (arith, l));
+  last = λ now i. absurd (cc);
+  late = λ s. absurd (cc);
+  in_place = λ i. absurd (cc);
+})
+
+-- each reserved place is announced by its worker
+announced : (E : Era) (m : Memory) (team : Team) (g : Ghost) (inv : Invariant E m team g) (b k : ℕ) → 0 < g.size b → g.writer b ≡ k + 1 → m.announced k ≡ b + 1
+announced E m team g inv b k st w =
+    let y = writer E m team g inv b k st w in
+    let c = (inv.workers k y.below).copy y.copy y.copies in
+    let n = c.named (c.place y.reserved).0 in
+    n.0 ∙ ap (λ x. x + 1) y.to
+
+pub looks_at_place : LookingAtPlaceKeeps
+looks_at_place E m team g k q inv sees =
+    let old = (inv.workers k sees.below).claim q sees.claims in
+    claims_more E m team g k (record q { looked = q.looked + 1 }) inv sees.below (record {
+      earlier = old.earlier;
+      full = old.full;
+      last = old.last;
+      late = old.late;
+      in_place = old.in_place;
+      clear = λ now i b j st w l. ⊎_elim
+          (λ (y : j ≡ q.looked). let a = announced E m team g inv b j st w in let z : m.announced j ≡ m.announced q.looked = ap m.announced y in let f = sees.free in inl (omega (arith, a, z, f)))
+          (λ (y : j ≢ q.looked). old.clear now i b j st w (omega (arith, l, y)))
+          (cases_eq j q.looked);
+    })
+
+pub looks_at_gate : LookingAtGateKeeps
+looks_at_gate E m team g k q inv sees =
+    let old = (inv.workers k sees.below).claim q sees.claims in
+    claims_more E m team g k (record q { sure = true }) inv sees.below (record {
+      earlier = old.earlier;
+      full = old.full;
+      last = old.last;
+      clear = old.clear;
+      late = λ s d. absurd (let a = sees.at_gate in let b = sees.same in omega (arith, a, b, d));
+      in_place = λ i. refl;
+    })

@@ -1,0 +1,204 @@
+-- The records on a page that is scanned: the crossing, the headers, and FRONT.
+use Rattle.std.proofs.Common.{◌≡◌, ◌≢◌, ℕ, zero, suc, ◌+◌, ◌-◌, ◌*◌, ◌/◌, ◌<◌, ◌≤◌, eqb, true, false, cond, Some, refl, sym, ◌∙◌, arith, ⊎_elim, ◌⊎◌, inl, inr}
+use Rattle.std.proofs.lemmas.Bool.{cases_eq, cases_lt, lt-ltb, le-ltb, eq-eqb, ne_eqb}
+use Rattle.heap_words.specs.declared.kind.Kind.{Kind}
+use Rattle.heap_words.specs.declared.kind.Kind.TheVariants.{Fields, Raw}
+use Rattle.heap_words.specs.Decoded.{HeaderWord, decode}
+use Rattle.heap_state.specs.Era.{Era, Memory, IsLaidOut}
+use Rattle.heap_state.specs.Ghost.{Ghost, is_field, Here}
+use Rattle.heap_state.specs.Inductive.{Invariant, Knows}
+use Rattle.heap_state.specs.Parts.Scanning.{Scans, Stepping}
+use Rattle.heap_state.specs.Worker.{Team, Copy, Scan, Seen}
+use Rattle.heap_state.proofs.Holding.{writer, uncopied_here}
+use Rattle.heap_state.proofs.Puts.{some_same}
+use Rattle.heap_laws.specs.Keeping.{Keeps}
+use Rattle.heap_laws.specs.ScanningWords.{scanning, first_to_load, in_record, IsScanning, ReadingCrossingKeeps, ReadingFirstHeaderKeeps, ReadingFrontKeeps, ReadingNextHeaderKeeps}
+use Rattle.heap_laws.specs.Steps.{with_worker}
+use Rattle.heap_laws.proofs.ScanningOn.{past, goes_on, no_copy}
+use Rattle.heap_laws.proofs.ScanningSlot.{slot_word}
+
+-- two headers that a word decodes to are one
+header_same : {k l : Kind} {a b s t i j : ℕ} (w : ℕ) → decode w ≡ HeaderWord k a s i → decode w ≡ HeaderWord l b t j → (k ≡ l) × (a ≡ b)
+header_same w e f = let q = sym e ∙ f in (cc, cc)
+
+-- where a scan goes on within a record
+entered : (k : Kind) (a size cursor : ℕ) → a ≤ cursor → cursor < a + size → (cursor ≤ first_to_load k a size cursor) × (a < first_to_load k a size cursor) × (first_to_load k a size cursor ≤ a + size)
+entered Raw a size cursor l n = (omega arith, omega arith, omega arith)
+entered Fields a size cursor l n = ⊎_elim
+    (λ (p : a < cursor). rw (lt-ltb a cursor p) (omega arith, p, omega arith))
+    (λ (p : cursor ≤ a). rw (le-ltb a cursor p) (omega arith, omega arith, omega arith))
+    (cases_lt a cursor)
+
+-- the words that it passes over there are no fields
+passed_over : (k : Kind) (a size cursor x : ℕ) → a ≤ cursor → cursor ≤ x → x < first_to_load k a size cursor → (x ≡ a) ⊎ ((k ≡ Raw) × (x < a + size))
+passed_over Raw a size cursor x l n m = inr (refl, m)
+passed_over Fields a size cursor x l n m = ⊎_elim
+    (λ (p : a < cursor). absurd (let z : x < cursor = rw (lt-ltb a cursor p) at m in omega (arith, z, n)))
+    (λ (p : cursor ≤ a). inl (let z : x < a + 1 = rw (le-ltb a cursor p) at m in omega (arith, z, n, l)))
+    (cases_lt a cursor)
+
+module _ (E : Era) (m : Memory) (team : Team) (g : Ghost) (k : ℕ) (s : Scan) (out : IsLaidOut E) (inv : Invariant E m team g) (is : IsScanning team k s) (no_board : s.page ≢ E.board / 64) where
+  me : Knows E m.gate m.traced m.front m.low m.old_front m.old_low m.old_owed g m.page m.cross m.announced m.heap k (team.worker k)
+  me = inv.workers k is.below
+
+  mine : Scans E m.front g.size g.writer g.kind m.heap m.page k s
+  mine = me.scan s is.scans
+
+  steps : Stepping E m.front g.size g.writer g.kind s
+  steps = me.stepping s is.scans
+
+  place : (E.start ≤ 64 * s.page) × (64 * s.page < m.front)
+  place = ⊎_elim (λ b. absurd (no_board b)) (λ y. y) mine.place
+
+  before_board : s.page < E.board / 64
+  before_board = let b = out.below in let a = out.board in let o = inv.laid.order in omega (arith, place, b, a, o)
+
+  below_front : s.cursor ≤ m.front
+  below_front = ⊎_elim (λ b. absurd (no_board b)) (λ y. y) mine.cursor
+
+  idle : (c : Copy) → (team.worker k).copy ≡ Some c → ⊥
+  idle = no_copy E m team g k inv is.below is.asks_nothing
+
+  -- nobody writes a record with a word on the page
+  written : (b x : ℕ) → 0 < g.size b → b ≤ x → x < b + g.size b → x / 64 ≡ s.page → g.writer b ≡ 0
+  written b x st l n e = ⊎_elim
+      (λ (z : g.writer b ≡ 0). z)
+      (λ (z : g.writer b ≢ 0). absurd (let w = inv.shut.by b x k st (omega arith) l n (rw e mine.claimed) in let y = writer E m team g inv b k st w in idle y.copy y.copies))
+      (cases_eq (g.writer b) 0)
+
+  -- a record stands over each word below FRONT
+  over : (n a x : ℕ) → E.start ≤ a → 0 < g.size a → a ≤ x → x < m.front → x ≤ a + n → (b : ℕ) × (0 < g.size b) × (b ≤ x) × (x < b + g.size b)
+  over zero a x t st l f n = (a, st, l, omega arith)
+  over (suc n) a x t st l f y = ⊎_elim
+      (λ (q : x < a + g.size a). (a, st, l, q))
+      (λ (q : a + g.size a ≤ x). ⊎_elim
+      (λ e. absurd (omega (arith, e, q, f)))
+      (λ e. over n (a + g.size a) x (omega arith) e q f (omega (arith, y, st)))
+      (inv.laid.next a t (omega arith) st))
+      (cases_lt x (a + g.size a))
+
+  -- the page's crossing
+  crossing : (0 < g.size (m.cross s.page)) × (g.writer (m.cross s.page) ≡ 0) × (m.cross s.page ≤ 64 * s.page) × (64 * s.page < m.cross s.page + g.size (m.cross s.page))
+  crossing =
+      let first : 0 < g.size E.start = ⊎_elim (λ e. absurd (omega (arith, e, place))) (λ e. e) inv.laid.start in
+      let o = over (64 * s.page) E.start (64 * s.page) (omega arith) first place.0 place.1 (omega arith) in
+      let w = written o.0 (64 * s.page) o.1 o.2 o.3 (omega arith) in
+      let c : m.cross s.page ≡ o.0 = inv.crossing.crossing s.page o.0 place.0 place.1 o.1 o.2 o.3 w in
+      rw c (o.1, w, o.2, o.3)
+
+  pub crosses : Keeps E m m team (with_worker team k (scanning (team.worker k) (record s { over = Some (m.cross s.page) }))) g
+  crosses = goes_on E m team g k s inv is.below is.scans idle (record s { over = Some (m.cross s.page) }) (record {
+    page = refl;
+    clean = λ x u e l n. absurd (omega (arith, l, n));
+    top = mine.cursor;
+    stepping = record {
+      over = λ a e. let z : m.cross s.page ≡ a = some_same e in rw z at crossing;
+      current = steps.current;
+      inner = steps.inner;
+      begun = steps.begun;
+      full = steps.full;
+      ended = steps.ended;
+    };
+  })
+
+  -- ---- a header
+
+  -- a record below FRONT has its own header
+  header : (a len serial mutator : ℕ) (kind : Kind) → 0 < g.size a → g.writer a ≡ 0 → E.start ≤ a → a + g.size a ≤ m.front → decode (m.heap a) ≡ HeaderWord kind len serial mutator → (g.kind a ≡ kind) × (g.size a ≡ len + 1)
+  header a len serial mutator kind st w l n e =
+      let o = inv.laid.order in
+      let c = uncopied_here E m team g inv out a st l (omega (arith, n, o, st)) in
+      let q = header_same (m.heap a) (inv.headed.own a st w c.0 c.1) e in
+      (q.0, omega (arith, q.1, st))
+
+  -- the scan enters the record at a
+  enters : (a len serial mutator : ℕ) (kind : Kind) → 0 < g.size a → g.writer a ≡ 0 → E.start ≤ a → a + g.size a ≤ m.front → a ≤ s.cursor → s.cursor < a + g.size a
+      → decode (m.heap a) ≡ HeaderWord kind len serial mutator → Keeps E m m team (with_worker team k (scanning (team.worker k) (in_record E s (record { at = a; size = len + 1; kind = kind })))) g
+  enters a len serial mutator kind st w l n c d e =
+      let h = header a len serial mutator kind st w l n e in
+      let within : s.cursor < a + (len + 1) = omega (arith, h.1, d) in
+      let y = entered kind a (len + 1) s.cursor c within in
+      goes_on E m team g k s inv is.below is.scans idle (in_record E s (record { at = a; size = len + 1; kind = kind })) (record {
+        page = refl;
+        clean = λ x u p f o. absurd (no_field x u (omega (arith, c, f)) h.0 h.1 (passed_over kind a (len + 1) s.cursor x c f o));
+        top = inr (omega (arith, y.2, h.1, n));
+        stepping = record {
+          over = steps.over;
+          current = λ r i. let z : record { at = a; size = len + 1; kind = kind } ≡ r = some_same i in
+              rw (← z) (omega arith, h.1, h.0, w, l, omega (arith, h.1, n), y.1, y.2);
+          inner = λ i. absurd (cc);
+          begun = let b = steps.begun in omega (arith, b, y.0);
+          full = steps.full;
+          ended = λ i. ⊎_elim (λ z. inl z) (λ z. inr (inl z)) (past E s.page (first_to_load kind a (len + 1) s.cursor) i);
+        };
+      })
+    where
+      raw_field : (k : Kind) (i : ℕ) → k ≡ Raw → is_field k i ≡ true → ⊥
+      raw_field k i r f = let q : is_field k i ≡ false = rw r refl in let z = sym q ∙ f in absurd (cc)
+
+      no_field : (x : ℕ) → Here E g.size g.writer g.kind x → a ≤ x → g.kind a ≡ kind → g.size a ≡ len + 1 → (x ≡ a) ⊎ ((kind ≡ Raw) × (x < a + (len + 1))) → ⊥
+      no_field x u f kd sz (inl z) = let q = slot_word E m.front m.low g.size g.writer g.kind x out inv.laid u a 0 st (omega arith) in omega (arith, q.0)
+      no_field x u f kd sz (inr z) = let q = slot_word E m.front m.low g.size g.writer g.kind x out inv.laid u a (x - a) (omega (arith, sz, z.1, f, st)) (omega arith) in raw_field (g.kind a) (x - a) (kd ∙ z.0) q.2
+
+  -- the header of the record over the page's first word
+  pub enters_first : (a len serial mutator : ℕ) (kind : Kind) → s.over ≡ Some a → s.cursor ≡ 64 * s.page → decode (m.heap a) ≡ HeaderWord kind len serial mutator
+      → Keeps E m m team (with_worker team k (scanning (team.worker k) (in_record E s (record { at = a; size = len + 1; kind = kind })))) g
+  enters_first a len serial mutator kind e c d =
+      let o = steps.over a e in
+      let w : (E.start ≤ a) × (a + g.size a ≤ m.front) = (let q = inv.laid.lies a o.0 in let r = out.apart in let y = inv.laid.order in (omega (arith, q, r, y, o, place), omega (arith, q, r, y, o, place))) in
+      enters a len serial mutator kind o.0 o.1 w.0 w.1 (omega (arith, o.2, c)) (omega (arith, o.3, c)) d
+
+  -- the header of the next record
+  pub enters_next : (r : Seen) (len serial mutator : ℕ) (kind : Kind) → s.current ≡ Some r → s.cursor ≡ r.at + r.size → s.cursor < 64 * s.page + 64 → (s.inner ≡ true) ⊎ (s.in_place ≡ false)
+      → decode (m.heap s.cursor) ≡ HeaderWord kind len serial mutator → Keeps E m m team (with_worker team k (scanning (team.worker k) (in_record E s (record { at = s.cursor; size = len + 1; kind = kind })))) g
+  enters_next r len serial mutator kind e c p i d =
+      let t = steps.current r e in
+      let f : s.cursor < m.front = ⊎_elim (λ y. steps.inner y) (λ y. ⊎_elim (λ b. absurd (no_board b)) (λ q. omega (arith, q, p)) (steps.full y)) i in
+      let st : 0 < g.size s.cursor = follows r t.0 t.1 t.4 t.6 t.7 c f in
+      let b = steps.begun in
+      let w = written s.cursor s.cursor st (omega arith) (omega (arith, st)) (omega (arith, b, p)) in
+      let y = inv.laid.lies s.cursor st in
+      let o = inv.laid.order in
+      let q = out.apart in
+      enters s.cursor len serial mutator kind st w (omega (arith, place, b)) (omega (arith, y, f, o, q, place, b, st)) (omega arith) (omega (arith, st)) d
+    where
+      follows : (r : Seen) → 0 < r.size → g.size r.at ≡ r.size → E.start ≤ r.at → r.at < s.cursor → s.cursor ≤ r.at + r.size → s.cursor ≡ r.at + r.size → s.cursor < m.front → 0 < g.size s.cursor
+      follows r z sz l n h c f = ⊎_elim
+          (λ y. absurd (omega (arith, y, sz, c, f)))
+          (λ y. let q : r.at + g.size r.at ≡ s.cursor = omega (arith, sz, c) in rw q at y)
+          (inv.laid.next r.at l (omega (arith, n, f)) (omega (arith, sz, z)))
+
+  -- FRONT is read at a record's end
+  pub sees_front : Keeps E m m team (with_worker team k (scanning (team.worker k) (cond (eqb s.cursor m.front) (record s { ended = true }) (record s { inner = true })))) g
+  sees_front = ⊎_elim
+      (λ (e : s.cursor ≡ m.front). rw (eq-eqb s.cursor m.front e) (at_front e))
+      (λ (n : s.cursor ≢ m.front). rw (ne_eqb s.cursor m.front n) (before n))
+      (cases_eq s.cursor m.front)
+    where
+      at_front : s.cursor ≡ m.front → Keeps E m m team (with_worker team k (scanning (team.worker k) (record s { ended = true }))) g
+      at_front e = goes_on E m team g k s inv is.below is.scans idle (record s { ended = true }) (record {
+        page = refl;
+        clean = λ x u p l n. absurd (omega (arith, l, n));
+        top = mine.cursor;
+        stepping = record { over = steps.over; current = steps.current; inner = steps.inner; begun = steps.begun; full = steps.full; ended = λ i. inr (inr (before_board, e)) };
+      })
+
+      before : s.cursor ≢ m.front → Keeps E m m team (with_worker team k (scanning (team.worker k) (record s { inner = true }))) g
+      before n = goes_on E m team g k s inv is.below is.scans idle (record s { inner = true }) (record {
+        page = refl;
+        clean = λ x u p l o. absurd (omega (arith, l, o));
+        top = mine.cursor;
+        stepping = record { over = steps.over; current = steps.current; inner = λ i. let b = below_front in omega (arith, b, n); begun = steps.begun; full = steps.full; ended = steps.ended };
+      })
+
+pub reads_crossing : ReadingCrossingKeeps
+reads_crossing = crosses
+
+pub reads_first_header : ReadingFirstHeaderKeeps
+reads_first_header E m team g k s a len serial mutator kind out inv is n over cursor says = enters_first E m team g k s out inv is n a len serial mutator kind over cursor says
+
+pub reads_front : ReadingFrontKeeps
+reads_front = sees_front
+
+pub reads_next_header : ReadingNextHeaderKeeps
+reads_next_header E m team g k s r len serial mutator kind out inv is n current cursor page inner says = enters_next E m team g k s out inv is n r len serial mutator kind current cursor page inner says

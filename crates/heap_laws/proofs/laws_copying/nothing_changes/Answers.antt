@@ -1,0 +1,5 @@
+use Rattle.heap_laws.proofs.CopyingKnown.{nothing_changes}
+use Rattle.heap_laws.proofs.laws_copying.nothing_changes.Goals as goal
+
+pub returns : goal.returns
+returns c = nothing_changes

@@ -1,0 +1,11 @@
+use Rattle.heap_laws.proofs.FlippingReset.{finds_still, reads_used, stores_area}
+use Rattle.heap_laws.proofs.laws_flipping.flips_are_made_ready.Goals as goal
+
+pub returns-clause-still : goal.returns-clause-still
+returns-clause-still c = finds_still
+
+pub returns-clause-used : goal.returns-clause-used
+returns-clause-used c = reads_used
+
+pub returns-clause-area : goal.returns-clause-area
+returns-clause-area c = stores_area

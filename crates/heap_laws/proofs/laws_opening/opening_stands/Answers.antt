@@ -1,0 +1,5 @@
+use Rattle.heap_laws.proofs.Opening.{opening_stands}
+use Rattle.heap_laws.proofs.laws_opening.opening_stands.Goals as goal
+
+pub returns : goal.returns
+returns c = opening_stands

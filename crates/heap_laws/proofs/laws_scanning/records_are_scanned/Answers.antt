@@ -1,0 +1,14 @@
+use Rattle.heap_laws.proofs.ScanningRecords.{reads_crossing, reads_first_header, reads_front, reads_next_header}
+use Rattle.heap_laws.proofs.laws_scanning.records_are_scanned.Goals as goal
+
+pub returns-clause-crossing : goal.returns-clause-crossing
+returns-clause-crossing c = reads_crossing
+
+pub returns-clause-first : goal.returns-clause-first
+returns-clause-first c = reads_first_header
+
+pub returns-clause-front : goal.returns-clause-front
+returns-clause-front c = reads_front
+
+pub returns-clause-next : goal.returns-clause-next
+returns-clause-next c = reads_next_header

@@ -1,0 +1,8 @@
+use Rattle.heap_laws.proofs.TracingWon.{traces, sleeper_loses_traced}
+use Rattle.heap_laws.proofs.laws_tracing.epochs_are_traced.Goals as goal
+
+pub returns-clause-traced : goal.returns-clause-traced
+returns-clause-traced c = traces
+
+pub returns-clause-asleep : goal.returns-clause-asleep
+returns-clause-asleep c = sleeper_loses_traced

@@ -1,0 +1,125 @@
+-- Copying a record, step by step: the header is taken, a place announced and reserved, the words copied, the crossings stored,
+-- and the copy published by a forward.
+use Rattle.std.specs.Prelude.{◌≡◌, ℕ, ◌+◌, ◌-◌, ◌*◌, ◌/◌, ◌<◌, ◌≤◌, ◌⊎◌, true, false, Some, None}
+use Rattle.heap_words.specs.declared.kind.Kind.{Kind}
+use Rattle.heap_words.specs.Decoded.{HeaderWord, BusyWord, ForwardWord, decode}
+use Rattle.heap_state.specs.Era.{Era, Memory}
+use Rattle.heap_state.specs.Functions.{put}
+use Rattle.heap_state.specs.Ghost.{Ghost}
+use Rattle.heap_state.specs.Worker.{Worker, Team, Quest, Copy}
+use Rattle.heap_laws.specs.Steps.{Ready, with_worker, with_word, with_area, with_crossing, with_announced, Preserves}
+
+-- the worker with this copy in progress
+abbrev pub copying : Worker → Copy → Worker
+copying w c = record w { copy = Some c }
+
+-- ---- the header
+
+-- the copy of a record of this size, of which nothing but the header is taken yet
+abbrev pub begun : (header from size : ℕ) → Copy
+begun header from size =
+    record { header = header; from = from; to = 0; size = size; done = 0; word = None; aimed = false; announced = false; reserved = false; crossed = 0 }
+
+-- worker k keeps the header of the record at a from now on
+abbrev pub taken : Ghost → (k a : ℕ) → Ghost
+taken g k a = record g { keeper = put g.keeper a (k + 1); kept = put g.kept k (a + 1) }
+
+-- The exchange of an old record's header for the worker's own word is won. The worker copied nothing, and asked for that
+-- record's copy.
+abbrev pub HeadersAreTaken : Type 0
+HeadersAreTaken = (E : Era) (m : Memory) (team : Team) (g : Ghost) (k : ℕ) (q : Quest) (kind : Kind) (len serial mutator v : ℕ) → Ready E m team g k
+    → (team.worker k).copy ≡ None → (team.worker k).quest ≡ Some q → q.found ≡ None
+    → decode (m.heap q.old) ≡ HeaderWord kind len serial mutator → decode v ≡ BusyWord len k
+    → Preserves E m (with_word m q.old v) team (with_worker team k (copying (team.worker k) (begun (m.heap q.old) q.old (len + 1)))) g (taken g k q.old)
+
+-- The worker loads a forward in place of the old record's header: the copy is where it says.
+abbrev pub ForwardsAreFound : Type 0
+ForwardsAreFound = (E : Era) (m : Memory) (team : Team) (g : Ghost) (k : ℕ) (q : Quest) (len b : ℕ) → Ready E m team g k
+    → (team.worker k).copy ≡ None → (team.worker k).quest ≡ Some q → decode (m.heap q.old) ≡ ForwardWord len b
+    → Preserves E m m team (with_worker team k (record (team.worker k) { quest = Some (record q { found = Some b }) })) g g
+
+-- ---- the place
+
+-- FRONT is loaded as the place of the copy
+abbrev pub PlacesAreAimed : Type 0
+PlacesAreAimed = (E : Era) (m : Memory) (team : Team) (g : Ghost) (k : ℕ) (c : Copy) → Ready E m team g k
+    → (team.worker k).copy ≡ Some c → c.reserved ≡ false
+    → Preserves E m m team (with_worker team k (copying (team.worker k) (record c { to = m.front; aimed = true; announced = false }))) g g
+
+-- the place is announced
+abbrev pub PlacesAreAnnounced : Type 0
+PlacesAreAnnounced = (E : Era) (m : Memory) (team : Team) (g : Ghost) (k : ℕ) (c : Copy) → Ready E m team g k
+    → (team.worker k).copy ≡ Some c → c.aimed ≡ true → c.reserved ≡ false
+    → Preserves E m (with_announced m k (c.to + 1)) team (with_worker team k (copying (team.worker k) (record c { announced = true }))) g g
+
+-- The place at b, of this size, is worker k's, for the copy of the record at a.
+abbrev pub reserved : Ghost → (k a b size : ℕ) → Ghost
+reserved g k a b size = record g {
+  size = put g.size b size;
+  writer = put g.writer b (k + 1);
+  copy = put g.copy a (b + 1);
+  kind = put g.kind b (g.kind a);
+  identity = put g.identity b (g.identity a);
+}
+
+-- there is room for a copy that has no place yet
+pub record HasRoom (m : Memory) (c : Copy) : Type 0 where
+  pub owed : c.size ≤ m.owed
+  pub below_low : m.front + c.size ≤ m.low
+
+abbrev pub CopiesHaveRoom : Type 0
+CopiesHaveRoom = (E : Era) (m : Memory) (team : Team) (g : Ghost) (k : ℕ) (c : Copy) → Ready E m team g k
+    → (team.worker k).copy ≡ Some c → c.reserved ≡ false → HasRoom m c
+
+-- The exchange of the area is won that moves FRONT from the announced place by the copy's size. The first crossing to be stored
+-- is that of the first page that begins at the place or after.
+abbrev pub PlacesAreReserved : Type 0
+PlacesAreReserved = (E : Era) (m : Memory) (team : Team) (g : Ghost) (k : ℕ) (c : Copy) → Ready E m team g k
+    → (team.worker k).copy ≡ Some c → c.announced ≡ true → c.reserved ≡ false → c.to ≡ m.front
+    → Preserves E m (with_area m (c.to + c.size) (m.owed - c.size)) team
+    (with_worker team k (copying (team.worker k) (record c { reserved = true; crossed = (c.to + 63) / 64 }))) g (reserved g k c.from c.to c.size)
+
+-- who copies nothing announces no place any more
+abbrev pub AnnouncesAreCleared : Type 0
+AnnouncesAreCleared = (E : Era) (m : Memory) (team : Team) (g : Ghost) (k : ℕ) → Ready E m team g k → (team.worker k).copy ≡ None
+    → Preserves E m (with_announced m k 0) team (with_worker team k (team.worker k)) g g
+
+-- ---- the words
+
+-- the old record's next word is loaded
+abbrev pub OldWordsAreLoaded : Type 0
+OldWordsAreLoaded = (E : Era) (m : Memory) (team : Team) (g : Ghost) (k : ℕ) (c : Copy) → Ready E m team g k
+    → (team.worker k).copy ≡ Some c → c.reserved ≡ true → 0 < c.done → c.done < c.size
+    → Preserves E m m team (with_worker team k (copying (team.worker k) (record c { word = Some (m.heap (c.from + c.done)) }))) g g
+
+-- the word is the next one to be stored in the copy: the header that was kept, or the word that was loaded
+abbrev pub IsNextWord : Copy → ℕ → Type 0
+IsNextWord c v = ((c.done ≡ 0) × (v ≡ c.header)) ⊎ (c.word ≡ Some v)
+
+-- the next word is stored in its place in the copy
+abbrev pub WordsAreCopied : Type 0
+WordsAreCopied = (E : Era) (m : Memory) (team : Team) (g : Ghost) (k : ℕ) (c : Copy) (v : ℕ) → Ready E m team g k
+    → (team.worker k).copy ≡ Some c → c.reserved ≡ true → IsNextWord c v
+    → Preserves E m (with_word m (c.to + c.done) v) team (with_worker team k (copying (team.worker k) (record c { done = c.done + 1; word = None }))) g g
+
+-- ---- the crossings
+
+-- the copy's place is stored as the crossing of the next page that begins in it
+abbrev pub CrossingsAreStored : Type 0
+CrossingsAreStored = (E : Era) (m : Memory) (team : Team) (g : Ghost) (k : ℕ) (c : Copy) → Ready E m team g k
+    → (team.worker k).copy ≡ Some c → c.reserved ≡ true → c.to ≤ 64 * c.crossed → 64 * c.crossed < c.to + c.size
+    → Preserves E m (with_crossing m c.crossed c.to) team (with_worker team k (copying (team.worker k) (record c { crossed = c.crossed + 1 }))) g g
+
+-- ---- the forward
+
+-- worker k no longer writes the copy at b, nor keeps the header of the record at a
+abbrev pub published : Ghost → (k a b : ℕ) → Ghost
+published g k a b = record g { writer = put g.writer b 0; keeper = put g.keeper a 0; kept = put g.kept k 0 }
+
+-- Of a whole copy, with the crossings of all pages that begin in it, the forward is stored at the old place. The worker has
+-- found the copy that it was asked for.
+abbrev pub CopiesArePublished : Type 0
+CopiesArePublished = (E : Era) (m : Memory) (team : Team) (g : Ghost) (k : ℕ) (c : Copy) (q : Quest) (v : ℕ) → Ready E m team g k
+    → (team.worker k).copy ≡ Some c → (team.worker k).quest ≡ Some q → c.reserved ≡ true → c.done ≡ c.size → c.to + c.size ≤ 64 * c.crossed
+    → decode v ≡ ForwardWord (c.size - 1) c.to
+    → Preserves E m (with_word m c.from v) team (with_worker team k (record (team.worker k) { copy = None; quest = Some (record q { found = Some c.to }) })) g (published g k c.from c.to)

@@ -1,0 +1,125 @@
+-- Stores and loads of a mutator in records of the epoch's space and on the board.
+use Rattle.std.specs.Prelude.{◌≡◌, ℕ, ◌+◌, ◌-◌, ◌/◌, ◌^◌, ◌<◌, ◌≤◌, Bool, true, false, Some, None, slice_set}
+use Rattle.heap_words.specs.Decoded.{NumberWord, PointerWord, HeaderWord, decode}
+use Rattle.plain_state.specs.declared.value.Identity.{Identity}
+use Rattle.plain_state.specs.declared.value.Value.{Value}
+use Rattle.plain_state.specs.declared.value.Value.TheVariants.{Number}
+use Rattle.plain_state.specs.State as plain
+use Rattle.space_map.specs.declared.page_word.PageWord.TheVariants.{Open}
+use Rattle.heap_state.specs.Cycle.{Cycle}
+use Rattle.heap_state.specs.Era.{Era, IsLaidOut, Memory}
+use Rattle.heap_state.specs.Ghost.{Ghost, is_field}
+use Rattle.heap_state.specs.Inductive.{Invariant}
+use Rattle.heap_state.specs.Values.{Shown, Shows, value_of}
+use Rattle.heap_state.specs.Worker.{Team, Access, is_mutator, is_late}
+use Rattle.heap_laws.specs.MutatorSteps.{MayHold}
+use Rattle.heap_laws.specs.Steps.{with_word}
+
+-- ---- what is written
+
+-- word i of the record at a, counted from its header: the record stands in the epoch's space, and nobody writes it any more
+pub record IsWordOf (E : Era) (size writer : ℕ → ℕ) (a i : ℕ) : Type 0 where
+  pub stands : 0 < size a
+  pub written : writer a ≡ 0
+  pub inside : (E.start ≤ a) × (a < E.start + E.span)
+  pub first : 0 < i
+  pub last : i < size a
+
+-- a word may be stored: in a field, what a mutator may hold; elsewhere a number below 2^62
+pub record MayStore (E : Era) (size writer : ℕ → ℕ) (field : Bool) (v : ℕ) : Type 0 where
+  pub held : field ≡ true → MayHold E size writer v
+  pub number : field ≡ false → v < 2 ^ 62
+
+-- what a word of a record shows: in a field, the value that it denotes; elsewhere its number
+pub record StandsFor (g : Ghost) (field : Bool) (v : ℕ) (y : Value) : Type 0 where
+  pub denotes : field ≡ true → value_of g.identity v ≡ Some y
+  pub number : field ≡ false → Number v ≡ y
+
+-- ---- the plain heap
+
+-- word x of the record r with identity i takes a value
+abbrev pub stored : plain.Heap → Identity → plain.Record → ℕ → Value → plain.Heap
+stored heap i r x y = record heap {
+  records = slice_set heap.records i.mutator (slice_set (plain.made_by heap i.mutator) (i.serial - 1) (record r { values = slice_set r.values x y }));
+}
+
+-- word x of the board takes a value
+abbrev pub put_on_board : plain.Heap → ℕ → Value → plain.Heap
+put_on_board heap x y = record heap { board = slice_set heap.board x y }
+
+abbrev pub with_heap : plain.Plain → plain.Heap → plain.Plain
+with_heap p heap = record p { heap = heap }
+
+-- ---- stores
+
+-- a store in a word of a record, whose page is open
+abbrev pub WordsAreStored : Type 0
+WordsAreStored = (E : Era) (m : Memory) (team : Team) (g : Ghost) (a i v : ℕ) → IsLaidOut E → Invariant E m team g → IsWordOf E g.size g.writer a i
+    → m.page ((a + i) / 64) ≡ Open E.epoch → MayStore E g.size g.writer (is_field (g.kind a) i) v → Invariant E (with_word m (a + i) v) team g
+
+-- the plain heap changes at that word alone
+abbrev pub StoresShow : Type 0
+StoresShow = (E : Era) (m : Memory) (team : Team) (g : Ghost) (p : plain.Plain) (a i v : ℕ) (r : plain.Record) (y : Value) → IsLaidOut E → Invariant E m team g
+    → IsWordOf E g.size g.writer a i → plain.record_of p.heap (g.identity a) ≡ Some r → StandsFor g (is_field (g.kind a) i) v y
+    → Shown E m team g p → Shown E (with_word m (a + i) v) team g (with_heap p (stored p.heap (g.identity a) r (i - 1) y))
+
+abbrev pub StoresKeepCycle : Type 0
+StoresKeepCycle = (E : Era) (m : Memory) (team : Team) (g : Ghost) (p : plain.Plain) (a i v : ℕ) → IsLaidOut E → Invariant E m team g → IsWordOf E g.size g.writer a i
+    → m.page ((a + i) / 64) ≡ Open E.epoch → MayStore E g.size g.writer (is_field (g.kind a) i) v → Cycle E m team g p → Cycle E (with_word m (a + i) v) team g p
+
+-- a store on the board, which is open
+abbrev pub BoardIsStored : Type 0
+BoardIsStored = (E : Era) (m : Memory) (team : Team) (g : Ghost) (x v : ℕ) → IsLaidOut E → Invariant E m team g → x < 16
+    → m.page (E.board / 64) ≡ Open E.epoch → MayHold E g.size g.writer v → Invariant E (with_word m (E.board + x) v) team g
+
+abbrev pub BoardStoresShow : Type 0
+BoardStoresShow = (E : Era) (m : Memory) (team : Team) (g : Ghost) (p : plain.Plain) (x v : ℕ) (y : Value) → IsLaidOut E → Invariant E m team g → x < 16
+    → value_of g.identity v ≡ Some y → Shown E m team g p → Shown E (with_word m (E.board + x) v) team g (with_heap p (put_on_board p.heap x y))
+
+abbrev pub BoardStoresKeepCycle : Type 0
+BoardStoresKeepCycle = (E : Era) (m : Memory) (team : Team) (g : Ghost) (p : plain.Plain) (x v : ℕ) → IsLaidOut E → Invariant E m team g → x < 16
+    → m.page (E.board / 64) ≡ Open E.epoch → MayHold E g.size g.writer v → Cycle E m team g p → Cycle E (with_word m (E.board + x) v) team g p
+
+-- ---- loads
+
+-- The record that a register of a mutator leads to: it stands in the epoch's space, nobody writes it any more, its header says
+-- its kind, size and identity, and it shows the plain record of that identity.
+pub record IsLedTo (E : Era) (m : Memory) (g : Ghost) (p : plain.Plain) (a : ℕ) : Type 0 where
+  pub stands : (0 < g.size a) × (g.writer a ≡ 0)
+  pub inside : (E.start ≤ a) × (a < E.start + E.span)
+  pub header : decode (m.heap a) ≡ HeaderWord (g.kind a) (g.size a - 1) (g.identity a).serial (g.identity a).mutator
+  pub shows : (r : plain.Record) × (plain.record_of p.heap (g.identity a) ≡ Some r) × Shows (value_of g.identity) m.heap a (g.kind a) (g.size a) r
+
+abbrev pub HeadersAreRead : Type 0
+HeadersAreRead = (E : Era) (m : Memory) (team : Team) (g : Ghost) (p : plain.Plain) (w a : ℕ) → IsLaidOut E → Invariant E m team g → Shown E m team g p
+    → MayHold E g.size g.writer w → decode w ≡ PointerWord a → IsLedTo E m g p a
+
+-- A word that a mutator has access to is one that it may load and store: of a record of the epoch's space that nobody writes, on
+-- an open page, and of the kind that was read.
+pub record IsAccessed (E : Era) (m : Memory) (g : Ghost) (f : Access) : Type 0 where
+  pub word : IsWordOf E g.size g.writer f.of.at f.word
+  pub opens : m.page ((f.of.at + f.word) / 64) ≡ Open E.epoch
+  pub kind : g.kind f.of.at ≡ f.of.kind
+
+abbrev pub AccessesAreAllowed : Type 0
+AccessesAreAllowed = (E : Era) (m : Memory) (team : Team) (g : Ghost) (k : ℕ) (f : Access) → Invariant E m team g → k < team.count
+    → (team.worker k).access ≡ Some f → f.allowed ≡ true → IsAccessed E m g f
+
+-- what is loaded from a field on an open page, or from the open board, a mutator may hold; what is loaded from elsewhere in a
+-- record is a number below 2^62
+abbrev pub WordsAreLoaded : Type 0
+WordsAreLoaded = (E : Era) (m : Memory) (team : Team) (g : Ghost) (a i : ℕ) → Invariant E m team g → IsWordOf E g.size g.writer a i
+    → m.page ((a + i) / 64) ≡ Open E.epoch → MayStore E g.size g.writer (is_field (g.kind a) i) (m.heap (a + i))
+
+abbrev pub BoardIsLoaded : Type 0
+BoardIsLoaded = (E : Era) (m : Memory) (team : Team) (g : Ghost) (x : ℕ) → IsLaidOut E → Invariant E m team g → x < 16
+    → m.page (E.board / 64) ≡ Open E.epoch → MayHold E g.size g.writer (m.heap (E.board + x))
+
+-- the registers of a running mutator without an end are what it may hold
+abbrev pub RegistersAreHeld : Type 0
+RegistersAreHeld = (E : Era) (m : Memory) (team : Team) (g : Ghost) (k j : ℕ) → Invariant E m team g → k < team.count → is_mutator (team.worker k).post ≡ true
+    → is_late E.epoch (team.worker k) ≡ false → (team.worker k).account.end ≡ None → j < 8 → MayHold E g.size g.writer ((team.worker k).registers j)
+
+-- a number is what a mutator may hold
+abbrev pub NumbersAreHeld : Type 0
+NumbersAreHeld = (E : Era) (size writer : ℕ → ℕ) (w n : ℕ) → decode w ≡ NumberWord n → MayHold E size writer w

@@ -1,0 +1,56 @@
+-- The gate's other steps: a mutator attaches, parks, asks for a flip, has forwarded its registers, goes on, or leaves. Each is
+-- the exchange of the gate from the word that was read.
+use Rattle.std.specs.Prelude.{◌≡◌, ℕ, ◌+◌, ◌-◌, ◌<◌, true, false, Some, None}
+use Rattle.space_map.specs.declared.gate_word.GateWord.{GateWord}
+use Rattle.space_map.specs.GateWord.{GateFits}
+use Rattle.heap_state.specs.Era.{Era, Memory}
+use Rattle.heap_state.specs.Ghost.{Ghost}
+use Rattle.heap_state.specs.Inductive.{Invariant}
+use Rattle.heap_state.specs.Worker.{Worker, Team, Running, Stopped, Flipping, Gone, Passage, Enter, Park, Request, Forwarded, Resume, Leave, GateStep}
+use Rattle.heap_laws.specs.Keeping.{Keeps}
+use Rattle.heap_laws.specs.Steps.{with_worker}
+
+-- the memory with another gate
+abbrev pub with_gate : Memory → GateWord → Memory
+with_gate m gate = record m { gate = gate }
+
+-- the gate after a passage
+abbrev pub gate_after : Passage → GateWord → GateWord
+gate_after Enter gate = record gate { live = gate.live + 1; running = gate.running + 1 }
+gate_after Park gate = record gate { running = gate.running - 1 }
+gate_after (Request asked) gate = record gate { running = gate.running - 1; request = true }
+gate_after Forwarded gate = record gate { behind = gate.behind - 1 }
+gate_after Resume gate = record gate { running = gate.running + 1 }
+gate_after Leave gate = record gate { live = gate.live - 1; running = gate.running - 1; left = gate.left + 1 }
+
+-- the worker that comes into an epoch: what it had claimed and read in an older one is of no use
+abbrev pub into_epoch : Worker → ℕ → Worker
+into_epoch w epoch = record w { epoch = epoch; done = 0; stock = None; round = None; claim = None; look = None; last_look = None; gate_step = None }
+
+-- the worker that runs no more: it knows of no page any more that it is open
+abbrev pub out_of_run : Worker → Worker
+out_of_run w = record w { access = None; board_open = false; gate_step = None }
+
+-- the worker after a passage, in an epoch
+abbrev pub worker_after : ℕ → Passage → Worker → Worker
+worker_after epoch Enter w = record (into_epoch w epoch) { post = Running }
+worker_after epoch Park w = record (out_of_run w) { post = Stopped; traced_seen = false }
+worker_after epoch (Request asked) w = record (out_of_run w) { post = Flipping asked }
+worker_after epoch Forwarded w = into_epoch w epoch
+worker_after epoch Resume w = record w { post = Running; gate_step = None }
+worker_after epoch Leave w = record (out_of_run w) { post = Gone; traced_seen = false }
+
+-- worker k wins the exchange: the gate is the one that was read
+pub record WinsGate (E : Era) (m : Memory) (team : Team) (k : ℕ) (s : GateStep) : Type 0 where
+  pub below : k < team.count
+  pub step : (team.worker k).gate_step ≡ Some s
+  pub at_gate : m.gate.epoch ≡ E.epoch
+  pub unchanged : m.gate ≡ s.read
+
+abbrev pub PassingGateKeeps : Type 0
+PassingGateKeeps = (E : Era) (m : Memory) (team : Team) (g : Ghost) (k : ℕ) (s : GateStep) → Invariant E m team g → WinsGate E m team k s
+    → Keeps E m (with_gate m (gate_after s.passage m.gate)) team (with_worker team k (worker_after m.gate.epoch s.passage (team.worker k))) g
+
+-- what the gate counts fits its word
+abbrev pub GatesFit : Type 0
+GatesFit = (E : Era) (m : Memory) (team : Team) (g : Ghost) → Invariant E m team g → GateFits m.gate

@@ -1,0 +1,58 @@
+-- The heap before its first step.
+use Rattle.std.specs.Prelude.{ℕ, ◌+◌, ◌*◌, ◌≤◌, List, [], ◌∷◌, ◌++◌, replicate, None}
+use Rattle.plain_state.specs.declared.value.Value.TheVariants.{Number}
+use Rattle.plain_state.specs.State as plain
+use Rattle.space_map.specs.Spaces.{IsPageCount, board_page}
+use Rattle.space_map.specs.declared.area_word.AreaWord.{AreaWord}
+use Rattle.space_map.specs.declared.page_word.PageWord.TheVariants.{Open}
+use Rattle.heap_state.specs.Configuration.{Configuration, Stands, era, memory, team}
+use Rattle.heap_state.specs.Cycle.{Cycle}
+use Rattle.heap_state.specs.Entries.{Entry, TracedIs, AreaIs, PageIs, written}
+use Rattle.heap_state.specs.Worker.{Worker, Outside, Scanner, fresh}
+
+-- ---- the table
+
+-- the area word of a space of n pages in which nothing was placed
+abbrev pub whole_area : ℕ → AreaWord
+whole_area n = record { front = 0; low = 64 * n; owed = 0 }
+
+-- both spaces are whole, the epoch is traced, the board is open, and every other word is 0
+abbrev pub opening_entries : ℕ → List Entry
+opening_entries n = TracedIs 1 ∷ AreaIs 0 (whole_area n) ∷ AreaIs 1 (whole_area n) ∷ PageIs (board_page n) (Open 0) ∷ []
+
+-- ---- the workers
+
+-- mutators that have not entered, then scanners
+abbrev pub opening_workers : (mutators scanners : ℕ) → List Worker
+opening_workers mutators scanners = replicate mutators (fresh Outside) ++ replicate scanners (fresh Scanner)
+
+abbrev pub opening : (n mutators scanners : ℕ) → Configuration
+opening n mutators scanners = record {
+  pages = n;
+  words = written n (opening_entries n);
+  mutators = mutators;
+  workers = opening_workers mutators scanners;
+}
+
+-- ---- the plain state
+
+abbrev pub opening_mutator : plain.Mutator
+opening_mutator = record { counter = 0; registers = replicate 8 (Number 0); printed = []; executed = 0; end = None }
+
+-- no mutator has made a record or a step, and the board is all 0
+abbrev pub opening_plain : ℕ → plain.Plain
+opening_plain mutators = record {
+  heap = record { records = replicate mutators []; board = replicate 16 (Number 0) };
+  mutators = replicate mutators opening_mutator;
+}
+
+-- ---- the law
+
+-- the configuration stands for the plain state, and keeps what a cycle keeps that begins in it
+pub record Begins (c : Configuration) (p : plain.Plain) : Type 0 where
+  pub stands : Stands c p
+  pub cycle : Cycle (era c) (memory c) (team c) stands.ghost p
+
+abbrev pub OpeningStands : Type 0
+OpeningStands = (n mutators scanners : ℕ) → IsPageCount n → mutators ≤ 16 → mutators + scanners ≤ 24
+    → Begins (opening n mutators scanners) (opening_plain mutators)

@@ -1,0 +1,164 @@
+-- The end of the copied area: it is looked at, TRACED is exchanged, and then nothing leads into the old space.
+use Rattle.std.specs.Prelude.{◌≡◌, ◌≢◌, ℕ, ◌+◌, ◌*◌, ◌/◌, ◌<◌, ◌≤◌, ◌⊎◌, true, false, Some, None}
+use Rattle.plain_state.specs.declared.value.Identity.{Identity}
+use Rattle.plain_state.specs.State.{Plain}
+use Rattle.space_map.specs.declared.page_word.PageWord.{PageWord}
+use Rattle.space_map.specs.declared.page_word.PageWord.TheVariants.{Open}
+use Rattle.space_map.specs.PageWord.{age_of}
+use Rattle.heap_state.specs.Cycle.{Cycle, IsCopied}
+use Rattle.heap_state.specs.Era.{Era, Memory, IsLaidOut}
+use Rattle.heap_state.specs.Ghost.{Ghost, Here, Leads}
+use Rattle.heap_state.specs.Inductive.{Invariant}
+use Rattle.heap_state.specs.Reachable.{Reachable}
+use Rattle.heap_state.specs.Worker.{Worker, Team, Copy, Scan, Round, Claim, Look, LastLook, is_mutator}
+use Rattle.heap_laws.specs.Keeping.{Keeps}
+use Rattle.heap_laws.specs.Steps.{with_worker}
+
+-- the memory in which TRACED is another word
+abbrev pub with_traced : Memory → ℕ → Memory
+with_traced m word = record m { traced = word }
+
+-- ---- a round
+
+-- the worker in this round
+abbrev pub in_round : Worker → Round → Worker
+in_round w r = record w { round = Some r }
+
+-- TRACED is read, and isn't the one that says that the worker's epoch is traced
+abbrev pub ReadingTracedKeeps : Type 0
+ReadingTracedKeeps = (E : Era) (m : Memory) (team : Team) (g : Ghost) (k : ℕ) → Invariant E m team g → k < team.count → m.traced ≢ (team.worker k).epoch + 1
+    → Keeps E m m team (with_worker team k (in_round (team.worker k) (record { traced = m.traced; front = None }))) g
+
+-- f is FRONT as the area of the worker's own epoch has it: a worker of a past epoch reads the area of another space
+pub record IsFrontFor (E : Era) (m : Memory) (w : Worker) (f : ℕ) : Type 0 where
+  pub now : w.epoch ≡ E.epoch → f ≡ m.front
+  pub before : w.epoch + 1 ≡ E.epoch → f ≡ m.old_front
+
+-- FRONT is read in a round
+abbrev pub ReadingRoundFrontKeeps : Type 0
+ReadingRoundFrontKeeps = (E : Era) (m : Memory) (team : Team) (g : Ghost) (k : ℕ) (r : Round) (f : ℕ) → Invariant E m team g → k < team.count → (team.worker k).round ≡ Some r
+    → IsFrontFor E m (team.worker k) f → Keeps E m m team (with_worker team k (in_round (team.worker k) (record r { front = Some f }))) g
+
+-- ---- the first look
+
+-- the worker at this look
+abbrev pub looking : Worker → Look → Worker
+looking w l = record w { look = Some l }
+
+-- worker k is at this look
+pub record IsLooking (team : Team) (k : ℕ) (l : Look) : Type 0 where
+  pub below : k < team.count
+  pub looks : (team.worker k).look ≡ Some l
+
+-- the gate is of the worker's epoch, and nobody is behind: the look begins
+pub record BeginsLook (E : Era) (m : Memory) (team : Team) (k : ℕ) (r : Round) : Type 0 where
+  pub below : k < team.count
+  pub round : (team.worker k).round ≡ Some r
+  pub at_gate : m.gate.epoch ≡ E.epoch
+  pub same : m.gate.epoch ≡ (team.worker k).epoch
+  pub none : m.gate.behind ≡ 0
+
+abbrev pub first_look : Era → Round → Look
+first_look E r = record { traced = r.traced; start = E.start; front = E.start; board = false; upto = 0; filled = false }
+
+abbrev pub BeginningLookKeeps : Type 0
+BeginningLookKeeps = (E : Era) (m : Memory) (team : Team) (g : Ghost) (k : ℕ) (r : Round) → Invariant E m team g → BeginsLook E m team k r
+    → Keeps E m m team (with_worker team k (looking (team.worker k) (first_look E r))) g
+
+-- FRONT is read, before any page
+abbrev pub LookingAtFrontKeeps : Type 0
+LookingAtFrontKeeps = (E : Era) (m : Memory) (team : Team) (g : Ghost) (k : ℕ) (l : Look) (f : ℕ) → Invariant E m team g → IsLooking team k l
+    → l.board ≡ false → l.filled ≡ false → IsFrontFor E m (team.worker k) f → Keeps E m m team (with_worker team k (looking (team.worker k) (record l { front = f }))) g
+
+-- the board is found open
+abbrev pub LookingAtBoardKeeps : Type 0
+LookingAtBoardKeeps = (E : Era) (m : Memory) (team : Team) (g : Ghost) (k : ℕ) (l : Look) → Invariant E m team g → IsLooking team k l
+    → m.page (E.board / 64) ≡ Open (team.worker k).epoch → Keeps E m m team (with_worker team k (looking (team.worker k) (record l { board = true }))) g
+
+-- the next page is found open
+abbrev pub LookingAtPageKeeps : Type 0
+LookingAtPageKeeps = (E : Era) (m : Memory) (team : Team) (g : Ghost) (k : ℕ) (l : Look) (p : ℕ) → Invariant E m team g → IsLooking team k l
+    → (p ≡ l.upto) ⊎ (64 * p ≡ l.start) → m.page p ≡ Open (team.worker k).epoch → Keeps E m m team (with_worker team k (looking (team.worker k) (record l { upto = p + 1 }))) g
+
+-- the filling page is found open, or there is none
+abbrev pub LookingAtFillingPageKeeps : Type 0
+LookingAtFillingPageKeeps = (E : Era) (m : Memory) (team : Team) (g : Ghost) (k : ℕ) (l : Look) → Invariant E m team g → IsLooking team k l
+    → ((p : ℕ) → 64 * p < l.front → l.front < 64 * p + 64 → m.page p ≡ Open (team.worker k).epoch) → Keeps E m m team (with_worker team k (looking (team.worker k) (record l { filled = true }))) g
+
+-- ---- the second look
+
+-- AREA is read again and has the same FRONT; the board and all full pages were found open
+pub record LooksAgain (E : Era) (m : Memory) (team : Team) (k : ℕ) (l : Look) : Type 0 where
+  pub below : k < team.count
+  pub looks : (team.worker k).look ≡ Some l
+  pub front : IsFrontFor E m (team.worker k) l.front
+  pub board : l.board ≡ true
+  pub full : (l.front < 64 * l.upto + 64) ⊎ (l.front < l.start + 64)
+
+-- the worker that may exchange TRACED
+abbrev pub about_to_trace : Worker → Look → Worker
+about_to_trace w l = record w { look = None; last_look = Some (record { traced = l.traced }) }
+
+abbrev pub LookingAgainKeeps : Type 0
+LookingAgainKeeps = (E : Era) (m : Memory) (team : Team) (g : Ghost) (k : ℕ) (l : Look) → Invariant E m team g → LooksAgain E m team k l
+    → l.filled ≡ true → Keeps E m m team (with_worker team k (about_to_trace (team.worker k) l)) g
+
+-- where the filling page had the word of an epoch before, it is claimed
+abbrev pub filling_claim : ℕ → PageWord → Claim
+filling_claim p old = record { page = p; old = old; in_place = true; looked = 0; sure = true }
+
+abbrev pub about_to_fill : Worker → ℕ → PageWord → Worker
+about_to_fill w p old = record w { look = None; claim = Some (filling_claim p old) }
+
+abbrev pub ClaimingFillingPageKeeps : Type 0
+ClaimingFillingPageKeeps = (E : Era) (m : Memory) (team : Team) (g : Ghost) (k : ℕ) (l : Look) (p : ℕ) (old : PageWord) → Invariant E m team g → LooksAgain E m team k l
+    → l.start ≤ 64 * p → 64 * p < l.front → l.front < 64 * p + 64 → age_of old ≤ (team.worker k).epoch
+    → Keeps E m m team (with_worker team k (about_to_fill (team.worker k) p old)) g
+
+-- ---- TRACED is exchanged
+
+-- worker k wins the exchange: TRACED is the word that was read
+pub record WinsTraced (m : Memory) (team : Team) (k : ℕ) (l : LastLook) : Type 0 where
+  pub below : k < team.count
+  pub looks : (team.worker k).last_look ≡ Some l
+  pub unchanged : m.traced ≡ l.traced
+
+abbrev pub has_traced : Worker → Worker
+has_traced w = record w { last_look = None }
+
+-- only a worker of the current epoch wins it, and what it does keeps all
+pub record Traces (E : Era) (m : Memory) (team : Team) (g : Ghost) (k : ℕ) : Type 0 where
+  pub now : (team.worker k).epoch ≡ E.epoch
+  pub keeps : Keeps E m (with_traced m (E.epoch + 1)) team (with_worker team k (has_traced (team.worker k))) g
+
+abbrev pub TracingKeeps : Type 0
+TracingKeeps = (E : Era) (m : Memory) (team : Team) (g : Ghost) (k : ℕ) (l : LastLook) → Invariant E m team g → WinsTraced m team k l → Traces E m team g k
+
+-- who slept past a flip finds that TRACED is another word
+abbrev pub SleeperLosesTraced : Type 0
+SleeperLosesTraced = (E : Era) (m : Memory) (team : Team) (g : Ghost) (k : ℕ) (l : LastLook) → Invariant E m team g → k < team.count
+    → (team.worker k).last_look ≡ Some l → (team.worker k).epoch < E.epoch → m.traced ≢ l.traced
+
+-- ---- the epoch is traced
+
+-- What then holds: each page of the epoch's records is open, no field, no board word and no register of a mutator without an end
+-- leads into the old space, nobody copies or scans, and no place is being written.
+pub record NothingLeads (E : Era) (m : Memory) (team : Team) (g : Ghost) : Type 0 where
+  pub opened : (x : ℕ) → Here E g.size g.writer g.kind x → m.page (x / 64) ≡ Open E.epoch
+  pub clean : (x : ℕ) → Here E g.size g.writer g.kind x → ¬ (Leads E (m.heap x))
+  pub registers : (k r : ℕ) → k < team.count → r < 8 → is_mutator (team.worker k).post ≡ true → (team.worker k).account.end ≡ None → ¬ (Leads E ((team.worker k).registers r))
+  pub none_copies : (k : ℕ) (c : Copy) → k < team.count → ¬ ((team.worker k).copy ≡ Some c)
+  pub none_scans : (k : ℕ) (s : Scan) → k < team.count → ¬ ((team.worker k).scan ≡ Some s)
+  pub none_writes : (b : ℕ) → 0 < g.size b → g.writer b ≡ 0
+
+abbrev pub TracedLeadsNowhere : Type 0
+TracedLeadsNowhere = (E : Era) (m : Memory) (team : Team) (g : Ghost) → IsLaidOut E → Invariant E m team g → m.traced ≡ E.epoch + 1 → NothingLeads E m team g
+
+-- what was copied is what was reachable at the flip, each identity once
+pub record CopiesReachable (E : Era) (m : Memory) (g : Ghost) (p : Plain) : Type 0 where
+  pub all : (i : Identity) → Reachable p i → IsCopied E m.front g.size g.writer g.identity i
+  pub only : (i : Identity) → IsCopied E m.front g.size g.writer g.identity i → Reachable p i
+  pub once : (i : Identity) (a b : IsCopied E m.front g.size g.writer g.identity i) → a.at ≡ b.at
+
+abbrev pub TracedCopiesReachable : Type 0
+TracedCopiesReachable = (E : Era) (m : Memory) (team : Team) (g : Ghost) (p : Plain) → IsLaidOut E → Invariant E m team g → Cycle E m team g p → m.traced ≡ E.epoch + 1 → CopiesReachable E m g p

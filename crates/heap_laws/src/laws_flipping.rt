@@ -1,0 +1,25 @@
+//! The flip, which begins a cycle, and the registers that each stopped mutator then forwards.
+
+ghost use Rattle.heap_state.specs.Table.{Table};
+ghost use Rattle.heap_laws.specs.FlippingReset.{FindingStillKeeps, ReadingUsedKeeps, StoringAreaKeeps};
+ghost use Rattle.heap_laws.specs.Flipping.{FlippingKeeps, TableFlips, PassingRegisterKeeps, AskingForRegisterKeeps, ForwardingRegisterKeeps};
+
+/// The steps of a flipper before the flip.
+pub fn flips_are_made_ready()
+    ensures still { FindingStillKeeps }
+    ensures used { ReadingUsedKeeps }
+    ensures area { StoringAreaKeeps }
+{}
+
+/// The exchange of the gate by the flipper.
+pub fn epochs_are_flipped()
+    ensures flipped { FlippingKeeps }
+    ensures table { (t : Table) → TableFlips t }
+{}
+
+/// The registers of a mutator that is behind, one by one.
+pub fn registers_are_forwarded()
+    ensures passed { PassingRegisterKeeps }
+    ensures asked { AskingForRegisterKeeps }
+    ensures forwarded { ForwardingRegisterKeeps }
+{}

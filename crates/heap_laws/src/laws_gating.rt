@@ -1,0 +1,21 @@
+//! The gate's other steps: a mutator attaches, parks, asks for a flip, has forwarded its registers, goes on, or leaves.
+
+ghost use Rattle.heap_laws.specs.Forgetting.{ReadingGateKeeps, SeeingTracedKeeps, ForgettingKeeps};
+ghost use Rattle.heap_laws.specs.Gating.{PassingGateKeeps, GatesFit};
+
+/// What a worker reads of the gate and of TRACED, and what it may forget.
+pub fn passages_are_made_ready()
+    ensures gate { ReadingGateKeeps }
+    ensures traced { SeeingTracedKeeps }
+    ensures forgotten { ForgettingKeeps }
+{}
+
+/// The exchange of the gate, whichever passage it is for.
+pub fn gates_are_passed()
+    ensures { PassingGateKeeps }
+{}
+
+/// What the gate counts fits its word.
+pub fn gates_fit()
+    ensures { GatesFit }
+{}

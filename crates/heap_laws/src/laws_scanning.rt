@@ -1,0 +1,37 @@
+//! Pages that are claimed, scanned and opened.
+
+ghost use Rattle.heap_laws.specs.Scanning.{BeginningClaimKeeps, LookingAtPlaceKeeps, LookingAtGateKeeps, ClaimingKeeps, SleeperLosesPage, OpeningKeeps};
+ghost use Rattle.heap_laws.specs.ScanningWords.{ReadingCrossingKeeps, ReadingFirstHeaderKeeps, ReadingFrontKeeps, ReadingNextHeaderKeeps, PassingFieldKeeps, AskingKeeps, StoringCopyKeeps};
+
+/// The loads before a claim: of the page's word, of each announced place, of the gate again.
+pub fn claims_are_made_ready()
+    ensures begun { BeginningClaimKeeps }
+    ensures places { LookingAtPlaceKeeps }
+    ensures gate { LookingAtGateKeeps }
+{}
+
+/// The exchange that claims a page: who wins it is of the current epoch, and keeps all.
+pub fn pages_are_claimed()
+    ensures claimed { ClaimingKeeps }
+    ensures asleep { SleeperLosesPage }
+{}
+
+/// The store that opens a page whose scan has ended.
+pub fn pages_are_opened()
+    ensures { OpeningKeeps }
+{}
+
+/// The records on a page: its crossing is read, then each header, and FRONT where the page is being filled.
+pub fn records_are_scanned()
+    ensures crossing { ReadingCrossingKeeps }
+    ensures first { ReadingFirstHeaderKeeps }
+    ensures front { ReadingFrontKeeps }
+    ensures next { ReadingNextHeaderKeeps }
+{}
+
+/// The fields of a page: a clean one is passed, one that leads into the old space asks for the copy, whose address then takes its place.
+pub fn fields_are_scanned()
+    ensures passed { PassingFieldKeeps }
+    ensures asked { AskingKeeps }
+    ensures stored { StoringCopyKeeps }
+{}

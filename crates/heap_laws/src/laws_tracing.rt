@@ -1,0 +1,32 @@
+//! The end of the copied area: it is looked at, TRACED is exchanged, and then nothing leads into the old space.
+
+ghost use Rattle.heap_laws.specs.Tracing.{ReadingTracedKeeps, ReadingRoundFrontKeeps, BeginningLookKeeps, LookingAtFrontKeeps, LookingAtBoardKeeps, LookingAtPageKeeps, LookingAtFillingPageKeeps, LookingAgainKeeps, ClaimingFillingPageKeeps, TracingKeeps, SleeperLosesTraced, TracedLeadsNowhere, TracedCopiesReachable};
+
+/// The loads of a round of the duty.
+pub fn rounds_are_begun()
+    ensures traced { ReadingTracedKeeps }
+    ensures front { ReadingRoundFrontKeeps }
+{}
+
+/// The loads of the look at the end of the area, one by one, and of the second look.
+pub fn the_end_is_looked_at()
+    ensures gate { BeginningLookKeeps }
+    ensures front { LookingAtFrontKeeps }
+    ensures board { LookingAtBoardKeeps }
+    ensures page { LookingAtPageKeeps }
+    ensures filling { LookingAtFillingPageKeeps }
+    ensures again { LookingAgainKeeps }
+    ensures claim { ClaimingFillingPageKeeps }
+{}
+
+/// The exchange of TRACED: who wins it is of the current epoch, and keeps all.
+pub fn epochs_are_traced()
+    ensures traced { TracingKeeps }
+    ensures asleep { SleeperLosesTraced }
+{}
+
+/// What holds where the epoch is traced.
+pub fn traced_epochs_are_clean()
+    ensures clean { TracedLeadsNowhere }
+    ensures copied { TracedCopiesReachable }
+{}

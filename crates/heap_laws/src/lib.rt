@@ -1,0 +1,40 @@
+//! The laws of the collected heap: each step of a worker keeps the invariant, shows the plain state that it should, and keeps
+//! what a cycle of the collector keeps.
+//!
+//! The crate has laws, and nothing that runs.
+#![tactic(auto)]
+
+mod laws_aging;
+mod laws_allocating;
+mod laws_copying;
+mod laws_fields;
+mod laws_flipping;
+mod laws_gating;
+mod laws_lifting;
+mod laws_opening;
+mod laws_scanning;
+mod laws_tracing;
+
+pub use laws_aging::page_epochs_never_fall;
+pub use laws_allocating::{
+    mutators_place, records_are_placed, stocks_are_claimed, stocks_are_opened, stocks_are_zeroed,
+    stocks_stand,
+};
+pub use laws_copying::{
+    announces_are_cleared, copies_are_published, copies_have_room, crossings_are_stored,
+    forwards_are_found, headers_are_taken, knowledge_changes_alone, nothing_changes,
+    old_words_are_loaded, places_are_aimed, places_are_announced, places_are_reserved,
+    words_are_copied,
+};
+pub use laws_fields::{
+    board_is_stored, mutators_go_on, mutators_stand, mutators_step, mutators_store,
+    mutators_store_on_board, words_are_loaded, words_are_stored,
+};
+pub use laws_flipping::epochs_are_flipped;
+pub use laws_gating::gates_fit;
+pub use laws_lifting::{
+    copies_stand, laws_are_lifted, standing_is_ready, steps_are_seen, steps_stand,
+};
+pub use laws_opening::opening_stands;
+pub use laws_scanning::pages_are_claimed;
+pub use laws_tracing::epochs_are_traced;

@@ -1,0 +1,5 @@
+use Rattle.heap_state.proofs.Broken.{wrong, early, short}
+use Rattle.heap_state.proofs.laws.broken_configurations_are_told.Goals as goal
+
+pub returns : goal.returns
+returns c = record { wrong = wrong; early = early; short = short }

@@ -1,0 +1,10 @@
+use Rattle.std.proofs.Common.{sym}
+use Rattle.heap_state.proofs.Places.{word_in-row}
+use Rattle.heap_state.proofs.Spelled.{spelled}
+use Rattle.heap_state.proofs.laws.rows_are_read.Goals as goal
+
+pub returns-clause-rows : goal.returns-clause-rows
+returns-clause-rows c = λ n words row is. sym (word_in-row n words row is)
+
+pub returns-clause-spelled : goal.returns-clause-spelled
+returns-clause-spelled c = spelled

@@ -1,0 +1,11 @@
+pub mod Records
+pub mod Copies
+pub mod Pages
+pub mod Leading
+pub mod Gate
+pub mod Stocks
+pub mod OldSpace
+pub mod Crossing
+pub mod Knowledge
+pub mod Copying
+pub mod Scanning

@@ -1,0 +1,21 @@
+-- What the gate counts.
+use Rattle.std.specs.Prelude.{◌≡◌, ℕ, ◌^◌, ◌<◌, ◌≤◌, false, nat_lt}
+use Rattle.space_map.specs.declared.gate_word.GateWord.{GateWord}
+use Rattle.heap_state.specs.Functions.{sum_below, one_if}
+use Rattle.heap_state.specs.Worker.{Worker, is_mutator, is_live, is_running, is_flipper, is_gone, is_late}
+
+-- The gate counts the mutators that are live, run, are behind and are gone; request is set where one of them flips, and no
+-- two do. While one is behind nobody runs, and no flip is requested.
+pub record Counted (gate : GateWord) (count : ℕ) (worker : ℕ → Worker) : Type 0 where
+  pub live : gate.live ≡ sum_below count (λ k. one_if (is_live (worker k).post))
+  pub running : gate.running ≡ sum_below count (λ k. one_if (is_running (worker k).post))
+  pub behind : gate.behind ≡ sum_below count (λ k. one_if (is_late gate.epoch (worker k)))
+  pub left : gate.left ≡ sum_below count (λ k. one_if (is_gone (worker k).post))
+  pub request : one_if gate.request ≡ sum_below count (λ k. one_if (is_flipper (worker k).post))
+  pub still : 0 < gate.behind → (gate.running ≡ 0) × (gate.request ≡ false)
+  pub epoch_fits : gate.epoch < 2 ^ 32
+
+-- at most 16 mutators, then the scanners, at most 24 workers in all
+pub record Staffed (mutators count : ℕ) (worker : ℕ → Worker) : Type 0 where
+  pub few : (mutators ≤ 16) × (mutators ≤ count) × (count ≤ 24)
+  pub posts : (k : ℕ) → k < count → is_mutator (worker k).post ≡ nat_lt k mutators

@@ -1,0 +1,64 @@
+-- What each worker knows, component by component.
+use Rattle.std.specs.Prelude.{◌≡◌, ℕ, ◌+◌, ◌/◌, ◌<◌, ◌≤◌, ◌⊎◌, Bool, true, false, Some}
+use Rattle.heap_words.specs.declared.kind.Kind.{Kind}
+use Rattle.space_map.specs.declared.gate_word.GateWord.{GateWord}
+use Rattle.space_map.specs.declared.page_word.PageWord.{PageWord}
+use Rattle.space_map.specs.declared.page_word.PageWord.TheVariants.{Open}
+use Rattle.heap_state.specs.Era.{Era}
+use Rattle.heap_state.specs.Ghost.{Leads, Lands}
+use Rattle.heap_state.specs.Worker.{Post, Outside, Stopped, Passage, Enter, Park, Request, Forwarded, Resume, Leave, Reset, Seen, Access, is_live, is_running, is_flipper, is_gone, is_behind}
+
+-- ---- epochs and the gate
+
+-- No worker is of a later epoch; one that is live is of this epoch or the one before, one that runs or flips of this one.
+-- Only who is late has forwarded registers.
+pub record Timely (E : Era) (post : Post) (epoch done : ℕ) : Type 0 where
+  pub past : epoch ≤ E.epoch
+  pub live : is_live post ≡ true → (epoch ≡ E.epoch) ⊎ (epoch + 1 ≡ E.epoch)
+  pub running : is_running post ≡ true → epoch ≡ E.epoch
+  pub flipping : is_flipper post ≡ true → epoch ≡ E.epoch
+  pub rest : is_behind E.epoch post epoch ≡ false → done ≡ 0
+  pub below : done ≤ 8
+
+-- who has an end runs or is gone, and who is gone has one
+pub record Ends (post : Post) (ended : Bool) : Type 0 where
+  pub stays : ended ≡ true → (is_running post ≡ true) ⊎ (is_gone post ≡ true)
+  pub gone : is_gone post ≡ true → ended ≡ true
+
+-- the passage is one that the gate that was read allows to this worker
+abbrev pub Passes : (post : Post) (epoch done : ℕ) (ended traced_seen : Bool) → GateWord → Passage → Type 0
+Passes post epoch done ended traced_seen read Enter = (post ≡ Outside) × (read.request ≡ false) × (read.behind ≡ 0)
+Passes post epoch done ended traced_seen read Park = (is_running post ≡ true) × (ended ≡ false) × (read.request ≡ true)
+Passes post epoch done ended traced_seen read (Request asked) = (is_running post ≡ true) × (ended ≡ false) × (read.request ≡ false) × (traced_seen ≡ true)
+Passes post epoch done ended traced_seen read Forwarded = (post ≡ Stopped) × (read.epoch ≡ epoch + 1) × (done ≡ 8)
+Passes post epoch done ended traced_seen read Resume = (post ≡ Stopped) × (read.epoch ≡ epoch) × (read.request ≡ false) × (read.behind ≡ 0)
+Passes post epoch done ended traced_seen read Leave = (is_running post ≡ true) × (ended ≡ true)
+
+-- While a flip is in progress the gate stands still. The words in use are those that are, and AREA of the other space is
+-- what was stored.
+pub record Resets (E : Era) (gate : GateWord) (front low old_front old_low old_owed : ℕ) (r : Reset) : Type 0 where
+  pub unmoved : gate ≡ r.read
+  pub stopped : (r.read.running ≡ 0) × (r.read.behind ≡ 0)
+  pub used : (u : ℕ) → r.used ≡ Some u → u + low ≡ E.span + front
+  pub stored : r.stored ≡ true → (old_front ≡ E.old_start) × (old_low ≡ E.old_start + E.old_span) × (r.used ≡ Some old_owed)
+
+-- ---- registers and accesses
+
+-- registers lead to records; those of who is late lead into the old space at most from the first not forwarded on
+pub record Clean (E : Era) (size writer : ℕ → ℕ) (late : Bool) (done : ℕ) (registers : ℕ → ℕ) : Type 0 where
+  pub clean : (j : ℕ) → j < 8 → (late ≡ true → j < done) → ¬ (Leads E (registers j))
+  pub lands : (j : ℕ) → j < 8 → Lands size writer (registers j)
+
+-- the record's size and kind are as they were read, and nobody writes it
+pub record Stands (size writer : ℕ → ℕ) (kind : ℕ → Kind) (s : Seen) : Type 0 where
+  pub stands : 0 < s.size
+  pub sized : size s.at ≡ s.size
+  pub of_kind : kind s.at ≡ s.kind
+  pub written : writer s.at ≡ 0
+
+-- the access is to a word of a record of the epoch's space, and its page is open where it was found so
+pub record Accesses (E : Era) (size writer : ℕ → ℕ) (kind : ℕ → Kind) (page : ℕ → PageWord) (f : Access) : Type 0 where
+  pub of : Stands size writer kind f.of
+  pub inside : (E.start ≤ f.of.at) × (f.of.at < E.start + E.span)
+  pub word : (0 < f.word) × (f.word < f.of.size)
+  pub allowed : f.allowed ≡ true → page ((f.of.at + f.word) / 64) ≡ Open E.epoch

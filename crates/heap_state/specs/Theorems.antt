@@ -1,0 +1,4 @@
+pub mod Rows
+pub mod Workers
+pub mod Standing
+pub mod Examples

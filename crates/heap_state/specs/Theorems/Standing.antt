@@ -1,0 +1,43 @@
+-- What is proved of what keeps the invariant.
+use Rattle.std.specs.Prelude.{◌≡◌, ℕ, ◌+◌, ◌*◌, ◌<◌, Some}
+use Rattle.space_map.specs.declared.page_word.PageWord.{PageWord}
+use Rattle.plain_state.specs.State.{Plain}
+use Rattle.heap_state.specs.Configuration.{Configuration, Stands}
+use Rattle.heap_state.specs.Era.{Era, Memory}
+use Rattle.heap_state.specs.Ghost.{Ghost}
+use Rattle.heap_state.specs.Inductive.{Invariant}
+use Rattle.heap_state.specs.Parts.Pages.{Quiet}
+use Rattle.space_map.specs.declared.page_word.PageWord.TheVariants.{Scanning}
+use Rattle.heap_state.specs.Holds.{Holds}
+use Rattle.heap_state.specs.Represents.{Represents}
+use Rattle.heap_state.specs.Worker.{Team, Copy, Scan}
+
+-- ---- what stands
+
+-- what keeps the invariant of the proofs, and shows a plain state, holds and represents that state
+pub record IsSound (c : Configuration) (p : Plain) : Type 0 where
+  pub holds : Holds c
+  pub represents : Represents c p
+
+abbrev pub StandingIsSound : Type 0
+StandingIsSound = (c : Configuration) (p : Plain) → Stands c p → IsSound c p
+
+-- ---- what stands still
+
+-- the worker scans the filling page
+pub record ScansFillingPage (E : Era) (front : ℕ) (page : ℕ → PageWord) (k : ℕ) : Type 0 where
+  pub page_number : ℕ
+  pub begun : 64 * page_number < front
+  pub filling : front < 64 * page_number + 64
+  pub scanned : page page_number ≡ Scanning E.epoch k
+
+-- Where all is quiet, who copies scans the filling page, and so nobody else copies. Where the epoch is traced nobody scans or
+-- copies, and no place is written.
+pub record StandsStill (E : Era) (m : Memory) (team : Team) (g : Ghost) : Type 0 where
+  pub still : (k : ℕ) (c : Copy) → k < team.count → (team.worker k).copy ≡ Some c → Quiet E m.gate.behind m.front m.page → ScansFillingPage E m.front m.page k
+  pub nobody_scans : m.traced ≡ E.epoch + 1 → (k : ℕ) (s : Scan) → k < team.count → (team.worker k).scan ≡ Some s → ⊥
+  pub nobody_copies : m.traced ≡ E.epoch + 1 → (k : ℕ) (c : Copy) → k < team.count → (team.worker k).copy ≡ Some c → ⊥
+  pub nobody_writes : m.traced ≡ E.epoch + 1 → (b : ℕ) → 0 < g.size b → g.writer b ≡ 0
+
+abbrev pub QuietStandsStill : Type 0
+QuietStandsStill = (E : Era) (m : Memory) (t : Team) (g : Ghost) → Invariant E m t g → StandsStill E m t g

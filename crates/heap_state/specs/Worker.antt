@@ -1,0 +1,224 @@
+-- What a worker holds between two steps, by component. Each machine's state is read as these, whatever its phases are.
+use Rattle.std.specs.Prelude.{ℕ, ◌+◌, ◌==◌, ◌&&◌, Bool, true, false, List, [], Option, None}
+use Rattle.heap_words.specs.declared.kind.Kind.{Kind}
+use Rattle.plain_state.specs.declared.end.End.{End}
+use Rattle.space_map.specs.declared.gate_word.GateWord.{GateWord}
+use Rattle.space_map.specs.declared.page_word.PageWord.{PageWord}
+
+-- ---- at the gate
+
+-- Where a worker stands at the gate: a scanner never enters; a mutator is outside, runs, is stopped, is stopped and
+-- flips because it asked for so many pages, or is gone.
+pub data Post : Type 0 where
+  Scanner : Post
+  Outside : Post
+  Running : Post
+  Stopped : Post
+  Flipping : (asked : ℕ) → Post
+  Gone : Post
+
+abbrev pub is_mutator : Post → Bool
+is_mutator Scanner = false
+is_mutator _ = true
+
+-- it has attached and not left
+abbrev pub is_live : Post → Bool
+is_live Running = true
+is_live Stopped = true
+is_live (Flipping asked) = true
+is_live _ = false
+
+abbrev pub is_running : Post → Bool
+is_running Running = true
+is_running _ = false
+
+abbrev pub is_flipper : Post → Bool
+is_flipper (Flipping asked) = true
+is_flipper _ = false
+
+abbrev pub is_gone : Post → Bool
+is_gone Gone = true
+is_gone _ = false
+
+-- what a worker is about to exchange the gate for
+pub data Passage : Type 0 where
+  Enter : Passage
+  Park : Passage
+  Request : (asked : ℕ) → Passage
+  Forwarded : Passage
+  Resume : Passage
+  Leave : Passage
+
+-- a step at the gate, from the gate that was read
+pub record GateStep : Type 0 where
+  pub read : GateWord
+  pub passage : Passage
+
+-- a flip in progress: the gate read, with nobody running and nobody behind; the words in use, once AREA is read; and
+-- whether the new space's AREA is stored
+pub record Reset : Type 0 where
+  pub read : GateWord
+  pub used : Option ℕ
+  pub stored : Bool
+
+-- ---- new records and accesses
+
+-- Words that a mutator has claimed to place new records in: those from `at` to `end`, in this epoch. Those below `zeroed`
+-- are 0 and the pages below `opened` are open. A run is a stock with both at its end.
+pub record Stock : Type 0 where
+  pub epoch : ℕ
+  pub at : ℕ
+  pub end : ℕ
+  pub zeroed : ℕ
+  pub opened : ℕ
+
+-- a record whose header was read
+pub record Seen : Type 0 where
+  pub at : ℕ
+  pub size : ℕ
+  pub kind : Kind
+
+-- the access to one word of a record whose header was read, and whether that word's page was found open
+pub record Access : Type 0 where
+  pub of : Seen
+  pub word : ℕ
+  pub allowed : Bool
+
+-- ---- copying
+
+-- which word leads to the record that is asked for: a register of the worker's own, or a word that it scans
+pub data Origin : Type 0 where
+  Register : (r : ℕ) → Origin
+  Scanned : (addr : ℕ) → Origin
+
+-- the search for the copy of the record at an old place, and the copy's place once it is known
+pub record Quest : Type 0 where
+  pub old : ℕ
+  pub origin : Origin
+  pub found : Option ℕ
+
+-- A copy in progress: the header kept, the old place, the new one, the record's size, the words copied so far, the word
+-- after them once it is loaded, whether the new place was read as FRONT, whether it is announced, whether it is reserved, and
+-- the first page whose crossing isn't stored yet.
+pub record Copy : Type 0 where
+  pub header : ℕ
+  pub from : ℕ
+  pub to : ℕ
+  pub size : ℕ
+  pub done : ℕ
+  pub word : Option ℕ
+  pub aimed : Bool
+  pub announced : Bool
+  pub reserved : Bool
+  pub crossed : ℕ
+
+-- ---- scanning
+
+-- A scan: the page, the first word not passed, whether the page was claimed as the filling one, the record over the page's
+-- first word once CROSS is read, the record in which the cursor stands, whether FRONT was seen past the cursor, and
+-- whether nothing is left to pass.
+pub record Scan : Type 0 where
+  pub page : ℕ
+  pub cursor : ℕ
+  pub in_place : Bool
+  pub over : Option ℕ
+  pub current : Option Seen
+  pub inner : Bool
+  pub ended : Bool
+
+-- a round of the duty: TRACED as read, and FRONT once it is read
+pub record Round : Type 0 where
+  pub traced : ℕ
+  pub front : Option ℕ
+
+-- A claim before its exchange: the page, the word read, whether it is claimed as the filling page, how many announced
+-- places were looked at, and whether the gate was read again.
+pub record Claim : Type 0 where
+  pub page : ℕ
+  pub old : PageWord
+  pub in_place : Bool
+  pub looked : ℕ
+  pub sure : Bool
+
+-- The first look at the end of the area: the space's first word, FRONT as read or that word before, whether the board was
+-- found open, the pages below `upto` found open, and whether the filling page was found open or there is none.
+pub record Look : Type 0 where
+  pub traced : ℕ
+  pub start : ℕ
+  pub front : ℕ
+  pub board : Bool
+  pub upto : ℕ
+  pub filled : Bool
+
+-- the second look, after which TRACED is exchanged from this word
+pub record LastLook : Type 0 where
+  pub traced : ℕ
+
+-- ---- the whole
+
+-- what a mutator has that its plain mutator has too
+pub record Account : Type 0 where
+  pub counter : ℕ
+  pub printed : List ℕ
+  pub executed : ℕ
+  pub serial : ℕ
+  pub end : Option End
+
+-- A worker: its post, its epoch, its account, its registers and how many of them it has forwarded since the flip; then
+-- what it is about to do, and what it knows by what it has read in its epoch.
+pub record Worker : Type 0 where
+  pub post : Post
+  pub epoch : ℕ
+  pub account : Account
+  pub registers : ℕ → ℕ
+  pub done : ℕ
+  pub stock : Option Stock
+  pub access : Option Access
+  pub board_open : Bool
+  pub quest : Option Quest
+  pub copy : Option Copy
+  pub scan : Option Scan
+  pub round : Option Round
+  pub claim : Option Claim
+  pub look : Option Look
+  pub last_look : Option LastLook
+  pub traced_seen : Bool
+  pub gate_step : Option GateStep
+  pub reset : Option Reset
+
+-- a mutator of this post and of the epoch `own` has not forwarded its registers since the flip to this epoch
+abbrev pub is_behind : ℕ → Post → ℕ → Bool
+is_behind epoch post own = is_live post && (own + 1 == epoch)
+
+-- the worker is such a mutator
+abbrev pub is_late : ℕ → Worker → Bool
+is_late epoch w = is_behind epoch w.post w.epoch
+
+-- a worker that has done nothing yet
+abbrev pub fresh : Post → Worker
+fresh post = record {
+  post = post;
+  epoch = 0;
+  account = record { counter = 0; printed = []; executed = 0; serial = 0; end = None };
+  registers = λ r. 0;
+  done = 0;
+  stock = None;
+  access = None;
+  board_open = false;
+  quest = None;
+  copy = None;
+  scan = None;
+  round = None;
+  claim = None;
+  look = None;
+  last_look = None;
+  traced_seen = false;
+  gate_step = None;
+  reset = None;
+}
+
+-- all workers, by their numbers: the mutators first, then the scanners
+pub record Team : Type 0 where
+  pub mutators : ℕ
+  pub count : ℕ
+  pub worker : ℕ → Worker

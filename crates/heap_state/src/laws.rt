@@ -1,0 +1,67 @@
+//! What holds of all tables and configurations. Each function here does nothing: its contract is what is proved.
+
+ghost use Rattle.std.specs.Prelude.{ℕ};
+ghost use Rattle.heap_state.specs.Theorems.Rows.{ReadsRows, SpellsShared, StoresGate, StoresTraced, StoresArea, StoresPage, StoresCross, StoresHeapWord, StoresAnnounce, StoresEntry, WritesTables, MemoryFollows};
+ghost use Rattle.heap_state.specs.Theorems.Workers.{ChangesAt, SumsByTerms, TeamsByWorkers, FramesOfWorkers};
+ghost use Rattle.heap_state.specs.Theorems.Standing.{StandingIsSound, QuietStandsStill};
+ghost use Rattle.heap_state.specs.Theorems.Examples.{IsWorkedOut, IsWorkedOutFlipped, TellsBroken};
+
+/// A load of a row's place reads what the decoded table has there.
+pub fn rows_are_read()
+    ensures rows { ReadsRows }
+    ensures spelled { SpellsShared }
+{}
+
+/// A store in a row of the table is a change of one part of what the table says, and the table stays one that can be read.
+pub fn rows_change_alone()
+    ensures gate { StoresGate }
+    ensures traced { StoresTraced }
+    ensures area { StoresArea }
+    ensures page { StoresPage }
+    ensures cross { StoresCross }
+    ensures heap_word { StoresHeapWord }
+    ensures announce { StoresAnnounce }
+    ensures entry { StoresEntry }
+    ensures written { WritesTables }
+{}
+
+/// What the epoch sees of the table after the store of an area word and after a flip. Its spaces are of whole pages and lie
+/// apart.
+pub fn memory_follows_table()
+    ensures { MemoryFollows }
+{}
+
+/// A function of numbers that is changed at one place, a sum over it, and a team of which one worker changes.
+pub fn one_place_changes_alone()
+    ensures functions { (f : ℕ → ℕ) (place x : ℕ) → ChangesAt f place x }
+    ensures sums { SumsByTerms }
+    ensures teams { TeamsByWorkers }
+    ensures frames { FramesOfWorkers }
+{}
+
+/// A configuration that keeps the invariant of the proofs keeps the one by words and workers alone, and represents the plain
+/// state that it shows.
+pub fn what_stands_is_sound()
+    ensures { StandingIsSound }
+{}
+
+/// Where all is quiet only who scans the filling page can copy; where the epoch is traced nobody scans, copies or writes.
+pub fn what_is_quiet_stands_still()
+    ensures { QuietStandsStill }
+{}
+
+/// A small configuration, worked out by hand, keeps the invariant and represents the plain state that it should.
+pub fn worked_configuration_stands()
+    ensures { IsWorkedOut }
+{}
+
+/// Another, right after a flip, does too: its mutator is behind, and it has made one raw record that is still to be copied.
+pub fn flipped_configuration_stands()
+    ensures { IsWorkedOutFlipped }
+{}
+
+/// With a forward to a wrong place no plain state is represented; and neither an open page that leads to an old record
+/// nor a reserve that is one word too small keeps the invariant.
+pub fn broken_configurations_are_told()
+    ensures { TellsBroken }
+{}
