@@ -17,22 +17,134 @@ type Row = (
 const TWO_LOOPS: &str = ".mutator\nl: jmp l\n.mutator\nl: jmp l\n";
 
 const ROWS: [Row; 16] = [
-    ("a loop of three turns", &["--turns", "3"], ".mutator\nli r0 1\nl: out r0\njmp l\n", "0: 1\n0: turns out\n", "", 3),
-    ("a loop without an end", &[], ".mutator\nl: jmp l\n", "0: turns out\n", "", 3),
-    ("steps that run out", &["--steps", "5"], TWO_LOOPS, "0: stopped\n1: stopped\n", "ael: steps out\n", 4),
-    ("a count down", &[], ".mutator\nli r0 3\nli r1 1\nl: jz r0 e\nout r0\nsub r0 r0 r1\njmp l\ne: halt\n", "0: 3\n0: 2\n0: 1\n0: halt\n", "", 0),
-    ("a reference is not zero", &[], ".mutator\nnew r0 0\njz r0 e\nout r1\ne: halt\n", "0: 0\n0: halt\n", "", 0),
-    ("a subroutine", &[], ".mutator\njal r7 f\nout r7\nhalt\nf: jr r7\n", "0: 1\n0: halt\n", "", 0),
-    ("a jump past the last instruction", &[], ".mutator\njmp e\ne:\n", "0: jump out\n", "", 3),
-    ("turns out comes before jump out", &["--turns", "1"], ".mutator\njmp e\ne:\n", "0: turns out\n", "", 3),
-    ("line ends of CR LF, blanks and comments", &[], "\r\n ; a text\r\n.mutator;\r\n\tout r0 ; 0\r\n halt", "0: 0\n0: halt\n", "", 0),
-    ("a listed schedule", &["--order", "--scanners", "0"], ".schedule 1 0*2\n.mutator\nout r0\nhalt\n.mutator\nout r0\nhalt\n", "0: 0\n0: halt\n1: 0\n1: halt\norder 1 0 0 1\n", "", 0),
-    ("a schedule between sections and after the last", &["--order", "--scanners", "0"], ".mutator\nhalt\n.schedule 1\n.mutator\nhalt\n.schedule 0\n", "0: halt\n1: halt\norder 1 0\n", "", 0),
-    ("counts are not unrolled", &["--steps", "3", "--scanners", "0"], ".schedule 0*1000000 1*1000000\n.schedule 0*1000000\n.mutator\nl: jmp l\n.mutator\nhalt\n", "0: stopped\n1: stopped\n", "ael: steps out\n", 4),
-    ("a worker that isn't there", &["--steps", "4", "--order"], ".schedule 23 0\n.mutator\nout r0\nout r0\nhalt\n", "0: 0\n0: 0\n0: stopped\norder 0 0\n", "ael: steps out\n", 4),
-    ("one mutator ended, one stopped", &["--steps", "4", "--scanners", "0"], ".mutator\nhalt\n.mutator\nl: jmp l\n", "0: halt\n1: stopped\n", "ael: steps out\n", 4),
-    ("labels of one name in two sections", &[], ".mutator\njmp l\nl: halt\n.mutator\nout r0\nl: halt\n", "0: halt\n1: 0\n1: halt\n", "", 0),
-    ("two mutators meet on the board", &["--scanners", "0"], ".mutator\nli r0 5\nput 0 r0\nw: get r1 1\njz r1 w\nout r1\nhalt\n.mutator\nw: get r0 0\njz r0 w\nadd r0 r0 r0\nput 1 r0\nhalt\n", "0: 10\n0: halt\n1: halt\n", "", 0),
+    (
+        "a loop of three turns",
+        &["--turns", "3"],
+        ".mutator\nli r0 1\nl: out r0\njmp l\n",
+        "0: 1\n0: turns out\n",
+        "",
+        3,
+    ),
+    (
+        "a loop without an end",
+        &[],
+        ".mutator\nl: jmp l\n",
+        "0: turns out\n",
+        "",
+        3,
+    ),
+    (
+        "steps that run out",
+        &["--steps", "5"],
+        TWO_LOOPS,
+        "0: stopped\n1: stopped\n",
+        "ael: steps out\n",
+        4,
+    ),
+    (
+        "a count down",
+        &[],
+        ".mutator\nli r0 3\nli r1 1\nl: jz r0 e\nout r0\nsub r0 r0 r1\njmp l\ne: halt\n",
+        "0: 3\n0: 2\n0: 1\n0: halt\n",
+        "",
+        0,
+    ),
+    (
+        "a reference is not zero",
+        &[],
+        ".mutator\nnew r0 0\njz r0 e\nout r1\ne: halt\n",
+        "0: 0\n0: halt\n",
+        "",
+        0,
+    ),
+    (
+        "a subroutine",
+        &[],
+        ".mutator\njal r7 f\nout r7\nhalt\nf: jr r7\n",
+        "0: 1\n0: halt\n",
+        "",
+        0,
+    ),
+    (
+        "a jump past the last instruction",
+        &[],
+        ".mutator\njmp e\ne:\n",
+        "0: jump out\n",
+        "",
+        3,
+    ),
+    (
+        "turns out comes before jump out",
+        &["--turns", "1"],
+        ".mutator\njmp e\ne:\n",
+        "0: turns out\n",
+        "",
+        3,
+    ),
+    (
+        "line ends of CR LF, blanks and comments",
+        &[],
+        "\r\n ; a text\r\n.mutator;\r\n\tout r0 ; 0\r\n halt",
+        "0: 0\n0: halt\n",
+        "",
+        0,
+    ),
+    (
+        "a listed schedule",
+        &["--order", "--scanners", "0"],
+        ".schedule 1 0*2\n.mutator\nout r0\nhalt\n.mutator\nout r0\nhalt\n",
+        "0: 0\n0: halt\n1: 0\n1: halt\norder 1 0 0 1\n",
+        "",
+        0,
+    ),
+    (
+        "a schedule between sections and after the last",
+        &["--order", "--scanners", "0"],
+        ".mutator\nhalt\n.schedule 1\n.mutator\nhalt\n.schedule 0\n",
+        "0: halt\n1: halt\norder 1 0\n",
+        "",
+        0,
+    ),
+    (
+        "counts are not unrolled",
+        &["--steps", "3", "--scanners", "0"],
+        ".schedule 0*1000000 1*1000000\n.schedule 0*1000000\n.mutator\nl: jmp l\n.mutator\nhalt\n",
+        "0: stopped\n1: stopped\n",
+        "ael: steps out\n",
+        4,
+    ),
+    (
+        "a worker that isn't there",
+        &["--steps", "4", "--order"],
+        ".schedule 23 0\n.mutator\nout r0\nout r0\nhalt\n",
+        "0: 0\n0: 0\n0: stopped\norder 0 0\n",
+        "ael: steps out\n",
+        4,
+    ),
+    (
+        "one mutator ended, one stopped",
+        &["--steps", "4", "--scanners", "0"],
+        ".mutator\nhalt\n.mutator\nl: jmp l\n",
+        "0: halt\n1: stopped\n",
+        "ael: steps out\n",
+        4,
+    ),
+    (
+        "labels of one name in two sections",
+        &[],
+        ".mutator\njmp l\nl: halt\n.mutator\nout r0\nl: halt\n",
+        "0: halt\n1: 0\n1: halt\n",
+        "",
+        0,
+    ),
+    (
+        "two mutators meet on the board",
+        &["--scanners", "0"],
+        ".mutator\nli r0 5\nput 0 r0\nw: get r1 1\njz r1 w\nout r1\nhalt\n.mutator\nw: get r0 0\njz r0 w\nadd r0 r0 r0\nput 1 r0\nhalt\n",
+        "0: 10\n0: halt\n1: halt\n",
+        "",
+        0,
+    ),
 ];
 
 #[test]
@@ -56,24 +168,96 @@ fn mutators_share_a_heap(rt: HostRuntime) -> Result<(), Fail> {
 type Refused = (&'static str, &'static str, &'static str);
 
 const REFUSED: [Refused; 18] = [
-    ("a directive that isn't known", ".mutat\n", "1: error 1: unknown instruction\n"),
-    ("an operand missing", ".mutator\nli r1\n", "2: error 2: bad operand\n"),
-    ("a section with an operand", ".mutator x\n", "1: error 2: bad operand\n"),
-    ("a label before any section", "l:\n.mutator\n", "1: error 5: no mutator\n"),
-    ("a label twice, and no instruction", ".mutator\na:\na: foo\n", "3: error 1: unknown instruction\n"),
-    ("a label twice", ".mutator\na: halt\na: halt\n", "3: error 4: label twice\n"),
-    ("an unknown label before a line of no form", ".mutator\njmp x\nbad\n", "2: error 3: unknown label\n"),
-    ("a line of no form before an unknown label", ".mutator\nbad\njmp x\n", "2: error 1: unknown instruction\n"),
-    ("a big number beside a bad operand", ".mutator\nli r1 4611686018427387904 5\n", "2: error 2: bad operand\n"),
-    ("a number too big", ".mutator\nli r0 4611686018427387904\n", "2: error 9: number too big\n"),
-    ("a worker too big", ".schedule 24\n.mutator\n", "1: error 8: bad schedule\n"),
-    ("no steps", ".schedule 0*0\n.mutator\n", "1: error 8: bad schedule\n"),
-    ("a schedule without items", ".mutator\n.schedule\n", "2: error 8: bad schedule\n"),
-    ("a byte 0", ".mutator\nhalt\0\n", "2: error 1: unknown instruction\n"),
-    ("a jump before any section", "jmp l\n.mutator\nl: halt\n", "1: error 3: unknown label\n"),
-    ("a label of another section", ".mutator\nl: halt\n.mutator\njmp l\n", "4: error 3: unknown label\n"),
-    ("schedules alone", ".schedule 0\n\n", "1: error 5: no mutator\n"),
-    ("the last line without its end", ".mutator\nhalt\nfoo", "3: error 1: unknown instruction\n"),
+    (
+        "a directive that isn't known",
+        ".mutat\n",
+        "1: error 1: unknown instruction\n",
+    ),
+    (
+        "an operand missing",
+        ".mutator\nli r1\n",
+        "2: error 2: bad operand\n",
+    ),
+    (
+        "a section with an operand",
+        ".mutator x\n",
+        "1: error 2: bad operand\n",
+    ),
+    (
+        "a label before any section",
+        "l:\n.mutator\n",
+        "1: error 5: no mutator\n",
+    ),
+    (
+        "a label twice, and no instruction",
+        ".mutator\na:\na: foo\n",
+        "3: error 1: unknown instruction\n",
+    ),
+    (
+        "a label twice",
+        ".mutator\na: halt\na: halt\n",
+        "3: error 4: label twice\n",
+    ),
+    (
+        "an unknown label before a line of no form",
+        ".mutator\njmp x\nbad\n",
+        "2: error 3: unknown label\n",
+    ),
+    (
+        "a line of no form before an unknown label",
+        ".mutator\nbad\njmp x\n",
+        "2: error 1: unknown instruction\n",
+    ),
+    (
+        "a big number beside a bad operand",
+        ".mutator\nli r1 4611686018427387904 5\n",
+        "2: error 2: bad operand\n",
+    ),
+    (
+        "a number too big",
+        ".mutator\nli r0 4611686018427387904\n",
+        "2: error 9: number too big\n",
+    ),
+    (
+        "a worker too big",
+        ".schedule 24\n.mutator\n",
+        "1: error 8: bad schedule\n",
+    ),
+    (
+        "no steps",
+        ".schedule 0*0\n.mutator\n",
+        "1: error 8: bad schedule\n",
+    ),
+    (
+        "a schedule without items",
+        ".mutator\n.schedule\n",
+        "2: error 8: bad schedule\n",
+    ),
+    (
+        "a byte 0",
+        ".mutator\nhalt\0\n",
+        "2: error 1: unknown instruction\n",
+    ),
+    (
+        "a jump before any section",
+        "jmp l\n.mutator\nl: halt\n",
+        "1: error 3: unknown label\n",
+    ),
+    (
+        "a label of another section",
+        ".mutator\nl: halt\n.mutator\njmp l\n",
+        "4: error 3: unknown label\n",
+    ),
+    (
+        "schedules alone",
+        ".schedule 0\n\n",
+        "1: error 5: no mutator\n",
+    ),
+    (
+        "the last line without its end",
+        ".mutator\nhalt\nfoo",
+        "3: error 1: unknown instruction\n",
+    ),
 ];
 
 #[test]
@@ -91,7 +275,13 @@ fn texts_are_refused(rt: HostRuntime) -> Result<(), Fail> {
 }
 
 /// So many times a piece of text, between two others.
-fn repeated(alloc: Global, first: &str, piece: &str, times: u32, last: &str) -> Result<Vec<u8>, Fail> {
+fn repeated(
+    alloc: Global,
+    first: &str,
+    piece: &str,
+    times: u32,
+    last: &str,
+) -> Result<Vec<u8>, Fail> {
     let mut text = String::from_str(alloc, first)?;
     for _ in 0..times {
         text.push_str(piece)?;
@@ -105,15 +295,48 @@ fn texts_have_limits(rt: HostRuntime) -> Result<(), Fail> {
     let alloc = rt.alloc();
     let rows = [
         (".mutator\n", "halt\n", 65_536, "", "", 0),
-        (".mutator\n", "halt\n", 65_537, "", "ael: line 65538: error 7: code too long\n", 1),
+        (
+            ".mutator\n",
+            "halt\n",
+            65_537,
+            "",
+            "ael: line 65538: error 7: code too long\n",
+            1,
+        ),
         (".mutator\nhalt\n.mutator\n", "halt\n", 65_535, "", "", 0),
-        (".mutator\nhalt\n.mutator\n", "halt\n", 65_536, "", "ael: line 65539: error 7: code too long\n", 1),
-        ("", ".mutator\n", 17, "", "ael: line 17: error 6: too many mutators\n", 1),
+        (
+            ".mutator\nhalt\n.mutator\n",
+            "halt\n",
+            65_536,
+            "",
+            "ael: line 65539: error 7: code too long\n",
+            1,
+        ),
+        (
+            "",
+            ".mutator\n",
+            17,
+            "",
+            "ael: line 17: error 6: too many mutators\n",
+            1,
+        ),
         (".mutator\nhalt\n.schedule", " 0", 65_536, "\n", "", 0),
-        (".mutator\nhalt\n.schedule 0\n.schedule", " 0", 65_536, "\n", "ael: line 4: error 8: bad schedule\n", 1),
+        (
+            ".mutator\nhalt\n.schedule 0\n.schedule",
+            " 0",
+            65_536,
+            "\n",
+            "ael: line 4: error 8: bad schedule\n",
+            1,
+        ),
     ];
     for (first, piece, times, last, err, status) in rows {
-        let got = call(&rt, &["sim"], repeated(alloc, first, piece, times, last)?, AMPLE)?;
+        let got = call(
+            &rt,
+            &["sim"],
+            repeated(alloc, first, piece, times, last)?,
+            AMPLE,
+        )?;
         assert_eq!(rt; got.err.bytes(), err.as_bytes(), "{times} times {piece}");
         assert_eq!(rt; got.status, status, "{times} times {piece}");
     }
@@ -121,13 +344,15 @@ fn texts_have_limits(rt: HostRuntime) -> Result<(), Fail> {
 }
 
 /// Numbers of 62 bits wrap, and a remainder has a divisor.
-const ARITHMETIC: &str = ".mutator\nli r0 4611686018427387903\nli r1 1\nadd r2 r0 r1\nout r2\nsub r2 r2 r1\nout r2\nmul r2 r0 r0\nout r2\nli r3 0\nrem r2 r0 r3\n";
+const ARITHMETIC: &str =
+    ".mutator\nli r0 4611686018427387903\nli r1 1\nadd r2 r0 r1\nout r2\nsub r2 r2 r1\nout r2\nmul r2 r0 r0\nout r2\nli r3 0\nrem r2 r0 r3\n";
 
 /// A mutator that shares nothing prints the same by every seed.
 #[test]
 fn seeds_change_nothing_alone(rt: HostRuntime) -> Result<(), Fail> {
     let alloc = rt.alloc();
-    let wanted = b"0: 0\n0: 4611686018427387903\n0: 1\n0: zero divisor\n1: 0\n1: 4611686018427387903\n1: 1\n1: zero divisor\n";
+    let wanted =
+        b"0: 0\n0: 4611686018427387903\n0: 1\n0: zero divisor\n1: 0\n1: 4611686018427387903\n1: 1\n1: zero divisor\n";
     for seed in ["0", "1", "2", "3", "4", "5", "6", "7", "8", "9"] {
         let text = repeated(alloc, "", ARITHMETIC, 2, "")?;
         let got = call(&rt, &["sim", "--seed", seed], text, AMPLE)?;
@@ -142,7 +367,10 @@ fn seeds_change_nothing_alone(rt: HostRuntime) -> Result<(), Fail> {
 fn seeds_decide_who_comes_first(rt: HostRuntime) -> Result<(), Fail> {
     let alloc = rt.alloc();
     let adder = ".mutator\nli r1 1\nget r0 0\nadd r0 r0 r1\nput 0 r0\nget r0 0\nout r0\nhalt\n";
-    for (seed, wanted) in [("2", b"0: 1\n0: halt\n1: 1\n1: halt\n"), ("3", b"0: 1\n0: halt\n1: 2\n1: halt\n")] {
+    for (seed, wanted) in [
+        ("2", b"0: 1\n0: halt\n1: 1\n1: halt\n"),
+        ("3", b"0: 1\n0: halt\n1: 2\n1: halt\n"),
+    ] {
         let text = repeated(alloc, "", adder, 2, "")?;
         let got = call(&rt, &["sim", "--seed", seed], text, AMPLE)?;
         assert_eq!(rt; got.out.bytes(), wanted.as_slice(), "seed {seed}");
