@@ -1,26 +1,23 @@
 -- The passages of the gate.
-use Rattle.std.proofs.Common.{◌≡◌, ◌≢◌, ℕ, ◌+◌, ◌-◌, ◌<◌, ◌≤◌, Bool, true, false, Some, None, is_some, refl, sym, ap, ◌∙◌, arith, ⊎_elim, ◌⊎◌, inl, inr}
+use Rattle.std.proofs.Common.{◌≡◌, ◌≢◌, ℕ, ◌+◌, ◌-◌, ◌<◌, Bool, true, false, Some, None, is_some, refl, sym, ap, ◌∙◌, arith, ⊎_elim, ◌⊎◌, inl, inr}
 use Rattle.std.proofs.lemmas.Bool.{eq-eqb}
-use Rattle.plain_state.specs.State as plain
 use Rattle.space_map.specs.declared.gate_word.GateWord.{GateWord}
 use Rattle.heap_state.specs.Era.{Era, Memory}
-use Rattle.heap_state.specs.Functions.{put, one_if}
+use Rattle.heap_state.specs.Functions.{one_if}
 use Rattle.heap_state.specs.Ghost.{Ghost}
 use Rattle.heap_state.specs.Inductive.{Invariant, Knows}
 use Rattle.heap_state.specs.Parts.Copying.{IsOrigin, Licensed}
-use Rattle.heap_state.specs.Parts.Gate.{Counted, Staffed}
 use Rattle.heap_state.specs.Parts.Knowledge.{Clean, Passes, Resets}
-use Rattle.heap_state.specs.Parts.Pages.{Quiet, Filling, Tracing, ScannedBy}
+use Rattle.heap_state.specs.Parts.Pages.{Quiet}
 use Rattle.heap_state.specs.Parts.Scanning.{Claims, Looks, LastLooks}
-use Rattle.heap_state.specs.Parts.Stocks.{Stocks, Numbered}
-use Rattle.heap_state.specs.Values.{Shown}
-use Rattle.heap_state.specs.Worker.{Worker, Team, Post, Scanner, Outside, Running, Stopped, Flipping, Gone, Passage, Enter, Park, Request, Forwarded, Resume, Leave, Origin, Register, Scanned, Quest, Stock, Claim, Look, LastLook, GateStep, Reset, is_mutator, is_live, is_running, is_late}
-use Rattle.heap_state.proofs.Puts.{proj_put, team_put, none≢some}
+use Rattle.heap_state.specs.Worker.{Worker, Team, Post, Scanner, Outside, Running, Stopped, Flipping, Gone, Passage, Enter, Park, Request, Forwarded, Resume, Leave, Origin, Register, Scanned, Quest, Claim, Look, LastLook, GateStep, Reset, is_mutator, is_live, is_running, is_late}
+use Rattle.heap_state.proofs.Puts.{none≢some}
 use Rattle.heap_laws.specs.Gating.{with_gate, gate_after, worker_after, WinsGate, PassingGateKeeps}
 use Rattle.heap_laws.specs.Keeping.{Keeps}
 use Rattle.heap_laws.specs.Steps.{with_worker}
 use Rattle.heap_laws.proofs.FlippingSums.{sum_below-term, sum_below-two}
-use Rattle.heap_laws.proofs.GatingCounts.{counted_moves, staffed_moves, stocks_move, rooted_moves}
+use Rattle.heap_laws.proofs.GatingCounts.{counted_moves}
+use Rattle.heap_laws.proofs.GatingTeam.{passing_keeps, usual}
 use Rattle.heap_laws.proofs.GatingWorker.{false_true, now_not_late, no_reset, knows_then}
 
 runs : (p : Post) → is_running p ≡ true → p ≡ Running
@@ -33,66 +30,6 @@ runs Gone e = absurd (cc)
 
 one_of : (b : Bool) → b ≡ true → one_if b ≡ 1
 one_of b e = rw e refl
-
--- worker k, which had this to do at the gate, passes it
-pub record Passing (E : Era) (m : Memory) (team : Team) (g : Ghost) (k : ℕ) (w' : Worker) : Type 0 where
-  pub inv : Invariant E m team g
-  pub below : k < team.count
-  pub mutator : is_mutator w'.post ≡ is_mutator (team.worker k).post
-  pub account : w'.account ≡ (team.worker k).account
-  pub registers : w'.registers ≡ (team.worker k).registers
-  pub scan : w'.scan ≡ (team.worker k).scan
-  pub stock : (q : Stock) → w'.stock ≡ Some q → (team.worker k).stock ≡ Some q
-  pub none_left : (r : ℕ) → r < 8 → is_late E.epoch (team.worker k) ≡ true → (team.worker k).done ≤ r → ⊥
-
-module _ {E : Era} {m : Memory} {team : Team} {g : Ghost} {k : ℕ} {w' : Worker} (passing : Passing E m team g k w') (gate' : GateWord) where
-  inv : Invariant E m team g
-  inv = passing.inv
-
-  account_same : (j : ℕ) → (put team.worker k w' j).account ≡ (team.worker j).account
-  account_same j = proj_put (λ u. u.account) team.worker k w' j passing.account
-
-  shown : (p : plain.Plain) → Shown E m team g p → Shown E (with_gate m gate') (with_worker team k w') g p
-  shown p s = record {
-    objects = s.objects;
-    board = s.board;
-    as_many = s.as_many;
-    makers = s.makers;
-    accounts = λ j q e. rw (account_same j) (s.accounts j q e);
-    registers = λ j q e. rw (proj_put (λ u. u.registers) team.worker k w' j passing.registers) (s.registers j q e);
-  }
-
-  -- the new gate and team keep all
-  pub passing_keeps : Counted gate' team.count (put team.worker k w') → Filling E gate'.behind m.front m.page → Tracing E m.traced gate'.behind m.front m.page
-      → ((j : ℕ) → j < team.count → j ≢ k → Knows E gate' m.traced m.front m.low m.old_front m.old_low m.old_owed g m.page m.cross m.announced m.heap j (team.worker j))
-      → Knows E gate' m.traced m.front m.low m.old_front m.old_low m.old_owed g m.page m.cross m.announced m.heap k w'
-      → Keeps E m (with_gate m gate') team (with_worker team k w') g
-  passing_keeps counted filling tracing others own = record {
-    invariant =
-        let p1 : Staffed team.mutators team.count (put team.worker k w') = staffed_moves team.worker k w' passing.mutator inv.staffed in
-        let p2 : ScannedBy E team.count m.page (put team.worker k w') = record { scanned = λ p j e. let q = inv.scanned.scanned p j e in (q.0, (q.1.0, rw (proj_put (λ u. u.scan) team.worker k w' j passing.scan) q.1.1, q.1.2)) } in
-        let p3 : Stocks E m.low team.count g.size m.heap m.page (put team.worker k w') = stocks_move team.worker k w' passing.stock inv.stocks in
-        let p4 : Numbered team.mutators g.size g.identity (put team.worker k w') = record { maker = inv.numbered.maker; first = inv.numbered.first; last = λ a st. rw (account_same (g.identity a).mutator) (inv.numbered.last a st) } in
-        let p5 = team_put team.count (Knows E gate' m.traced m.front m.low m.old_front m.old_low m.old_owed g m.page m.cross m.announced m.heap) team.worker k w' others own in
-        assumption;
-    shown = shown;
-    cycle = λ p c. record { copying = c.copying; rooted = rooted_moves team.worker k w' passing.none_left passing.mutator passing.account passing.registers c.rooted };
-    ages = λ p. omega arith;
-  }
-
--- a passage that leaves as many behind as there were
-pub usual : (E : Era) (m : Memory) (team : Team) (g : Ghost) (k : ℕ) (w' : Worker) (live running left : ℕ) (request : Bool) → Passing E m team g k w' → (m.gate.request ≡ false) ⊎ ((0 < m.gate.running) ⊎ (0 < m.gate.behind))
-    → Counted (record m.gate { live = live; running = running; left = left; request = request }) team.count (put team.worker k w')
-    → Knows E (record m.gate { live = live; running = running; left = left; request = request }) m.traced m.front m.low m.old_front m.old_low m.old_owed g m.page m.cross m.announced m.heap k w'
-    → Keeps E m (with_gate m (record m.gate { live = live; running = running; left = left; request = request })) team (with_worker team k w') g
-usual E m team g k w' live running left request passing busy counted own = passing_keeps passing (record m.gate { live = live; running = running; left = left; request = request })
-    counted passing.inv.filling passing.inv.tracing (λ j l d. others j l) own
-  where
-    others : (j : ℕ) → j < team.count → Knows E (record m.gate { live = live; running = running; left = left; request = request }) m.traced m.front m.low m.old_front m.old_low m.old_owed g m.page m.cross m.announced m.heap j (team.worker j)
-    others j l =
-        let u = passing.inv.workers j l in
-        let a : (r : Reset) → (team.worker j).reset ≡ Some r → Resets E (record m.gate { live = live; running = running; left = left; request = request }) m.front m.low m.old_front m.old_low m.old_owed r = λ r e. absurd (no_reset E m team g passing.inv busy j r l e) in
-        assumption
 
 module _ (E : Era) (m : Memory) (team : Team) (g : Ghost) (k : ℕ) (s : GateStep) (inv : Invariant E m team g) (wins : WinsGate E m team k s) where
   abbrev w : Worker

@@ -31,13 +31,6 @@ pub mod FlippingParts
 pub mod FlippingWorkers
 pub mod FlippingShown
 pub mod FlippingRegisters
-pub mod ScanningRecords
-pub mod AgingEntries
-pub mod FlippingReset
-pub mod GatingCounts
-pub mod GatingWorker
-pub mod GatingPassages
-pub mod ForgettingLess
 pub mod PlainLists
 pub mod OpeningWorkers
 pub mod Opening
@@ -62,3 +55,12 @@ pub mod BirthShown
 pub mod BirthCycle
 pub mod MutatorStores
 pub mod MutatorsStand
+pub mod ScanningRecords
+pub mod AgingEntries
+pub mod FlippingReset
+pub mod GatingCounts
+pub mod GatingWorker
+pub mod GatingTeam
+pub mod GatingPassages
+pub mod ForgettingLess
+pub mod ScanningLifted

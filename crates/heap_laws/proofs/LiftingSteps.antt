@@ -6,7 +6,7 @@ use Rattle.heap_state.specs.Worker.{Team}
 use Rattle.heap_state.proofs.Placing.{laid_out}
 use Rattle.heap_state.proofs.Teams.{team_changes}
 use Rattle.heap_state.proofs.Writing.{stores_entry}
-use Rattle.heap_laws.specs.Lifting.{words_after, table_after, RowFits, StepsAreSeen, StandingIsReady, StepsStand, LawsAreLifted}
+use Rattle.heap_laws.specs.Lifting.{words_after, table_after, RowFits, StepsAreSeen, StandingIsReady, StepsStand, LawsAreLifted, CyclesAreLifted}
 
 pub ready : StandingIsReady
 ready c p s k l = record { laid_out = laid_out c.pages c.words; invariant = s.invariant; member = l }
@@ -52,3 +52,6 @@ lifted c p s e k w h l fits same law =
       standing = stand c p p e k w h s l fits (rw same law.invariant) (rw same (law.shown p s.shown));
       cycle = λ o cy. rw (y.table_said, y.team_said, same) (law.cycle o cy);
     }
+
+pub cycle_lifted : CyclesAreLifted
+cycle_lifted c e k w h o formed l fits cy = let y = seen c e k w formed l fits in rw (y.table_said, y.team_said) cy

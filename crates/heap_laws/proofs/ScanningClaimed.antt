@@ -72,7 +72,7 @@ module _ (E : Era) (m : Memory) (team : Team) (g : Ghost) (k : ℕ) (q : Claim) 
       (λ (i : q.in_place ≡ false). inl (mine.full of_now i, i))
       (cases_Bool q.in_place)
 
-  place : (q.page ≡ E.board / 64) ⊎ ((E.start ≤ 64 * q.page) × (64 * q.page < m.front))
+  pub place : (q.page ≡ E.board / 64) ⊎ ((E.start ≤ 64 * q.page) × (64 * q.page < m.front))
   place = ⊎_elim
       (λ y. ⊎_elim (λ z. inr (z.0, omega (arith, z.1))) (λ z. inl z) y.0)
       (λ y. inr (let s = out.start in omega (arith, y.0, y.1, inv.laid.order, s), y.0))

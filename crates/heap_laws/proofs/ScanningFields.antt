@@ -48,7 +48,7 @@ module _ (E : Era) (m : Memory) (team : Team) (g : Ghost) (k : ℕ) (s : Scan) (
   steps : Stepping E m.front g.size g.writer g.kind s
   steps = me.stepping s scans
 
-  here : Here E g.size g.writer g.kind s.cursor
+  pub here : Here E g.size g.writer g.kind s.cursor
   unfolding Here
   here = ⊎_elim (λ b. inr b.0) (λ y. inl (in_field y.0 y.1 y.2 y.3)) at.place
     where

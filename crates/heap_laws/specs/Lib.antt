@@ -7,10 +7,6 @@ pub mod Scanning
 pub mod ScanningWords
 pub mod Tracing
 pub mod Flipping
-pub mod FlippingReset
-pub mod Gating
-pub mod Forgetting
-pub mod Aging
 pub mod Opening
 pub mod MutatorSteps
 pub mod Fields
@@ -18,3 +14,8 @@ pub mod Allocating
 pub mod Placing
 pub mod MutatorStores
 pub mod MutatorsStand
+pub mod FlippingReset
+pub mod Gating
+pub mod Forgetting
+pub mod ScanningStands
+pub mod Aging

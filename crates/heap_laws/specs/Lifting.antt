@@ -73,3 +73,9 @@ LawsAreLifted = (c : Configuration) (p : Plain) (s : Stands c p) (e : Option Ent
     → era_of (table_after (table c) e) ≡ era c
     → Preserves (era c) (memory c) (memory_of (table_after (table c) e)) (team c) (with_worker (team c) k w) s.ghost h
     → StandsAsBefore c (stepped c e k w) p s.ghost h
+
+-- what a cycle keeps of the table and the team after a step it keeps of the configuration
+abbrev pub CyclesAreLifted : Type 0
+CyclesAreLifted = (c : Configuration) (e : Option Entry) (k : ℕ) (w : Worker) (h : Ghost) (o : Plain) → IsFormed c.pages c.words → k < length c.workers → RowFits c.pages e
+    → Cycle (era_of (table_after (table c) e)) (memory_of (table_after (table c) e)) (with_worker (team c) k w) h o
+    → Cycle (era (stepped c e k w)) (memory (stepped c e k w)) (team (stepped c e k w)) h o

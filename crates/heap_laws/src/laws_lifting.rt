@@ -1,7 +1,7 @@
 //! From the laws to configurations. Each function here does nothing: its contract is what is proved.
 
 ghost use Rattle.heap_laws.specs.CopyingStands.{CopiesStand};
-ghost use Rattle.heap_laws.specs.Lifting.{StepsAreSeen, StandingIsReady, StepsStand, LawsAreLifted};
+ghost use Rattle.heap_laws.specs.Lifting.{StepsAreSeen, StandingIsReady, StepsStand, LawsAreLifted, CyclesAreLifted};
 
 /// A row that is written and a worker that becomes another are seen in what the configuration says.
 pub fn steps_are_seen()
@@ -26,4 +26,9 @@ pub fn laws_are_lifted()
 /// Each step of a copy leaves a configuration that stands as before, and writes a row that the table has.
 pub fn copies_stand()
     ensures { CopiesStand }
+{}
+
+/// What a cycle keeps of the table and the team after a step it keeps of the configuration.
+pub fn cycles_are_lifted()
+    ensures { CyclesAreLifted }
 {}

@@ -4,7 +4,6 @@
 //! The crate has laws, and nothing that runs.
 #![tactic(auto)]
 
-mod laws_aging;
 mod laws_allocating;
 mod laws_copying;
 mod laws_fields;
@@ -13,9 +12,9 @@ mod laws_gating;
 mod laws_lifting;
 mod laws_opening;
 mod laws_scanning;
+mod laws_standing;
 mod laws_tracing;
 
-pub use laws_aging::page_epochs_never_fall;
 pub use laws_allocating::{
     mutators_place, records_are_placed, stocks_are_claimed, stocks_are_opened, stocks_are_zeroed,
     stocks_stand,
@@ -30,11 +29,18 @@ pub use laws_fields::{
     board_is_stored, mutators_go_on, mutators_stand, mutators_step, mutators_store,
     mutators_store_on_board, words_are_loaded, words_are_stored,
 };
-pub use laws_flipping::epochs_are_flipped;
-pub use laws_gating::gates_fit;
+pub use laws_flipping::{epochs_are_flipped, flips_are_made_ready, registers_are_forwarded};
+pub use laws_gating::{gates_are_passed, gates_fit, passages_are_made_ready};
 pub use laws_lifting::{
-    copies_stand, laws_are_lifted, standing_is_ready, steps_are_seen, steps_stand,
+    copies_stand, cycles_are_lifted, laws_are_lifted, standing_is_ready, steps_are_seen,
+    steps_stand,
 };
 pub use laws_opening::opening_stands;
-pub use laws_scanning::pages_are_claimed;
-pub use laws_tracing::epochs_are_traced;
+pub use laws_scanning::{
+    claims_are_made_ready, fields_are_scanned, pages_are_claimed, pages_are_opened,
+    records_are_scanned,
+};
+pub use laws_standing::{page_epochs_never_fall, scans_stand};
+pub use laws_tracing::{
+    epochs_are_traced, rounds_are_begun, the_end_is_looked_at, traced_epochs_are_clean,
+};

