@@ -88,24 +88,20 @@ fn lines(alloc: Global, before: &str, separated: &str) -> Result<String, Fail> {
 #[test]
 fn instructions_have_their_effects_and_ends(rt: HostRuntime) -> Result<(), Fail> {
     let alloc = rt.alloc();
-    let mut count = 0;
     for row in ROWS.split('\n') {
         let mut parts = row.split('|');
-        if let (Some(name), Some(text), Some(printed)) = (
-            parts.next(),
-            parts.next(),
-            parts.next(),
-        ) {
-            let text = format!(in alloc; ".mutator\n{}", lines(alloc, "", text)?)?;
-            let wanted = lines(alloc, "0: ", printed)?;
-            let status = if printed.ends_with("halt") { 0 } else { 3 };
-            let got = call(&rt, &["sim"], text.into_bytes(), AMPLE)?;
-            assert_eq!(rt; got.out.bytes(), wanted.as_bytes(), "{name}");
-            assert_eq!(rt; got.status, status, "{name}");
-            count += 1;
-        }
+        let (Some(name), Some(text), Some(printed)) = (parts.next(), parts.next(), parts.next())
+        else {
+            assert_eq!(rt; row, "a row of three parts");
+            continue;
+        };
+        let text = format!(in alloc; ".mutator\n{}", lines(alloc, "", text)?)?;
+        let wanted = lines(alloc, "0: ", printed)?;
+        let status = if printed.ends_with("halt") { 0 } else { 3 };
+        let got = call(&rt, &["sim"], text.into_bytes(), AMPLE)?;
+        assert_eq!(rt; got.out.bytes(), wanted.as_bytes(), "{name}");
+        assert_eq!(rt; got.status, status, "{name}");
     }
-    assert_eq!(rt; count, 67);
     Ok(())
 }
 
