@@ -1,6 +1,5 @@
 -- The parts that read heap words, where a word below the board is stored that belongs to no record.
-use Rattle.std.proofs.Common.{◌≡◌, ◌≢◌, ℕ, ◌+◌, ◌<◌, ◌≤◌, Bool, true, false, Option, refl, arith, ⊎_elim, ◌⊎◌, inl, inr}
-use Rattle.std.proofs.lemmas.Bool.{cases_Bool}
+use Rattle.std.proofs.Common.{◌≡◌, ℕ, ◌+◌, ◌<◌, ◌≤◌, Bool, Option, arith, ⊎_elim, ◌⊎◌, inl, inr, Some}
 use Rattle.heap_words.specs.declared.kind.Kind.{Kind}
 use Rattle.plain_state.specs.State as plain
 use Rattle.plain_state.specs.declared.value.Identity.{Identity}
@@ -17,8 +16,9 @@ use Rattle.heap_state.specs.Parts.OldSpace.{OldSpace}
 use Rattle.heap_state.specs.Parts.Records.{Headed, RawWords}
 use Rattle.heap_state.specs.Parts.Scanning.{Scans}
 use Rattle.heap_state.specs.Values.{value_of, Shows, ShowsAll, BoardShows}
-use Rattle.heap_state.specs.Worker.{Worker, Copy, Scan, Origin, Register, Scanned, is_late}
+use Rattle.heap_state.specs.Worker.{Worker, Copy, Scan, Origin, Register, Scanned, is_late, Quest}
 use Rattle.heap_state.proofs.Puts.{put_other}
+use Rattle.heap_laws.proofs.OtherWords.{has_place, headed_same, old_space_same, scans_same, copies_same, shows_same}
 
 -- the address is a word of no record and not on the board
 pub record IsFree (E : Era) (size : ℕ → ℕ) (x : ℕ) : Type 0 where
@@ -45,11 +45,7 @@ module _ {E : Era} {size : ℕ → ℕ} {x : ℕ} (fr : IsFree E size x) (writer
   -- ---- parts
 
   pub headed_free : (copy keeper : ℕ → ℕ) (identity : ℕ → Identity) → Headed size writer copy keeper kind identity h → Headed size writer copy keeper kind identity (put h x v)
-  headed_free copy keeper identity p = record {
-    own = λ a st w y z. rw (head_same a st) (p.own a st w y z);
-    kept = λ a k st y. rw (head_same a st) (p.kept a k st y);
-    gone = λ a b st y z. rw (head_same a st) (p.gone a b st y z);
-  }
+  headed_free copy keeper identity p = headed_same head_same p
 
   pub raw_free : RawWords size writer kind h → RawWords size writer kind (put h x v)
   raw_free p = record { raw = λ a i st w f l n. rw (word_same a i l) (p.raw a i st w f l n) }
@@ -65,53 +61,22 @@ module _ {E : Era} {size : ℕ → ℕ} {x : ℕ} (fr : IsFree E size x) (writer
 
   -- the word is in the epoch's space
   pub old_space_free : (traced old_front old_low : ℕ) (page : ℕ → PageWord) → IsLaidOut E → E.start ≤ x → x < E.start + E.span → OldSpace E traced old_front old_low size h page → OldSpace E traced old_front old_low size (put h x v) page
-  old_space_free traced old_front old_low page lay l u p = record {
-    walks = λ t epoch e. let s = p.walks t epoch e in record {
-      lies = s.lies;
-      order = s.order;
-      aligned = s.aligned;
-      first = s.first;
-      next = s.next;
-      new = record {
-        opened = s.new.opened;
-        prior = s.new.prior;
-        blank = λ y a b o free. let z = s.order in let d : y ≢ x = (λ q. omega (arith, q, a, b, l, u, lay.apart, z)) in rw (put_other h x v y d) (s.new.blank y a b o free);
-      };
-    };
-  }
+  old_space_free traced old_front old_low page lay l u p = old_space_same (λ y a b free. put_other h x v y (λ e. omega (arith, e, a, b, l, u, lay.apart))) p
 
   -- ---- what a worker knows
 
   pub scans_free : (front : ℕ) (page : ℕ → PageWord) (j : ℕ) (r : Scan) → Scans E front size writer kind h page j r → Scans E front size writer kind (put h x v) page j r
-  scans_free front page j r p = record {
-    claimed = p.claimed;
-    place = p.place;
-    cursor = p.cursor;
-    above = p.above;
-    passed = λ y u e l. rw (here_same y u) (p.passed y u e l);
-  }
-
-  placed : (front : ℕ) (copy keeper kept announced cross : ℕ → ℕ) (j : ℕ) (c : Copy) → Copies E front size writer copy keeper kept announced cross h j c → 0 < c.done → size c.to ≡ c.size
-  placed front copy keeper kept announced cross j c p l = ⊎_elim (λ (y : c.reserved ≡ true). (p.place y).3) (λ (y : c.reserved ≡ false). absurd (let z = p.loose y in omega (arith, z, l))) (cases_Bool c.reserved)
+  scans_free front page j r p = scans_same j r here_same p
 
   pub copies_free : (front : ℕ) (copy keeper kept announced cross : ℕ → ℕ) (j : ℕ) (c : Copy) → Copies E front size writer copy keeper kept announced cross h j c → Copies E front size writer copy keeper kept announced cross (put h x v) j c
-  copies_free front copy keeper kept announced cross j c p = record {
-    old = p.old;
-    loose = p.loose;
-    aimed = p.aimed;
-    named = p.named;
-    place = p.place;
-    bound = p.bound;
-    crossings = p.crossings;
-    same = λ i f l. let t = placed front copy keeper kept announced cross j c p (omega arith) in
-        rw (word_same c.to i (omega (arith, t, l, p.bound)), word_same c.from i (omega (arith, p.old, l, p.bound))) (p.same i f l);
-    loaded = λ u e. let q = p.loaded u e in (q.0, q.1, rw (word_same c.from c.done (omega (arith, p.old, q.1))) q.2);
-  }
+  copies_free front copy keeper kept announced cross j c p = copies_same j c
+      (λ i f l. word_same c.from i (omega (arith, p.old, l)))
+      (λ r i f l. let t = p.place r in word_same c.to i (omega (arith, t.3, l))) p
 
   pub keeps_free : (front : ℕ) (copy keeper kept announced cross : ℕ → ℕ) (identity : ℕ → Identity) (j : ℕ) (c : Copy) → Copies E front size writer copy keeper kept announced cross h j c → Keeps kind identity h c → Keeps kind identity (put h x v) c
   keeps_free front copy keeper kept announced cross identity j c q p = record {
     keeps = p.keeps;
-    head = λ l. let t = placed front copy keeper kept announced cross j c q l in rw (head_same c.to (omega (arith, t, q.old))) (p.head l);
+    head = λ l. let t = q.place (has_place j c q l) in rw (head_same c.to (omega (arith, t.3, q.old))) (p.head l);
   }
 
   pub origin_free : (late : Bool) (done : ℕ) (registers : ℕ → ℕ) (scan : Option Scan) (old : ℕ) (o : Origin) → IsOrigin E size writer kind h late done registers scan old o → IsOrigin E size writer kind (put h x v) late done registers scan old o
@@ -120,23 +85,18 @@ module _ {E : Era} {size : ℕ → ℕ} {x : ℕ} (fr : IsFree E size x) (writer
 
   -- ---- the plain state, and the cycle
 
-  pub shows_free : (denotes : ℕ → Option Value) (a : ℕ) (k : Kind) (z : ℕ) (r : plain.Record) → z ≡ size a → Shows denotes h a k z r → Shows denotes (put h x v) a k z r
-  shows_free denotes a k z r e s = record {
-    kind = s.kind;
-    size = s.size;
-    fields = λ i f l t. rw (word_same a i (omega arith)) (s.fields i f l t);
-    words = λ i f l t. rw (word_same a i (omega arith)) (s.words i f l t);
-  }
+  shows_free : (denotes : ℕ → Option Value) (a : ℕ) (k : Kind) (r : plain.Record) → Shows denotes h a k (size a) r → Shows denotes (put h x v) a k (size a) r
+  shows_free denotes a k r s = shows_same r (λ i f l. word_same a i l) s
 
   pub objects_free : (copy keeper : ℕ → ℕ) (identity : ℕ → Identity) (records : plain.Heap) → ShowsAll size writer copy keeper kind identity h records → ShowsAll size writer copy keeper kind identity (put h x v) records
-  objects_free copy keeper identity records p = record { shows = λ a st w o. let q = p.shows a st w o in (q.0, q.1, shows_free (value_of identity) a (kind a) (size a) q.0 refl q.2) }
+  objects_free copy keeper identity records p = record { shows = λ a st w o. let q = p.shows a st w o in (q.0, q.1, shows_free (value_of identity) a (kind a) q.0 q.2) }
 
   pub board_free : (denotes : ℕ → Option Value) (records : plain.Heap) → BoardShows E denotes h records → BoardShows E denotes (put h x v) records
   board_free denotes records p = record { sixteen = p.sixteen; board = λ y l. rw (board_same (E.board + y) (omega arith)) (p.board y l) }
 
   pub copying_free : (front : ℕ) (copy keeper : ℕ → ℕ) (identity : ℕ → Identity) (p : plain.Plain) → Copying E front size writer copy keeper kind identity h p → Copying E front size writer copy keeper kind identity (put h x v) p
   copying_free front copy keeper identity p c = record {
-    old = λ a st l u o. let q = c.old a st l u o in (q.0, q.1, shows_free (value_of identity) a (kind a) (size a) q.0 refl q.2);
+    old = λ a st l u o. let q = c.old a st l u o in (q.0, q.1, shows_free (value_of identity) a (kind a) q.0 q.2);
     sound = λ y i u s. c.sound y i u (rw (here_same y u) at s);
     reached = c.reached;
     sizes = c.sizes;
@@ -158,30 +118,9 @@ module _ {E : Era} {size : ℕ → ℕ} {x : ℕ} (fr : IsFree E size x) (writer
 pub worker_free : (E : Era) (m : Memory) (g : Ghost) (x v k : ℕ) (w : Worker) → IsFree E g.size x
     → Knows E m.gate m.traced m.front m.low m.old_front m.old_low m.old_owed g m.page m.cross m.announced m.heap k w
     → Knows E m.gate m.traced m.front m.low m.old_front m.old_low m.old_owed g m.page m.cross m.announced (put m.heap x v) k w
-worker_free E m g x v k w fr p = record {
-  timely = p.timely;
-  ends = p.ends;
-  outside = p.outside;
-  stock = p.stock;
-  registers = p.registers;
-  active = p.active;
-  access = p.access;
-  board = p.board;
-  origin = λ q e. origin_free fr g.writer g.kind m.heap v (is_late E.epoch w) w.done w.registers w.scan q.old q.origin (p.origin q e);
-  quest = p.quest;
-  licensed = p.licensed;
-  copy = λ c e. copies_free fr g.writer g.kind m.heap v m.front g.copy g.keeper g.kept m.announced m.cross k c (p.copy c e);
-  keeps = λ c e. keeps_free fr g.writer g.kind m.heap v m.front g.copy g.keeper g.kept m.announced m.cross g.identity k c (p.copy c e) (p.keeps c e);
-  present = p.present;
-  scan = λ s e. scans_free fr g.writer g.kind m.heap v m.front m.page k s (p.scan s e);
-  stepping = p.stepping;
-  round = p.round;
-  claim = p.claim;
-  look = p.look;
-  last_look = p.last_look;
-  seen_traced = p.seen_traced;
-  flips = p.flips;
-  passage = p.passage;
-  resets = p.resets;
-  reset = p.reset;
-}
+worker_free E m g x v k w fr p =
+    let a = λ (q : Quest) (e : w.quest ≡ Some q). origin_free fr g.writer g.kind m.heap v (is_late E.epoch w) w.done w.registers w.scan q.old q.origin (p.origin q e) in
+    let b = λ (c : Copy) (e : w.copy ≡ Some c). copies_free fr g.writer g.kind m.heap v m.front g.copy g.keeper g.kept m.announced m.cross k c (p.copy c e) in
+    let c = λ (c : Copy) (e : w.copy ≡ Some c). keeps_free fr g.writer g.kind m.heap v m.front g.copy g.keeper g.kept m.announced m.cross g.identity k c (p.copy c e) (p.keeps c e) in
+    let d = λ (s : Scan) (e : w.scan ≡ Some s). scans_free fr g.writer g.kind m.heap v m.front m.page k s (p.scan s e) in
+    assumption

@@ -1,5 +1,5 @@
 -- The header of a new record is stored at the run's place.
-use Rattle.std.proofs.Common.{◌≡◌, ◌≢◌, ℕ, ◌+◌, ◌/◌, ◌<◌, ◌≤◌, refl, sym, ap, ◌∙◌, arith, ⊎_elim, ◌⊎◌, inl, inr}
+use Rattle.std.proofs.Common.{◌≡◌, ◌≢◌, ℕ, ◌+◌, ◌/◌, ◌<◌, ◌≤◌, refl, sym, ap, ◌∙◌, arith, ⊎_elim, ◌⊎◌, inl, inr, Some}
 use Rattle.std.proofs.lemmas.Bool.{cases_eq, ltb-true}
 use Rattle.heap_words.specs.declared.kind.Kind.{Kind}
 use Rattle.heap_words.specs.Decoded.{PointerWord, decode}
@@ -12,14 +12,14 @@ use Rattle.heap_state.specs.Inductive.{Invariant, Knows}
 use Rattle.heap_state.specs.Parts.Stocks.{Stocks, Stocked, Numbered}
 use Rattle.heap_state.specs.Values.{value_of}
 use Rattle.heap_state.specs.Worker.{Worker, Team, Stock}
+use Rattle.heap_state.proofs.Frames.{counted_put, staffed_put, scanned_put, stocks_anew}
 use Rattle.heap_state.proofs.Puts.{put_at, put_other, put_same, each_put, team_put, some_same}
-use Rattle.heap_laws.specs.Steps.{with_word, with_worker}
 use Rattle.heap_laws.specs.Placing.{next_identity, born, placed, PlacesNext, RecordsArePlaced, IsPlaced, PlacedIsHeld}
+use Rattle.heap_laws.specs.Steps.{with_word, with_worker}
 use Rattle.heap_laws.proofs.AllocFree.{IsFree, headed_free, raw_free, opened_free, landing_free, older_free, old_space_free, worker_free}
 use Rattle.heap_laws.proofs.BirthParts.{Cradle, was, is, same_size, laid_born, kept_born, room_born, area_born, old_space_born, new_written_born, shut_born, crossing_born, opened_born, landing_born, older_born, raw_born, headed_born, copied_born, once_born}
 use Rattle.heap_laws.proofs.BirthWorkers.{worker_born}
 use Rattle.heap_laws.proofs.MutatorSteps.{runs}
-use Rattle.heap_laws.proofs.TeamPuts.{counted_put, staffed_put, scanned_put, stocks_put}
 
 module _ (E : Era) (m : Memory) (team : Team) (g : Ghost) (k : ℕ) (q : Stock) (c : Kind) (z v : ℕ) (lay : IsLaidOut E) (inv : Invariant E m team g) (places : PlacesNext E team k q c z v) where
   abbrev i : Identity
@@ -130,7 +130,7 @@ module _ (E : Era) (m : Memory) (team : Team) (g : Ghost) (k : ℕ) (q : Stock) 
       not_here b st e = let n = none b st in omega (arith, n, e, st)
 
   stocks : Stocks E m.low team.count g'.size heap m.page (put team.worker k w)
-  stocks = stocks_put E m.low team.count g'.size heap m.page team.worker k w
+  stocks = stocks_anew team.worker k w
       (λ j l d s e n. theirs s (inv.stocks.apart j k l places.own.worker d s q e places.own.has n places.own.epoch) (inv.stocks.stocked j l s e n))
       (λ s e n. rw (← some_same e) mine)
       (λ a j la lj x y d. inv.stocks.apart a j la lj d)
@@ -170,38 +170,15 @@ module _ (E : Era) (m : Memory) (team : Team) (g : Ghost) (k : ℕ) (q : Stock) 
 
   -- worker k itself
   own : Knows E m.gate m.traced m.front m.low m.old_front m.old_low m.old_owed g' m.page m.cross m.announced heap k w
-  own = let p = known k (team.worker k) (inv.workers k places.own.worker) in record {
-    timely = p.timely;
-    ends = p.ends;
-    outside = p.outside;
-    registers = p.registers;
-    active = p.active;
-    access = p.access;
-    board = p.board;
-    origin = p.origin;
-    stock = λ s e. rw (← some_same e) (p.stock q places.own.has);
-    quest = p.quest;
-    licensed = p.licensed;
-    copy = p.copy;
-    keeps = p.keeps;
-    present = p.present;
-    scan = p.scan;
-    stepping = p.stepping;
-    round = p.round;
-    claim = p.claim;
-    look = p.look;
-    last_look = p.last_look;
-    seen_traced = p.seen_traced;
-    flips = p.flips;
-    passage = p.passage;
-    resets = p.resets;
-    reset = p.reset;
-  }
+  own =
+      let p = known k (team.worker k) (inv.workers k places.own.worker) in
+      let a : (s : Stock) → w.stock ≡ Some s → s.epoch ≡ w.epoch = λ s e. rw (← some_same e) (p.stock q places.own.has) in
+      assumption
 
   keeps : Invariant E (with_word m q.at v) (with_worker team k w) g'
   keeps = record {
-    counted = counted_put m.gate team.count team.worker k w refl refl inv.counted;
-    staffed = staffed_put team.mutators team.count team.worker k w refl inv.staffed;
+    counted = counted_put team.worker k w refl refl inv.counted;
+    staffed = staffed_put team.worker k w refl inv.staffed;
     laid = laid_born cradle;
     headed = headed_born cradle g.writer g.kind c g.identity i heap (rw (put_same m.heap q.at v) places.header) (headed_free free g.writer g.kind m.heap v g.copy g.keeper g.identity inv.headed);
     copied = copied_born cradle g.writer g.kind c g.identity i g.kept inv.copied;
@@ -213,7 +190,7 @@ module _ (E : Era) (m : Memory) (team : Team) (g : Ghost) (k : ℕ) (q : Stock) 
     filling = inv.filling;
     tracing = inv.tracing;
     aged = inv.aged;
-    scanned = scanned_put E team.count m.page team.worker k w refl inv.scanned;
+    scanned = scanned_put team.worker k w refl inv.scanned;
     opened = opened_born cradle g.writer g.kind c heap zeros m.page (opened_free free g.writer g.kind m.heap v m.page inv.opened);
     landing = landing_born cradle g.writer g.kind c heap zeros (landing_free free g.writer g.kind m.heap v inv.landing);
     older = older_born cradle g.writer g.kind c heap zeros (older_free free g.writer g.kind m.heap v inv.older);

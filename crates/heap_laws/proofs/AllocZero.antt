@@ -4,15 +4,17 @@ use Rattle.heap_state.specs.Era.{Era, IsLaidOut, Memory}
 use Rattle.heap_state.specs.Functions.{put}
 use Rattle.heap_state.specs.Ghost.{Ghost}
 use Rattle.heap_state.specs.Inductive.{Invariant, Knows}
+use Rattle.heap_state.specs.Parts.Records.{NewArea}
 use Rattle.heap_state.specs.Parts.Stocks.{Stocks, Stocked}
 use Rattle.heap_state.specs.Values.{value_of}
-use Rattle.heap_state.specs.Worker.{Team, Stock}
+use Rattle.heap_state.specs.Worker.{Team, Stock, Worker}
+use Rattle.heap_state.proofs.Frames.{counted_put, staffed_put, scanned_put, stocks_anew, numbered_put, rooted_put}
 use Rattle.heap_state.proofs.Puts.{each_put, team_put, some_same}
-use Rattle.heap_laws.specs.Steps.{with_word}
 use Rattle.heap_laws.specs.Allocating.{HasStock, with_stock, zeroed_further, StocksAreZeroed}
+use Rattle.heap_laws.specs.Steps.{with_word}
 use Rattle.heap_laws.proofs.AllocFree.{IsFree, headed_free, raw_free, opened_free, landing_free, older_free, old_space_free, worker_free, objects_free, board_free, copying_free, rooted_free}
-use Rattle.heap_laws.proofs.AllocStock.{stocked_knows, stocked_counted, stocked_staffed, stocked_scanned, stocked_numbered, stocked_shown, stocked_rooted}
-use Rattle.heap_laws.proofs.TeamPuts.{stocks_put}
+use Rattle.heap_laws.proofs.AllocStock.{stocked_knows}
+use Rattle.heap_laws.proofs.Learning.{shown_put}
 
 module _ (E : Era) (m : Memory) (team : Team) (g : Ghost) (k : ℕ) (q : Stock) (lay : IsLaidOut E) (inv : Invariant E m team g) (own : HasStock E team k q) (more : q.zeroed < q.end) where
   abbrev next : Stock
@@ -45,67 +47,45 @@ module _ (E : Era) (m : Memory) (team : Team) (g : Ghost) (k : ℕ) (q : Stock) 
   }
 
   theirs : (s : Stock) → Stocked E m.low g.size m.heap m.page s → Stocked E m.low g.size (put m.heap q.zeroed 0) m.page s
-  theirs s y = record {
-    lies = y.lies;
-    so_far = y.so_far;
-    aligned = y.aligned;
-    empty = y.empty;
-    shut = y.shut;
-    opens = y.opens;
-    order = y.order;
-    whole = y.whole;
-    after = y.after;
-    zeros = λ x l u. each_put (λ i v. v ≡ 0) m.heap q.zeroed 0 x (λ _. y.zeros x l u) (λ _. refl);
-  }
+  theirs s y = let z : (x : ℕ) → s.at ≤ x → x < s.zeroed → put m.heap q.zeroed 0 x ≡ 0 = λ x l u. each_put (λ i v. v ≡ 0) m.heap q.zeroed 0 x (λ _. y.zeros x l u) (λ _. refl) in assumption
 
   stocks : Stocks E m.low team.count g.size (put m.heap q.zeroed 0) m.page (with_stock team k next).worker
-  stocks = stocks_put E m.low team.count g.size (put m.heap q.zeroed 0) m.page team.worker k (record (team.worker k) { stock = Some next })
+  stocks = stocks_anew team.worker k (record (team.worker k) { stock = Some next })
       (λ j l d s e n. theirs s (inv.stocks.stocked j l s e n))
       (λ s e n. rw (← some_same e) mine)
       (λ i j li lj x y d. inv.stocks.apart i j li lj d)
       (λ j l d s t e f n o. let a = inv.stocks.apart j k l own.worker d s q e own.has n own.epoch in let z : next ≡ t = some_same f in rw (← z) a)
 
   keeps : Invariant E (with_word m q.zeroed 0) (with_stock team k next) g
-  keeps = record {
-    counted = stocked_counted m.gate team k next inv.counted;
-    staffed = stocked_staffed team k next inv.staffed;
-    laid = inv.laid;
-    headed = headed_free free g.writer g.kind m.heap 0 g.copy g.keeper g.identity inv.headed;
-    copied = inv.copied;
-    once = inv.once;
-    kept = inv.kept;
-    room = inv.room;
-    raw_words = raw_free free g.writer g.kind m.heap 0 inv.raw_words;
-    shut = inv.shut;
-    filling = inv.filling;
-    tracing = inv.tracing;
-    aged = inv.aged;
-    scanned = stocked_scanned E m.page team k next inv.scanned;
-    opened = opened_free free g.writer g.kind m.heap 0 m.page inv.opened;
-    landing = landing_free free g.writer g.kind m.heap 0 inv.landing;
-    older = older_free free g.writer g.kind m.heap 0 inv.older;
-    new = record {
-      opened = inv.new.opened;
-      prior = inv.new.prior;
-      blank = λ x l u o none. each_put (λ i v. v ≡ 0) m.heap q.zeroed 0 x (λ _. inv.new.blank x l u o none) (λ _. refl);
-    };
-    new_written = inv.new_written;
-    old_space = old_space_free free g.writer g.kind m.heap 0 m.traced m.old_front m.old_low m.page lay inside.0 inside.1 inv.old_space;
-    old_pages = inv.old_pages;
-    crossing = inv.crossing;
-    stocks = stocks;
-    numbered = stocked_numbered g.size g.identity team k next inv.numbered;
-    workers = team_put team.count (Knows E m.gate m.traced m.front m.low m.old_front m.old_low m.old_owed g m.page m.cross m.announced (put m.heap q.zeroed 0)) team.worker k (record (team.worker k) { stock = Some next })
-        (λ j l d. worker_free E m g q.zeroed 0 j (team.worker j) free (inv.workers j l))
-        (stocked_knows E (with_word m q.zeroed 0) g k (team.worker k) next ((inv.workers k own.worker).stock q own.has) (worker_free E m g q.zeroed 0 k (team.worker k) free (inv.workers k own.worker)));
-  }
+  keeps =
+      let w : Worker = record (team.worker k) { stock = Some next } in
+      let p1 = counted_put team.worker k w refl refl inv.counted in
+      let p2 = staffed_put team.worker k w refl inv.staffed in
+      let p3 = headed_free free g.writer g.kind m.heap 0 g.copy g.keeper g.identity inv.headed in
+      let p4 = raw_free free g.writer g.kind m.heap 0 inv.raw_words in
+      let p5 = scanned_put team.worker k w refl inv.scanned in
+      let p6 = opened_free free g.writer g.kind m.heap 0 m.page inv.opened in
+      let p7 = landing_free free g.writer g.kind m.heap 0 inv.landing in
+      let p8 = older_free free g.writer g.kind m.heap 0 inv.older in
+      let p9 : NewArea m.low (E.start + E.span) E.epoch g.size (put m.heap q.zeroed 0) m.page = record {
+        opened = inv.new.opened;
+        prior = inv.new.prior;
+        blank = λ x l u o none. each_put (λ i v. v ≡ 0) m.heap q.zeroed 0 x (λ _. inv.new.blank x l u o none) (λ _. refl);
+      } in
+      let p10 = old_space_free free g.writer g.kind m.heap 0 m.traced m.old_front m.old_low m.page lay inside.0 inside.1 inv.old_space in
+      let p11 = stocks in
+      let p12 = numbered_put team.worker k w refl inv.numbered in
+      let p13 = team_put team.count (Knows E m.gate m.traced m.front m.low m.old_front m.old_low m.old_owed g m.page m.cross m.announced (put m.heap q.zeroed 0)) team.worker k w
+      (λ j l d. worker_free E m g q.zeroed 0 j (team.worker j) free (inv.workers j l))
+      (stocked_knows E (with_word m q.zeroed 0) g k (team.worker k) next ((inv.workers k own.worker).stock q own.has) (worker_free E m g q.zeroed 0 k (team.worker k) free (inv.workers k own.worker))) in
+      assumption
 
 pub stocks_are_zeroed : StocksAreZeroed
 stocks_are_zeroed E m team g k q ready own more =
     let f = free E m team g k q ready.laid_out ready.invariant own more in
     record {
       invariant = keeps E m team g k q ready.laid_out ready.invariant own more;
-      shown = λ p s. stocked_shown E (with_word m q.zeroed 0) team g p k (zeroed_further q) (record {
+      shown = λ p s. shown_put E (with_word m q.zeroed 0) (with_word m q.zeroed 0) team g k (record (team.worker k) { stock = Some (zeroed_further q) }) p refl refl refl (record {
         objects = objects_free f g.writer g.kind m.heap 0 g.copy g.keeper g.identity p.heap s.objects;
         board = board_free f g.writer g.kind m.heap 0 (value_of g.identity) p.heap s.board;
         as_many = s.as_many;
@@ -115,7 +95,7 @@ stocks_are_zeroed E m team g k q ready own more =
       });
       cycle = λ p cy. record {
         copying = copying_free f g.writer g.kind m.heap 0 m.front g.copy g.keeper g.identity p cy.copying;
-        rooted = stocked_rooted E m.front g.size g.writer g.identity (put m.heap q.zeroed 0) team k (zeroed_further q) p (rooted_free f g.writer g.kind m.heap 0 m.front team.count g.identity team.worker p cy.rooted);
+        rooted = rooted_put team.worker k (record (team.worker k) { stock = Some (zeroed_further q) }) refl refl refl (λ _ _ a b. (a, b)) (rooted_free f g.writer g.kind m.heap 0 m.front team.count g.identity team.worker p cy.rooted);
       };
       ages = λ p. omega arith;
     }

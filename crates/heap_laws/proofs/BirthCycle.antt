@@ -11,14 +11,13 @@ use Rattle.heap_state.specs.Inductive.{Invariant}
 use Rattle.heap_state.specs.Values.{value_of, Shows}
 use Rattle.heap_state.specs.Worker.{Worker, Team, Stock, is_mutator, is_late}
 use Rattle.heap_state.proofs.Puts.{put_other, proj_put}
-use Rattle.heap_laws.specs.Steps.{with_word, with_worker}
 use Rattle.heap_laws.specs.Placing.{next_identity, born, placed, PlacesNext, PlacingKeepsCycle}
+use Rattle.heap_laws.specs.Steps.{with_word, with_worker}
 use Rattle.heap_laws.proofs.AllocFree.{IsFree, word_same, copying_free, rooted_free}
 use Rattle.heap_laws.proofs.AllocHeader.{cradle, free, zeros}
 use Rattle.heap_laws.proofs.BirthParts.{Cradle, unused, was, is, same_size, same_writer, old_other, below_other, here_was}
 use Rattle.heap_laws.proofs.BirthValues.{field_lands, value_born}
-use Rattle.heap_laws.proofs.MutatorSteps.{still_leads}
-use Rattle.heap_laws.proofs.Opening.{zero_clean}
+use Rattle.heap_laws.proofs.Words.{still_leads, zero_clean}
 
 module _ (E : Era) (m : Memory) (team : Team) (g : Ghost) (p : plain.Plain) (k : ℕ) (q : Stock) (c : Kind) (z v : ℕ) (lay : IsLaidOut E) (inv : Invariant E m team g) (places : PlacesNext E team k q c z v) (cy : Cycle E m team g p) where
   abbrev j : Identity

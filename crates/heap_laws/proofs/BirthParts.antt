@@ -16,7 +16,7 @@ use Rattle.heap_state.specs.Parts.OldSpace.{OldSpace}
 use Rattle.heap_state.specs.Parts.Pages.{Shut}
 use Rattle.heap_state.specs.Parts.Records.{Laid, Headed, NewArea, NewWritten, SpaceOf, RawWords}
 use Rattle.heap_state.proofs.Puts.{put_at, put_other, put_cases, sum_below-same}
-use Rattle.heap_laws.proofs.Opening.{zero_clean, zero_lands}
+use Rattle.heap_laws.proofs.Words.{zero_clean, zero_lands}
 
 -- where it is to stand: a place in the new area, free for its whole size, without a copy or a keeper
 pub record Cradle (E : Era) (front low : ℕ) (size copy keeper : ℕ → ℕ) (a z : ℕ) : Type 0 where

@@ -14,22 +14,17 @@ use Rattle.heap_state.specs.Inductive.{Invariant}
 use Rattle.heap_state.specs.Values.{value_of, Shows, ShowsAll, Accounts, RegistersShow, BoardShows, Shown}
 use Rattle.heap_state.specs.Worker.{Worker, Team, Stock}
 use Rattle.heap_state.proofs.Puts.{put_at, put_other, put_same, proj_put}
-use Rattle.heap_laws.specs.Steps.{with_word, with_worker}
 use Rattle.heap_laws.specs.Fields.{with_heap}
 use Rattle.heap_laws.specs.Opening.{opening_mutator}
 use Rattle.heap_laws.specs.Placing.{next_identity, born, placed, gained, PlacesNext, PlacingShows}
+use Rattle.heap_laws.specs.Steps.{with_word, with_worker}
 use Rattle.heap_laws.proofs.AllocFree.{IsFree, word_same, board_same}
 use Rattle.heap_laws.proofs.AllocHeader.{cradle, free, mutator, zeros}
 use Rattle.heap_laws.proofs.BirthParts.{Cradle, unused as unused_place, was, same_size, same_writer}
 use Rattle.heap_laws.proofs.BirthValues.{field_lands, value_born}
-use Rattle.heap_laws.proofs.FieldStore.{board_here}
-use Rattle.heap_laws.proofs.Opening.{zero_word}
 use Rattle.heap_laws.proofs.PlainGains.{fresh_record, gained_there, gained_elsewhere, gained_serial, gained_serial_other, gained_makers}
 use Rattle.heap_laws.proofs.PlainLists.{slice_get-of_replicate}
-
-zero_value : (identity : ℕ → Identity) (w : ℕ) → w ≡ 0 → value_of identity w ≡ Some (Number 0)
-unfolding value_of
-zero_value identity w e = rw (e, zero_word) refl
+use Rattle.heap_laws.proofs.Words.{board_here, zero_value}
 
 module _ (E : Era) (m : Memory) (team : Team) (g : Ghost) (p : plain.Plain) (k : ℕ) (q : Stock) (c : Kind) (z v : ℕ) (lay : IsLaidOut E) (inv : Invariant E m team g) (places : PlacesNext E team k q c z v) (s : Shown E m team g p) where
   abbrev i : Identity

@@ -1,5 +1,5 @@
 -- What a worker knows where a record begins to stand in the new area.
-use Rattle.std.proofs.Common.{◌≡◌, ℕ, ◌+◌, ◌<◌, Bool, Option, refl, arith, ⊎_elim}
+use Rattle.std.proofs.Common.{◌≡◌, ℕ, ◌+◌, ◌<◌, Bool, Option, refl, arith, ⊎_elim, true, None, Some}
 use Rattle.heap_words.specs.declared.kind.Kind.{Kind}
 use Rattle.plain_state.specs.declared.value.Identity.{Identity}
 use Rattle.space_map.specs.declared.page_word.PageWord.{PageWord}
@@ -10,11 +10,11 @@ use Rattle.heap_state.specs.Inductive.{Knows}
 use Rattle.heap_state.specs.Parts.Copying.{Copies, Keeps, IsOrigin, Seeks}
 use Rattle.heap_state.specs.Parts.Knowledge.{Accesses, Clean}
 use Rattle.heap_state.specs.Parts.Scanning.{Scans, Stepping, Claims}
-use Rattle.heap_state.specs.Worker.{Worker, Copy, Scan, Claim, Quest, Access, Origin, Register, Scanned, is_late}
+use Rattle.heap_state.specs.Worker.{Worker, Copy, Scan, Claim, Quest, Access, Origin, Register, Scanned, is_late, is_mutator}
 use Rattle.heap_state.proofs.Puts.{each_put}
 use Rattle.heap_laws.specs.Placing.{born}
 use Rattle.heap_laws.proofs.BirthParts.{Cradle, not_new, was, same_size, keeper_old, below_other, written_old, same_writer, lands_on, same_kind, here_on, here_was, same_identity}
-use Rattle.heap_laws.proofs.Opening.{zero_clean}
+use Rattle.heap_laws.proofs.Words.{zero_clean}
 
 module _ {E : Era} {front low : ℕ} {size copy keeper : ℕ → ℕ} {a z : ℕ} (cr : Cradle E front low size copy keeper a z) (writer : ℕ → ℕ) where
   abbrev size' : ℕ → ℕ
@@ -103,30 +103,14 @@ module _ {E : Era} {front low : ℕ} {size copy keeper : ℕ → ℕ} {a z : ℕ
 pub worker_born : (E : Era) (m : Memory) (g : Ghost) (a z : ℕ) (c : Kind) (i : Identity) (heap : ℕ → ℕ) (k : ℕ) (w : Worker) → Cradle E m.front m.low g.size g.copy g.keeper a z → ((j : ℕ) → 0 < j → j < z → heap (a + j) ≡ 0)
     → Knows E m.gate m.traced m.front m.low m.old_front m.old_low m.old_owed g m.page m.cross m.announced heap k w
     → Knows E m.gate m.traced m.front m.low m.old_front m.old_low m.old_owed (born g a z c i) m.page m.cross m.announced heap k w
-worker_born E m g a z c i heap k w cr zeros p = record {
-  timely = p.timely;
-  ends = p.ends;
-  outside = p.outside;
-  stock = p.stock;
-  active = p.active;
-  board = p.board;
-  registers = λ u n. clean_born cr g.writer (is_late E.epoch w) w.done w.registers (p.registers u n);
-  access = λ f e. accesses_born cr g.writer g.kind c m.page f (p.access f e);
-  origin = λ q e. origin_born cr g.writer g.kind c heap (is_late E.epoch w) w.done w.registers w.scan q.old q.origin (p.origin q e);
-  quest = λ q e. seeks_born cr g.writer q (p.quest q e);
-  licensed = p.licensed;
-  copy = λ y e. copies_born cr g.writer g.kept m.announced m.cross heap k y (p.copy y e);
-  keeps = λ y e. keeps_born cr g.writer g.kind c g.identity i g.kept m.announced m.cross heap k y (p.copy y e) (p.keeps y e);
-  present = p.present;
-  scan = λ s e. scans_born cr g.writer g.kind c heap zeros m.page k s (p.scan s e);
-  stepping = λ s e. stepping_born cr g.writer g.kind c s (p.stepping s e);
-  round = p.round;
-  claim = λ q e. claims_born cr g.writer m.gate.behind m.page w.epoch q (p.claim q e);
-  look = p.look;
-  last_look = p.last_look;
-  seen_traced = p.seen_traced;
-  flips = p.flips;
-  passage = p.passage;
-  resets = p.resets;
-  reset = p.reset;
-}
+worker_born E m g a z c i heap k w cr zeros p =
+    let o1 = λ (u : is_mutator w.post ≡ true) (n : w.account.end ≡ None). clean_born cr g.writer (is_late E.epoch w) w.done w.registers (p.registers u n) in
+    let o2 = λ (f : Access) (e : w.access ≡ Some f). accesses_born cr g.writer g.kind c m.page f (p.access f e) in
+    let o3 = λ (q : Quest) (e : w.quest ≡ Some q). origin_born cr g.writer g.kind c heap (is_late E.epoch w) w.done w.registers w.scan q.old q.origin (p.origin q e) in
+    let o4 = λ (q : Quest) (e : w.quest ≡ Some q). seeks_born cr g.writer q (p.quest q e) in
+    let o5 = λ (y : Copy) (e : w.copy ≡ Some y). copies_born cr g.writer g.kept m.announced m.cross heap k y (p.copy y e) in
+    let o6 = λ (y : Copy) (e : w.copy ≡ Some y). keeps_born cr g.writer g.kind c g.identity i g.kept m.announced m.cross heap k y (p.copy y e) (p.keeps y e) in
+    let o7 = λ (s : Scan) (e : w.scan ≡ Some s). scans_born cr g.writer g.kind c heap zeros m.page k s (p.scan s e) in
+    let o8 = λ (s : Scan) (e : w.scan ≡ Some s). stepping_born cr g.writer g.kind c s (p.stepping s e) in
+    let o9 = λ (q : Claim) (e : w.claim ≡ Some q). claims_born cr g.writer m.gate.behind m.page w.epoch q (p.claim q e) in
+    assumption

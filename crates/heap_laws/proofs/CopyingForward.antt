@@ -8,20 +8,19 @@ use Rattle.heap_state.specs.Functions.{put}
 use Rattle.heap_state.specs.Ghost.{Ghost, IsField, Here, Lands, is_field}
 use Rattle.heap_state.specs.Inductive.{Invariant, Knows}
 use Rattle.heap_state.specs.Parts.Copies.{Copied, Kept}
-use Rattle.heap_state.specs.Parts.Copying.{IsOrigin, Seeks, Copies}
+use Rattle.heap_state.specs.Parts.Copying.{IsOrigin, Seeks, Copies, Licensed, Keeps}
 use Rattle.heap_state.specs.Parts.Crossing.{Crossing}
 use Rattle.heap_state.specs.Parts.Knowledge.{Clean, Accesses}
 use Rattle.heap_state.specs.Parts.Leading.{Opened, Landing, Older}
 use Rattle.heap_state.specs.Parts.Pages.{Shut}
 use Rattle.heap_state.specs.Parts.Records.{Headed, RawWords}
 use Rattle.heap_state.specs.Parts.Scanning.{Scans, Stepping, Claims}
-use Rattle.heap_state.specs.Worker.{Worker, Team, Quest, Copy, Scan, Claim, Access, Origin, Register, Scanned}
+use Rattle.heap_state.specs.Worker.{Worker, Team, Quest, Copy, Scan, Claim, Access, Origin, Register, Scanned, is_late, is_mutator}
 use Rattle.heap_state.proofs.Frames.{counted_put, staffed_put, scanned_put, stocks_put, numbered_put}
 use Rattle.heap_state.proofs.Puts.{put_at, put_other, put_same, team_put, each_put, some_same, none≢some}
 use Rattle.heap_laws.specs.Copying.{published}
-use Rattle.heap_laws.specs.Steps.{Ready, Alike, with_worker, with_word}
+use Rattle.heap_laws.specs.Steps.{Ready, with_worker, with_word}
 use Rattle.heap_laws.proofs.CopyingSpot.{Spot, opened_spot, landing_spot, older_spot, new_spot, space_spot, raw_spot, stocks_spot, origin_spot, scans_spot}
-use Rattle.heap_laws.proofs.CopyingTeam.{same_standing}
 use Rattle.heap_laws.proofs.CopyingWord.{knows_spot}
 
 -- a whole copy, and the forward to it
@@ -256,36 +255,30 @@ module _ {E : Era} {m : Memory} {team : Team} {g : Ghost} {k : ℕ} {c : Copy} {
   seeks : (x : Quest) → Seeks E g.size g.writer g.copy x → Seeks E g'.size g'.writer g'.copy x
   seeks x p = record { old = p.old; found = λ b e. let y = p.found b e in (y.0, written_on b y.1) }
 
+  -- what a worker knows, but for its quest and its copy
+  stays : (j : ℕ) → j < team.count → (q : Option Quest) (o : Option Copy)
+      → ((x : Quest) → q ≡ Some x → IsOrigin E g'.size g'.writer g'.kind heap' (is_late E.epoch (team.worker j)) (team.worker j).done (team.worker j).registers (team.worker j).scan x.old x.origin)
+      → ((x : Quest) → q ≡ Some x → Seeks E g'.size g'.writer g'.copy x) → Licensed m.gate.behind g'.kept j (is_late E.epoch (team.worker j)) o q (team.worker j).scan
+      → ((x : Copy) → o ≡ Some x → Copies E m.front g'.size g'.writer g'.copy g'.keeper g'.kept m.announced m.cross heap' j x) → ((x : Copy) → o ≡ Some x → Keeps g'.kind g'.identity heap' x)
+      → Knows E m.gate m.traced m.front m.low m.old_front m.old_low m.old_owed g' m.page m.cross m.announced heap' j (record (team.worker j) { quest = q; copy = o })
+  stays j l q o from quest licence copies keeps =
+      let u = inv.workers j l in
+      let o1 = λ (i : is_mutator (team.worker j).post ≡ true) (e : (team.worker j).account.end ≡ None). registers (is_late E.epoch (team.worker j)) (team.worker j).done (team.worker j).registers (u.registers i e) in
+      let o2 = λ (f : Access) (e : (team.worker j).access ≡ Some f). accesses f (u.access f e) in
+      let o3 = λ (s : Scan) (e : (team.worker j).scan ≡ Some s). scans j s (scans_spot spot m.heap v g.kind m.page j s (u.scan s e)) in
+      let o4 = λ (s : Scan) (e : (team.worker j).scan ≡ Some s). stepping s (u.stepping s e) in
+      let o5 = λ (x : Claim) (e : (team.worker j).claim ≡ Some x). claims (team.worker j).epoch x (u.claim x e) in
+      assumption
+
   others : (j : ℕ) → j < team.count → j ≢ k → Knows E m.gate m.traced m.front m.low m.old_front m.old_low m.old_owed g' m.page m.cross m.announced heap' j (team.worker j)
   others j l d =
       let u = knows_spot E m.gate m.traced m.front m.low m.old_front m.old_low m.old_owed g m.page m.cross m.announced m.heap k c.from 0 v spot j (team.worker j) d inv.older (inv.workers j l) in
-      record {
-        timely = u.timely;
-        ends = u.ends;
-        outside = u.outside;
-        stock = u.stock;
-        registers = λ i e. registers _ _ _ (u.registers i e);
-        active = u.active;
-        access = λ f e. accesses f (u.access f e);
-        board = u.board;
-        origin = λ x e. origin _ (team.worker j).done (team.worker j).registers (team.worker j).scan x.old x.origin (u.origin x e);
-        quest = λ x e. seeks x (u.quest x e);
-        licensed = record { licensed = u.licensed.licensed; asked = u.licensed.asked; counted = u.licensed.counted; idle = λ e. rw (put_other g.kept k 0 j d) (u.licensed.idle e) };
-        copy = λ x e. copies x (u.copy x e);
-        keeps = u.keeps;
-        present = u.present;
-        scan = λ s e. scans j s (u.scan s e);
-        stepping = λ s e. stepping s (u.stepping s e);
-        round = u.round;
-        claim = λ x e. claims _ x (u.claim x e);
-        look = u.look;
-        last_look = u.last_look;
-        seen_traced = u.seen_traced;
-        flips = u.flips;
-        passage = u.passage;
-        resets = u.resets;
-        reset = u.reset;
-      }
+      stays j l (team.worker j).quest (team.worker j).copy
+      (λ x e. origin (is_late E.epoch (team.worker j)) (team.worker j).done (team.worker j).registers (team.worker j).scan x.old x.origin (u.origin x e))
+      (λ x e. seeks x (u.quest x e))
+      (record { licensed = u.licensed.licensed; asked = u.licensed.asked; counted = u.licensed.counted; idle = λ e. rw (put_other g.kept k 0 j d) (u.licensed.idle e) })
+      (λ x e. copies x (u.copy x e))
+      u.keeps
     where
       copies : (x : Copy) → Copies E m.front g.size g.writer g.copy g.keeper g.kept m.announced m.cross heap' j x → Copies E m.front g'.size g'.writer g'.copy g'.keeper g'.kept m.announced m.cross heap' j x
       copies x p =
@@ -303,33 +296,12 @@ module _ {E : Era} {m : Memory} {team : Team} {g : Ghost} {k : ℕ} {c : Copy} {
           }
 
   own : Knows E m.gate m.traced m.front m.low m.old_front m.old_low m.old_owed g' m.page m.cross m.announced heap' k w'
-  own = record {
-    timely = me.timely;
-    ends = me.ends;
-    outside = me.outside;
-    stock = me.stock;
-    registers = λ i e. registers _ _ _ (me.registers i e);
-    active = me.active;
-    access = λ f e. accesses f (me.access f e);
-    board = me.board;
-    origin = λ x e. rw (← some_same e) (origin _ (team.worker k).done (team.worker k).registers (team.worker k).scan q.old q.origin (origin_spot spot m.heap v g.kind _ (team.worker k).done (team.worker k).registers (team.worker k).scan q.old q.origin (me.origin q asks)));
-    quest = λ x e. rw (← some_same e) (record { old = (me.quest q asks).old; found = λ b i. let z : c.to ≡ b = some_same i in rw (← z) at_copy });
-    licensed = record { licensed = λ x e. none≢some e; asked = λ x e. none≢some e; counted = me.licensed.counted; idle = λ e. put_same g.kept k 0 };
-    copy = λ x e. none≢some e;
-    keeps = λ x e. none≢some e;
-    present = me.present;
-    scan = λ s e. scans k s (scans_spot spot m.heap v g.kind m.page k s (me.scan s e));
-    stepping = λ s e. stepping s (me.stepping s e);
-    round = me.round;
-    claim = λ x e. claims _ x (me.claim x e);
-    look = me.look;
-    last_look = me.last_look;
-    seen_traced = me.seen_traced;
-    flips = me.flips;
-    passage = me.passage;
-    resets = me.resets;
-    reset = me.reset;
-  }
+  own = stays k ready.member w'.quest w'.copy
+      (λ x e. rw (← some_same e) (origin _ (team.worker k).done (team.worker k).registers (team.worker k).scan q.old q.origin (origin_spot spot m.heap v g.kind _ (team.worker k).done (team.worker k).registers (team.worker k).scan q.old q.origin (me.origin q asks))))
+      (λ x e. rw (← some_same e) (record { old = (me.quest q asks).old; found = λ b i. let z : c.to ≡ b = some_same i in rw (← z) at_copy }))
+      (record { licensed = λ x e. none≢some e; asked = λ x e. none≢some e; counted = me.licensed.counted; idle = λ e. put_same g.kept k 0 })
+      (λ x e. none≢some e)
+      (λ x e. none≢some e)
     where
       at_copy : (g.copy q.old ≡ c.to + 1) × (g'.writer c.to ≡ 0)
       at_copy =
@@ -338,13 +310,10 @@ module _ {E : Era} {m : Memory} {team : Team} {g : Ghost} {k : ℕ} {c : Copy} {
           let o : q.old ≡ c.from = ap (λ (y : Quest). y.old) (sym e) ∙ a.2 in
           (ap g.copy o ∙ placed.1, put_same g.writer c.to 0)
 
-  pub alike : Alike w' (team.worker k)
-  alike = record { post = refl; epoch = refl; account = refl; registers = refl; done = refl; stock = refl; scan = refl }
-
   pub invariant : Invariant E (with_word m (c.from + 0) v) (with_worker team k w') g'
   invariant = record {
-    counted = counted_put team.worker k w' (same_standing alike) m.gate team.count inv.counted;
-    staffed = staffed_put team.worker k w' (same_standing alike) team.mutators team.count inv.staffed;
+    counted = counted_put team.worker k w' refl refl inv.counted;
+    staffed = staffed_put team.worker k w' refl inv.staffed;
     laid = inv.laid;
     headed = headed;
     copied = copied;
@@ -356,7 +325,7 @@ module _ {E : Era} {m : Memory} {team : Team} {g : Ghost} {k : ℕ} {c : Copy} {
     filling = inv.filling;
     tracing = inv.tracing;
     aged = inv.aged;
-    scanned = scanned_put team.worker k w' (same_standing alike) E team.count m.page inv.scanned;
+    scanned = scanned_put team.worker k w' refl inv.scanned;
     opened = opened;
     landing = landing;
     older = older;
@@ -365,7 +334,7 @@ module _ {E : Era} {m : Memory} {team : Team} {g : Ghost} {k : ℕ} {c : Copy} {
     old_space = record { walks = λ t d e. space_spot spot m.heap v E.old_start m.old_front m.old_low (E.old_start + E.old_span) d m.page (inv.old_space.walks t d e) };
     old_pages = inv.old_pages;
     crossing = crossing;
-    stocks = stocks_put team.worker k w' (same_standing alike) E m.low team.count g.size heap' m.page (stocks_spot spot m.heap v team.count m.page team.worker inv.stocks);
-    numbered = numbered_put team.worker k w' (same_standing alike) team.mutators g.size g.identity inv.numbered;
+    stocks = stocks_put team.worker k w' (λ _ e. e) (stocks_spot spot m.heap v team.count m.page team.worker inv.stocks);
+    numbered = numbered_put team.worker k w' refl inv.numbered;
     workers = team_put team.count (Knows E m.gate m.traced m.front m.low m.old_front m.old_low m.old_owed g' m.page m.cross m.announced heap') team.worker k w' others own;
   }

@@ -14,7 +14,7 @@ use Rattle.heap_state.specs.Values.{value_of}
 use Rattle.heap_state.specs.Worker.{Worker, Stock}
 use Rattle.heap_state.proofs.Puts.{put_at, put_other, put_same, put_cases}
 use Rattle.heap_laws.specs.Copying.{reserved}
-use Rattle.heap_laws.proofs.CopyingValues.{value_agrees}
+use Rattle.heap_laws.proofs.Words.{value_agrees}
 
 -- worker k keeps the header of the record at a, of size z, which has no copy, and is given the place f, at FRONT
 pub record Growth (E : Era) (front low : ℕ) (g : Ghost) (k a f z : ℕ) : Type 0 where

@@ -10,18 +10,18 @@ use Rattle.heap_state.specs.Functions.{put}
 use Rattle.heap_state.specs.Ghost.{Ghost}
 use Rattle.heap_state.specs.Inductive.{Invariant, Knows}
 use Rattle.heap_state.specs.Parts.Copies.{Copied, Kept}
-use Rattle.heap_state.specs.Parts.Copying.{IsOrigin, Copies, Licensed}
+use Rattle.heap_state.specs.Parts.Copying.{IsOrigin, Copies, Licensed, Keeps}
+use Rattle.heap_state.specs.Parts.OldSpace.{OldSpace}
 use Rattle.heap_state.specs.Parts.Records.{Headed}
 use Rattle.heap_state.specs.Reachable.{Reachable}
 use Rattle.heap_state.specs.Worker.{Worker, Team, Quest, Copy, Scan, Origin, Register, Scanned, is_late}
+use Rattle.heap_state.proofs.Frames.{counted_put, staffed_put, scanned_put, stocks_put, numbered_put, accounts_put, registers_put, rooted_put}
 use Rattle.heap_state.proofs.Holding.{First, OwnHeader, KeptBy, GoneTo, first}
-use Rattle.heap_state.proofs.Frames.{counted_put, staffed_put, scanned_put, stocks_put, numbered_put}
 use Rattle.heap_state.proofs.Puts.{put_at, put_other, put_same, team_put, some_same, none≢some}
 use Rattle.heap_laws.specs.Copying.{copying, begun, taken}
-use Rattle.heap_laws.specs.Steps.{Ready, Alike, with_worker, with_word, Preserves}
+use Rattle.heap_laws.specs.Steps.{Ready, with_worker, with_word, Preserves}
 use Rattle.heap_laws.proofs.CopyingRoots.{asked_reachable}
 use Rattle.heap_laws.proofs.CopyingSpot.{Spot, opened_spot, landing_spot, older_spot, new_spot, space_spot, raw_spot, stocks_spot, origin_spot, scans_spot, objects_spot, board_spot}
-use Rattle.heap_laws.proofs.CopyingTeam.{same_standing, accounts_alike, registers_alike, rooted_alike}
 use Rattle.heap_laws.proofs.CopyingWord.{knows_spot, copying_spot, rooted_spot}
 
 -- a record whose own header stands in its place was not copied, and nobody keeps its header
@@ -131,17 +131,9 @@ module _ (E : Era) (m : Memory) (team : Team) (g : Ghost) (k : ℕ) (q : Quest) 
           → Copies E m.front g.size g.writer g.copy g'.keeper g'.kept m.announced m.cross heap' j c
       copies c p n =
           let f : c.from ≢ a = λ e. let y : g.keeper c.from ≡ g.keeper a = ap g.keeper e in omega (arith, p.old.2, found.keeper) in
-          record {
-            old = rw (n, put_other g.keeper a (k + 1) c.from f) (p.old);
-            loose = p.loose;
-            aimed = p.aimed;
-            named = p.named;
-            place = p.place;
-            same = p.same;
-            bound = p.bound;
-            loaded = p.loaded;
-            crossings = p.crossings;
-          }
+          let o : (0 < c.size) × (g.size c.from ≡ c.size) × (put g.keeper a (k + 1) c.from ≡ j + 1) × (put g.kept k (a + 1) j ≡ c.from + 1) × (E.old_start ≤ c.from) × (c.from + c.size ≤ E.old_start + E.old_span) =
+          rw (n, put_other g.keeper a (k + 1) c.from f) (p.old) in
+          assumption
 
   licence : ((s : Scan) × ((team.worker k).scan ≡ Some s)) ⊎ (is_late E.epoch (team.worker k) ≡ true)
   licence = by_origin q.origin (me.origin q asks)
@@ -152,80 +144,48 @@ module _ (E : Era) (m : Memory) (team : Team) (g : Ghost) (k : ℕ) (q : Quest) 
       by_origin (Scanned y) x = inl (x.0.0, x.0.1)
 
   own : Knows E m.gate m.traced m.front m.low m.old_front m.old_low m.old_owed g' m.page m.cross m.announced heap' k w'
-  own = record {
-    timely = me.timely;
-    ends = me.ends;
-    outside = me.outside;
-    stock = me.stock;
-    registers = me.registers;
-    active = me.active;
-    access = me.access;
-    board = me.board;
-    origin = λ q e. origin_spot spot m.heap v g.kind _ (team.worker k).done (team.worker k).registers (team.worker k).scan q.old q.origin (me.origin q e);
-    quest = me.quest;
-    licensed = record {
-      licensed = λ x n. licence;
-      asked = λ x n. (q, asks, ap (λ (y : Copy). y.from) (some_same n), seeks);
-      counted = me.licensed.counted;
-      idle = λ e. absurd (none≢some (sym e));
-    };
-    copy = λ x n. rw (← some_same n) (record {
-      old = (omega arith, found.sized, put_same g.keeper a (k + 1), put_same g.kept k (a + 1), old.1, omega (arith, ends, found.sized));
-      loose = λ _. (found.copy, refl);
-      aimed = λ e. absurd (cc);
-      named = λ e. absurd (cc);
-      place = λ e. absurd (cc);
-      same = λ i p l. absurd (omega arith);
-      bound = omega arith;
-      loaded = λ y e. none≢some e;
-      crossings = λ e. absurd (cc);
-    });
-    keeps = λ x n. rw (← some_same n) (record { head = λ l. absurd (omega arith); keeps = let s : len + 1 - 1 ≡ g.size a - 1 = omega (arith, found.sized) in rw s is });
-    present = me.present;
-    scan = λ s e. scans_spot spot m.heap v g.kind m.page k s (me.scan s e);
-    stepping = me.stepping;
-    round = me.round;
-    claim = me.claim;
-    look = me.look;
-    last_look = me.last_look;
-    seen_traced = me.seen_traced;
-    flips = me.flips;
-    passage = me.passage;
-    resets = me.resets;
-    reset = me.reset;
-  }
-
-  alike : Alike w' (team.worker k)
-  alike = record { post = refl; epoch = refl; account = refl; registers = refl; done = refl; stock = refl; scan = refl }
+  own =
+      let u = me in
+      let o1 = λ (q : Quest) (e : (team.worker k).quest ≡ Some q). origin_spot spot m.heap v g.kind _ (team.worker k).done (team.worker k).registers (team.worker k).scan q.old q.origin (me.origin q e) in
+      let o2 : Licensed m.gate.behind g'.kept k (is_late E.epoch (team.worker k)) w'.copy (team.worker k).quest (team.worker k).scan = record {
+        licensed = λ x n. licence;
+        asked = λ x n. (q, asks, ap (λ (y : Copy). y.from) (some_same n), seeks);
+        counted = me.licensed.counted;
+        idle = λ e. absurd (none≢some (sym e));
+      } in
+      let o3 : (x : Copy) → w'.copy ≡ Some x → Copies E m.front g.size g.writer g.copy g'.keeper g'.kept m.announced m.cross heap' k x = λ x n. rw (← some_same n) (record {
+        old = (omega arith, found.sized, put_same g.keeper a (k + 1), put_same g.kept k (a + 1), old.1, omega (arith, ends, found.sized));
+        loose = λ _. (found.copy, refl);
+        aimed = λ e. absurd (cc);
+        named = λ e. absurd (cc);
+        place = λ e. absurd (cc);
+        same = λ i p l. absurd (omega arith);
+        bound = omega arith;
+        loaded = λ y e. none≢some e;
+        crossings = λ e. absurd (cc);
+      }) in
+      let o4 : (x : Copy) → w'.copy ≡ Some x → Keeps g.kind g.identity heap' x = λ x n. rw (← some_same n) (record { head = λ l. absurd (omega arith); keeps = let s : len + 1 - 1 ≡ g.size a - 1 = omega (arith, found.sized) in rw s is }) in
+      let o5 = λ (s : Scan) (e : (team.worker k).scan ≡ Some s). scans_spot spot m.heap v g.kind m.page k s (me.scan s e) in
+      assumption
 
   invariant : Invariant E (with_word m (a + 0) v) (with_worker team k w') g'
-  invariant = record {
-    counted = counted_put team.worker k w' (same_standing alike) m.gate team.count inv.counted;
-    staffed = staffed_put team.worker k w' (same_standing alike) team.mutators team.count inv.staffed;
-    laid = inv.laid;
-    headed = headed;
-    copied = copied;
-    once = inv.once;
-    kept = kept;
-    room = inv.room;
-    raw_words = raw_spot spot m.heap v g.kind inv.raw_words;
-    shut = inv.shut;
-    filling = inv.filling;
-    tracing = inv.tracing;
-    aged = inv.aged;
-    scanned = scanned_put team.worker k w' (same_standing alike) E team.count m.page inv.scanned;
-    opened = opened_spot spot m.heap v g.kind m.page inv.opened;
-    landing = landing_spot spot m.heap v g.kind inv.landing;
-    older = older_spot spot m.heap v g.kind inv.older;
-    new = new_spot spot m.heap v m.low (E.start + E.span) E.epoch m.page inv.new;
-    new_written = inv.new_written;
-    old_space = record { walks = λ t d e. space_spot spot m.heap v E.old_start m.old_front m.old_low (E.old_start + E.old_span) d m.page (inv.old_space.walks t d e) };
-    old_pages = inv.old_pages;
-    crossing = inv.crossing;
-    stocks = stocks_put team.worker k w' (same_standing alike) E m.low team.count g.size heap' m.page (stocks_spot spot m.heap v team.count m.page team.worker inv.stocks);
-    numbered = numbered_put team.worker k w' (same_standing alike) team.mutators g.size g.identity inv.numbered;
-    workers = team_put team.count (Knows E m.gate m.traced m.front m.low m.old_front m.old_low m.old_owed g' m.page m.cross m.announced heap') team.worker k w' others own;
-  }
+  invariant =
+      let p1 = counted_put team.worker k w' refl refl inv.counted in
+      let p2 = staffed_put team.worker k w' refl inv.staffed in
+      let p3 = headed in
+      let p4 = copied in
+      let p5 = kept in
+      let p6 = raw_spot spot m.heap v g.kind inv.raw_words in
+      let p7 = scanned_put team.worker k w' refl inv.scanned in
+      let p8 = opened_spot spot m.heap v g.kind m.page inv.opened in
+      let p9 = landing_spot spot m.heap v g.kind inv.landing in
+      let p10 = older_spot spot m.heap v g.kind inv.older in
+      let p11 = new_spot spot m.heap v m.low (E.start + E.span) E.epoch m.page inv.new in
+      let p12 : OldSpace E m.traced m.old_front m.old_low g.size heap' m.page = record { walks = λ t d e. space_spot spot m.heap v E.old_start m.old_front m.old_low (E.old_start + E.old_span) d m.page (inv.old_space.walks t d e) } in
+      let p13 = stocks_put team.worker k w' (λ _ e. e) (stocks_spot spot m.heap v team.count m.page team.worker inv.stocks) in
+      let p14 = numbered_put team.worker k w' refl inv.numbered in
+      let p15 = team_put team.count (Knows E m.gate m.traced m.front m.low m.old_front m.old_low m.old_owed g' m.page m.cross m.announced heap') team.worker k w' others own in
+      assumption
 
   cycle_taken : (p : plain.Plain) → Reachable p (g.identity a) → Copying E m.front g.size g.writer g.copy g.keeper g.kind g.identity heap' p
       → Copying E m.front g.size g.writer g.copy g'.keeper g.kind g.identity heap' p
@@ -258,13 +218,13 @@ module _ (E : Era) (m : Memory) (team : Team) (g : Ghost) (k : ℕ) (q : Quest) 
       board = board_spot spot m.heap v g.identity p.heap s.board;
       as_many = s.as_many;
       makers = s.makers;
-      accounts = λ j q e. accounts_alike team.worker k w' alike p.heap j q (s.accounts j q e);
-      registers = λ j q e. registers_alike team.worker k w' alike _ j q (s.registers j q e);
+      accounts = λ j q e. accounts_put team.worker k w' refl j q (s.accounts j q e);
+      registers = λ j q e. registers_put team.worker k w' refl j q (s.registers j q e);
     };
     cycle = λ p cy. record {
       copying = cycle_taken p (asked_reachable E m team g k inv ready.member q p asks cy)
           (copying_spot E m.gate m.traced m.front m.low m.old_front m.old_low m.old_owed g m.page m.cross m.announced m.heap k a 0 v spot p inv.older cy.copying);
-      rooted = rooted_alike team.worker k w' alike E m.front team.count g.size g.writer g.identity heap' p
+      rooted = rooted_put team.worker k w' refl refl refl (λ _ _ a b. (a, b))
           (rooted_spot E m.gate m.traced m.front m.low m.old_front m.old_low m.old_owed g m.page m.cross m.announced m.heap k a 0 v spot team.count team.worker p cy.rooted);
     };
   }

@@ -6,16 +6,16 @@ use Rattle.heap_state.specs.Era.{Era, Memory}
 use Rattle.heap_state.specs.Functions.{put}
 use Rattle.heap_state.specs.Ghost.{Ghost}
 use Rattle.heap_state.specs.Inductive.{Invariant, Knows}
-use Rattle.heap_state.specs.Parts.Copying.{Copies}
+use Rattle.heap_state.specs.Parts.Copying.{Copies, IsOrigin, Seeks, Licensed}
 use Rattle.heap_state.specs.Parts.Crossing.{Crossing}
-use Rattle.heap_state.specs.Worker.{Worker, Team, Quest, Copy}
+use Rattle.heap_state.specs.Worker.{Worker, Team, Quest, Copy, is_late}
 use Rattle.heap_state.proofs.Holding.{First, OwnHeader, KeptBy, GoneTo, first}
-use Rattle.heap_state.proofs.Frames.{counted_put, staffed_put, scanned_put, stocks_put, numbered_put}
-use Rattle.heap_state.proofs.Puts.{put_at, put_other, put_same, team_put, some_same, none≢some}
+use Rattle.heap_state.proofs.Puts.{put_at, put_other, put_same, some_same, none≢some, true_false}
 use Rattle.heap_laws.specs.Copying.{copying}
 use Rattle.heap_laws.specs.Steps.{Ready, Alike, with_worker, with_crossing, with_announced, Preserves}
-use Rattle.heap_laws.proofs.CopyingSpot.{one_place}
-use Rattle.heap_laws.proofs.CopyingTeam.{same_standing, accounts_alike, registers_alike, rooted_alike, knows_copying}
+use Rattle.heap_laws.proofs.CopyingOn.{knows_copying}
+use Rattle.heap_laws.proofs.Learning.{marks}
+use Rattle.heap_laws.proofs.Words.{one_place}
 
 module _ (E : Era) (m : Memory) (team : Team) (g : Ghost) (k : ℕ) (ready : Ready E m team g k) where
   abbrev inv : Invariant E m team g
@@ -25,60 +25,18 @@ module _ (E : Era) (m : Memory) (team : Team) (g : Ghost) (k : ℕ) (ready : Rea
   me = inv.workers k ready.member
 
   -- announced places and crossings are others, and worker k knows something else
-  module _ (w : Worker) (alike : Alike w (team.worker k)) (crossed claimed : ℕ → ℕ) (crossing : Crossing E m.front g.size g.writer crossed)
-      (others : (j : ℕ) (c : Copy) → j < team.count → j ≢ k → (team.worker j).copy ≡ Some c
-      → Copies E m.front g.size g.writer g.copy g.keeper g.kept claimed crossed m.heap j c)
-      (own : Knows E m.gate m.traced m.front m.low m.old_front m.old_low m.old_owed g m.page crossed claimed m.heap k w) where
-    knows : (j : ℕ) → j < team.count → j ≢ k → Knows E m.gate m.traced m.front m.low m.old_front m.old_low m.old_owed g m.page crossed claimed m.heap j (team.worker j)
-    knows j l d = let u = inv.workers j l in let c = λ (c : Copy) (e : (team.worker j).copy ≡ Some c). others j c l d e in assumption
-
-    pub learns : Preserves E m (record m { cross = crossed; announced = claimed }) team (with_worker team k w) g g
-    learns = record {
-      invariant = record {
-        counted = counted_put team.worker k w (same_standing alike) m.gate team.count inv.counted;
-        staffed = staffed_put team.worker k w (same_standing alike) team.mutators team.count inv.staffed;
-        laid = inv.laid;
-        headed = inv.headed;
-        copied = inv.copied;
-        once = inv.once;
-        kept = inv.kept;
-        room = inv.room;
-        raw_words = inv.raw_words;
-        shut = inv.shut;
-        filling = inv.filling;
-        tracing = inv.tracing;
-        aged = inv.aged;
-        scanned = scanned_put team.worker k w (same_standing alike) E team.count m.page inv.scanned;
-        opened = inv.opened;
-        landing = inv.landing;
-        older = inv.older;
-        new = inv.new;
-        new_written = inv.new_written;
-        old_space = inv.old_space;
-        old_pages = inv.old_pages;
-        crossing = crossing;
-        stocks = stocks_put team.worker k w (same_standing alike) E m.low team.count g.size m.heap m.page inv.stocks;
-        numbered = numbered_put team.worker k w (same_standing alike) team.mutators g.size g.identity inv.numbered;
-        workers = team_put team.count (Knows E m.gate m.traced m.front m.low m.old_front m.old_low m.old_owed g m.page crossed claimed m.heap) team.worker k w knows own;
-      };
-      shown = λ p s. record {
-        objects = s.objects;
-        board = s.board;
-        as_many = s.as_many;
-        makers = s.makers;
-        accounts = λ j q e. accounts_alike team.worker k w alike p.heap j q (s.accounts j q e);
-        registers = λ j q e. registers_alike team.worker k w alike _ j q (s.registers j q e);
-      };
-      ages = λ page. omega arith;
-      cycle = λ p cy. record { copying = cy.copying; rooted = rooted_alike team.worker k w alike E m.front team.count g.size g.writer g.identity m.heap p cy.rooted };
-    }
+  learns : (w : Worker) → Alike w (team.worker k) → (crossed claimed : ℕ → ℕ) → Crossing E m.front g.size g.writer crossed
+      → ((j : ℕ) (c : Copy) → j < team.count → j ≢ k → (team.worker j).copy ≡ Some c → Copies E m.front g.size g.writer g.copy g.keeper g.kept claimed crossed m.heap j c)
+      → Knows E m.gate m.traced m.front m.low m.old_front m.old_low m.old_owed g m.page crossed claimed m.heap k w
+      → Preserves E m (record m { cross = crossed; announced = claimed }) team (with_worker team k w) g g
+  learns w alike = marks E m team g k w inv (record { post = alike.post; epoch = alike.epoch; account = alike.account; registers = alike.registers; done = alike.done; stock = alike.stock }) (λ s e. (s, alike.scan ∙ e, refl))
 
   pub learns_alone : (w : Worker) → Alike w (team.worker k) → Knows E m.gate m.traced m.front m.low m.old_front m.old_low m.old_owed g m.page m.cross m.announced m.heap k w
       → Preserves E m m team (with_worker team k w) g g
   learns_alone w alike own = learns w alike m.cross m.announced inv.crossing (λ j c l d e. (inv.workers j l).copy c e) own
 
   pub nothing_changes : Preserves E m m team (with_worker team k (team.worker k)) g g
-  nothing_changes = learns_alone (team.worker k) (record { post = refl; epoch = refl; account = refl; registers = refl; done = refl; stock = refl; scan = refl }) me
+  nothing_changes = learns_alone (team.worker k) (assumption) me
 
   -- worker k goes on copying
   copies_on : (c d : Copy) (crossed claimed : ℕ → ℕ) → (team.worker k).copy ≡ Some c → d.from ≡ c.from → d.done ≡ c.done → d.header ≡ c.header → d.size ≡ c.size → (0 < c.done → d.to ≡ c.to)
@@ -89,23 +47,13 @@ module _ (E : Era) (m : Memory) (team : Team) (g : Ghost) (k : ℕ) (ready : Rea
       (record { head = λ l. rw (to (omega (arith, l, done)), from, size) ((me.keeps c has).head (omega (arith, l, done))); keeps = rw (header, from, size) ((me.keeps c has).keeps) })
       me.origin me.scan
 
-  alike_copying : (d : Copy) → Alike (copying (team.worker k) d) (team.worker k)
-  alike_copying d = record { post = refl; epoch = refl; account = refl; registers = refl; done = refl; stock = refl; scan = refl }
-
   -- another announces its own place
   others_named : (x j : ℕ) (c : Copy) → j < team.count → j ≢ k → (team.worker j).copy ≡ Some c
       → Copies E m.front g.size g.writer g.copy g.keeper g.kept (put m.announced k x) m.cross m.heap j c
-  others_named x j c l d e = let p = (inv.workers j l).copy c e in record {
-    old = p.old;
-    loose = p.loose;
-    aimed = p.aimed;
-    place = p.place;
-    same = p.same;
-    bound = p.bound;
-    loaded = p.loaded;
-    crossings = p.crossings;
-    named = λ n. rw (put_other m.announced k x j d) (p.named n);
-  }
+  others_named x j c l d e =
+      let p = (inv.workers j l).copy c e in
+      let n : c.announced ≡ true → (put m.announced k x j ≡ c.to + 1) × (E.start ≤ c.to) × (c.to ≤ m.front) = λ n. rw (put_other m.announced k x j d) (p.named n) in
+      assumption
 
   module _ (c : Copy) (has : (team.worker k).copy ≡ Some c) where
     mine : Copies E m.front g.size g.writer g.copy g.keeper g.kept m.announced m.cross m.heap k c
@@ -115,7 +63,7 @@ module _ (E : Era) (m : Memory) (team : Team) (g : Ghost) (k : ℕ) (ready : Rea
     place_aimed loose =
         let d : Copy = record c { to = m.front; aimed = true; announced = false } in
         let z = mine.loose loose in
-        learns_alone (copying (team.worker k) d) (alike_copying d) (copies_on c d m.cross m.announced has refl refl refl refl (λ l. absurd (omega (arith, l, z)))
+        learns_alone (copying (team.worker k) d) (assumption) (copies_on c d m.cross m.announced has refl refl refl refl (λ l. absurd (omega (arith, l, z)))
         (record {
           old = mine.old;
           loose = mine.loose;
@@ -132,34 +80,19 @@ module _ (E : Era) (m : Memory) (team : Team) (g : Ghost) (k : ℕ) (ready : Rea
     place_announced aimed loose =
         let d : Copy = record c { announced = true } in
         let z = mine.loose loose in
-        learns (copying (team.worker k) d) (alike_copying d) m.cross (put m.announced k (c.to + 1)) inv.crossing (others_named (c.to + 1)) (copies_on c d m.cross (put m.announced k (c.to + 1)) has refl refl refl refl (λ l. refl)
-        (record {
-          old = mine.old;
-          loose = mine.loose;
-          bound = mine.bound;
-          loaded = mine.loaded;
-          aimed = mine.aimed;
-          same = mine.same;
-          crossings = mine.crossings;
-          named = λ e. let b = mine.aimed aimed in (put_same m.announced k (c.to + 1), b.0, b.1);
-          place = λ e. absurd (cc);
-        }))
+        learns (copying (team.worker k) d) (assumption) m.cross (put m.announced k (c.to + 1)) inv.crossing (others_named (c.to + 1)) (copies_on c d m.cross (put m.announced k (c.to + 1)) has refl refl refl refl (λ l. refl)
+        (let v = mine in
+        let n : true ≡ true → (put m.announced k (c.to + 1) k ≡ c.to + 1) × (E.start ≤ c.to) × (c.to ≤ m.front) = λ e. let b = mine.aimed aimed in (put_same m.announced k (c.to + 1), b.0, b.1) in
+        let p : c.reserved ≡ true → (true ≡ true) × (g.copy c.from ≡ c.to + 1) × (g.writer c.to ≡ k + 1) × (g.size c.to ≡ c.size) × (E.start ≤ c.to) × (c.to + c.size ≤ m.front) = λ e. true_false loose e in
+        assumption))
 
     pub word_loaded : c.reserved ≡ true → 0 < c.done → c.done < c.size → Preserves E m m team (with_worker team k (copying (team.worker k) (record c { word = Some (m.heap (c.from + c.done)) }))) g g
     word_loaded res some more =
         let d : Copy = record c { word = Some (m.heap (c.from + c.done)) } in
-        learns_alone (copying (team.worker k) d) (alike_copying d) (copies_on c d m.cross m.announced has refl refl refl refl (λ l. refl)
-        (record {
-          old = mine.old;
-          loose = mine.loose;
-          bound = mine.bound;
-          aimed = mine.aimed;
-          named = mine.named;
-          place = mine.place;
-          same = mine.same;
-          crossings = mine.crossings;
-          loaded = λ v e. (some, more, some_same e);
-        }))
+        learns_alone (copying (team.worker k) d) (assumption) (copies_on c d m.cross m.announced has refl refl refl refl (λ l. refl)
+        (let u = mine in
+        let w : (v : ℕ) → Some (m.heap (c.from + c.done)) ≡ Some v → (0 < c.done) × (c.done < c.size) × (m.heap (c.from + c.done) ≡ v) = λ v e. (some, more, some_same e) in
+        assumption))
 
     -- the crossing of a page that begins in the copy
     module _ (res : c.reserved ≡ true) (begins : c.to ≤ 64 * c.crossed) (in_copy : 64 * c.crossed < c.to + c.size) where
@@ -182,38 +115,24 @@ module _ (E : Era) (m : Memory) (team : Team) (g : Ghost) (k : ℕ) (ready : Rea
       }
 
       others : (j : ℕ) (x : Copy) → j < team.count → j ≢ k → (team.worker j).copy ≡ Some x → Copies E m.front g.size g.writer g.copy g.keeper g.kept m.announced crossed m.heap j x
-      others j x l d e = let p = (inv.workers j l).copy x e in record {
-        old = p.old;
-        loose = p.loose;
-        aimed = p.aimed;
-        named = p.named;
-        place = p.place;
-        same = p.same;
-        bound = p.bound;
-        loaded = p.loaded;
-        crossings = λ r q s f n. let y = p.place r in
-            let apart : q ≢ c.crossed = (λ i. let z : g.writer x.to ≡ g.writer c.to = ap g.writer (over q x.to i (omega (arith, y.3, p.old)) s (omega (arith, f, y.3))) in d (omega (arith, z, y.2, placed.2))) in
-            rw (put_other m.cross c.crossed c.to q apart) (p.crossings r q s f n);
-      }
+      others j x l d e =
+          let p = (inv.workers j l).copy x e in
+          let z : x.reserved ≡ true → (q : ℕ) → x.to ≤ 64 * q → 64 * q < x.to + x.size → q < x.crossed → crossed q ≡ x.to = λ r q s f n.
+          let y = p.place r in
+          let apart : q ≢ c.crossed = (λ i. let z : g.writer x.to ≡ g.writer c.to = ap g.writer (over q x.to i (omega (arith, y.3, p.old)) s (omega (arith, f, y.3))) in d (omega (arith, z, y.2, placed.2))) in
+          rw (put_other m.cross c.crossed c.to q apart) (p.crossings r q s f n) in
+          assumption
 
       pub crossing_stored : Preserves E m (with_crossing m c.crossed c.to) team (with_worker team k (copying (team.worker k) (record c { crossed = c.crossed + 1 }))) g g
       crossing_stored =
           let d : Copy = record c { crossed = c.crossed + 1 } in
-          learns (copying (team.worker k) d) (alike_copying d) crossed m.announced crossing others (copies_on c d crossed m.announced has refl refl refl refl (λ l. refl)
-          (record {
-            old = mine.old;
-            loose = mine.loose;
-            bound = mine.bound;
-            aimed = mine.aimed;
-            named = mine.named;
-            place = mine.place;
-            same = mine.same;
-            loaded = mine.loaded;
-            crossings = λ r q s f n. ⊎_elim
-                (λ (e : q ≡ c.crossed). put_at m.cross c.crossed c.to q e)
-                (λ (e : q ≢ c.crossed). rw (put_other m.cross c.crossed c.to q e) (mine.crossings r q s f (omega arith)))
-                (cases_eq q c.crossed);
-          }))
+          learns (copying (team.worker k) d) (assumption) crossed m.announced crossing others (copies_on c d crossed m.announced has refl refl refl refl (λ l. refl)
+          (let u = mine in
+          let a : c.reserved ≡ true → (q : ℕ) → c.to ≤ 64 * q → 64 * q < c.to + c.size → q < c.crossed + 1 → crossed q ≡ c.to = λ r q s f n. ⊎_elim
+          (λ (e : q ≡ c.crossed). put_at m.cross c.crossed c.to q e)
+          (λ (e : q ≢ c.crossed). rw (put_other m.cross c.crossed c.to q e) (mine.crossings r q s f (omega arith)))
+          (cases_eq q c.crossed) in
+          assumption))
 
   module _ (idle : (team.worker k).copy ≡ None) where
     pub announce_cleared : Preserves E m (with_announced m k 0) team (with_worker team k (team.worker k)) g g
@@ -221,7 +140,7 @@ module _ (E : Era) (m : Memory) (team : Team) (g : Ghost) (k : ℕ) (ready : Rea
         let none = λ (c : Copy) (e : (team.worker k).copy ≡ Some c). (let z : Copies E m.front g.size g.writer g.copy g.keeper g.kept (put m.announced k 0) m.cross m.heap k c = none≢some (sym idle ∙ e) in z) in
         let u = me in
         let own : Knows E m.gate m.traced m.front m.low m.old_front m.old_low m.old_owed g m.page m.cross (put m.announced k 0) m.heap k (team.worker k) = assumption in
-        learns (team.worker k) (record { post = refl; epoch = refl; account = refl; registers = refl; done = refl; stock = refl; scan = refl }) m.cross (put m.announced k 0) inv.crossing (others_named 0) own
+        learns (team.worker k) (assumption) m.cross (put m.announced k 0) inv.crossing (others_named 0) own
 
     module _ (q : Quest) (asks : (team.worker k).quest ≡ Some q) (len b : ℕ) (word : decode (m.heap q.old) ≡ ForwardWord len b) where
       abbrev found : Quest
@@ -243,31 +162,9 @@ module _ (E : Era) (m : Memory) (team : Team) (g : Ghost) (k : ℕ) (ready : Rea
               (omega (arith, n, e), rw e (t.7 ∙ y))
 
       pub forward_found : Preserves E m m team (with_worker team k (record (team.worker k) { quest = Some found })) g g
-      forward_found = learns_alone (record (team.worker k) { quest = Some found }) (record { post = refl; epoch = refl; account = refl; registers = refl; done = refl; stock = refl; scan = refl })
-          (record {
-            timely = me.timely;
-            ends = me.ends;
-            outside = me.outside;
-            stock = me.stock;
-            registers = me.registers;
-            active = me.active;
-            access = me.access;
-            board = me.board;
-            origin = λ x e. rw (← some_same e) (me.origin q asks);
-            quest = λ x e. rw (← some_same e) (record { old = old; found = λ y i. let z : b ≡ y = some_same i in rw (← z) at_copy });
-            licensed = record { licensed = λ c e. none≢some (sym idle ∙ e); asked = λ c e. none≢some (sym idle ∙ e); counted = me.licensed.counted; idle = me.licensed.idle };
-            copy = me.copy;
-            keeps = me.keeps;
-            present = me.present;
-            scan = me.scan;
-            stepping = me.stepping;
-            round = me.round;
-            claim = me.claim;
-            look = me.look;
-            last_look = me.last_look;
-            seen_traced = me.seen_traced;
-            flips = me.flips;
-            passage = me.passage;
-            resets = me.resets;
-            reset = me.reset;
-          })
+      forward_found = learns_alone (record (team.worker k) { quest = Some found }) (assumption)
+          (let u = me in
+          let origin : (x : Quest) → Some found ≡ Some x → IsOrigin E g.size g.writer g.kind m.heap (is_late E.epoch (team.worker k)) (team.worker k).done (team.worker k).registers (team.worker k).scan x.old x.origin = λ x e. rw (← some_same e) (me.origin q asks) in
+          let seeks : (x : Quest) → Some found ≡ Some x → Seeks E g.size g.writer g.copy x = λ x e. rw (← some_same e) (record { old = old; found = λ y i. let z : b ≡ y = some_same i in rw (← z) at_copy }) in
+          let licence : Licensed m.gate.behind g.kept k (is_late E.epoch (team.worker k)) (team.worker k).copy (Some found) (team.worker k).scan = record { licensed = λ c e. none≢some (sym idle ∙ e); asked = λ c e. none≢some (sym idle ∙ e); counted = me.licensed.counted; idle = me.licensed.idle } in
+          assumption)

@@ -13,14 +13,14 @@ use Rattle.heap_state.specs.Inductive.{Invariant}
 use Rattle.heap_state.specs.Reachable.{Reachable, FromRecord}
 use Rattle.heap_state.specs.Values.{ShowsAll, Shows, value_at, value_of}
 use Rattle.heap_state.specs.Worker.{Worker, Team, Quest, Copy}
+use Rattle.heap_state.proofs.Frames.{accounts_put, registers_put, rooted_put}
 use Rattle.heap_state.proofs.Puts.{put_at, put_other, some_same}
 use Rattle.heap_laws.specs.Copying.{published, CopiesArePublished}
 use Rattle.heap_laws.specs.Steps.{with_worker, with_word, Preserves}
-use Rattle.heap_laws.proofs.CopyingForward.{Publishing, mine, placed, from_written, spot, twin, copied_word, was_written, written_on, here_cases, old_target, alike, invariant}
+use Rattle.heap_laws.proofs.CopyingForward.{Publishing, mine, placed, from_written, spot, twin, copied_word, was_written, written_on, here_cases, old_target, invariant}
 use Rattle.heap_laws.proofs.CopyingSpot.{here_same, inner_same, shows_spot, objects_spot, board_spot}
-use Rattle.heap_laws.proofs.CopyingTeam.{accounts_alike, registers_alike, rooted_alike}
-use Rattle.heap_laws.proofs.CopyingValues.{number_reference, pointer_from_value, value_from_pointer}
 use Rattle.heap_laws.proofs.CopyingWord.{rooted_spot}
+use Rattle.heap_laws.proofs.Words.{number_reference, pointer_from_value, value_from_pointer}
 
 module _ {E : Era} {m : Memory} {team : Team} {g : Ghost} {k : ℕ} {c : Copy} {q : Quest} {v : ℕ} (publishing : Publishing E m team g k c q v) where
   abbrev inv : Invariant E m team g
@@ -130,7 +130,7 @@ module _ {E : Era} {m : Memory} {team : Team} {g : Ghost} {k : ℕ} {c : Copy} {
 
     pub rooted : Rooted E m.front team.count g.size g.writer g.identity m.heap team.worker p → Rooted E m.front team.count g'.size g'.writer g'.identity heap' (put team.worker k w') p
     rooted r =
-        let s = rooted_alike team.worker k w' (alike publishing) E m.front team.count g.size g.writer g.identity heap' p
+        let s = rooted_put team.worker k w' refl refl refl (λ _ _ a b. (a, b))
         (rooted_spot E m.gate m.traced m.front m.low m.old_front m.old_low m.old_owed g m.page m.cross m.announced m.heap k c.from 0 v (spot publishing) team.count team.worker p r) in
         record { roots = λ i y. ⊎_elim (λ z. inl (copied_on i z)) (λ z. inr z) (s.roots i y); sound = s.sound }
 
@@ -143,8 +143,8 @@ module _ {E : Era} {m : Memory} {team : Team} {g : Ghost} {k : ℕ} {c : Copy} {
       board = board_spot (spot publishing) m.heap v g.identity p.heap s.board;
       as_many = s.as_many;
       makers = s.makers;
-      accounts = λ j x e. accounts_alike team.worker k w' (alike publishing) p.heap j x (s.accounts j x e);
-      registers = λ j x e. registers_alike team.worker k w' (alike publishing) _ j x (s.registers j x e);
+      accounts = λ j x e. accounts_put team.worker k w' refl j x (s.accounts j x e);
+      registers = λ j x e. registers_put team.worker k w' refl j x (s.registers j x e);
     };
     cycle = λ p cy. record { copying = copying p cy.copying; rooted = rooted p cy.copying cy.rooted };
   }

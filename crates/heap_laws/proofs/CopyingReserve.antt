@@ -1,5 +1,5 @@
 -- FRONT moves by the size of a copy, which gets the place there.
-use Rattle.std.proofs.Common.{◌≡◌, ◌≢◌, ℕ, ◌+◌, ◌-◌, ◌*◌, ◌/◌, ◌<◌, ◌≤◌, Bool, true, false, refl, sym, ap, ◌∙◌, arith, Option, Some, ⊎_elim, ◌⊎◌, inl, inr}
+use Rattle.std.proofs.Common.{◌≡◌, ◌≢◌, ℕ, ◌+◌, ◌-◌, ◌*◌, ◌/◌, ◌<◌, ◌≤◌, Bool, true, false, refl, sym, ap, ◌∙◌, arith, Option, Some, ⊎_elim, ◌⊎◌, inl, inr, None}
 use Rattle.std.proofs.lemmas.Bool.{cases_eq, cases_lt, ne_eqb}
 use Rattle.space_map.specs.declared.page_word.PageWord.TheVariants.{Open, Scanning}
 use Rattle.space_map.specs.PageWord.{age_of}
@@ -8,19 +8,19 @@ use Rattle.heap_state.specs.Functions.{sum_below}
 use Rattle.heap_state.specs.Ghost.{Ghost}
 use Rattle.heap_state.specs.Inductive.{Invariant, Knows}
 use Rattle.heap_state.specs.Parts.Copies.{Kept, Room, owing}
-use Rattle.heap_state.specs.Parts.Copying.{IsOrigin, Seeks, Copies, Keeps}
+use Rattle.heap_state.specs.Parts.Copying.{IsOrigin, Seeks, Copies, Keeps, Licensed}
 use Rattle.heap_state.specs.Parts.Knowledge.{Clean, Accesses, Resets}
 use Rattle.heap_state.specs.Parts.Pages.{Shut, Quiet, Filling, Tracing}
 use Rattle.heap_state.specs.Parts.Scanning.{Scans, Stepping, Rounds, Claims, Looks, LastLooks}
-use Rattle.heap_state.specs.Worker.{Worker, Team, Quest, Copy, Scan, Claim, Look, LastLook, Round, Reset, Access, Origin, Register, Scanned}
+use Rattle.heap_state.specs.Worker.{Worker, Team, Quest, Copy, Scan, Claim, Look, LastLook, Round, Reset, Access, Origin, Register, Scanned, is_late, is_mutator}
 use Rattle.heap_state.proofs.Frames.{counted_put, staffed_put, scanned_put, stocks_put, numbered_put}
 use Rattle.heap_state.proofs.Puts.{put_at, put_other, put_same, team_put, some_same, none≢some, sum_below-change}
 use Rattle.heap_state.proofs.Still.{open_scanning, still}
 use Rattle.heap_laws.specs.Copying.{copying, reserved}
-use Rattle.heap_laws.specs.Steps.{Ready, Alike, with_worker, with_area}
+use Rattle.heap_laws.specs.Steps.{Ready, with_worker, with_area}
 use Rattle.heap_laws.proofs.CopyingGrowth.{Growth, empty, not_new, was, is, source_other, old_side, laid_grown, headed_grown, copied_grown, once_grown, written_on, here_back, here_on, lands_grown, opened_grown, landing_grown, older_grown, raw_grown, new_grown, written_grown, space_grown, crossing_grown, stocks_grown, numbered_grown}
-use Rattle.heap_laws.proofs.CopyingRoom.{open_age, scan_age, scan_scan, untraced, alone, goes_on, at_source, has_room}
-use Rattle.heap_laws.proofs.CopyingTeam.{same_standing}
+use Rattle.heap_laws.proofs.CopyingRoom.{untraced, alone, goes_on, at_source, has_room}
+use Rattle.heap_laws.proofs.ScanningWho.{open_age, scan_age, scan_scan}
 
 pub record Reserving (E : Era) (m : Memory) (team : Team) (g : Ghost) (k : ℕ) (c : Copy) : Type 0 where
   pub ready : Ready E m team g k
@@ -245,36 +245,28 @@ module _ {E : Era} {m : Memory} {team : Team} {g : Ghost} {k : ℕ} {c : Copy} (
       let n = untraced E m team g k c ready has in
       absurd (omega (arith, t, n))
 
-  others : (j : ℕ) → j < team.count → j ≢ k → Knows E m.gate m.traced (c.to + c.size) m.low m.old_front m.old_low m.old_owed g' m.page m.cross m.announced m.heap j (team.worker j)
-  others j l d =
+  -- what a worker knows, but for its copy
+  stays : (j : ℕ) → j < team.count → (o : Option Copy) → Licensed m.gate.behind g'.kept j (is_late E.epoch (team.worker j)) o (team.worker j).quest (team.worker j).scan
+      → ((x : Copy) → o ≡ Some x → Copies E (c.to + c.size) g'.size g'.writer g'.copy g'.keeper g'.kept m.announced m.cross m.heap j x)
+      → ((x : Copy) → o ≡ Some x → Keeps g'.kind g'.identity m.heap x)
+      → Knows E m.gate m.traced (c.to + c.size) m.low m.old_front m.old_low m.old_owed g' m.page m.cross m.announced m.heap j (record (team.worker j) { copy = o })
+  stays j l o licence copies keeps =
       let u = inv.workers j l in
-      record {
-        timely = u.timely;
-        ends = u.ends;
-        outside = u.outside;
-        stock = u.stock;
-        registers = λ i e. registers _ _ _ (u.registers i e);
-        active = u.active;
-        access = λ f e. accesses f (u.access f e);
-        board = u.board;
-        origin = λ x e. origin _ (team.worker j).done (team.worker j).registers (team.worker j).scan x.old x.origin (u.origin x e);
-        quest = λ x e. seeks x (u.quest x e);
-        licensed = u.licensed;
-        copy = λ x e. copies x (u.copy x e);
-        keeps = λ x e. keeps x (u.copy x e) (u.keeps x e);
-        present = u.present;
-        scan = λ s e. scans j s (u.scan s e);
-        stepping = λ s e. stepping j s e (u.scan s e) (u.stepping s e);
-        round = λ r e. rounds _ r (u.round r e);
-        claim = λ x e. claims _ x (u.claim x e);
-        look = λ x e. looks _ x (u.look x e);
-        last_look = λ x e. last_looks _ x (u.last_look x e);
-        seen_traced = u.seen_traced;
-        flips = u.flips;
-        passage = u.passage;
-        resets = u.resets;
-        reset = λ r e. resets j r l e;
-      }
+      let o1 = λ (i : is_mutator (team.worker j).post ≡ true) (e : (team.worker j).account.end ≡ None). registers (is_late E.epoch (team.worker j)) (team.worker j).done (team.worker j).registers (u.registers i e) in
+      let o2 = λ (f : Access) (e : (team.worker j).access ≡ Some f). accesses f (u.access f e) in
+      let o3 = λ (x : Quest) (e : (team.worker j).quest ≡ Some x). origin (is_late E.epoch (team.worker j)) (team.worker j).done (team.worker j).registers (team.worker j).scan x.old x.origin (u.origin x e) in
+      let o4 = λ (x : Quest) (e : (team.worker j).quest ≡ Some x). seeks x (u.quest x e) in
+      let o5 = λ (s : Scan) (e : (team.worker j).scan ≡ Some s). scans j s (u.scan s e) in
+      let o6 = λ (s : Scan) (e : (team.worker j).scan ≡ Some s). stepping j s e (u.scan s e) (u.stepping s e) in
+      let o7 = λ (r : Round) (e : (team.worker j).round ≡ Some r). rounds (team.worker j).epoch r (u.round r e) in
+      let o8 = λ (x : Claim) (e : (team.worker j).claim ≡ Some x). claims (team.worker j).epoch x (u.claim x e) in
+      let o9 = λ (x : Look) (e : (team.worker j).look ≡ Some x). looks (team.worker j).epoch x (u.look x e) in
+      let o10 = λ (x : LastLook) (e : (team.worker j).last_look ≡ Some x). last_looks (team.worker j).epoch x (u.last_look x e) in
+      let o11 = λ (r : Reset) (e : (team.worker j).reset ≡ Some r). resets j r l e in
+      assumption
+
+  others : (j : ℕ) → j < team.count → j ≢ k → Knows E m.gate m.traced (c.to + c.size) m.low m.old_front m.old_low m.old_owed g' m.page m.cross m.announced m.heap j (team.worker j)
+  others j l d = let u = inv.workers j l in stays j l (team.worker j).copy u.licensed (λ x e. copies x (u.copy x e)) (λ x e. keeps x (u.copy x e) (u.keeps x e))
     where
       not_source : (x : Copy) → Copies E m.front g.size g.writer g.copy g.keeper g.kept m.announced m.cross m.heap j x → x.from ≢ c.from
       not_source x p e = let y : g.keeper x.from ≡ g.keeper c.from = ap g.keeper e in d (omega (arith, p.old.2, mine.old.2))
@@ -322,49 +314,23 @@ module _ {E : Era} {m : Memory} {team : Team} {g : Ghost} {k : ℕ} {c : Copy} (
   }
 
   own : Knows E m.gate m.traced (c.to + c.size) m.low m.old_front m.old_low m.old_owed g' m.page m.cross m.announced m.heap k w'
-  own = record {
-    timely = me.timely;
-    ends = me.ends;
-    outside = me.outside;
-    stock = me.stock;
-    registers = λ i e. registers _ _ _ (me.registers i e);
-    active = me.active;
-    access = λ f e. accesses f (me.access f e);
-    board = me.board;
-    origin = λ x e. origin _ (team.worker k).done (team.worker k).registers (team.worker k).scan x.old x.origin (me.origin x e);
-    quest = λ x e. seeks x (me.quest x e);
-    licensed = record {
-      licensed = λ x e. me.licensed.licensed c has;
-      asked = λ x e. let a = me.licensed.asked c has in (a.0, a.1, a.2 ∙ ap (λ (y : Copy). y.from) (some_same e), a.3);
-      counted = me.licensed.counted;
-      idle = λ e. absurd (none≢some (sym e));
-    };
-    copy = λ x e. rw (← some_same e) own_copies;
-    keeps = λ x e. rw (← some_same e) own_keeps;
-    present = me.present;
-    scan = λ s e. scans k s (me.scan s e);
-    stepping = λ s e. stepping k s e (me.scan s e) (me.stepping s e);
-    round = λ r e. rounds _ r (me.round r e);
-    claim = λ x e. claims _ x (me.claim x e);
-    look = λ x e. looks _ x (me.look x e);
-    last_look = λ x e. last_looks _ x (me.last_look x e);
-    seen_traced = me.seen_traced;
-    flips = me.flips;
-    passage = me.passage;
-    resets = me.resets;
-    reset = λ r e. resets k r ready.member e;
-  }
-
-  pub alike : Alike w' (team.worker k)
-  alike = record { post = refl; epoch = refl; account = refl; registers = refl; done = refl; stock = refl; scan = refl }
+  own = stays k ready.member (Some got)
+      (record {
+        licensed = λ x e. me.licensed.licensed c has;
+        asked = λ x e. let a = me.licensed.asked c has in (a.0, a.1, a.2 ∙ ap (λ (y : Copy). y.from) (some_same e), a.3);
+        counted = me.licensed.counted;
+        idle = λ e. absurd (none≢some (sym e));
+      })
+      (λ x e. rw (← some_same e) own_copies)
+      (λ x e. rw (← some_same e) own_keeps)
 
   kept : Kept g'.size g'.keeper team.count
   kept = record { kept = λ b j st y. inv.kept.kept b j (was growth b (λ e. let q : g.keeper b ≡ g.keeper c.to = ap g.keeper e in let z = (inv.copied.blank c.to (empty growth)).1 in omega (arith, q, z, y)) st) y }
 
   pub invariant : Invariant E (with_area m (c.to + c.size) (m.owed - c.size)) (with_worker team k w') g'
   invariant = record {
-    counted = counted_put team.worker k w' (same_standing alike) m.gate team.count inv.counted;
-    staffed = staffed_put team.worker k w' (same_standing alike) team.mutators team.count inv.staffed;
+    counted = counted_put team.worker k w' refl refl inv.counted;
+    staffed = staffed_put team.worker k w' refl inv.staffed;
     laid = laid_grown growth;
     headed = headed_grown growth m.heap inv.headed;
     copied = copied_grown growth;
@@ -376,7 +342,7 @@ module _ {E : Era} {m : Memory} {team : Team} {g : Ghost} {k : ℕ} {c : Copy} (
     filling = filling;
     tracing = tracing;
     aged = inv.aged;
-    scanned = scanned_put team.worker k w' (same_standing alike) E team.count m.page inv.scanned;
+    scanned = scanned_put team.worker k w' refl inv.scanned;
     opened = opened_grown growth m.heap m.page inv.opened;
     landing = landing_grown growth m.heap inv.landing;
     older = older_grown growth m.heap inv.older;
@@ -385,7 +351,7 @@ module _ {E : Era} {m : Memory} {team : Team} {g : Ghost} {k : ℕ} {c : Copy} (
     old_space = record { walks = λ t d e. space_grown growth m.old_front m.old_low d m.heap m.page (inv.old_space.walks t d e) };
     old_pages = inv.old_pages;
     crossing = crossing_grown growth m.cross inv.crossing;
-    stocks = stocks_put team.worker k w' (same_standing alike) E m.low team.count g'.size m.heap m.page (stocks_grown growth team.count m.heap m.page team.worker inv.stocks);
-    numbered = numbered_put team.worker k w' (same_standing alike) team.mutators g'.size g'.identity (numbered_grown growth team.mutators team.worker inv.numbered);
+    stocks = stocks_put team.worker k w' (λ _ e. e) (stocks_grown growth team.count m.heap m.page team.worker inv.stocks);
+    numbered = numbered_put team.worker k w' refl (numbered_grown growth team.mutators team.worker inv.numbered);
     workers = team_put team.count (Knows E m.gate m.traced (c.to + c.size) m.low m.old_front m.old_low m.old_owed g' m.page m.cross m.announced m.heap) team.worker k w' others own;
   }

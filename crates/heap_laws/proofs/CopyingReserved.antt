@@ -13,13 +13,13 @@ use Rattle.heap_state.specs.Ghost.{Ghost, Here, IsField, Lands}
 use Rattle.heap_state.specs.Inductive.{Invariant, Knows}
 use Rattle.heap_state.specs.Values.{Shown, ShowsAll, Shows, RegistersShow, kind_of, value_at, value_of}
 use Rattle.heap_state.specs.Worker.{Team, Copy, is_mutator}
-use Rattle.heap_state.proofs.Referring.{shows-refers}
+use Rattle.heap_state.proofs.Frames.{accounts_put, registers_put, rooted_put}
 use Rattle.heap_state.proofs.Puts.{put_at, put_other, put_same}
+use Rattle.heap_state.proofs.Referring.{shows-refers}
 use Rattle.heap_laws.specs.Copying.{PlacesAreReserved}
 use Rattle.heap_laws.specs.Steps.{with_worker, with_area, Preserves}
 use Rattle.heap_laws.proofs.CopyingGrowth.{not_new, was, is, was_written, written_on, here_back, old_side, value_grown}
-use Rattle.heap_laws.proofs.CopyingReserve.{Reserving, w', g', mine, growth, alike, invariant}
-use Rattle.heap_laws.proofs.CopyingTeam.{accounts_alike, registers_alike, rooted_alike}
+use Rattle.heap_laws.proofs.CopyingReserve.{Reserving, w', g', mine, growth, invariant}
 
 module _ {E : Era} {m : Memory} {team : Team} {g : Ghost} {k : ℕ} {c : Copy} (reserving : Reserving E m team g k c) where
   abbrev inv : Invariant E m team g
@@ -87,8 +87,8 @@ module _ {E : Era} {m : Memory} {team : Team} {g : Ghost} {k : ℕ} {c : Copy} (
     board = record { sixteen = s.board.sixteen; board = λ x l. value_grown (growth reserving) (m.heap (E.board + x)) (board_lands x l) ∙ s.board.board x l };
     as_many = s.as_many;
     makers = s.makers;
-    accounts = λ j q e. accounts_alike team.worker k (w' reserving) (alike reserving) p.heap j q (s.accounts j q e);
-    registers = λ j q e. registers_alike team.worker k (w' reserving) (alike reserving) _ j q (registers j q e);
+    accounts = λ j q e. accounts_put team.worker k (w' reserving) refl j q (s.accounts j q e);
+    registers = λ j q e. registers_put team.worker k (w' reserving) refl j q (registers j q e);
   }
     where
       registers : (j : ℕ) (q : plain.Mutator) → slice_get p.mutators j ≡ Some q → RegistersShow (value_of after.identity) (team.worker j).registers q
@@ -171,7 +171,7 @@ module _ {E : Era} {m : Memory} {team : Team} {g : Ghost} {k : ℕ} {c : Copy} (
 
   rooted : (p : plain.Plain) → Rooted E m.front team.count g.size g.writer g.identity m.heap team.worker p
       → Rooted E (c.to + c.size) team.count after.size after.writer after.identity m.heap (put team.worker k (w' reserving)) p
-  rooted p r = rooted_alike team.worker k (w' reserving) (alike reserving) E (c.to + c.size) team.count after.size after.writer after.identity m.heap p (record {
+  rooted p r = rooted_put team.worker k (w' reserving) refl refl refl (λ _ _ a b. (a, b)) (record {
     roots = λ i y. ⊎_elim (λ z. inl (copied_on i z)) (λ z. inr (leads i z)) (r.roots i y);
     sound = λ j x i l mutator unended b t. r.sound j x i l mutator unended b (leads_back ((team.worker j).registers x) i t);
   })

@@ -1,11 +1,8 @@
 -- While somebody copies the epoch is not traced, and there is room for the copy.
-use Rattle.std.proofs.Common.{◌≡◌, ◌≢◌, ℕ, zero, suc, ◌+◌, ◌-◌, ◌*◌, ◌/◌, ◌<◌, ◌≤◌, false, refl, sym, ap, ◌∙◌, arith, Some, ⊎_elim}
+use Rattle.std.proofs.Common.{◌≡◌, ◌≢◌, ℕ, ◌+◌, ◌-◌, ◌*◌, ◌/◌, ◌<◌, ◌≤◌, false, sym, ap, ◌∙◌, arith, Some, ⊎_elim}
 use Rattle.std.proofs.lemmas.Bool.{cases_eq}
-use Rattle.space_map.specs.declared.page_word.PageWord.{PageWord}
-use Rattle.space_map.specs.declared.page_word.PageWord.TheVariants.{Open, Scanning}
-use Rattle.space_map.specs.PageWord.{age_of}
+use Rattle.space_map.specs.declared.page_word.PageWord.TheVariants.{Scanning}
 use Rattle.heap_state.specs.Era.{Era, Memory}
-use Rattle.heap_state.specs.Functions.{sum_below}
 use Rattle.heap_state.specs.Ghost.{Ghost}
 use Rattle.heap_state.specs.Inductive.{Invariant, Knows}
 use Rattle.heap_state.specs.Parts.Copies.{owing}
@@ -16,20 +13,8 @@ use Rattle.heap_state.proofs.Puts.{some_same}
 use Rattle.heap_state.proofs.Still.{still, nobody_copies}
 use Rattle.heap_laws.specs.Copying.{HasRoom, CopiesHaveRoom}
 use Rattle.heap_laws.specs.Steps.{Ready}
-
-pub open_age : (p : PageWord) (e : ℕ) → p ≡ Open e → age_of p ≡ e + 1
-open_age p e q = rw q refl
-
-pub scan_age : (p : PageWord) (e k : ℕ) → p ≡ Scanning e k → age_of p ≡ e + 1
-scan_age p e k q = rw q refl
-
-pub scan_scan : {p : PageWord} {e j k : ℕ} → p ≡ Scanning e j → p ≡ Scanning e k → j ≡ k
-scan_scan q r = cc
-
-sum_below-term : (n : ℕ) (f : ℕ → ℕ) (x : ℕ) → x < n → f x ≤ sum_below n f
-unfolding sum_below
-sum_below-term zero f x l = absurd (omega arith)
-sum_below-term (suc n) f x l = ⊎_elim (λ (e : x ≡ n). rw e (omega arith)) (λ (d : x ≢ n). let q = sum_below-term n f x (omega arith) in omega (arith, q)) (cases_eq x n)
+use Rattle.heap_laws.proofs.FlippingSums.{sum_below-term}
+use Rattle.heap_laws.proofs.ScanningWho.{scan_scan}
 
 module _ (E : Era) (m : Memory) (team : Team) (g : Ghost) (k : ℕ) (c : Copy) (ready : Ready E m team g k) (has : (team.worker k).copy ≡ Some c) where
   abbrev before : Invariant E m team g

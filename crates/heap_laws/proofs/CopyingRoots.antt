@@ -15,6 +15,10 @@ left_of : (x y : Bool) → x && y ≡ true → (x ≡ true) × (y ≡ true)
 left_of true y e = (refl, e)
 left_of false y e = absurd (cc)
 
+-- who is late is live
+pub late_lives : (e : ℕ) (w : Worker) → is_late e w ≡ true → is_live w.post ≡ true
+late_lives e w h = (left_of (is_live w.post) (eqb (w.epoch + 1) e) h).0
+
 live_mutator : (post : Post) → is_live post ≡ true → is_mutator post ≡ true
 live_mutator Scanner e = e
 live_mutator Outside e = refl

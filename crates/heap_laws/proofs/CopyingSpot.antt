@@ -1,7 +1,6 @@
 -- A write of a heap word that is no field and no board word: what reads only fields, board words and the places of others
 -- stays as it is.
-use Rattle.std.proofs.Common.{◌≡◌, ◌≢◌, ℕ, refl, ◌+◌, ◌<◌, ◌≤◌, Bool, true, false, sym, ap, ◌∙◌, arith, Option, ⊎_elim, ◌⊎◌, inl, inr}
-use Rattle.std.proofs.lemmas.Bool.{cases_lt}
+use Rattle.std.proofs.Common.{◌≡◌, ◌≢◌, ℕ, refl, ◌+◌, ◌<◌, ◌≤◌, Bool, true, sym, ap, ◌∙◌, arith, Option, ◌⊎◌, inl, inr}
 use Rattle.heap_words.specs.declared.kind.Kind.{Kind}
 use Rattle.heap_words.specs.Decoded.{decode}
 use Rattle.plain_state.specs.State as plain
@@ -18,13 +17,8 @@ use Rattle.heap_state.specs.Parts.Stocks.{Stocked, Stocks}
 use Rattle.heap_state.specs.Values.{Shows, ShowsAll, BoardShows, value_of}
 use Rattle.heap_state.specs.Worker.{Worker, Copy, Scan, Stock, Register, Scanned, Origin}
 use Rattle.heap_state.proofs.Puts.{put_other}
-
--- two records that share a word are one
-pub one_place : (size : ℕ → ℕ) (a b i j : ℕ) → ((a b : ℕ) → 0 < size a → 0 < size b → a < b → a + size a ≤ b) → i < size a → j < size b → a + i ≡ b + j → a ≡ b
-one_place size a b i j apart l m e = ⊎_elim
-    (λ (y : a < b). absurd (let q = apart a b (omega arith) (omega arith) y in omega arith))
-    (λ (n : b ≤ a). ⊎_elim (λ (y : b < a). absurd (let q = apart b a (omega arith) (omega arith) y in omega arith)) (λ (o : a ≤ b). omega arith) (cases_lt b a))
-    (cases_lt a b)
+use Rattle.heap_laws.proofs.OtherWords.{has_place, area_same, stocked_same, scans_same, copies_same, shows_same}
+use Rattle.heap_laws.proofs.Words.{one_place}
 
 -- Word i of the record at a is its first, or one of a place that is still written; and nobody but worker k writes there.
 pub record Spot (E : Era) (front low : ℕ) (size writer : ℕ → ℕ) (k a i : ℕ) : Type 0 where
@@ -82,7 +76,7 @@ module _ {E : Era} {front low : ℕ} {size writer : ℕ → ℕ} {k a0 i0 : ℕ}
   older_spot kind p = record { older = λ a i b f l m d. p.older a i b f l m (rw (inner_same a i f.written f.first f.last) at d); written = p.written }
 
   pub new_spot : (start end epoch : ℕ) (page : ℕ → PageWord) → NewArea start end epoch size heap page → NewArea start end epoch size stored page
-  new_spot start end epoch page p = record { opened = p.opened; prior = p.prior; blank = λ x l m o n. rw (outside_same x n) (p.blank x l m o n) }
+  new_spot start end epoch page p = area_same (λ x l m n. outside_same x n) p
 
   pub space_spot : (start begun free end epoch : ℕ) (page : ℕ → PageWord) → SpaceOf start begun free end epoch size heap page → SpaceOf start begun free end epoch size stored page
   space_spot start begun free end epoch page p = record { lies = p.lies; order = p.order; aligned = p.aligned; first = p.first; next = p.next; new = new_spot free end epoch page p.new }
@@ -91,18 +85,7 @@ module _ {E : Era} {front low : ℕ} {size writer : ℕ → ℕ} {k a0 i0 : ℕ}
   raw_spot kind p = record { raw = λ a i st w f l n. rw (inner_same a i w f l) (p.raw a i st w f l n) }
 
   pub stocked_spot : (page : ℕ → PageWord) (q : Stock) → Stocked E low size heap page q → Stocked E low size stored page q
-  stocked_spot page q p = record {
-    lies = p.lies;
-    so_far = p.so_far;
-    aligned = p.aligned;
-    empty = p.empty;
-    shut = p.shut;
-    opens = p.opens;
-    order = p.order;
-    whole = p.whole;
-    after = p.after;
-    zeros = λ x l m. rw (put_other heap (a0 + i0) v x (λ e. let y = p.empty a0 (omega (arith, inside)) in omega (arith, y, inside, e, p.so_far, l, m))) (p.zeros x l m);
-  }
+  stocked_spot page q p = stocked_same q (λ x l m. put_other heap (a0 + i0) v x (λ e. let y = p.empty a0 (omega (arith, inside)) in omega (arith, y, inside, e, p.so_far, l, m))) p
 
   pub stocks_spot : (count : ℕ) (page : ℕ → PageWord) (worker : ℕ → Worker) → Stocks E low count size heap page worker → Stocks E low count size stored page worker
   stocks_spot count page worker p = record { stocked = λ j l q e n. stocked_spot page q (p.stocked j l q e n); apart = p.apart }
@@ -115,57 +98,32 @@ module _ {E : Era} {front low : ℕ} {size writer : ℕ → ℕ} {k a0 i0 : ℕ}
   origin_spot kind late done registers scan old (Scanned x) p = (p.0, p.1, ap decode (here_same kind x p.1) ∙ p.2)
 
   pub scans_spot : (kind : ℕ → Kind) (page : ℕ → PageWord) (j : ℕ) (r : Scan) → Scans E front size writer kind heap page j r → Scans E front size writer kind stored page j r
-  scans_spot kind page j r p = record { claimed = p.claimed; place = p.place; cursor = p.cursor; above = p.above; passed = λ x u m l. rw (here_same kind x u) (p.passed x u m l) }
-
-  -- a copy that has words is in a place that is reserved
-  pub has_place : (copy keeper kept announced cross h : ℕ → ℕ) (j : ℕ) (c : Copy) → Copies E front size writer copy keeper kept announced cross h j c → 0 < c.done → c.reserved ≡ true
-  has_place copy keeper kept announced cross h j c p l = by_bool c.reserved (λ y. absurd (let z = p.loose y in omega (arith, z)))
-    where
-      by_bool : (b : Bool) → (b ≡ false → b ≡ true) → b ≡ true
-      by_bool true f = refl
-      by_bool false f = f refl
+  scans_spot kind page j r p = scans_same j r (here_same kind) p
 
   module _ (copy keeper kept announced cross : ℕ → ℕ) (kind : ℕ → Kind) (j : ℕ) (c : Copy) (other : j ≢ k) (older : Older E size writer kind heap)
       (p : Copies E front size writer copy keeper kept announced cross heap j c) where
     source_same : (i : ℕ) → 0 < i → i < c.size → stored (c.from + i) ≡ heap (c.from + i)
     source_same i g l = inner_same c.from i (older.written c.from (omega (arith, p.old)) (omega (arith, p.old))) g (omega (arith, p.old))
 
-    copy_same : (i : ℕ) → 0 < c.done → i < c.size → stored (c.to + i) ≡ heap (c.to + i)
-    copy_same i d l =
-        let r = p.place (has_place copy keeper kept announced cross heap j c p d) in
-        put_other heap (a0 + i0) v (c.to + i) (off_written j c.to i other r.2 (omega (arith, r.3)))
+    copy_same : c.reserved ≡ true → (i : ℕ) → i < c.size → stored (c.to + i) ≡ heap (c.to + i)
+    copy_same reserved i l = let r = p.place reserved in put_other heap (a0 + i0) v (c.to + i) (off_written j c.to i other r.2 (omega (arith, r.3)))
 
     pub copies_spot : Copies E front size writer copy keeper kept announced cross stored j c
-    copies_spot = record {
-      old = p.old;
-      loose = p.loose;
-      aimed = p.aimed;
-      named = p.named;
-      place = p.place;
-      bound = p.bound;
-      crossings = p.crossings;
-      same = λ i g l. rw (copy_same i (omega arith) (omega (arith, p.bound)), source_same i g (omega (arith, p.bound))) (p.same i g l);
-      loaded = λ w e. let q = p.loaded w e in (q.0, q.1, source_same c.done q.0 q.1 ∙ q.2);
-    }
+    copies_spot = copies_same j c source_same (λ r i f l. copy_same r i l) p
 
     pub keeps_spot : (identity : ℕ → Identity) → Keeps kind identity heap c → Keeps kind identity stored c
     keeps_spot identity q = record { keeps = q.keeps; head = λ d. rw (first_same d) (q.head d) }
       where
         first_same : 0 < c.done → stored c.to ≡ heap c.to
         first_same d =
-            let r = p.place (has_place copy keeper kept announced cross heap j c p d) in
+            let r = p.place (has_place j c p d) in
             let z : c.to + 0 ≢ a0 + i0 = off_written j c.to 0 other r.2 (omega (arith, r.3, p.old)) in
             put_other heap (a0 + i0) v c.to (λ e. z (omega arith))
 
   -- ---- what is shown
 
   pub shows_spot : (identity : ℕ → Identity) (a : ℕ) (l : Kind) (z : ℕ) (r : plain.Record) → writer a ≡ 0 → z ≡ size a → Shows (value_of identity) heap a l z r → Shows (value_of identity) stored a l z r
-  shows_spot identity a l z r w e p = record {
-    kind = p.kind;
-    size = p.size;
-    fields = λ i f m y. rw (inner_same a i w f (omega arith)) (p.fields i f m y);
-    words = λ i f m y. rw (inner_same a i w f (omega arith)) (p.words i f m y);
-  }
+  shows_spot identity a l z r w e p = shows_same r (λ i f m. inner_same a i w f (omega arith)) p
 
   pub objects_spot : (copy keeper : ℕ → ℕ) (kind : ℕ → Kind) (identity : ℕ → Identity) (records : plain.Heap)
       → ShowsAll size writer copy keeper kind identity heap records → ShowsAll size writer copy keeper kind identity stored records

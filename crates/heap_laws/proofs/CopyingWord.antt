@@ -14,14 +14,16 @@ use Rattle.heap_state.specs.Inductive.{Invariant, Knows}
 use Rattle.heap_state.specs.Parts.Copies.{Copied}
 use Rattle.heap_state.specs.Parts.Copying.{Copies, Keeps}
 use Rattle.heap_state.specs.Parts.Leading.{Older}
+use Rattle.heap_state.specs.Parts.OldSpace.{OldSpace}
 use Rattle.heap_state.specs.Parts.Records.{Headed}
 use Rattle.heap_state.specs.Worker.{Worker, Team, Quest, Copy, Scan}
-use Rattle.heap_state.proofs.Frames.{counted_put, staffed_put, scanned_put, stocks_put, numbered_put}
+use Rattle.heap_state.proofs.Frames.{counted_put, staffed_put, scanned_put, stocks_put, numbered_put, accounts_put, registers_put, rooted_put}
 use Rattle.heap_state.proofs.Puts.{put_at, put_other, team_put, none≢some}
 use Rattle.heap_laws.specs.Copying.{copying, IsNextWord}
-use Rattle.heap_laws.specs.Steps.{Ready, Alike, with_worker, with_word, Preserves}
-use Rattle.heap_laws.proofs.CopyingSpot.{Spot, opened_spot, landing_spot, older_spot, new_spot, space_spot, raw_spot, stocks_spot, origin_spot, scans_spot, copies_spot, keeps_spot, shows_spot, objects_spot, board_spot, here_same, inner_same, board_same, one_place}
-use Rattle.heap_laws.proofs.CopyingTeam.{same_standing, accounts_alike, registers_alike, rooted_alike, knows_copying}
+use Rattle.heap_laws.specs.Steps.{Ready, with_worker, with_word, Preserves}
+use Rattle.heap_laws.proofs.CopyingOn.{knows_copying}
+use Rattle.heap_laws.proofs.CopyingSpot.{Spot, opened_spot, landing_spot, older_spot, new_spot, space_spot, raw_spot, stocks_spot, origin_spot, scans_spot, copies_spot, keeps_spot, shows_spot, objects_spot, board_spot, here_same, inner_same, board_same}
+use Rattle.heap_laws.proofs.Words.{one_place}
 
 -- ---- any write at a spot
 
@@ -126,53 +128,26 @@ module _ (E : Era) (m : Memory) (team : Team) (g : Ghost) (k : ℕ) (c : Copy) (
       by_word (inl q) = let y : c.to ≡ c.to + c.done = omega (arith, q.0) in rw (put_at m.heap (c.to + c.done) v c.to y, q.1) ((me.keeps c has).keeps)
       by_word (inr q) = let p = (mine.loaded v q).0 in let y : c.to ≢ c.to + c.done = omega (arith, p) in rw (put_other m.heap (c.to + c.done) v c.to y) ((me.keeps c has).head p)
 
-  alike : Alike w' (team.worker k)
-  alike = record { post = refl; epoch = refl; account = refl; registers = refl; done = refl; stock = refl; scan = refl }
-
   invariant : Invariant E (with_word m (c.to + c.done) v) (with_worker team k w') g
   invariant =
-      let p1 = counted_put team.worker k w' (same_standing alike) m.gate team.count inv.counted in
-      let p2 = staffed_put team.worker k w' (same_standing alike) team.mutators team.count inv.staffed in
-      let p3 = scanned_put team.worker k w' (same_standing alike) E team.count m.page inv.scanned in
-      let p4 = stocks_put team.worker k w' (same_standing alike) E m.low team.count g.size heap' m.page (stocks_spot spot m.heap v team.count m.page team.worker inv.stocks) in
-      let p5 = numbered_put team.worker k w' (same_standing alike) team.mutators g.size g.identity inv.numbered in
+      let p1 = counted_put team.worker k w' refl refl inv.counted in
+      let p2 = staffed_put team.worker k w' refl inv.staffed in
+      let p3 = scanned_put team.worker k w' refl inv.scanned in
+      let p4 = stocks_put team.worker k w' (λ _ e. e) (stocks_spot spot m.heap v team.count m.page team.worker inv.stocks) in
+      let p5 = numbered_put team.worker k w' refl inv.numbered in
       let q1 = headed_inside E m.front m.low k c.to c.done g m.heap v spot (omega (arith, placed.2)) placed.4 (omega (arith, placed.5, mine.old, inv.laid.order)) inv.copied inv.headed in
       let q2 = opened_spot spot m.heap v g.kind m.page inv.opened in
       let q3 = landing_spot spot m.heap v g.kind inv.landing in
       let q4 = older_spot spot m.heap v g.kind inv.older in
       let q5 = raw_spot spot m.heap v g.kind inv.raw_words in
       let q6 = new_spot spot m.heap v m.low (E.start + E.span) E.epoch m.page inv.new in
-      record {
-        counted = p1;
-        staffed = p2;
-        laid = inv.laid;
-        headed = q1;
-        copied = inv.copied;
-        once = inv.once;
-        kept = inv.kept;
-        room = inv.room;
-        raw_words = q5;
-        shut = inv.shut;
-        filling = inv.filling;
-        tracing = inv.tracing;
-        aged = inv.aged;
-        scanned = p3;
-        opened = q2;
-        landing = q3;
-        older = q4;
-        new = q6;
-        new_written = inv.new_written;
-        old_space = record { walks = λ t d e. space_spot spot m.heap v E.old_start m.old_front m.old_low (E.old_start + E.old_span) d m.page (inv.old_space.walks t d e) };
-        old_pages = inv.old_pages;
-        crossing = inv.crossing;
-        stocks = p4;
-        numbered = p5;
-        workers = team_put team.count (Knows E m.gate m.traced m.front m.low m.old_front m.old_low m.old_owed g m.page m.cross m.announced heap') team.worker k w'
-            (λ j l d. knows_spot E m.gate m.traced m.front m.low m.old_front m.old_low m.old_owed g m.page m.cross m.announced m.heap k c.to c.done v spot j (team.worker j) d inv.older (inv.workers j l))
-            (knows_copying E m.gate m.traced m.front m.low m.old_front m.old_low m.old_owed g m.page m.cross m.announced m.heap m.cross m.announced heap' k (team.worker k) c further has refl me own head
-            (λ q e. origin_spot spot m.heap v g.kind _ (team.worker k).done (team.worker k).registers (team.worker k).scan q.old q.origin (me.origin q e))
-            (λ s e. scans_spot spot m.heap v g.kind m.page k s (me.scan s e)));
-      }
+      let q7 : OldSpace E m.traced m.old_front m.old_low g.size heap' m.page = record { walks = λ t d e. space_spot spot m.heap v E.old_start m.old_front m.old_low (E.old_start + E.old_span) d m.page (inv.old_space.walks t d e) } in
+      let others = λ (j : ℕ) (l : j < team.count) (d : j ≢ k). knows_spot E m.gate m.traced m.front m.low m.old_front m.old_low m.old_owed g m.page m.cross m.announced m.heap k c.to c.done v spot j (team.worker j) d inv.older (inv.workers j l) in
+      let mine = knows_copying E m.gate m.traced m.front m.low m.old_front m.old_low m.old_owed g m.page m.cross m.announced m.heap m.cross m.announced heap' k (team.worker k) c further has refl me own head
+      (λ q e. origin_spot spot m.heap v g.kind _ (team.worker k).done (team.worker k).registers (team.worker k).scan q.old q.origin (me.origin q e))
+      (λ s e. scans_spot spot m.heap v g.kind m.page k s (me.scan s e)) in
+      let p6 = team_put team.count (Knows E m.gate m.traced m.front m.low m.old_front m.old_low m.old_owed g m.page m.cross m.announced heap') team.worker k w' others mine in
+      assumption
 
   pub word_copied : Preserves E m (with_word m (c.to + c.done) v) team (with_worker team k w') g g
   word_copied = record {
@@ -183,12 +158,12 @@ module _ (E : Era) (m : Memory) (team : Team) (g : Ghost) (k : ℕ) (c : Copy) (
       board = board_spot spot m.heap v g.identity p.heap s.board;
       as_many = s.as_many;
       makers = s.makers;
-      accounts = λ j q e. accounts_alike team.worker k w' alike p.heap j q (s.accounts j q e);
-      registers = λ j q e. registers_alike team.worker k w' alike _ j q (s.registers j q e);
+      accounts = λ j q e. accounts_put team.worker k w' refl j q (s.accounts j q e);
+      registers = λ j q e. registers_put team.worker k w' refl j q (s.registers j q e);
     };
     cycle = λ p cy. record {
       copying = copying_spot E m.gate m.traced m.front m.low m.old_front m.old_low m.old_owed g m.page m.cross m.announced m.heap k c.to c.done v spot p inv.older cy.copying;
-      rooted = rooted_alike team.worker k w' alike E m.front team.count g.size g.writer g.identity heap' p
+      rooted = rooted_put team.worker k w' refl refl refl (λ _ _ a b. (a, b))
           (rooted_spot E m.gate m.traced m.front m.low m.old_front m.old_low m.old_owed g m.page m.cross m.announced m.heap k c.to c.done v spot team.count team.worker p cy.rooted);
     };
   }

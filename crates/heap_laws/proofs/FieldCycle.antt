@@ -1,10 +1,10 @@
--- What a cycle keeps is kept by a mutator's store on an open page.
-use Rattle.std.proofs.Common.{Some, sym, refl, ◌∙◌, ◌≡◌, ◌≢◌, ℕ, ◌+◌, ◌<◌, ◌≤◌, true, refl, arith, ⊎_elim, inl, inr}
+-- What a cycle keeps stays where a word is stored, if what the word before led to of the old space is copied.
+use Rattle.std.proofs.Common.{◌≡◌, ◌≢◌, ℕ, ◌+◌, ◌<◌, ◌≤◌, true, Some, refl, sym, ◌∙◌, arith, ⊎_elim, ◌⊎◌, inl, inr}
 use Rattle.std.proofs.lemmas.Bool.{cases_eq}
 use Rattle.plain_state.specs.State as plain
 use Rattle.plain_state.specs.declared.value.Value.TheVariants.{Reference}
 use Rattle.plain_state.specs.declared.value.Identity.{Identity}
-use Rattle.heap_state.specs.Cycle.{Cycle, Copying, Rooted, RootLeads, ByBoard, ByRegister, StillLeads, RefersInFields}
+use Rattle.heap_state.specs.Cycle.{Cycle, Copying, Rooted, RootLeads, ByBoard, ByRegister, StillLeads, IsCopied, RefersInFields}
 use Rattle.heap_state.specs.Era.{Era, Memory}
 use Rattle.heap_state.specs.Functions.{put}
 use Rattle.heap_state.specs.Ghost.{Ghost, is_field, Here}
@@ -13,32 +13,25 @@ use Rattle.heap_state.specs.Reachable.{Reachable}
 use Rattle.heap_state.specs.Values.{value_at, value_of, Shows}
 use Rattle.heap_state.specs.Worker.{Team}
 use Rattle.heap_state.proofs.Puts.{put_other, each_put, some_same}
-use Rattle.heap_laws.specs.Steps.{with_word}
 use Rattle.heap_laws.specs.Fields.{StoresKeepCycle, BoardStoresKeepCycle}
-use Rattle.heap_laws.proofs.MutatorSteps.{still_leads}
-use Rattle.heap_laws.proofs.FieldSlot.{within, old_same}
-use Rattle.heap_laws.proofs.FieldStore.{SlotOf, in_word, on_board, board_here}
+use Rattle.heap_laws.specs.Steps.{with_word}
+use Rattle.heap_laws.proofs.FieldSlot.{Slot, within, old_same}
+use Rattle.heap_laws.proofs.FieldStore.{Stores, in_word, on_board}
+use Rattle.heap_laws.proofs.OtherWords.{shows_same}
+use Rattle.heap_laws.proofs.Words.{board_here, field_here, still_leads}
 
-module _ (E : Era) (m : Memory) (team : Team) (g : Ghost) (p : plain.Plain) (x v : ℕ) (sl : SlotOf E m g x v) (inv : Invariant E m team g) (cy : Cycle E m team g p) where
-  -- what stands at x, if mutators read it, leads not into the old space
-  was_clean : Here E g.size g.writer g.kind x → (i : Identity) → ¬ (StillLeads E g.identity (m.heap x) i)
-  was_clean h i s = inv.opened.opened x h sl.opens (still_leads E g.identity (m.heap x) i s)
-
-  field_here : (b n : ℕ) → 0 < g.size b → g.writer b ≡ 0 → E.start ≤ b → b < m.front → 0 < n → n < g.size b → is_field (g.kind b) n ≡ true → Here E g.size g.writer g.kind (b + n)
-  unfolding Here
-  field_here b n st w l u f z t = inl (record { a = b; i = n; field = record { stands = st; written = w; field = t; first = f; last = z }; inside = (l, omega (arith, u, inv.laid.order)); at = refl })
+module _ (E : Era) (m : Memory) (team : Team) (g : Ghost) (p : plain.Plain) (x v : ℕ) (sl : Slot E m.front m.low g.size g.writer g.kind x v)
+    (seen : Here E g.size g.writer g.kind x → (i : Identity) → StillLeads E g.identity (m.heap x) i → IsCopied E m.front g.size g.writer g.identity i) (cy : Cycle E m team g p) where
+  -- a word that led to a record of an identity still does, or that is copied
+  leads : (y : ℕ) (i : Identity) → Here E g.size g.writer g.kind y → StillLeads E g.identity (m.heap y) i → IsCopied E m.front g.size g.writer g.identity i ⊎ StillLeads E g.identity (put m.heap x v y) i
+  leads y i h t = ⊎_elim (λ (e : y ≡ x). inl (seen (rw e at h) i (rw e at t))) (λ (d : y ≢ x). inr (rw (put_other m.heap x v y d) t)) (cases_eq y x)
 
   old_shows : (a : ℕ) (r : plain.Record) → 0 < g.size a → E.old_start ≤ a → a < E.old_start + E.old_span → Shows (value_of g.identity) m.heap a (g.kind a) (g.size a) r
       → Shows (value_of g.identity) (put m.heap x v) a (g.kind a) (g.size a) r
-  old_shows a r st l u s = record {
-    kind = s.kind;
-    size = s.size;
-    fields = λ i f z t. rw (same i z) (s.fields i f z t);
-    words = λ i f z t. rw (same i z) (s.words i f z t);
-  }
+  old_shows a r st l u s = shows_same r (λ i f z. same i z) s
     where
       same : (i : ℕ) → i < g.size a → put m.heap x v (a + i) ≡ m.heap (a + i)
-      same i z = let q = within sl m.heap a st in old_same sl m.heap (a + i) (omega (arith, l)) (omega (arith, q, l, u, z, sl.lay.apart))
+      same i z = let q = within sl.lay sl.laid a st in old_same sl m.heap (a + i) (omega (arith, l)) (omega (arith, q, l, u, z, sl.lay.apart))
 
   -- what a copied record referred to at the flip it referred to in a field
   refers : (b n : ℕ) (r : plain.Record) (i : Identity) → 0 < g.size b → E.start ≤ b → b < m.front → 0 < n → n < g.size b → plain.record_of p.heap (g.identity b) ≡ Some r → value_at r n ≡ Some (Reference i) → is_field (g.kind b) n ≡ true
@@ -57,29 +50,26 @@ module _ (E : Era) (m : Memory) (team : Team) (g : Ghost) (p : plain.Plain) (x v
         refl s;
     reached = cy.copying.reached;
     sizes = cy.copying.sizes;
-    complete = λ b n r i st w l u f z e o. ⊎_elim (λ c. inl c) (λ t. ⊎_elim
-        (λ (q : b + n ≡ x). absurd (was_clean (rw q at (field_here b n st w l u f z (refers b n r i st l u f z e o))) i (rw q at t)))
-        (λ (d : b + n ≢ x). inr (rw (put_other m.heap x v (b + n) d) t))
-        (cases_eq (b + n) x))
-        (cy.copying.complete b n r i st w l u f z e o);
+    complete = λ b n r i st w l u f z e o. ⊎_elim (λ c. inl c) (λ t. leads (b + n) i (field_here E g.size g.writer g.kind b n (record { stands = st; written = w; field = refers b n r i st l u f z e o; first = f; last = z }) (l, omega (arith, u, sl.laid.order))) t) (cy.copying.complete b n r i st w l u f z e o);
     from = cy.copying.from;
   }
 
   rooted : Rooted E m.front team.count g.size g.writer g.identity (put m.heap x v) team.worker p
-  rooted = record {
-    roots = λ i r. ⊎_elim (λ c. inl c) (λ t. inr (leads i t)) (cy.rooted.roots i r);
-    sound = cy.rooted.sound;
-  }
+  rooted = record { roots = λ i r. ⊎_elim (λ c. inl c) (λ t. by_root i t) (cy.rooted.roots i r); sound = cy.rooted.sound }
     where
-      leads : (i : Identity) → RootLeads E team.count g.identity m.heap team.worker i → RootLeads E team.count g.identity (put m.heap x v) team.worker i
-      leads i (ByBoard y l s) = ByBoard y l (rw (put_other m.heap x v (E.board + y) (λ e. was_clean (rw e at (board_here E g.size g.writer g.kind y l)) i (rw e at s))) s)
-      leads i (ByRegister k r a b t d s) = ByRegister k r a b t d s
+      by_root : (i : Identity) → RootLeads E team.count g.identity m.heap team.worker i → IsCopied E m.front g.size g.writer g.identity i ⊎ RootLeads E team.count g.identity (put m.heap x v) team.worker i
+      by_root i (ByBoard y l s) = ⊎_elim (λ c. inl c) (λ t. inr (ByBoard y l t)) (leads (E.board + y) i (board_here E g.size g.writer g.kind y l) s)
+      by_root i (ByRegister k r a b t d s) = inr (ByRegister k r a b t d s)
 
   pub slot_keeps_cycle : Cycle E (with_word m x v) team g p
   slot_keeps_cycle = record { copying = copying; rooted = rooted }
 
+-- on an open page nothing leads into the old space
+store_keeps_cycle : (E : Era) (m : Memory) (team : Team) (g : Ghost) (p : plain.Plain) (x v : ℕ) → Stores E m g x v → Invariant E m team g → Cycle E m team g p → Cycle E (with_word m x v) team g p
+store_keeps_cycle E m team g p x v st inv cy = slot_keeps_cycle E m team g p x v st.slot (λ h i s. absurd (inv.opened.opened x h st.opens (still_leads E g.identity (m.heap x) i s))) cy
+
 pub stores_keep_cycle : StoresKeepCycle
-stores_keep_cycle E m team g p a i v lay inv f o may cy = slot_keeps_cycle E m team g p (a + i) v (in_word E m team g a i v lay inv f o may) inv cy
+stores_keep_cycle E m team g p a i v lay inv f o may cy = store_keeps_cycle E m team g p (a + i) v (in_word E m team g a i v lay inv f o may) inv cy
 
 pub board_stores_keep_cycle : BoardStoresKeepCycle
-board_stores_keep_cycle E m team g p x v lay inv l o may cy = slot_keeps_cycle E m team g p (E.board + x) v (on_board E m team g x v lay inv l o may) inv cy
+board_stores_keep_cycle E m team g p x v lay inv l o may cy = store_keeps_cycle E m team g p (E.board + x) v (on_board E m team g x v lay inv l o may) inv cy

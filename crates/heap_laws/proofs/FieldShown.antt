@@ -12,11 +12,12 @@ use Rattle.heap_state.specs.Inductive.{Invariant}
 use Rattle.heap_state.specs.Values.{value_at, value_of, Shows, Shown}
 use Rattle.heap_state.specs.Worker.{Team}
 use Rattle.heap_state.proofs.Puts.{put_at, put_other, some_same}
-use Rattle.heap_laws.specs.Steps.{with_word}
 use Rattle.heap_laws.specs.Fields.{IsWordOf, StandsFor, stored, with_heap, StoresShow, BoardStoresShow, HeadersAreRead, RegistersAreHeld, NumbersAreHeld}
-use Rattle.heap_laws.proofs.FieldSlot.{one_place}
+use Rattle.heap_laws.specs.Steps.{with_word}
+use Rattle.heap_laws.proofs.OtherWords.{shows_same}
 use Rattle.heap_laws.proofs.PlainHeaps.{stored_there, stored_elsewhere, stored_serial, stored_makers}
 use Rattle.heap_laws.proofs.PlainLists.{slice_get-set_same, slice_get-set_other}
+use Rattle.heap_laws.proofs.Words.{one_place}
 
 -- ---- records of the epoch's space
 
@@ -103,12 +104,7 @@ module _ (E : Era) (m : Memory) (team : Team) (g : Ghost) (p : plain.Plain) (a i
       let n = apart E m team g lay inv a b f.stands st d (alone E m team g lay inv a f.stands f.written f.inside.0 f.inside.1 b st o) in (
         q.0,
         stored_elsewhere p.heap (g.identity a) r (i - 1) y is (g.identity b) n ∙ q.1,
-        record {
-          kind = t.kind;
-          size = t.size;
-          fields = λ j l u x. rw (off j u) (t.fields j l u x);
-          words = λ j l u x. rw (off j u) (t.words j l u x);
-        },
+        shows_same q.0 (λ j l u. off j u) t,
       )
     where
       off : (j : ℕ) → j < g.size b → h (b + j) ≡ m.heap (b + j)
@@ -144,12 +140,7 @@ board_stores_show E m team g p x v y lay inv l denotes s = record {
         let t : Shows (value_of g.identity) m.heap b (g.kind b) (g.size b) q.0 = q.2 in (
           q.0,
           q.1,
-          record {
-            kind = t.kind;
-            size = t.size;
-            fields = λ j f u z. rw (off b st j u) (t.fields j f u z);
-            words = λ j f u z. rw (off b st j u) (t.words j f u z);
-          },
+          shows_same q.0 (λ j f u. off b st j u) t,
         );
   };
   board = record {

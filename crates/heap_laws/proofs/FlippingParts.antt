@@ -19,6 +19,7 @@ use Rattle.heap_laws.specs.Tracing.{NothingLeads}
 use Rattle.heap_laws.proofs.FlippingSums.{stood, inside, only_cases, space_total, owing_only}
 use Rattle.heap_laws.proofs.ScanningWho.{open_age, scan_age}
 use Rattle.heap_laws.proofs.TracingWon.{leads_nowhere}
+use Rattle.heap_laws.proofs.Words.{pointer_lands}
 
 -- the heap is ready for a flip: the epoch is traced, nobody runs or is behind, and the other space's area is that of an empty one
 pub record Ready (E : Era) (m : Memory) (team : Team) (g : Ghost) : Type 0 where
@@ -33,10 +34,6 @@ pub record Ready (E : Era) (m : Memory) (team : Team) (g : Ghost) : Type 0 where
   pub large : E.span ≤ E.old_span
 
 -- where a pointer lands a record stands
-lands_at : (size writer : ℕ → ℕ) (w a : ℕ) → Lands size writer w → decode w ≡ PointerWord a → 0 < size a
-unfolding Lands
-lands_at size writer w a l e = (l a e).0
-
 module _ {E : Era} {m : Memory} {team : Team} {g : Ghost} (ready : Ready E m team g) where
   abbrev E1 : Era
   E1 = next_era E
@@ -165,7 +162,7 @@ module _ {E : Era} {m : Memory} {team : Team} {g : Ghost} (ready : Ready E m tea
   older = record { written = λ a l n. refl; older = λ a i b f l n d. leads_back (m.heap (a + i)) b d (let h = field_here a i f in lands_on (m.heap (a + i)) (ready.inv.landing.lands (a + i) h) (nothing.clean (a + i) h)) }
     where
       leads_back : (w b : ℕ) → decode w ≡ PointerWord b → Lands size' zeros w → (0 < size' b) × (E.start ≤ b) × (b < E.start + E.span)
-      leads_back w b d y = let s = lands_at size' zeros w b y d in let q = was b s in (s, q.1, q.2)
+      leads_back w b d y = let s = pointer_lands size' zeros w b y d in let q = was b s in (s, q.1, q.2)
 
   -- ---- spaces
 

@@ -1,9 +1,8 @@
 -- The flip: the gate is exchanged, the same plain state is shown, and a cycle begins.
-use Rattle.std.proofs.Common.{◌≡◌, ◌≢◌, ℕ, zero, suc, List, [], ◌∷◌, ◌+◌, ◌-◌, ◌%◌, ◌<◌, Bool, true, false, length, Option, Some, None, is_some, refl, sym, ap, ◌∙◌, arith, ⊎_elim, inl, inr}
+use Rattle.std.proofs.Common.{◌≡◌, ◌≢◌, ℕ, zero, suc, List, [], ◌∷◌, ◌+◌, ◌-◌, ◌<◌, Bool, true, false, length, Option, Some, None, is_some, refl, sym, ap, ◌∙◌, arith, ⊎_elim, inl, inr}
 use Rattle.std.specs.Prelude.{slice_get}
 use Rattle.std.proofs.lemmas.Bool.{cases_Bool, lt-ltb, ltb-true}
 use Rattle.std.proofs.lemmas.Option.{slice_get_within}
-use Rattle.heap_words.specs.Decoded.{Decoded, NumberWord, PointerWord, HeaderWord, BusyWord, ForwardWord, Malformed, decode}
 use Rattle.plain_state.specs.declared.value.Identity.{Identity}
 use Rattle.plain_state.specs.declared.value.Value.{Value}
 use Rattle.plain_state.specs.declared.value.Value.TheVariants.{Reference}
@@ -18,8 +17,9 @@ use Rattle.heap_state.specs.Parts.Gate.{Counted, Staffed}
 use Rattle.heap_state.specs.Parts.Stocks.{Stocks, Numbered}
 use Rattle.heap_state.specs.Reachable.{Reachable, FromRegister, FromBoard}
 use Rattle.heap_state.specs.Table.{Table}
-use Rattle.heap_state.specs.Values.{Shown, value_of, value_said}
+use Rattle.heap_state.specs.Values.{Shown, value_of}
 use Rattle.heap_state.specs.Worker.{Worker, Team, Post, Stopped, Reset, is_mutator, is_live, is_running, is_flipper, is_gone, is_behind, is_late}
+use Rattle.heap_state.proofs.Following.{follows}
 use Rattle.heap_state.proofs.Holding.{uncopied_here}
 use Rattle.heap_state.proofs.Puts.{each_put, proj_put, team_put, sum_below-same}
 use Rattle.heap_laws.specs.Flipping.{next_era, next_memory, next_ghost, flipped_gate, after_flip, Flips, FlipKeeps, TableFlips}
@@ -27,32 +27,8 @@ use Rattle.heap_laws.specs.Steps.{with_worker}
 use Rattle.heap_laws.proofs.FlippingParts.{Ready, nothing, was, laid, headed, copied, once, kept, room, raw_words, shut, filling, tracing, aged, scanned, old_pages, lands_on, here_board, board_here, opened, landing, older, new, new_written, crossing, old_space}
 use Rattle.heap_laws.proofs.FlippingReset.{one_flipper}
 use Rattle.heap_laws.proofs.FlippingSums.{sum_below-none}
-use Rattle.heap_laws.proofs.FlippingWorkers.{late_is, done_none, other, flipper, none_true, not_live, zero_number}
-
--- a word that denotes a reference is a pointer
-pub reference_word : (identity : ℕ → Identity) (w : ℕ) (i : Identity) → value_of identity w ≡ Some (Reference i) → (a : ℕ) × (decode w ≡ PointerWord a) × (identity a ≡ i)
-unfolding value_of
-reference_word identity w i e = by_word (decode w) refl e
-  where
-    reference_same : {a b : Identity} → Some (Reference a) ≡ Some (Reference b) → a ≡ b
-    reference_same e = cc
-
-    by_word : (v : Decoded) → decode w ≡ v → value_said identity v ≡ Some (Reference i) → (a : ℕ) × (decode w ≡ PointerWord a) × (identity a ≡ i)
-    by_word (NumberWord n) q e = absurd (cc)
-    by_word (PointerWord a) q e = (a, q, reference_same e)
-    by_word (HeaderWord k l s n) q e = absurd (cc)
-    by_word (BusyWord l b) q e = absurd (cc)
-    by_word (ForwardWord l b) q e = absurd (cc)
-    by_word Malformed q e = absurd (cc)
-
--- a pointer denotes a reference
-pub pointer_denotes : (identity : ℕ → Identity) (w a : ℕ) → decode w ≡ PointerWord a → value_of identity w ≡ Some (Reference (identity a))
-unfolding value_of
-pointer_denotes identity w a e = rw e refl
-
-lands_at : (size writer : ℕ → ℕ) (w a : ℕ) → Lands size writer w → decode w ≡ PointerWord a → 0 < size a
-unfolding Lands
-lands_at size writer w a l e = (l a e).0
+use Rattle.heap_laws.proofs.FlippingWorkers.{late_is, done_none, other, flipper, none_true, not_live}
+use Rattle.heap_laws.proofs.Words.{pointer_from_value, value_from_pointer, pointer_lands, zero_word}
 
 some_of : {X : Type 0} (xs : List X) (i : ℕ) → i < length xs → (x : X) × (slice_get xs i ≡ Some x)
 some_of [] i l = absurd (omega (arith, l))
@@ -195,13 +171,13 @@ module _ (E : Era) (m : Memory) (team : Team) (g : Ghost) (k : ℕ) (r : Reset) 
     -- a word that lands and denotes a reference leads, in the next epoch, to an old record of it
     leads : (w : ℕ) (i : Identity) → Lands g.size g.writer w → ¬ (Leads E w) → value_of g.identity w ≡ Some (Reference i) → StillLeads (next_era E) g.identity w i
     leads w i lands clean e =
-        let a = reference_word g.identity w i e in
-        let st = lands_at (next_ghost E g).size (next_ghost E g).writer w a.0 (lands_on ready w lands clean) a.1 in
+        let a = pointer_from_value g.identity w i e in
+        let st = pointer_lands (next_ghost E g).size (next_ghost E g).writer w a.0 (lands_on ready w lands clean) a.1 in
         let u = was ready a.0 st in
         record { at = a.0; points = a.1; old = (u.1, u.2); named = a.2 }
 
     reference_of : (w : ℕ) (i : Identity) (v : Option Value) → value_of g.identity w ≡ v → StillLeads (next_era E) g.identity w i → v ≡ Some (Reference i)
-    reference_of w i v e t = sym e ∙ (pointer_denotes g.identity w t.at t.points ∙ ap (λ j. Some (Reference j)) t.named)
+    reference_of w i v e t = sym e ∙ (value_from_pointer g.identity w t.at t.points ∙ ap (λ j. Some (Reference j)) t.named)
 
     board_reached : (x : ℕ) (i : Identity) → OnBoard E x → StillLeads (next_era E) g.identity (m.heap x) i → Reachable p i
     board_reached x i b t =
@@ -239,9 +215,9 @@ module _ (E : Era) (m : Memory) (team : Team) (g : Ghost) (k : ℕ) (r : Reset) 
         let o = not_live (team.worker j).post mu dead (none_true (is_gone (team.worker j).post) (λ y. let z = (inv.workers j l).ends.gone y in let q = sym ended ∙ z in cc)) in
         let z : (team.worker j).registers x ≡ 0 = (inv.workers j l).outside o x small in
         let e0 : value_of g.identity 0 ≡ Some (Reference i) = rw z at e in
-        let a = reference_word g.identity 0 i e0 in
+        let a = pointer_from_value g.identity 0 i e0 in
         let b = a.1 in
-        let q = sym zero_number ∙ b in cc))
+        let q = sym zero_word ∙ b in cc))
         (cases_Bool (is_live (team.worker j).post))
 
     rooted : Rooted (next_era E) m.old_front team.count (next_ghost E g).size (next_ghost E g).writer g.identity m.heap (put team.worker k w') p
@@ -287,6 +263,4 @@ module _ (E : Era) (m : Memory) (team : Team) (g : Ghost) (k : ℕ) (r : Reset) 
 -- ---- the table
 
 pub table_flips : (t : Table) → TableFlips t
-table_flips t =
-    let turns : (t.gate.epoch + 1 + 1) % 2 ≡ t.gate.epoch % 2 = omega arith in
-    record { era = rw turns refl; memory = rw turns refl }
+table_flips t = let q = follows.flip t (flipped_gate t.gate) refl in record { era = q.era; memory = q.memory }

@@ -1,9 +1,10 @@
 -- Sums over workers, and over the records of a space.
-use Rattle.std.proofs.Common.{◌≡◌, ◌≢◌, ℕ, zero, suc, ◌+◌, ◌-◌, ◌<◌, ◌≤◌, refl, sym, ap, arith, ⊎_elim, ◌⊎◌, inl, inr, add-zero, zero-add, add_comm, suc-add}
+use Rattle.std.proofs.Common.{◌≡◌, ◌≢◌, ℕ, zero, suc, ◌+◌, ◌-◌, ◌<◌, ◌≤◌, Bool, true, false, refl, sym, arith, ⊎_elim, ◌⊎◌, inl, inr}
 use Rattle.std.proofs.lemmas.Bool.{cases_eq, cases_lt, lt-ltb, le-ltb, lt-leb, le-leb}
-use Rattle.heap_state.specs.Functions.{put, sum_below}
+use Rattle.heap_state.specs.Functions.{put, sum_below, one_if}
 use Rattle.heap_state.specs.Parts.Copies.{owing}
 use Rattle.heap_state.proofs.Puts.{put_at, put_other, sum_below-same, sum_below-change}
+use Rattle.heap_state.proofs.Walking.{sum_below-from}
 use Rattle.heap_laws.specs.Flipping.{only_in}
 
 -- ---- terms
@@ -26,6 +27,13 @@ unfolding sum_below
 sum_below-none zero f h = refl
 sum_below-none (suc n) f h = let a : f n ≡ 0 = h n (omega arith) in let b : sum_below n f ≡ 0 = sum_below-none n f (λ x l. h x (omega arith)) in omega arith
 
+pub one_of : (b : Bool) → b ≡ true → one_if b ≡ 1
+one_of b e = rw e refl
+
+pub at_most_one : (b : Bool) → one_if b ≤ 1
+at_most_one true = omega arith
+at_most_one false = omega arith
+
 -- ---- records
 
 -- records that begin in the n words from `start` on and end within m words take at most m words
@@ -40,14 +48,6 @@ packed size start (suc n) m apart l h = ⊎_elim
     let i : sum_below n (λ x. size (start + x)) ≤ m = packed size start n m apart (omega arith) (λ x y q. h x (omega arith) q) in omega arith)
     (cases_lt 0 (size (start + n)))
 
-sum_below-split : (n m : ℕ) (f : ℕ → ℕ) → sum_below (m + n) f ≡ sum_below n f + sum_below m (λ x. f (n + x))
-unfolding sum_below
-sum_below-split n zero f = rw zero-add (sym (add-zero _))
-sum_below-split n (suc m) f =
-    let i : sum_below (m + n) f ≡ sum_below n f + sum_below m (λ x. f (n + x)) = sum_below-split n m f in
-    let c : f (m + n) ≡ f (n + m) = ap f (add_comm m n) in
-    rw (suc-add m n) (omega arith)
-
 -- the records of a space take at most the words that aren't free
 pub space_total : (size : ℕ → ℕ) (start span front low : ℕ) → ((a b : ℕ) → 0 < size a → 0 < size b → a < b → a + size a ≤ b) → start ≤ front → front ≤ low → low ≤ start + span
     → ((a : ℕ) → 0 < size a → start ≤ a → a < start + span → (a + size a ≤ front) ⊎ ((low ≤ a) × (a + size a ≤ start + span)))
@@ -56,8 +56,8 @@ space_total size start span front low apart o1 o2 o3 lies =
     let a = packed size start (front - start) (front - start) apart (omega arith) (λ x l p. let q = lies (start + x) p (omega arith) (omega arith) in omega arith) in
     let b = sum_below-none (low - front) (λ x. size (front + x)) (λ x l. ⊎_elim (λ (p : 0 < size (front + x)). absurd (let q = lies (front + x) p (omega arith) (omega arith) in omega arith)) (λ (p : size (front + x) ≤ 0). let z : size (front + x) ≡ 0 = omega arith in z) (cases_lt 0 (size (front + x)))) in
     let c = packed size low (start + span - low) (start + span - low) apart (omega arith) (λ x l p. let q = lies (low + x) p (omega arith) (omega arith) in omega arith) in
-    let e1 = sum_below-split (front - start) (span - (front - start)) (λ x. size (start + x)) in
-    let e2 = sum_below-split (low - front) (start + span - low) (λ x. size (front + x)) in
+    let e1 = sum_below-from (front - start) (span - (front - start)) (λ x. size (start + x)) in
+    let e2 = sum_below-from (low - front) (start + span - low) (λ x. size (front + x)) in
     let m1 : span - (front - start) + (front - start) ≡ span = omega arith in
     let m2 : start + span - low + (low - front) ≡ span - (front - start) = omega arith in
     let s1 = sum_below-same (span - (front - start)) (λ x. size (start + (front - start + x))) (λ x. size (front + x)) (λ x l. let q : start + (front - start + x) ≡ front + x = omega arith in rw q) in

@@ -1,44 +1,24 @@
 -- What the gate counts and what each worker knows after a flip.
 use Rattle.std.proofs.Common.{◌≡◌, ◌≢◌, ℕ, ◌+◌, ◌/◌, ◌<◌, ◌≤◌, Bool, true, false, Some, None, is_some, refl, sym, ap, ◌∙◌, arith, ⊎_elim, inl, inr}
 use Rattle.std.proofs.lemmas.Bool.{cases_eq, cases_Bool, eq-eqb}
-use Rattle.heap_words.proofs.Decoding.{decode-number_word}
-use Rattle.heap_words.specs.Decoded.{NumberWord, PointerWord, decode}
-use Rattle.heap_words.specs.Word.{number_word}
 use Rattle.space_map.specs.declared.gate_word.GateWord.{GateWord}
 use Rattle.space_map.specs.PageWord.{age_of}
 use Rattle.heap_state.specs.Era.{Era, Memory}
 use Rattle.heap_state.specs.Functions.{one_if}
-use Rattle.heap_state.specs.Ghost.{Ghost, Leads, Lands}
+use Rattle.heap_state.specs.Ghost.{Ghost}
 use Rattle.heap_state.specs.Inductive.{Knows}
 use Rattle.heap_state.specs.Parts.Copying.{IsOrigin, Licensed}
 use Rattle.heap_state.specs.Parts.Knowledge.{Timely, Clean, Passes}
 use Rattle.heap_state.specs.Parts.Scanning.{Rounds, Claims, Looks, LastLooks}
 use Rattle.heap_state.specs.Worker.{Worker, Team, Post, Scanner, Outside, Running, Stopped, Flipping, Gone, Passage, Enter, Park, Request, Forwarded, Resume, Leave, Origin, Register, Scanned, Quest, Round, Claim, Look, LastLook, GateStep, is_mutator, is_live, is_running, is_flipper, is_gone, is_behind, is_late}
-use Rattle.heap_state.proofs.Puts.{none≢some}
+use Rattle.heap_state.proofs.Puts.{none≢some, true_false}
 use Rattle.heap_laws.specs.Flipping.{next_era, next_ghost, flipped_gate, after_flip}
 use Rattle.heap_laws.proofs.FlippingParts.{Ready, nothing, lands_on, page_age, board_age}
-use Rattle.heap_laws.proofs.FlippingSums.{sum_below-term}
+use Rattle.heap_laws.proofs.FlippingSums.{sum_below-term, one_of}
 use Rattle.heap_laws.proofs.ScanningWho.{open_age}
+use Rattle.heap_laws.proofs.Words.{zero_clean, zero_lands}
 
 -- ---- words and bits
-
-pub zero_number : decode 0 ≡ NumberWord 0
-unfolding number_word
-zero_number = decode-number_word 0
-
-zero_pointer : (b : ℕ) {A : Type 0} → decode 0 ≡ PointerWord b → A
-zero_pointer b e = absurd (let q = sym zero_number ∙ e in cc)
-
-pub zero_leads : (E : Era) → ¬ (Leads E 0)
-unfolding Leads
-zero_leads E q = zero_pointer q.0 q.1
-
-zero_lands : (size writer : ℕ → ℕ) → Lands size writer 0
-unfolding Lands
-zero_lands size writer b e = zero_pointer b e
-
-pub flips_then : {A : Type 0} (b : Bool) → b ≡ false → b ≡ true → A
-flips_then b e f = absurd (let q = sym e ∙ f in cc)
 
 pub none_true : (b : Bool) → (b ≡ true → ⊥) → b ≡ false
 none_true true f = absurd (f refl)
@@ -81,13 +61,6 @@ flipper_passes asked epoch done ended seen read (Request n) q = absurd (let y = 
 flipper_passes asked epoch done ended seen read Forwarded q = absurd (let y = q.0 in cc)
 flipper_passes asked epoch done ended seen read Resume q = absurd (let y = q.0 in cc)
 flipper_passes asked epoch done ended seen read Leave q = absurd (let y = q.0 in cc)
-
-one_of : (b : Bool) → b ≡ true → one_if b ≡ 1
-one_of b e = rw e refl
-
-at_most_one : (b : Bool) → one_if b ≤ 1
-at_most_one true = omega arith
-at_most_one false = omega arith
 
 module _ {E : Era} {m : Memory} {team : Team} {g : Ghost} (ready : Ready E m team g) where
   abbrev E1 : Era
@@ -178,11 +151,11 @@ module _ {E : Era} {m : Memory} {team : Team} {g : Ghost} (ready : Ready E m tea
           lands = λ r s. lands_on ready (u.registers r) (((knows j l).registers mu end).lands r s) ((nothing ready).registers j r l s mu end);
         })
         (λ (dead : is_live u.post ≡ false).
-        let out : u.post ≡ Outside = not_live u.post mu dead (none_true (is_gone u.post) (λ e. let q = (knows j l).ends.gone e in flips_then (is_some u.account.end) (ended end) q)) in
+        let out : u.post ≡ Outside = not_live u.post mu dead (none_true (is_gone u.post) (λ e. let q = (knows j l).ends.gone e in true_false (ended end) q)) in
         let zero : (r : ℕ) → r < 8 → u.registers r ≡ 0 = (knows j l).outside out in
         record {
-          clean = λ r s h. rw (zero r s) (zero_leads E1);
-          lands = λ r s. rw (zero r s) (zero_lands g1.size g1.writer);
+          clean = λ r s h. rw (zero r s) (zero_clean E1 0 refl);
+          lands = λ r s. rw (zero r s) (zero_lands g1.size g1.writer 0 refl);
         })
         (cases_Bool (is_live u.post))
       where
@@ -193,8 +166,8 @@ module _ {E : Era} {m : Memory} {team : Team} {g : Ghost} (ready : Ready E m tea
     timely post same still none = let z = past in record {
       past = omega (arith, z);
       live = λ e. inr (let q = current j l (sym same ∙ e) in omega (arith, q));
-      running = λ e. flips_then (is_running post) still e;
-      flipping = λ e. flips_then (is_flipper post) none e;
+      running = λ e. true_false still e;
+      flipping = λ e. true_false none e;
       rest = λ e. done_none j l;
       below = (knows j l).timely.below;
     }
@@ -232,18 +205,18 @@ module _ {E : Era} {m : Memory} {team : Team} {g : Ghost} (ready : Ready E m tea
       claim = claims;
       look = looks;
       last_look = last_looks;
-      seen_traced = λ e. absurd (⊎_elim (λ y. flips_then (is_running u.post) still y) (λ y. flips_then (is_flipper u.post) none y) (k.seen_traced e).0);
+      seen_traced = λ e. absurd (⊎_elim (λ y. true_false still y) (λ y. true_false none y) (k.seen_traced e).0);
       flips = k.flips;
       passage = k.passage;
       resets = k.resets;
-      reset = λ r e. flips_then (is_flipper u.post) none (k.resets r e);
+      reset = λ r e. true_false none (k.resets r e);
     }
 
     -- and what the flipper knows
     pub flipper : (asked : ℕ) → u.post ≡ Flipping asked → Knows E1 gate' m.traced m.old_front m.old_low m.front m.low m.owed g1 m.page m.cross m.announced m.heap j (after_flip u)
     flipper asked at = let k = knows j l in let same : is_live Stopped ≡ is_live u.post = sym (ap is_live at) in record {
       timely = timely Stopped same refl refl;
-      ends = record { stays = λ e. absurd (⊎_elim (λ y. idle j l y) (λ y. flips_then (is_gone u.post) (ap is_gone at) y) (k.ends.stays e)); gone = λ e. absurd (cc) };
+      ends = record { stays = λ e. absurd (⊎_elim (λ y. idle j l y) (λ y. true_false (ap is_gone at) y) (k.ends.stays e)); gone = λ e. absurd (cc) };
       outside = λ e. absurd (cc);
       stock = k.stock;
       registers = λ mu end. let c = registers (ap is_mutator at) end in let late : is_late (E.epoch + 1) u ≡ is_behind (E.epoch + 1) Stopped u.epoch = ap (λ p. is_behind (E.epoch + 1) p u.epoch) at in rw late at c;

@@ -1,27 +1,18 @@
 -- The gate's counts where one worker changes, and what else speaks of all workers.
-use Rattle.std.proofs.Common.{◌≡◌, ◌≢◌, ℕ, zero, suc, ◌+◌, ◌<◌, ◌≤◌, Bool, true, false, Some, sym, ap, ◌∙◌, arith, ⊎_elim, inl, inr}
-use Rattle.plain_state.specs.declared.value.Identity.{Identity}
-use Rattle.plain_state.specs.State as plain
+use Rattle.std.proofs.Common.{◌≡◌, ℕ, zero, suc, ◌+◌, ◌<◌, ◌≤◌, Bool, false, sym, ap, arith}
 use Rattle.space_map.specs.declared.gate_word.GateWord.{GateWord}
-use Rattle.space_map.specs.declared.page_word.PageWord.{PageWord}
-use Rattle.heap_state.specs.Cycle.{Rooted, RootLeads, ByBoard, ByRegister}
-use Rattle.heap_state.specs.Era.{Era}
 use Rattle.heap_state.specs.Functions.{put, sum_below, one_if}
-use Rattle.heap_state.specs.Parts.Gate.{Counted, Staffed}
-use Rattle.heap_state.specs.Parts.Stocks.{Stocks}
-use Rattle.heap_state.specs.Worker.{Worker, Post, Stock, is_mutator, is_live, is_running, is_flipper, is_gone, is_late}
-use Rattle.heap_state.proofs.Puts.{put_other, put_same, each_put, proj_put, sum_below-change}
+use Rattle.heap_state.specs.Parts.Gate.{Counted}
+use Rattle.heap_state.specs.Worker.{Worker, Post, is_live, is_running, is_flipper, is_gone, is_late}
+use Rattle.heap_state.proofs.Puts.{put_other, put_same, sum_below-change}
 use Rattle.heap_laws.specs.Gating.{GatesFit}
+use Rattle.heap_laws.proofs.FlippingSums.{at_most_one}
 
 -- the sum of ones is at most their number
 ones : (n : ℕ) (is : ℕ → Bool) → sum_below n (λ j. one_if (is j)) ≤ n
 unfolding sum_below
 ones zero is = omega arith
 ones (suc n) is = let a = ones n is in let b = at_most_one (is n) in omega (arith, a, b)
-  where
-    at_most_one : (b : Bool) → one_if b ≤ 1
-    at_most_one true = omega arith
-    at_most_one false = omega arith
 
 pub fits : GatesFit
 fits E m team g inv =
@@ -59,34 +50,3 @@ counted_moves worker count k w p q gate gate' late late' l ep eq la lb same live
   still = still;
   epoch_fits = rw same c.epoch_fits;
 }
-
-pub staffed_moves : {mutators count : ℕ} (worker : ℕ → Worker) (k : ℕ) (w : Worker) → is_mutator w.post ≡ is_mutator (worker k).post → Staffed mutators count worker → Staffed mutators count (put worker k w)
-staffed_moves worker k w e s = record { few = s.few; posts = λ j l. proj_put (λ u. is_mutator u.post) worker k w j e ∙ s.posts j l }
-
--- a worker that keeps its stock or gives it up
-pub stocks_move : {E : Era} {low count : ℕ} {size heap : ℕ → ℕ} {page : ℕ → PageWord} (worker : ℕ → Worker) (k : ℕ) (w : Worker) → ((q : Stock) → w.stock ≡ Some q → (worker k).stock ≡ Some q)
-    → Stocks E low count size heap page worker → Stocks E low count size heap page (put worker k w)
-stocks_move worker k w less s = record {
-  stocked = λ j l q e n. s.stocked j l q (had j q e) n;
-  apart = λ i j li lj d p q e f. s.apart i j li lj d p q (had i p e) (had j q f);
-}
-  where
-    had : (j : ℕ) (q : Stock) → (put worker k w j).stock ≡ Some q → (worker j).stock ≡ Some q
-    had j q e = each_put (λ i u. u.stock ≡ Some q → (worker i).stock ≡ Some q) worker k w j (λ d f. f) (λ y f. let z : (worker k).stock ≡ Some q = less q f in rw y z) e
-
--- roots: a worker of which no register is left to forward
-pub rooted_moves : {E : Era} {front count : ℕ} {size writer : ℕ → ℕ} {identity : ℕ → Identity} {heap : ℕ → ℕ} {p : plain.Plain} (worker : ℕ → Worker) (k : ℕ) (w : Worker)
-    → ((r : ℕ) → r < 8 → is_late E.epoch (worker k) ≡ true → (worker k).done ≤ r → ⊥) → is_mutator w.post ≡ is_mutator (worker k).post → w.account ≡ (worker k).account → w.registers ≡ (worker k).registers
-    → Rooted E front count size writer identity heap worker p → Rooted E front count size writer identity heap (put worker k w) p
-rooted_moves {E} {front} {count} {size} {writer} {identity} {heap} worker k w none mu account registers r = record {
-  roots = λ i root. ⊎_elim (λ c. inl c) (λ l. inr (by_root i l)) (r.roots i root);
-  sound = λ j n i l m end small t. r.sound j n i l (sym (proj_put (λ u. is_mutator u.post) worker k w j mu) ∙ m)
-      (sym (ap (λ a. a.end) (proj_put (λ u. u.account) worker k w j account)) ∙ end) small (rw (proj_put (λ u. u.registers) worker k w j registers) at t);
-}
-  where
-    by_root : (i : Identity) → RootLeads E count identity heap worker i → RootLeads E count identity heap (put worker k w) i
-    by_root i (ByBoard x l t) = ByBoard x l t
-    by_root i (ByRegister j n l s late d t) =
-        let o : j ≢ k = (λ e. none n s (rw e at late) (rw e at d)) in
-        let same : put worker k w j ≡ worker j = put_other worker k w j o in
-        ByRegister j n l s (rw same late) (rw same d) (rw same t)

@@ -1,24 +1,26 @@
 -- The passages of the gate.
-use Rattle.std.proofs.Common.{◌≡◌, ◌≢◌, ℕ, ◌+◌, ◌-◌, ◌<◌, Bool, true, false, Some, None, is_some, refl, sym, ap, ◌∙◌, arith, ⊎_elim, ◌⊎◌, inl, inr}
+use Rattle.std.proofs.Common.{◌≡◌, ◌≢◌, ℕ, ◌+◌, ◌-◌, ◌/◌, ◌<◌, Bool, true, false, Option, Some, None, is_some, refl, sym, ap, ◌∙◌, arith, ⊎_elim, ◌⊎◌, inl, inr}
 use Rattle.std.proofs.lemmas.Bool.{eq-eqb}
 use Rattle.space_map.specs.declared.gate_word.GateWord.{GateWord}
+use Rattle.space_map.specs.declared.page_word.PageWord.TheVariants.{Open}
 use Rattle.heap_state.specs.Era.{Era, Memory}
 use Rattle.heap_state.specs.Functions.{one_if}
 use Rattle.heap_state.specs.Ghost.{Ghost}
 use Rattle.heap_state.specs.Inductive.{Invariant, Knows}
 use Rattle.heap_state.specs.Parts.Copying.{IsOrigin, Licensed}
-use Rattle.heap_state.specs.Parts.Knowledge.{Clean, Passes, Resets}
+use Rattle.heap_state.specs.Parts.Knowledge.{Accesses, Clean, Ends, Passes, Resets}
 use Rattle.heap_state.specs.Parts.Pages.{Quiet}
 use Rattle.heap_state.specs.Parts.Scanning.{Claims, Looks, LastLooks}
-use Rattle.heap_state.specs.Worker.{Worker, Team, Post, Scanner, Outside, Running, Stopped, Flipping, Gone, Passage, Enter, Park, Request, Forwarded, Resume, Leave, Origin, Register, Scanned, Quest, Claim, Look, LastLook, GateStep, Reset, is_mutator, is_live, is_running, is_late}
-use Rattle.heap_state.proofs.Puts.{none≢some}
+use Rattle.heap_state.specs.Worker.{Worker, Team, Post, Scanner, Outside, Running, Stopped, Flipping, Gone, Passage, Enter, Park, Request, Forwarded, Resume, Leave, Origin, Register, Scanned, Quest, Claim, Look, LastLook, GateStep, Reset, Access, is_mutator, is_flipper, is_gone, is_live, is_running, is_late}
+use Rattle.heap_state.proofs.Puts.{none≢some, true_false}
 use Rattle.heap_laws.specs.Gating.{with_gate, gate_after, worker_after, WinsGate, PassingGateKeeps}
 use Rattle.heap_laws.specs.Keeping.{Keeps}
 use Rattle.heap_laws.specs.Steps.{with_worker}
-use Rattle.heap_laws.proofs.FlippingSums.{sum_below-term, sum_below-two}
+use Rattle.heap_laws.proofs.FlippingSums.{sum_below-term, sum_below-two, one_of}
 use Rattle.heap_laws.proofs.GatingCounts.{counted_moves}
 use Rattle.heap_laws.proofs.GatingTeam.{passing_keeps, usual}
-use Rattle.heap_laws.proofs.GatingWorker.{false_true, now_not_late, no_reset, knows_then}
+use Rattle.heap_laws.proofs.GatingWorker.{no_reset, knows_then}
+use Rattle.heap_laws.proofs.ScanningWho.{now_not_late}
 
 runs : (p : Post) → is_running p ≡ true → p ≡ Running
 runs Scanner e = absurd (cc)
@@ -27,9 +29,6 @@ runs Running e = refl
 runs Stopped e = absurd (cc)
 runs (Flipping asked) e = absurd (cc)
 runs Gone e = absurd (cc)
-
-one_of : (b : Bool) → b ≡ true → one_if b ≡ 1
-one_of b e = rw e refl
 
 module _ (E : Era) (m : Memory) (team : Team) (g : Ghost) (k : ℕ) (s : GateStep) (inv : Invariant E m team g) (wins : WinsGate E m team k s) where
   abbrev w : Worker
@@ -53,7 +52,7 @@ module _ (E : Era) (m : Memory) (team : Team) (g : Ghost) (k : ℕ) (s : GateSte
   done_none now = me.timely.rest (now_not_late E.epoch w.epoch w.post now)
 
   not_late : {A : Type 0} → w.epoch ≡ E.epoch → is_late E.epoch w ≡ true → A
-  not_late now late = false_true (is_late E.epoch w) (now_not_late E.epoch w.epoch w.post now) late
+  not_late now late = true_false (now_not_late E.epoch w.epoch w.post now) late
 
   request_read : (b : Bool) → s.read.request ≡ b → m.gate.request ≡ b
   request_read b e = ap (λ (x : GateWord). x.request) wins.unchanged ∙ e
@@ -81,7 +80,7 @@ module _ (E : Era) (m : Memory) (team : Team) (g : Ghost) (k : ℕ) (s : GateSte
         registers = refl;
         scan = refl;
         stock = λ y e. none≢some e;
-        none_left = λ r l y d. false_true (is_late E.epoch w) (late E.epoch) y;
+        none_left = λ r l y d. true_false (late E.epoch) y;
       })
       (inl q)
       (counted_moves team.worker team.count k (worker_after m.gate.epoch Enter w) Outside Running m.gate (gate_after Enter m.gate) false false wins.below at refl (late m.gate.epoch) (now_not_late m.gate.epoch m.gate.epoch Running refl)
@@ -92,8 +91,8 @@ module _ (E : Era) (m : Memory) (team : Team) (g : Ghost) (k : ℕ) (s : GateSte
         done_none = refl;
         inside = λ e. absurd (cc);
         ends = record { stays = λ e. inl refl; gone = λ e. absurd (cc) };
-        not_asked = λ y l e. false_true (is_late E.epoch w) (late E.epoch) l;
-        clean = λ mu end. let c = me.registers (ap is_mutator at) end in record { clean = λ j l f. c.clean j l (λ t. false_true (is_late E.epoch w) (late E.epoch) t); lands = c.lands };
+        not_asked = λ y l e. true_false (late E.epoch) l;
+        clean = λ mu end. let c = me.registers (ap is_mutator at) end in record { clean = λ j l f. c.clean j l (λ t. true_false (late E.epoch) t); lands = c.lands };
         stocks = λ y e. none≢some e;
         accesses = λ f e. (refl, me.access f e);
         board = λ e. (refl, (me.board e).1);
@@ -105,167 +104,92 @@ module _ (E : Era) (m : Memory) (team : Team) (g : Ghost) (k : ℕ) (s : GateSte
         flips = λ e. absurd (cc);
       }))
 
+  -- ---- within the epoch
+
+  -- a mutator goes from post p to post q: what the gate counts, and what the worker still knows
+  stays : (p q : Post) (access : Option Access) (board_open seen : Bool) (live running left : ℕ) (request : Bool) → w.epoch ≡ E.epoch → w.post ≡ p → is_mutator p ≡ true → is_mutator q ≡ true
+      → (m.gate.request ≡ false) ⊎ ((0 < m.gate.running) ⊎ (0 < m.gate.behind))
+      → live + one_if (is_live p) ≡ m.gate.live + one_if (is_live q) → running + one_if (is_running p) ≡ m.gate.running + one_if (is_running q)
+      → left + one_if (is_gone p) ≡ m.gate.left + one_if (is_gone q) → one_if request + one_if (is_flipper p) ≡ one_if m.gate.request + one_if (is_flipper q)
+      → (0 < m.gate.behind → (running ≡ 0) × (request ≡ false)) → q ≢ Outside → Ends q (is_some w.account.end)
+      → ((f : Access) → access ≡ Some f → (is_running q ≡ true) × Accesses E g.size g.writer g.kind m.page f)
+      → (board_open ≡ true → (is_running q ≡ true) × (m.page (E.board / 64) ≡ Open E.epoch))
+      → (seen ≡ true → ((is_running q ≡ true) ⊎ (is_flipper q ≡ true)) × (m.traced ≡ E.epoch + 1)) → (is_flipper q ≡ true → seen ≡ true)
+      → Keeps E m (with_gate m (record m.gate { live = live; running = running; left = left; request = request })) team
+      (with_worker team k (record w { post = q; access = access; board_open = board_open; traced_seen = seen; gate_step = None })) g
+  stays p q access board_open seen live running left request now at mutator mutates busy lives runs leaves asks still inside ends accesses board sees flips =
+      let w' : Worker = record w { post = q; access = access; board_open = board_open; traced_seen = seen; gate_step = None } in
+      let gate' : GateWord = record m.gate { live = live; running = running; left = left; request = request } in
+      let gate_now : w.epoch ≡ m.gate.epoch = now ∙ sym wins.at_gate in
+      let was : is_mutator w.post ≡ true = rw at mutator in
+      usual E m team g k w' live running left request
+      (record {
+        inv = inv;
+        below = wins.below;
+        mutator = mutates ∙ sym was;
+        account = refl;
+        registers = refl;
+        scan = refl;
+        stock = λ y e. e;
+        none_left = λ r l y d. not_late now y;
+      })
+      busy
+      (counted_moves team.worker team.count k w' p q m.gate gate' false false wins.below at refl (now_not_late m.gate.epoch w.epoch w.post gate_now) (now_not_late m.gate.epoch w.epoch q gate_now)
+      refl lives runs refl leaves asks still inv.counted)
+      (knows_then E m team g k gate' inv wins.below (no_flip busy) q w.epoch w.done w.stock access board_open w.round w.claim w.look w.last_look seen
+      (record {
+        now = now;
+        done_none = done_none now;
+        inside = inside;
+        ends = ends;
+        not_asked = λ y l e. not_late now l;
+        clean = λ mu end. clean_now now was end;
+        stocks = me.stock;
+        accesses = accesses;
+        board = board;
+        rounds = me.round;
+        claims = me.claim;
+        looks = me.look;
+        last_looks = me.last_look;
+        seen = sees;
+        flips = flips;
+      }))
+
   resumes : w.post ≡ Stopped → s.read.epoch ≡ w.epoch → s.read.request ≡ false → s.read.behind ≡ 0 → Keeps E m (with_gate m (gate_after Resume m.gate)) team (with_worker team k (worker_after m.gate.epoch Resume w)) g
   resumes at epoch request behind =
       let q = request_read false request in
       let b = behind_read behind in
       let same : m.gate.epoch ≡ s.read.epoch = ap (λ (x : GateWord). x.epoch) wins.unchanged in
-      let gate_now : w.epoch ≡ m.gate.epoch = sym (same ∙ epoch) in
-      let now : w.epoch ≡ E.epoch = gate_now ∙ wins.at_gate in
-      usual E m team g k (worker_after m.gate.epoch Resume w) m.gate.live (m.gate.running + 1) m.gate.left m.gate.request
-      (record {
-        inv = inv;
-        below = wins.below;
-        mutator = sym (ap is_mutator at);
-        account = refl;
-        registers = refl;
-        scan = refl;
-        stock = λ y e. e;
-        none_left = λ r l y d. not_late now y;
-      })
-      (inl q)
-      (counted_moves team.worker team.count k (worker_after m.gate.epoch Resume w) Stopped Running m.gate (gate_after Resume m.gate) false false wins.below at refl (now_not_late m.gate.epoch w.epoch w.post gate_now) (now_not_late m.gate.epoch w.epoch Running gate_now)
-      refl refl (omega arith) refl refl refl (λ y. absurd (omega (arith, y, b))) inv.counted)
-      (knows_then E m team g k (gate_after Resume m.gate) inv wins.below (no_flip (inl q)) Running w.epoch w.done w.stock w.access w.board_open w.round w.claim w.look w.last_look w.traced_seen
-      (record {
-        now = now;
-        done_none = done_none now;
-        inside = λ e. absurd (cc);
-        ends = record { stays = λ e. inl refl; gone = λ e. absurd (cc) };
-        not_asked = λ y l e. not_late now l;
-        clean = λ mu end. clean_now now (ap is_mutator at) end;
-        stocks = me.stock;
-        accesses = λ f e. (refl, me.access f e);
-        board = λ e. (refl, (me.board e).1);
-        rounds = me.round;
-        claims = me.claim;
-        looks = me.look;
-        last_looks = me.last_look;
-        seen = λ e. (inl refl, (me.seen_traced e).1);
-        flips = λ e. absurd (cc);
-      }))
+      stays Stopped Running w.access w.board_open w.traced_seen m.gate.live (m.gate.running + 1) m.gate.left m.gate.request (sym (same ∙ epoch) ∙ wins.at_gate) at refl refl (inl q)
+      refl (omega arith) refl refl (λ y. absurd (omega (arith, y, b))) (λ e. absurd (cc)) (record { stays = λ e. inl refl; gone = λ e. absurd (cc) })
+      (λ f e. (refl, me.access f e)) (λ e. (refl, (me.board e).1)) (λ e. (inl refl, (me.seen_traced e).1)) (λ e. absurd (cc))
 
-  -- ---- out
+  -- who runs no more has left one running worker less
+  module _ (running : is_running w.post ≡ true) where
+    some : 0 < m.gate.running
+    some = running_some running
 
-  parks : is_running w.post ≡ true → is_some w.account.end ≡ false → Keeps E m (with_gate m (gate_after Park m.gate)) team (with_worker team k (worker_after m.gate.epoch Park w)) g
-  parks running ended =
-      let at : w.post ≡ Running = runs w.post running in
-      let some = running_some running in
-      let now = me.timely.running running in
-      let gate_now : w.epoch ≡ m.gate.epoch = now ∙ sym wins.at_gate in
-      usual E m team g k (worker_after m.gate.epoch Park w) m.gate.live (m.gate.running - 1) m.gate.left m.gate.request
-      (record {
-        inv = inv;
-        below = wins.below;
-        mutator = sym (ap is_mutator at);
-        account = refl;
-        registers = refl;
-        scan = refl;
-        stock = λ y e. e;
-        none_left = λ r l y d. not_late now y;
-      })
-      (inr (inl some))
-      (counted_moves team.worker team.count k (worker_after m.gate.epoch Park w) Running Stopped m.gate (gate_after Park m.gate) false false wins.below at refl (now_not_late m.gate.epoch w.epoch w.post gate_now) (now_not_late m.gate.epoch w.epoch Stopped gate_now)
-      refl refl (omega (arith, some)) refl refl refl (λ y. absurd (let c = inv.counted.still y in omega (arith, c.0, some))) inv.counted)
-      (knows_then E m team g k (gate_after Park m.gate) inv wins.below (no_flip (inr (inl some))) Stopped w.epoch w.done w.stock None false w.round w.claim w.look w.last_look false
-      (record {
-        now = now;
-        done_none = done_none now;
-        inside = λ e. absurd (cc);
-        ends = record { stays = λ e. false_true (is_some w.account.end) ended e; gone = λ e. absurd (cc) };
-        not_asked = λ y l e. not_late now l;
-        clean = λ mu end. clean_now now (ap is_mutator at) end;
-        stocks = me.stock;
-        accesses = λ f e. none≢some e;
-        board = λ e. absurd (cc);
-        rounds = me.round;
-        claims = me.claim;
-        looks = me.look;
-        last_looks = me.last_look;
-        seen = λ e. absurd (cc);
-        flips = λ e. absurd (cc);
-      }))
+    none_behind : {A : Type 0} → 0 < m.gate.behind → A
+    none_behind y = absurd (let c = inv.counted.still y in let z = some in omega (arith, c.0, z))
 
-  requests : (asked : ℕ) → is_running w.post ≡ true → is_some w.account.end ≡ false → s.read.request ≡ false → w.traced_seen ≡ true → Keeps E m (with_gate m (gate_after (Request asked) m.gate)) team (with_worker team k (worker_after m.gate.epoch (Request asked) w)) g
-  requests asked running ended request seen =
-      let at : w.post ≡ Running = runs w.post running in
-      let some = running_some running in
-      let q : one_if m.gate.request ≡ 0 = ap one_if (request_read false request) in
-      let now = me.timely.running running in
-      let gate_now : w.epoch ≡ m.gate.epoch = now ∙ sym wins.at_gate in
-      usual E m team g k (worker_after m.gate.epoch (Request asked) w) m.gate.live (m.gate.running - 1) m.gate.left true
-      (record {
-        inv = inv;
-        below = wins.below;
-        mutator = sym (ap is_mutator at);
-        account = refl;
-        registers = refl;
-        scan = refl;
-        stock = λ y e. e;
-        none_left = λ r l y d. not_late now y;
-      })
-      (inr (inl some))
-      (counted_moves team.worker team.count k (worker_after m.gate.epoch (Request asked) w) Running (Flipping asked) m.gate (gate_after (Request asked) m.gate) false false wins.below at refl
-      (now_not_late m.gate.epoch w.epoch w.post gate_now) (now_not_late m.gate.epoch w.epoch (Flipping asked) gate_now)
-      refl refl (omega (arith, some)) refl refl (omega (arith, q)) (λ y. absurd (let c = inv.counted.still y in omega (arith, c.0, some))) inv.counted)
-      (knows_then E m team g k (gate_after (Request asked) m.gate) inv wins.below (no_flip (inr (inl some))) (Flipping asked) w.epoch w.done w.stock None false w.round w.claim w.look w.last_look w.traced_seen
-      (record {
-        now = now;
-        done_none = done_none now;
-        inside = λ e. absurd (cc);
-        ends = record { stays = λ e. false_true (is_some w.account.end) ended e; gone = λ e. absurd (cc) };
-        not_asked = λ y l e. not_late now l;
-        clean = λ mu end. clean_now now (ap is_mutator at) end;
-        stocks = me.stock;
-        accesses = λ f e. none≢some e;
-        board = λ e. absurd (cc);
-        rounds = me.round;
-        claims = me.claim;
-        looks = me.look;
-        last_looks = me.last_look;
-        seen = λ e. (inr refl, (me.seen_traced e).1);
-        flips = λ e. seen;
-      }))
+    parks : is_some w.account.end ≡ false → Keeps E m (with_gate m (gate_after Park m.gate)) team (with_worker team k (worker_after m.gate.epoch Park w)) g
+    parks ended = stays Running Stopped None false false m.gate.live (m.gate.running - 1) m.gate.left m.gate.request (me.timely.running running) (runs w.post running) refl refl (inr (inl some))
+        refl (let z = some in omega (arith, z)) refl refl (λ y. none_behind y) (λ e. absurd (cc)) (record { stays = λ e. true_false ended e; gone = λ e. absurd (cc) })
+        (λ f e. none≢some e) (λ e. absurd (cc)) (λ e. absurd (cc)) (λ e. absurd (cc))
 
-  leaves : is_running w.post ≡ true → is_some w.account.end ≡ true → Keeps E m (with_gate m (gate_after Leave m.gate)) team (with_worker team k (worker_after m.gate.epoch Leave w)) g
-  leaves running ended =
-      let at : w.post ≡ Running = runs w.post running in
-      let some = running_some running in
-      let alive = live_some (ap is_live at) in
-      let now = me.timely.running running in
-      let gate_now : w.epoch ≡ m.gate.epoch = now ∙ sym wins.at_gate in
-      usual E m team g k (worker_after m.gate.epoch Leave w) (m.gate.live - 1) (m.gate.running - 1) (m.gate.left + 1) m.gate.request
-      (record {
-        inv = inv;
-        below = wins.below;
-        mutator = sym (ap is_mutator at);
-        account = refl;
-        registers = refl;
-        scan = refl;
-        stock = λ y e. e;
-        none_left = λ r l y d. not_late now y;
-      })
-      (inr (inl some))
-      (counted_moves team.worker team.count k (worker_after m.gate.epoch Leave w) Running Gone m.gate (gate_after Leave m.gate) false false wins.below at refl (now_not_late m.gate.epoch w.epoch w.post gate_now) (now_not_late m.gate.epoch w.epoch Gone gate_now)
-      refl (omega (arith, alive)) (omega (arith, some)) refl (omega arith) refl (λ y. absurd (let c = inv.counted.still y in omega (arith, c.0, some))) inv.counted)
-      (knows_then E m team g k (gate_after Leave m.gate) inv wins.below (no_flip (inr (inl some))) Gone w.epoch w.done w.stock None false w.round w.claim w.look w.last_look false
-      (record {
-        now = now;
-        done_none = done_none now;
-        inside = λ e. absurd (cc);
-        ends = record { stays = λ e. inr refl; gone = λ e. ended };
-        not_asked = λ y l e. not_late now l;
-        clean = λ mu end. let z : is_some w.account.end ≡ false = rw end refl in false_true (is_some w.account.end) z ended;
-        stocks = me.stock;
-        accesses = λ f e. none≢some e;
-        board = λ e. absurd (cc);
-        rounds = me.round;
-        claims = me.claim;
-        looks = me.look;
-        last_looks = me.last_look;
-        seen = λ e. absurd (cc);
-        flips = λ e. absurd (cc);
-      }))
+    requests : (asked : ℕ) → is_some w.account.end ≡ false → s.read.request ≡ false → w.traced_seen ≡ true → Keeps E m (with_gate m (gate_after (Request asked) m.gate)) team (with_worker team k (worker_after m.gate.epoch (Request asked) w)) g
+    requests asked ended request seen =
+        let q : one_if m.gate.request ≡ 0 = ap one_if (request_read false request) in
+        stays Running (Flipping asked) None false w.traced_seen m.gate.live (m.gate.running - 1) m.gate.left true (me.timely.running running) (runs w.post running) refl refl (inr (inl some))
+        refl (let z = some in omega (arith, z)) refl (omega (arith, q)) (λ y. none_behind y) (λ e. absurd (cc)) (record { stays = λ e. true_false ended e; gone = λ e. absurd (cc) })
+        (λ f e. none≢some e) (λ e. absurd (cc)) (λ e. (inr refl, (me.seen_traced e).1)) (λ e. seen)
+
+    leaves : is_some w.account.end ≡ true → Keeps E m (with_gate m (gate_after Leave m.gate)) team (with_worker team k (worker_after m.gate.epoch Leave w)) g
+    leaves ended =
+        let alive = live_some (ap is_live (runs w.post running)) in
+        stays Running Gone None false false (m.gate.live - 1) (m.gate.running - 1) (m.gate.left + 1) m.gate.request (me.timely.running running) (runs w.post running) refl refl (inr (inl some))
+        (omega (arith, alive)) (let z = some in omega (arith, z)) (omega arith) refl (λ y. none_behind y) (λ e. absurd (cc)) (record { stays = λ e. inr refl; gone = λ e. ended })
+        (λ f e. none≢some e) (λ e. absurd (cc)) (λ e. absurd (cc)) (λ e. absurd (cc))
 
   -- ---- registers forwarded
 
@@ -364,7 +288,7 @@ module _ (E : Era) (m : Memory) (team : Team) (g : Ghost) (k : ℕ) (s : GateSte
   by_passage : (p : Passage) → Passes w.post w.epoch w.done (is_some w.account.end) w.traced_seen s.read p → Keeps E m (with_gate m (gate_after p m.gate)) team (with_worker team k (worker_after m.gate.epoch p w)) g
   by_passage Enter y = enters y.0 y.1 y.2
   by_passage Park y = parks y.0 y.1
-  by_passage (Request asked) y = requests asked y.0 y.1 y.2 y.3
+  by_passage (Request asked) y = requests y.0 asked y.1 y.2 y.3
   by_passage Forwarded y = forwards y.0 y.1 y.2
   by_passage Resume y = resumes y.0 y.1 y.2 y.3
   by_passage Leave y = leaves y.0 y.1

@@ -1,23 +1,21 @@
 -- A worker passes the gate: what it brings with it, and the new gate and team, keep all.
-use Rattle.std.proofs.Common.{◌≡◌, ◌≢◌, ℕ, ◌<◌, ◌≤◌, Bool, true, false, Some, arith, ◌⊎◌}
-use Rattle.plain_state.specs.State as plain
+use Rattle.std.proofs.Common.{◌≡◌, ◌≢◌, ℕ, ◌<◌, ◌≤◌, Bool, true, false, Some, refl, ap, arith, ◌⊎◌}
 use Rattle.space_map.specs.declared.gate_word.GateWord.{GateWord}
 use Rattle.heap_state.specs.Era.{Era, Memory}
 use Rattle.heap_state.specs.Functions.{put}
 use Rattle.heap_state.specs.Ghost.{Ghost}
 use Rattle.heap_state.specs.Inductive.{Invariant, Knows}
-use Rattle.heap_state.specs.Parts.Gate.{Counted, Staffed}
+use Rattle.heap_state.specs.Parts.Gate.{Counted}
 use Rattle.heap_state.specs.Parts.Knowledge.{Resets}
-use Rattle.heap_state.specs.Parts.Pages.{Filling, Tracing, ScannedBy}
-use Rattle.heap_state.specs.Parts.Stocks.{Stocks, Numbered}
-use Rattle.heap_state.specs.Values.{Shown}
+use Rattle.heap_state.specs.Parts.Pages.{Filling, Tracing}
 use Rattle.heap_state.specs.Worker.{Worker, Team, Stock, Reset, is_mutator, is_late}
-use Rattle.heap_state.proofs.Puts.{proj_put, team_put}
+use Rattle.heap_state.proofs.Frames.{staffed_put, scanned_put, stocks_put, numbered_put, rooted_put}
+use Rattle.heap_state.proofs.Puts.{team_put}
 use Rattle.heap_laws.specs.Gating.{with_gate}
 use Rattle.heap_laws.specs.Keeping.{Keeps}
 use Rattle.heap_laws.specs.Steps.{with_worker}
-use Rattle.heap_laws.proofs.GatingCounts.{staffed_moves, stocks_move, rooted_moves}
 use Rattle.heap_laws.proofs.GatingWorker.{no_reset}
+use Rattle.heap_laws.proofs.Learning.{shown_put}
 
 -- worker k, which had this to do at the gate, passes it
 pub record Passing (E : Era) (m : Memory) (team : Team) (g : Ghost) (k : ℕ) (w' : Worker) : Type 0 where
@@ -34,19 +32,6 @@ module _ {E : Era} {m : Memory} {team : Team} {g : Ghost} {k : ℕ} {w' : Worker
   inv : Invariant E m team g
   inv = passing.inv
 
-  account_same : (j : ℕ) → (put team.worker k w' j).account ≡ (team.worker j).account
-  account_same j = proj_put (λ u. u.account) team.worker k w' j passing.account
-
-  shown : (p : plain.Plain) → Shown E m team g p → Shown E (with_gate m gate') (with_worker team k w') g p
-  shown p s = record {
-    objects = s.objects;
-    board = s.board;
-    as_many = s.as_many;
-    makers = s.makers;
-    accounts = λ j q e. rw (account_same j) (s.accounts j q e);
-    registers = λ j q e. rw (proj_put (λ u. u.registers) team.worker k w' j passing.registers) (s.registers j q e);
-  }
-
   -- the new gate and team keep all
   pub passing_keeps : Counted gate' team.count (put team.worker k w') → Filling E gate'.behind m.front m.page → Tracing E m.traced gate'.behind m.front m.page
       → ((j : ℕ) → j < team.count → j ≢ k → Knows E gate' m.traced m.front m.low m.old_front m.old_low m.old_owed g m.page m.cross m.announced m.heap j (team.worker j))
@@ -54,14 +39,14 @@ module _ {E : Era} {m : Memory} {team : Team} {g : Ghost} {k : ℕ} {w' : Worker
       → Keeps E m (with_gate m gate') team (with_worker team k w') g
   passing_keeps counted filling tracing others own = record {
     invariant =
-        let p1 : Staffed team.mutators team.count (put team.worker k w') = staffed_moves team.worker k w' passing.mutator inv.staffed in
-        let p2 : ScannedBy E team.count m.page (put team.worker k w') = record { scanned = λ p j e. let q = inv.scanned.scanned p j e in (q.0, (q.1.0, rw (proj_put (λ u. u.scan) team.worker k w' j passing.scan) q.1.1, q.1.2)) } in
-        let p3 : Stocks E m.low team.count g.size m.heap m.page (put team.worker k w') = stocks_move team.worker k w' passing.stock inv.stocks in
-        let p4 : Numbered team.mutators g.size g.identity (put team.worker k w') = record { maker = inv.numbered.maker; first = inv.numbered.first; last = λ a st. rw (account_same (g.identity a).mutator) (inv.numbered.last a st) } in
+        let p1 = staffed_put team.worker k w' passing.mutator inv.staffed in
+        let p2 = scanned_put team.worker k w' passing.scan inv.scanned in
+        let p3 = stocks_put team.worker k w' passing.stock inv.stocks in
+        let p4 = numbered_put team.worker k w' (ap (λ a. a.serial) passing.account) inv.numbered in
         let p5 = team_put team.count (Knows E gate' m.traced m.front m.low m.old_front m.old_low m.old_owed g m.page m.cross m.announced m.heap) team.worker k w' others own in
         assumption;
-    shown = shown;
-    cycle = λ p c. record { copying = c.copying; rooted = rooted_moves team.worker k w' passing.none_left passing.mutator passing.account passing.registers c.rooted };
+    shown = λ p s. shown_put E m (with_gate m gate') team g k w' p passing.account passing.registers refl s;
+    cycle = λ p c. record { copying = c.copying; rooted = rooted_put team.worker k w' passing.mutator passing.account passing.registers (λ r l a b. absurd (passing.none_left r l a b)) c.rooted };
     ages = λ p. omega arith;
   }
 

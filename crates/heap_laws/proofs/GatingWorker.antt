@@ -1,6 +1,5 @@
 -- What a worker knows once it has passed the gate into or within the current epoch.
-use Rattle.std.proofs.Common.{◌≡◌, ℕ, ◌+◌, ◌/◌, ◌<◌, ◌&&◌, eqb, Bool, true, false, Option, Some, None, is_some, refl, sym, ap, ◌∙◌, arith, ⊎_elim, ◌⊎◌, inl, inr}
-use Rattle.std.proofs.lemmas.Bool.{ne_eqb}
+use Rattle.std.proofs.Common.{◌≡◌, ℕ, ◌+◌, ◌/◌, ◌<◌, Bool, true, false, Option, Some, None, is_some, refl, ap, arith, ⊎_elim, ◌⊎◌, inl, inr}
 use Rattle.space_map.specs.declared.gate_word.GateWord.{GateWord}
 use Rattle.space_map.specs.declared.page_word.PageWord.TheVariants.{Open}
 use Rattle.heap_state.specs.Era.{Era, Memory}
@@ -10,20 +9,10 @@ use Rattle.heap_state.specs.Inductive.{Invariant, Knows}
 use Rattle.heap_state.specs.Parts.Copying.{IsOrigin}
 use Rattle.heap_state.specs.Parts.Knowledge.{Ends, Clean, Accesses}
 use Rattle.heap_state.specs.Parts.Scanning.{Rounds, Claims, Looks, LastLooks}
-use Rattle.heap_state.specs.Worker.{Worker, Team, Post, Outside, Origin, Register, Scanned, Quest, Stock, Access, Round, Claim, Look, LastLook, Reset, is_mutator, is_live, is_running, is_flipper, is_behind, is_late}
-use Rattle.heap_state.proofs.Puts.{none≢some}
-use Rattle.heap_laws.proofs.FlippingSums.{sum_below-term}
-
-pub false_true : {A : Type 0} (b : Bool) → b ≡ false → b ≡ true → A
-false_true b e f = absurd (let q = sym e ∙ f in cc)
-
--- who is of the current epoch is not late
-pub now_not_late : (e own : ℕ) (post : Post) → own ≡ e → is_behind e post own ≡ false
-now_not_late e own post now = both (is_live post) (eqb (own + 1) e) (ne_eqb (own + 1) e (omega arith))
-  where
-    both : (a b : Bool) → b ≡ false → a && b ≡ false
-    both true b n = n
-    both false b n = refl
+use Rattle.heap_state.specs.Worker.{Worker, Team, Post, Outside, Origin, Register, Scanned, Quest, Stock, Access, Round, Claim, Look, LastLook, Reset, is_mutator, is_running, is_flipper, is_late}
+use Rattle.heap_state.proofs.Puts.{none≢some, true_false}
+use Rattle.heap_laws.proofs.FlippingSums.{sum_below-term, one_of}
+use Rattle.heap_laws.proofs.ScanningWho.{now_not_late}
 
 module _ (E : Era) (m : Memory) (team : Team) (g : Ghost) (inv : Invariant E m team g) where
   -- where somebody runs or is behind, or no flip is requested, no flip is in progress
@@ -32,9 +21,6 @@ module _ (E : Era) (m : Memory) (team : Team) (g : Ghost) (inv : Invariant E m t
     where
       u : Knows E m.gate m.traced m.front m.low m.old_front m.old_low m.old_owed g m.page m.cross m.announced m.heap j (team.worker j)
       u = inv.workers j l
-
-      one_of : (b : Bool) → b ≡ true → one_if b ≡ 1
-      one_of b e = rw e refl
 
       none_of : (b : Bool) → b ≡ false → one_if b ≡ 0
       none_of b e = rw e refl
@@ -113,7 +99,7 @@ module _ (E : Era) (m : Memory) (team : Team) (g : Ghost) (k : ℕ) (gate' : Gat
     licensed = record {
       licensed = λ c e. ⊎_elim (λ y. inl y) (λ y. absurd (let a = me.licensed.asked c e in brings.not_asked a.0 y a.1)) (me.licensed.licensed c e);
       asked = me.licensed.asked;
-      counted = λ e. false_true (is_late E.epoch passed) late e;
+      counted = λ e. true_false late e;
       idle = me.licensed.idle;
     };
     copy = me.copy;

@@ -11,7 +11,6 @@ use Rattle.heap_state.specs.Inductive.{Invariant}
 use Rattle.heap_state.specs.Parts.Copying.{Copies}
 use Rattle.heap_state.specs.Worker.{Copy}
 use Rattle.heap_state.proofs.Following.{follows}
-use Rattle.heap_state.proofs.Placing.{table_pages}
 use Rattle.heap_state.proofs.Spelled.{spelled}
 use Rattle.heap_laws.specs.Copying.{IsNextWord}
 use Rattle.heap_laws.specs.CopyingStands.{worker_at, area_now, moved_by, CopyStands, CopiesStand}
@@ -23,7 +22,7 @@ use Rattle.heap_laws.proofs.CopyingPublished.{copies_published}
 use Rattle.heap_laws.proofs.CopyingReserved.{places_reserved}
 use Rattle.heap_laws.proofs.CopyingRoom.{has_room}
 use Rattle.heap_laws.proofs.CopyingWord.{word_copied}
-use Rattle.heap_laws.proofs.LiftingSteps.{ready, lifted}
+use Rattle.heap_laws.proofs.LiftingSteps.{ready, lifted, below_board, board_at}
 
 module _ (c : Configuration) (p : Plain) (s : Stands c p) (k : ℕ) (l : k < length c.workers) where
   abbrev g : Ghost
@@ -37,20 +36,11 @@ module _ (c : Configuration) (p : Plain) (s : Stands c p) (k : ℕ) (l : k < len
 
   -- ---- the rows
 
-  board_at : (era c).board ≡ 128 * c.pages
-  board_at = let n : (table c).pages ≡ c.pages = table_pages c.pages c.words in omega (arith, n)
-
-  -- a record lies below the board
-  below_board : (a : ℕ) → 0 < g.size a → a + g.size a ≤ 128 * c.pages
-  below_board a st =
-      let y = inv.laid.lies a st in let o = inv.laid.order in let b = is_ready.laid_out.below in let d = is_ready.laid_out.old_below in
-      omega (arith, y, o, b, d, board_at)
-
   word_fits : (a i v : ℕ) → i < g.size a → RowFits c.pages (Some (WordIs (a + i) v))
-  word_fits a i v lt = let b = below_board a (omega arith) in omega (arith, b, lt)
+  word_fits a i v lt = let b = below_board c p s a (omega arith) in omega (arith, b, lt)
 
   first_fits : (a v : ℕ) → 0 < g.size a → RowFits c.pages (Some (WordIs a v))
-  first_fits a v st = let b = below_board a st in omega (arith, b, st)
+  first_fits a v st = let b = below_board c p s a st in omega (arith, b, st)
 
   announce_fits : (place : ℕ) → RowFits c.pages (Some (AnnounceIs k place))
   announce_fits place = let f = inv.staffed.few in omega (arith, f, l)
@@ -60,7 +50,7 @@ module _ (c : Configuration) (p : Plain) (s : Stands c p) (k : ℕ) (l : k < len
   copies d has = (inv.workers k l).copy d has
 
   crossing_fits : (d : Copy) → (worker_at c k).copy ≡ Some d → d.reserved ≡ true → 64 * d.crossed < d.to + d.size → RowFits c.pages (Some (CrossIs d.crossed d.to))
-  crossing_fits d has res lt = let y = (copies d has).place res in let o = inv.laid.order in let b = is_ready.laid_out.below in omega (arith, y.5, o, b, lt, board_at)
+  crossing_fits d has res lt = let y = (copies d has).place res in let o = inv.laid.order in let b = is_ready.laid_out.below in omega (arith, y.5, o, b, lt, board_at c)
 
   -- ---- the area
 

@@ -1,15 +1,30 @@
 -- What a step makes of a configuration.
-use Rattle.std.proofs.Common.{◌≡◌, ℕ, List, Option, Some, None, refl}
+use Rattle.std.proofs.Common.{◌≡◌, ℕ, ◌+◌, ◌*◌, ◌<◌, ◌≤◌, arith, List, Option, Some, None, refl}
+use Rattle.plain_state.specs.State.{Plain}
+use Rattle.heap_state.specs.Configuration.{Configuration, Stands, table, era}
 use Rattle.heap_state.specs.Entries.{Entry}
 use Rattle.heap_state.specs.Table.{table_of, IsFormed}
 use Rattle.heap_state.specs.Worker.{Team}
-use Rattle.heap_state.proofs.Placing.{laid_out}
+use Rattle.heap_state.proofs.Placing.{laid_out, table_pages}
 use Rattle.heap_state.proofs.Teams.{team_changes}
 use Rattle.heap_state.proofs.Writing.{stores_entry}
 use Rattle.heap_laws.specs.Lifting.{words_after, table_after, RowFits, StepsAreSeen, StandingIsReady, StepsStand, LawsAreLifted, CyclesAreLifted}
 
 pub ready : StandingIsReady
 ready c p s k l = record { laid_out = laid_out c.pages c.words; invariant = s.invariant; member = l }
+
+-- ---- where the rows are
+
+pub board_at : (c : Configuration) → (era c).board ≡ 128 * c.pages
+board_at c = let n : (table c).pages ≡ c.pages = table_pages c.pages c.words in omega (arith, n)
+
+-- a record lies below the board
+pub below_board : (c : Configuration) (p : Plain) (s : Stands c p) (a : ℕ) → 0 < s.ghost.size a → a + s.ghost.size a ≤ 128 * c.pages
+below_board c p s a st =
+    let y = s.invariant.laid.lies a st in let o = s.invariant.laid.order in let l = laid_out c.pages c.words in let b = board_at c in
+    omega (arith, y, o, l.below, l.old_below, b)
+
+-- ---- what a step makes
 
 words_formed : (n : ℕ) (words : List ℕ) (e : Option Entry) → IsFormed n words → RowFits n e → IsFormed n (words_after n words e)
 words_formed n words None formed fits = formed

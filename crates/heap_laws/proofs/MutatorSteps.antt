@@ -1,25 +1,27 @@
 -- A running mutator goes on.
-use Rattle.std.proofs.Common.{◌≡◌, ◌≢◌, ℕ, ◌+◌, ◌<◌, true, false, Some, None, refl, sym, ap, ◌∙◌, arith, ⊎_elim, ◌⊎◌, inl, inr, ne_eqb}
+use Rattle.std.proofs.Common.{◌≡◌, ◌≢◌, ℕ, ◌<◌, true, false, Some, None, refl, sym, ap, ◌∙◌, arith, ⊎_elim, ◌⊎◌, inl, inr}
 use Rattle.std.proofs.Common.{slice_get, slice_set}
 use Rattle.std.proofs.Math.ListN.{length-set}
 use Rattle.std.proofs.lemmas.Bool.{cases_eq}
 use Rattle.std.proofs.lemmas.Option.{slice_get_within}
 use Rattle.plain_state.specs.State.{Plain, Mutator}
 use Rattle.plain_state.specs.declared.value.Identity.{Identity}
-use Rattle.heap_state.specs.Reachable.{Reachable}
-use Rattle.heap_state.specs.Values.{Accounts, RegistersShow, value_of}
 use Rattle.heap_state.specs.Cycle.{Rooted, RootLeads, ByBoard, ByRegister, StillLeads}
 use Rattle.heap_state.specs.Era.{Era, Memory}
 use Rattle.heap_state.specs.Functions.{put}
-use Rattle.heap_state.specs.Ghost.{Ghost, Leads}
+use Rattle.heap_state.specs.Ghost.{Ghost}
 use Rattle.heap_state.specs.Inductive.{Invariant, Knows}
 use Rattle.heap_state.specs.Parts.Copying.{IsOrigin}
+use Rattle.heap_state.specs.Reachable.{Reachable}
+use Rattle.heap_state.specs.Values.{Accounts, RegistersShow, value_of}
 use Rattle.heap_state.specs.Worker.{Worker, Team, Post, Running, Outside, Scanner, Stopped, Flipping, Gone, Origin, Register, Scanned, Quest, Scan, is_mutator, is_live, is_running, is_flipper, is_gone, is_late}
+use Rattle.heap_state.proofs.Frames.{counted_put, staffed_put, scanned_put, stocks_put, numbered_put}
 use Rattle.heap_state.proofs.Puts.{put_at, put_other, each_put, team_put, none≢some, true_false}
-use Rattle.heap_laws.specs.Steps.{with_worker}
 use Rattle.heap_laws.specs.MutatorSteps.{GoesOn, MutatorsGoOn, GoingOnShows, GoingOnKeepsCycle}
+use Rattle.heap_laws.specs.Steps.{with_worker}
 use Rattle.heap_laws.proofs.PlainLists.{slice_get-set_other, set-found}
-use Rattle.heap_laws.proofs.TeamPuts.{counted_put, staffed_put, scanned_put, numbered_put, stocks_kept}
+use Rattle.heap_laws.proofs.ScanningWho.{now_not_late}
+use Rattle.heap_laws.proofs.Words.{still_leads}
 
 -- ---- posts
 
@@ -41,11 +43,7 @@ runs Gone r = absurd (cc)
 
 -- who runs is not late
 pub timely : (E : Era) (w : Worker) → is_running w.post ≡ true → (is_running w.post ≡ true → w.epoch ≡ E.epoch) → is_late E.epoch w ≡ false
-timely E w r now = let e = now r in rw ((runs w.post r).live, ne_eqb (w.epoch + 1) E.epoch (λ q. omega (arith, q, e))) refl
-
-pub still_leads : (E : Era) (identity : ℕ → Identity) (x : ℕ) (i : Identity) → StillLeads E identity x i → Leads E x
-unfolding Leads
-still_leads E identity x i s = (s.at, s.points, s.old.0, s.old.1)
+timely E w r now = now_not_late E.epoch w.epoch w.post (now r)
 
 -- ---- the invariant
 
@@ -113,39 +111,13 @@ module _ (E : Era) (m : Memory) (team : Team) (g : Ghost) (k : ℕ) (next : Work
 
   keeps : Invariant E m (with_worker team k next) g
   keeps =
-      let a = counted_put m.gate team.count team.worker k next goes.post goes.epoch inv.counted in
-      let b = staffed_put team.mutators team.count team.worker k next goes.post inv.staffed in
-      let c = scanned_put E team.count m.page team.worker k next goes.scan inv.scanned in
-      let d = numbered_put team.mutators g.size g.identity team.worker k next goes.serial inv.numbered in
-      let e = stocks_kept E m.low team.count g.size m.heap m.page team.worker k next l goes.stock inv.stocks in
+      let a = counted_put team.worker k next goes.post goes.epoch inv.counted in
+      let b = staffed_put team.worker k next (ap is_mutator goes.post) inv.staffed in
+      let c = scanned_put team.worker k next goes.scan inv.scanned in
+      let d = numbered_put team.worker k next goes.serial inv.numbered in
+      let e = stocks_put team.worker k next goes.stock inv.stocks in
       let f = team_put team.count (Knows E m.gate m.traced m.front m.low m.old_front m.old_low m.old_owed g m.page m.cross m.announced m.heap) team.worker k next (λ j s d. inv.workers j s) knows in
-      record {
-        counted = a;
-        staffed = b;
-        laid = inv.laid;
-        headed = inv.headed;
-        copied = inv.copied;
-        once = inv.once;
-        kept = inv.kept;
-        room = inv.room;
-        raw_words = inv.raw_words;
-        shut = inv.shut;
-        filling = inv.filling;
-        tracing = inv.tracing;
-        aged = inv.aged;
-        scanned = c;
-        opened = inv.opened;
-        landing = inv.landing;
-        older = inv.older;
-        new = inv.new;
-        new_written = inv.new_written;
-        old_space = inv.old_space;
-        old_pages = inv.old_pages;
-        crossing = inv.crossing;
-        stocks = e;
-        numbered = d;
-        workers = f;
-      }
+      assumption
 
   -- ---- the cycle
 

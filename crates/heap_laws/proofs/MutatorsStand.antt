@@ -12,7 +12,6 @@ use Rattle.heap_state.specs.Inductive.{Invariant}
 use Rattle.heap_state.specs.Parts.Stocks.{Stocked}
 use Rattle.heap_state.specs.Worker.{Worker, Stock, is_running}
 use Rattle.heap_state.proofs.Following.{follows}
-use Rattle.heap_state.proofs.Placing.{table_pages}
 use Rattle.heap_state.proofs.Spelled.{spelled}
 use Rattle.heap_laws.specs.Allocating.{HasStock, HasRoom, OpensNext, with_low}
 use Rattle.heap_laws.specs.Fields.{IsWordOf}
@@ -23,7 +22,7 @@ use Rattle.heap_laws.specs.Steps.{Ready, with_worker}
 use Rattle.heap_laws.proofs.AllocClaim.{stocks_are_claimed}
 use Rattle.heap_laws.proofs.AllocOpen.{stocks_are_opened}
 use Rattle.heap_laws.proofs.AllocZero.{stocks_are_zeroed}
-use Rattle.heap_laws.proofs.LiftingSteps.{ready, lifted, seen, stand}
+use Rattle.heap_laws.proofs.LiftingSteps.{ready, lifted, seen, stand, board_at, below_board}
 use Rattle.heap_laws.proofs.MutatorStores.{mutators_step, mutators_store, mutators_store_on_board, mutators_place}
 
 -- what a step makes of a memory and its team it makes of the configuration
@@ -49,24 +48,18 @@ module _ (c : Configuration) (p : plain.Plain) (s : Stands c p) (k : ℕ) (l : k
 
   -- ---- the rows
 
-  board_at : (era c).board ≡ 128 * c.pages
-  board_at = let n : (table c).pages ≡ c.pages = table_pages c.pages c.words in omega (arith, n)
-
   -- a word of the epoch's space is one of the table
   space_fits : (x v : ℕ) → x < (era c).start + (era c).span → RowFits c.pages (Some (WordIs x v))
-  space_fits x v b = let o = is_ready.laid_out.below in omega (arith, b, o, board_at)
+  space_fits x v b = let o = is_ready.laid_out.below in omega (arith, b, o, board_at c)
 
   stock : (q : Stock) → HasStock (era c) (team c) k q → Stocked (era c) (memory c).low g.size (memory c).heap (memory c).page q
   stock q own = inv.stocks.stocked k own.worker q own.has own.epoch
 
   word_fits : (a i v : ℕ) → IsWordOf (era c) g.size g.writer a i → RowFits c.pages (Some (WordIs (a + i) v))
-  word_fits a i v f =
-      let y = inv.laid.lies a f.stands in let o = inv.laid.order in let b = is_ready.laid_out.below in let d = is_ready.laid_out.old_below in
-      let z = f.last in
-      omega (arith, y, o, b, d, z, board_at)
+  word_fits a i v f = let b = below_board c p s a f.stands in let z = f.last in omega (arith, b, z)
 
   board_fits : (x v : ℕ) → x < 16 → RowFits c.pages (Some (WordIs ((era c).board + x) v))
-  board_fits x v b = omega (arith, b, board_at)
+  board_fits x v b = omega (arith, b, board_at c)
 
   page_fits : (q : Stock) (page : ℕ) → OpensNext (era c) (team c) k q page → RowFits c.pages (Some (PageIs page (Open (era c).epoch)))
   page_fits q page opens =
@@ -75,7 +68,7 @@ module _ (c : Configuration) (p : plain.Plain) (s : Stands c p) (k : ℕ) (l : k
       let m = opens.more in
       let t = opens.at in
       let o = is_ready.laid_out.below in
-      (omega (arith, a, m, t, o, board_at), inv.counted.epoch_fits)
+      (omega (arith, a, m, t, o, board_at c), inv.counted.epoch_fits)
 
   -- ---- the area
 

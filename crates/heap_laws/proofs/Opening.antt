@@ -1,50 +1,36 @@
 -- The opening keeps the invariant, and shows the plain state in which nothing was made.
-use Rattle.std.proofs.Common.{◌≡◌, ◌≢◌, ℕ, ◌+◌, ◌*◌, ◌/◌, ◌<◌, ◌≤◌, [], length, replicate, List, Some, None, refl, sym, ap, ◌∙◌, arith, ⊎_elim, inl}
+use Rattle.std.proofs.Common.{◌≡◌, ◌≢◌, ℕ, ◌+◌, ◌*◌, ◌/◌, ◌<◌, ◌≤◌, [], length, replicate, List, None, refl, sym, ap, ◌∙◌, arith, ⊎_elim, inl}
 use Rattle.std.proofs.lemmas.Bool.{cases_eq, cases_lt}
 use Rattle.std.proofs.lemmas.List.{get_or-replicate, length-replicate, get_or_past}
 use Rattle.heap_words.specs.declared.kind.Kind.TheVariants.{Fields}
-use Rattle.heap_words.specs.Decoded.{PointerWord, NumberWord, decode}
-use Rattle.heap_words.specs.Word.{number_word}
-use Rattle.heap_words.proofs.Decoding.{decode-number_word}
 use Rattle.plain_state.specs.declared.value.Value.TheVariants.{Number, Reference}
 use Rattle.plain_state.specs.declared.value.Identity.{Identity}
-use Rattle.heap_state.specs.Cycle.{Cycle, IsRoot, InRegister, OnTheBoard, StillLeads}
 use Rattle.plain_state.specs.State as plain
 use Rattle.space_map.specs.declared.page_word.PageWord.TheVariants.{Unset, Open, Scanning}
 use Rattle.space_map.specs.PageWord.{age_of}
 use Rattle.space_map.specs.Spaces.{IsPageCount}
+use Rattle.heap_state.specs.Cycle.{Cycle, IsRoot, InRegister, OnTheBoard, StillLeads}
 use Rattle.heap_state.specs.Entries.{table_with, EachFits}
 use Rattle.heap_state.specs.Era.{Era, era_of, Memory, memory_of}
 use Rattle.heap_state.specs.Functions.{put}
-use Rattle.heap_state.specs.Ghost.{Ghost, Leads, Lands}
+use Rattle.heap_state.specs.Ghost.{Ghost}
 use Rattle.heap_state.specs.Inductive.{Invariant, Knows}
 use Rattle.heap_state.specs.Parts.Pages.{Quiet}
 use Rattle.heap_state.specs.Table.{Table}
 use Rattle.heap_state.specs.Values.{value_of, Accounts, RegistersShow, Shown}
 use Rattle.heap_state.specs.Worker.{Worker, Outside, Scanner, fresh}
+use Rattle.heap_state.proofs.Idle.{idle_knows}
 use Rattle.heap_state.proofs.Puts.{put_at, put_other, none≢some, true_false}
 use Rattle.heap_state.proofs.Writing.{writes_tables}
 use Rattle.heap_laws.specs.Opening.{opening_entries, opening_plain, opening_mutator, OpeningStands}
-use Rattle.heap_laws.proofs.PlainLists.{slice_get-replicate, slice_get-of_replicate}
 use Rattle.heap_laws.proofs.OpeningWorkers.{opening_team, each_fresh, counted, staffed}
+use Rattle.heap_laws.proofs.PlainLists.{slice_get-replicate, slice_get-of_replicate}
+use Rattle.heap_laws.proofs.Words.{zero_word, zero_clean, zero_lands, zero_value}
 
 -- ---- nothing stands
 
 abbrev pub nothing : Ghost
 nothing = record { size = λ a. 0; writer = λ a. 0; copy = λ a. 0; keeper = λ a. 0; kind = λ a. Fields; identity = λ a. record { mutator = 0; serial = 0 }; kept = λ k. 0 }
-
--- the word 0 is the number 0
-pub zero_word : decode 0 ≡ NumberWord 0
-unfolding number_word
-zero_word = decode-number_word 0
-
-pub zero_clean : (E : Era) (w : ℕ) → w ≡ 0 → ¬ (Leads E w)
-unfolding Leads
-zero_clean E w e l = absurd (let q : decode 0 ≡ PointerWord l.0 = rw e at l.1 in let r = sym zero_word ∙ q in cc)
-
-pub zero_lands : (size writer : ℕ → ℕ) (w : ℕ) → w ≡ 0 → Lands size writer w
-unfolding Lands
-zero_lands size writer w e b d = absurd (let q : decode 0 ≡ PointerWord b = rw e at d in let r = sym zero_word ∙ q in cc)
 
 -- ---- the pages
 
@@ -104,62 +90,24 @@ module _ (n : ℕ) where
   Known k w = Knows E m.gate m.traced m.front m.low m.old_front m.old_low m.old_owed nothing m.page m.cross m.announced m.heap k w
 
   outside : (k : ℕ) → Known k (fresh Outside)
-  outside k = record {
-    timely = record { past = omega arith; live = λ l. true_false refl l; running = λ r. refl; flipping = λ f. refl; rest = λ r. refl; below = omega arith };
-    ends = record { stays = λ e. true_false refl e; gone = λ e. true_false refl e };
-    outside = λ e j l. refl;
-    stock = λ q e. none≢some e;
-    registers = λ u n. record { clean = λ j l t. zero_clean E 0 refl; lands = λ j l. zero_lands (λ a. 0) (λ a. 0) 0 refl };
-    active = λ f e. none≢some e;
-    access = λ f e. none≢some e;
-    board = λ e. true_false refl e;
-    origin = λ q e. none≢some e;
-    quest = λ q e. none≢some e;
-    licensed = record { licensed = λ c e. none≢some e; asked = λ c e. none≢some e; counted = λ e. true_false refl e; idle = λ e. refl };
-    copy = λ c e. none≢some e;
-    keeps = λ c e. none≢some e;
-    present = λ s e. none≢some e;
-    scan = λ s e. none≢some e;
-    stepping = λ s e. none≢some e;
-    round = λ r e. none≢some e;
-    claim = λ q e. none≢some e;
-    look = λ l e. none≢some e;
-    last_look = λ l e. none≢some e;
-    seen_traced = λ e. true_false refl e;
-    flips = λ e. true_false refl e;
-    passage = λ s e. none≢some e;
-    resets = λ r e. none≢some e;
-    reset = λ r e. none≢some e;
-  }
+  outside k = idle_knows (assumption)
+      (record { past = omega arith; live = λ l. true_false refl l; running = λ r. refl; flipping = λ f. refl; rest = λ r. refl; below = omega arith })
+      (record { stays = λ e. true_false refl e; gone = λ e. true_false refl e })
+      (λ e j l. refl)
+      (λ q e. none≢some e)
+      (λ u n. record { clean = λ j l t. zero_clean E 0 refl; lands = λ j l. zero_lands (λ a. 0) (λ a. 0) 0 refl })
+      (λ e. true_false refl e)
+      refl
 
   scanner : (k : ℕ) → Known k (fresh Scanner)
-  scanner k = record {
-    timely = record { past = omega arith; live = λ l. true_false refl l; running = λ r. refl; flipping = λ f. refl; rest = λ r. refl; below = omega arith };
-    ends = record { stays = λ e. true_false refl e; gone = λ e. true_false refl e };
-    outside = λ e. absurd (cc);
-    stock = λ q e. none≢some e;
-    registers = λ u n. true_false refl u;
-    active = λ f e. none≢some e;
-    access = λ f e. none≢some e;
-    board = λ e. true_false refl e;
-    origin = λ q e. none≢some e;
-    quest = λ q e. none≢some e;
-    licensed = record { licensed = λ c e. none≢some e; asked = λ c e. none≢some e; counted = λ e. true_false refl e; idle = λ e. refl };
-    copy = λ c e. none≢some e;
-    keeps = λ c e. none≢some e;
-    present = λ s e. none≢some e;
-    scan = λ s e. none≢some e;
-    stepping = λ s e. none≢some e;
-    round = λ r e. none≢some e;
-    claim = λ q e. none≢some e;
-    look = λ l e. none≢some e;
-    last_look = λ l e. none≢some e;
-    seen_traced = λ e. true_false refl e;
-    flips = λ e. true_false refl e;
-    passage = λ s e. none≢some e;
-    resets = λ r e. none≢some e;
-    reset = λ r e. none≢some e;
-  }
+  scanner k = idle_knows (assumption)
+      (record { past = omega arith; live = λ l. true_false refl l; running = λ r. refl; flipping = λ f. refl; rest = λ r. refl; below = omega arith })
+      (record { stays = λ e. true_false refl e; gone = λ e. true_false refl e })
+      (λ e. absurd (cc))
+      (λ q e. none≢some e)
+      (λ u n. true_false refl u)
+      (λ e. true_false refl e)
+      refl
 
   -- ---- the whole
 
@@ -201,10 +149,6 @@ module _ (n : ℕ) where
 
     -- ---- the plain state
 
-    zero_value : (w : ℕ) → w ≡ 0 → value_of nothing.identity w ≡ Some (Number 0)
-    unfolding value_of
-    zero_value w e = rw (e, zero_word) refl
-
     no_records : (k : ℕ) → plain.made_by (opening_plain mutators).heap k ≡ []
     no_records k = ⊎_elim
         (λ (l : k < mutators). get_or-replicate mutators k [] [] l)
@@ -214,7 +158,7 @@ module _ (n : ℕ) where
     shows : Shown E m (opening_team mutators scanners) nothing (opening_plain mutators)
     shows = record {
       objects = record { shows = λ a st. absurd (omega (arith, st)) };
-      board = record { sixteen = refl; board = λ x l. zero_value 0 refl ∙ sym (slice_get-of_replicate 16 x (Number 0) l) };
+      board = record { sixteen = refl; board = λ x l. zero_value nothing.identity 0 refl ∙ sym (slice_get-of_replicate 16 x (Number 0) l) };
       as_many = length-replicate mutators opening_mutator;
       makers = length-replicate mutators [];
       accounts = λ k q e.
@@ -226,8 +170,8 @@ module _ (n : ℕ) where
       registers = λ k q e.
           let s : q ≡ opening_mutator = slice_get-replicate mutators k opening_mutator q e in
           each_fresh mutators scanners k (λ w. RegistersShow (value_of nothing.identity) w.registers q)
-          (rw s (record { eight = refl; registers_show = λ n j l. zero_value 0 refl ∙ sym (slice_get-of_replicate 8 j (Number 0) l) }))
-          (rw s (record { eight = refl; registers_show = λ n j l. zero_value 0 refl ∙ sym (slice_get-of_replicate 8 j (Number 0) l) }));
+          (rw s (record { eight = refl; registers_show = λ n j l. zero_value nothing.identity 0 refl ∙ sym (slice_get-of_replicate 8 j (Number 0) l) }))
+          (rw s (record { eight = refl; registers_show = λ n j l. zero_value nothing.identity 0 refl ∙ sym (slice_get-of_replicate 8 j (Number 0) l) }));
     }
 
     -- ---- the cycle

@@ -1,5 +1,5 @@
 -- A page is claimed: its word becomes that of the worker that scans it.
-use Rattle.std.proofs.Common.{◌≡◌, ◌≢◌, ℕ, ◌+◌, ◌-◌, ◌*◌, ◌/◌, ◌<◌, ◌≤◌, true, false, Some, refl, sym, ap, ◌∙◌, arith, ⊎_elim, ◌⊎◌, inl, inr}
+use Rattle.std.proofs.Common.{◌≡◌, ◌≢◌, ℕ, ◌+◌, ◌-◌, ◌*◌, ◌/◌, ◌<◌, ◌≤◌, true, false, Some, refl, sym, ap, ◌∙◌, arith, ⊎_elim, ◌⊎◌, inl, inr, None}
 use Rattle.std.proofs.lemmas.Bool.{cases_eq, cases_lt, cases_Bool}
 use Rattle.space_map.specs.declared.page_word.PageWord.{PageWord}
 use Rattle.space_map.specs.declared.page_word.PageWord.TheVariants.{Open, Scanning}
@@ -8,19 +8,19 @@ use Rattle.heap_state.specs.Era.{Era, Memory, IsLaidOut}
 use Rattle.heap_state.specs.Functions.{put}
 use Rattle.heap_state.specs.Ghost.{Ghost}
 use Rattle.heap_state.specs.Inductive.{Invariant, Knows}
-use Rattle.heap_state.specs.Parts.Copying.{IsOrigin}
-use Rattle.heap_state.specs.Parts.Gate.{Counted, Staffed}
+use Rattle.heap_state.specs.Parts.Copying.{IsOrigin, Licensed}
 use Rattle.heap_state.specs.Parts.Leading.{Opened}
 use Rattle.heap_state.specs.Parts.Pages.{Shut, Quiet, Filling, ScannedBy}
 use Rattle.heap_state.specs.Parts.Scanning.{Scans, Stepping, Claims}
-use Rattle.heap_state.specs.Parts.Stocks.{Stocks, Numbered}
-use Rattle.heap_state.specs.Worker.{Worker, Team, Origin, Register, Scanned, Scan, Claim, Look, LastLook, Access, is_late, is_running}
+use Rattle.heap_state.specs.Worker.{Worker, Team, Origin, Register, Scanned, Scan, Claim, is_late, Quest}
+use Rattle.heap_state.proofs.Frames.{counted_put, staffed_put, stocks_put, numbered_put, rooted_put}
 use Rattle.heap_state.proofs.Holding.{writer}
 use Rattle.heap_state.proofs.Puts.{put_at, put_other, put_same, team_put, some_same, none≢some}
-use Rattle.heap_laws.specs.Steps.{with_worker}
 use Rattle.heap_laws.specs.Scanning.{with_page, WinsPage, scan_from, begins_scan, ClaimsPage, SleeperLosesPage}
-use Rattle.heap_laws.proofs.KeepingTeams.{Alike, placed, counted_placed, staffed_placed, stocks_placed, numbered_placed, shown_alike, cycle_alike}
-use Rattle.heap_laws.proofs.ScanningFrames.{PageTurns, stays, grows, quiet_turns, tracing_turns, aged_turns, old_pages_turn, new_turns, old_space_turns, stocks_turn, accesses_turn, claims_turn, looks_turn, last_looks_turn}
+use Rattle.heap_laws.specs.Steps.{with_worker}
+use Rattle.heap_laws.proofs.Learning.{shown_put}
+use Rattle.heap_laws.proofs.PageTurns.{Turns, grows, quiet_turns, tracing_turns, aged_turns, old_pages_turn, old_space_turns, scans_beside, knows_turns}
+use Rattle.heap_laws.proofs.ScanningFrames.{PageTurns, not_old_word, new_turns, stocks_turn}
 use Rattle.heap_laws.proofs.ScanningWho.{open_age, scan_age, open_scan, scan_scan, none_writes}
 
 pub sleeper_loses : SleeperLosesPage
@@ -78,16 +78,11 @@ module _ (E : Era) (m : Memory) (team : Team) (g : Ghost) (k : ℕ) (q : Claim) 
       (λ y. inr (let s = out.start in omega (arith, y.0, y.1, inv.laid.order, s), y.0))
       kinds
 
+  turn : Turns E m.page q.page v
+  turn = record { young = omega (arith, young); turned = refl; open_stays = λ o. absurd (not_open o) }
+
   turns : PageTurns E m.front m.low m.page q.page v
-  turns = record {
-    out = out;
-    order = inv.laid.order;
-    aligned = inv.laid.aligned;
-    place = place;
-    young = omega (arith, young);
-    turned = refl;
-    open_stays = λ o. absurd (not_open o);
-  }
+  turns = record { out = out; order = inv.laid.order; aligned = inv.laid.aligned; place = place; turn = turn }
 
   -- no reserved place has a word on the page
   no_word : (b x : ℕ) → 0 < g.size b → 0 < g.writer b → b ≤ x → x < b + g.size b → x / 64 ≡ q.page → ⊥
@@ -120,7 +115,7 @@ module _ (E : Era) (m : Memory) (team : Team) (g : Ghost) (k : ℕ) (q : Claim) 
 
   filling : Filling E m.gate.behind m.front page'
   filling = record {
-    filling = λ p l r a. quiet_turns turns (⊎_elim
+    filling = λ p l r a. quiet_turns turn (⊎_elim
         (λ (e : p ≡ q.page). ⊎_elim
         (λ y. absurd (⊎_elim (λ z. omega (arith, z, e, l, r)) (λ z. let b = out.below in let c = out.board in omega (arith, z, e, l, inv.laid.order, b, c)) y.0))
         (λ y. y.2) kinds)
@@ -130,9 +125,6 @@ module _ (E : Era) (m : Memory) (team : Team) (g : Ghost) (k : ℕ) (q : Claim) 
 
   opened : Opened E g.size g.writer g.kind m.heap page'
   opened = record { opened = λ x u o. inv.opened.opened x u (back (x / 64) o) }
-
-  scans : (j : ℕ) (s : Scan) → Scans E m.front g.size g.writer g.kind m.heap m.page j s → Scans E m.front g.size g.writer g.kind m.heap page' j s
-  scans j s p = let c : page' s.page ≡ Scanning E.epoch j = (let d : s.page ≢ q.page = (λ e. not_scan j (rw e at p.claimed)) in rw (put_other m.page q.page v s.page d) p.claimed) in assumption
 
   own_scan : Scans E m.front g.size g.writer g.kind m.heap page' k (scan_from q)
   own_scan = record {
@@ -148,9 +140,6 @@ module _ (E : Era) (m : Memory) (team : Team) (g : Ghost) (k : ℕ) (q : Claim) 
     where
       full : q.in_place ≡ false → (q.page ≡ E.board / 64) ⊎ (64 * q.page + 64 ≤ m.front)
       full i = ⊎_elim (λ y. inr y.1) (λ y. inl y) (mine.full of_now i)
-
-  like : Alike team.worker k w'
-  like = record { post = refl; epoch = refl; account = refl; registers = refl; done = refl; stock = refl }
 
   not_me : (j : ℕ) (s : Scan) → j ≡ k → (team.worker j).scan ≡ Some s → ⊥
   not_me j s y e = let z : (team.worker k).scan ≡ Some s = rw y at e in none≢some (sym wins.idle ∙ z)
@@ -170,49 +159,20 @@ module _ (E : Era) (m : Memory) (team : Team) (g : Ghost) (k : ℕ) (q : Claim) 
   KnowsNow = Knows E m.gate m.traced m.front m.low m.old_front m.old_low m.old_owed g page' m.cross m.announced m.heap
 
   others : (j : ℕ) → j < team.count → j ≢ k → KnowsNow j (team.worker j)
-  others j l d =
-      let u = inv.workers j l in
-      let a = λ (f : Access) (e : (team.worker j).access ≡ Some f). accesses_turn turns f (u.access f e) in
-      let b : (team.worker j).board_open ≡ true → (is_running (team.worker j).post ≡ true) × (page' (E.board / 64) ≡ Open E.epoch) = λ e. ((u.board e).0, stays turns (E.board / 64) (u.board e).1) in
-      let s = λ (s : Scan) (e : (team.worker j).scan ≡ Some s). scans j s (u.scan s e) in
-      let c = λ (c : Claim) (e : (team.worker j).claim ≡ Some c). claims_turn turns (team.worker j).epoch c (u.claim c e) in
-      let o = λ (c : Look) (e : (team.worker j).look ≡ Some c). looks_turn turns (team.worker j).epoch c (u.look c e) in
-      let p = λ (c : LastLook) (e : (team.worker j).last_look ≡ Some c). last_looks_turn turns (team.worker j).epoch c (u.last_look c e) in
-      assumption
+  others j l d = knows_turns turn (λ s e p. scans_beside turn j s (λ y. not_scan j (rw y at p.claimed)) p) (inv.workers j l)
 
   own : KnowsNow k w'
   own =
-      let a = λ (f : Access) (e : (team.worker k).access ≡ Some f). accesses_turn turns f (me.access f e) in
-      let b : (team.worker k).board_open ≡ true → (is_running (team.worker k).post ≡ true) × (page' (E.board / 64) ≡ Open E.epoch) = λ e. ((me.board e).0, stays turns (E.board / 64) (me.board e).1) in
-      let o = λ (c : Look) (e : (team.worker k).look ≡ Some c). looks_turn turns (team.worker k).epoch c (me.look c e) in
-      let p = λ (c : LastLook) (e : (team.worker k).last_look ≡ Some c). last_looks_turn turns (team.worker k).epoch c (me.last_look c e) in
-      record {
-        timely = me.timely;
-        ends = me.ends;
-        outside = me.outside;
-        stock = me.stock;
-        registers = me.registers;
-        active = me.active;
-        access = a;
-        board = b;
-        origin = λ y e. origin y.old y.origin (me.origin y e);
-        quest = me.quest;
-        licensed = record { licensed = λ c e. inl (scan_from q, refl); asked = me.licensed.asked; counted = me.licensed.counted; idle = me.licensed.idle };
-        copy = me.copy;
-        keeps = me.keeps;
-        present = λ s e. of_now;
-        scan = λ s e. rw (← some_same e) own_scan;
-        stepping = λ s e. rw (← some_same e) own_stepping;
-        round = me.round;
-        claim = λ c e. none≢some e;
-        look = o;
-        last_look = p;
-        seen_traced = me.seen_traced;
-        flips = me.flips;
-        passage = me.passage;
-        resets = me.resets;
-        reset = me.reset;
-      }
+      let u = knows_turns turn (λ s e p. none≢some (sym wins.idle ∙ e)) me in
+      let o1 : (y : Quest) → (team.worker k).quest ≡ Some y → IsOrigin E g.size g.writer g.kind m.heap (is_late E.epoch (team.worker k)) (team.worker k).done (team.worker k).registers (Some (scan_from q)) y.old y.origin =
+      λ y e. origin y.old y.origin (me.origin y e) in
+      let o2 : Licensed m.gate.behind g.kept k (is_late E.epoch (team.worker k)) (team.worker k).copy (team.worker k).quest (Some (scan_from q)) =
+      record { licensed = λ c e. inl (scan_from q, refl); asked = me.licensed.asked; counted = me.licensed.counted; idle = me.licensed.idle } in
+      let o3 : (s : Scan) → Some (scan_from q) ≡ Some s → (team.worker k).epoch ≡ E.epoch = λ s e. of_now in
+      let o4 : (s : Scan) → Some (scan_from q) ≡ Some s → Scans E m.front g.size g.writer g.kind m.heap page' k s = λ s e. rw (← some_same e) own_scan in
+      let o5 : (s : Scan) → Some (scan_from q) ≡ Some s → Stepping E m.front g.size g.writer g.kind s = λ s e. rw (← some_same e) own_stepping in
+      let o6 : (c : Claim) → None ≡ Some c → Claims E m.front m.gate.behind g.size g.writer page' (team.worker k).epoch c = λ c e. none≢some e in
+      assumption
     where
       origin : (old : ℕ) (o : Origin) → IsOrigin E g.size g.writer g.kind m.heap (is_late E.epoch (team.worker k)) (team.worker k).done (team.worker k).registers (team.worker k).scan old o
           → IsOrigin E g.size g.writer g.kind m.heap (is_late E.epoch (team.worker k)) (team.worker k).done (team.worker k).registers (Some (scan_from q)) old o
@@ -221,19 +181,19 @@ module _ (E : Era) (m : Memory) (team : Team) (g : Ghost) (k : ℕ) (q : Claim) 
 
   invariant : Invariant E n (with_worker team k w') g
   invariant =
-      let p1 : Counted m.gate team.count (put team.worker k w') = counted_placed (placed like) inv.counted in
-      let p2 : Staffed team.mutators team.count (put team.worker k w') = staffed_placed (placed like) inv.staffed in
+      let p1 = counted_put team.worker k w' refl refl inv.counted in
+      let p2 = staffed_put team.worker k w' refl inv.staffed in
       let p3 : ScannedBy E team.count page' (put team.worker k w') = scanned in
       let p4 = shut in
       let p5 = opened in
       let p6 = filling in
-      let p7 = tracing_turns turns inv.tracing in
-      let p8 = aged_turns turns inv.aged in
+      let p7 = tracing_turns turn inv.tracing in
+      let p8 = aged_turns turn inv.aged in
       let p9 = new_turns turns inv.new in
-      let p10 = old_space_turns turns inv.old_space in
-      let p11 = old_pages_turn turns inv.old_pages in
-      let p12 : Stocks E m.low team.count g.size m.heap page' (put team.worker k w') = stocks_placed (placed like) (stocks_turn turns inv.stocks) in
-      let p13 : Numbered team.mutators g.size g.identity (put team.worker k w') = numbered_placed (placed like) inv.numbered in
+      let p10 = old_space_turns turn (not_old_word turns) inv.old_space in
+      let p11 = old_pages_turn turn inv.old_pages in
+      let p12 = stocks_put team.worker k w' (λ _ e. e) (stocks_turn turns inv.stocks) in
+      let p13 = numbered_put team.worker k w' refl inv.numbered in
       let p14 = team_put team.count KnowsNow team.worker k w' others own in
       assumption
 
@@ -242,8 +202,8 @@ module _ (E : Era) (m : Memory) (team : Team) (g : Ghost) (k : ℕ) (q : Claim) 
     now = of_now;
     keeps = record {
       invariant = invariant;
-      shown = λ p s. shown_alike E m n team g k w' p like refl s;
-      cycle = λ p c. cycle_alike E m n team g k w' p like refl refl c;
-      ages = grows turns;
+      shown = λ p s. shown_put E m n team g k w' p refl refl refl s;
+      cycle = λ p c. record { copying = c.copying; rooted = rooted_put team.worker k w' refl refl refl (λ _ _ a b. (a, b)) c.rooted };
+      ages = grows turn;
     };
   }

@@ -11,7 +11,7 @@ use Rattle.heap_state.specs.Ghost.{Ghost, Here}
 use Rattle.heap_state.specs.Inductive.{Invariant}
 use Rattle.heap_state.specs.Worker.{Team, Passage, Enter, Park, Request, Forwarded, Resume, Leave, Reset}
 use Rattle.heap_state.proofs.Following.{follows}
-use Rattle.heap_state.proofs.Placing.{table_pages, table_in_use}
+use Rattle.heap_state.proofs.Placing.{table_in_use}
 use Rattle.heap_laws.specs.CopyingStands.{worker_at}
 use Rattle.heap_laws.specs.Flipping.{flipped_gate, after_flip, next_ghost, next_era, next_memory, Flips, FlipKeeps}
 use Rattle.heap_laws.specs.FlippingReset.{resetting}
@@ -24,11 +24,11 @@ use Rattle.heap_laws.proofs.FlippingReset.{stores_area}
 use Rattle.heap_laws.proofs.FlippingShown.{flip_keeps, table_flips}
 use Rattle.heap_laws.proofs.GatingCounts.{fits}
 use Rattle.heap_laws.proofs.GatingPassages.{passes_gate}
-use Rattle.heap_laws.proofs.LiftingSteps.{ready, lifted, seen, stand}
+use Rattle.heap_laws.proofs.LiftingSteps.{ready, lifted, seen, stand, board_at}
 use Rattle.heap_laws.proofs.ScanningClaimed.{claims, place}
 use Rattle.heap_laws.proofs.ScanningFields.{here, stores}
 use Rattle.heap_laws.proofs.ScanningOpened.{opens}
-use Rattle.heap_laws.proofs.ScanningSlot.{slot_lies}
+use Rattle.heap_laws.proofs.ScanningWho.{here_lies}
 use Rattle.heap_laws.proofs.TracingWon.{traces}
 
 module _ (c : Configuration) (p : Plain) (s : Stands c p) (k : ℕ) (l : k < length c.workers) where
@@ -44,9 +44,6 @@ module _ (c : Configuration) (p : Plain) (s : Stands c p) (k : ℕ) (l : k < len
   inv : Invariant (era c) (memory c) (team c) g
   inv = s.invariant
 
-  board_at : (era c).board ≡ 128 * c.pages
-  board_at = let n : (table c).pages ≡ c.pages = table_pages c.pages c.words in omega (arith, n)
-
   spans : ((era c).span ≡ 64 * c.pages) × ((era c).old_span ≡ 64 * c.pages)
   spans = rw (table_in_use c.pages c.words) (refl, refl)
 
@@ -54,11 +51,11 @@ module _ (c : Configuration) (p : Plain) (s : Stands c p) (k : ℕ) (l : k < len
   epoch_fits = inv.counted.epoch_fits
 
   page_there : (q : ℕ) → (q ≡ E.board / 64) ⊎ ((E.start ≤ 64 * q) × (64 * q < (memory c).front)) → q ≤ 2 * c.pages
-  page_there q place = let o = inv.laid.order in let b = is_ready.laid_out.below in omega (arith, place, o, b, board_at)
+  page_there q place = let o = inv.laid.order in let b = is_ready.laid_out.below in omega (arith, place, o, b, board_at c)
 
   word_there : (x : ℕ) → Here E g.size g.writer g.kind x → x ≤ 128 * c.pages + 63
-  word_there x h = let y = slot_lies E (memory c).front (memory c).low g.size g.writer g.kind x is_ready.laid_out inv.laid h in let b = is_ready.laid_out.below in
-      ⊎_elim (λ z. omega (arith, z, board_at)) (λ z. omega (arith, z.1, b, board_at)) y
+  word_there x h = let y = here_lies E (memory c) (team c) g inv is_ready.laid_out x h in let b = is_ready.laid_out.below in let o = inv.laid.order in
+      ⊎_elim (λ z. omega (arith, z, board_at c)) (λ z. ⊎_elim (λ a. omega (arith, a, o, b, board_at c)) (λ a. omega (arith, a.0, a.1, b, board_at c)) z) y
 
   few : k < 24
   few = let f = inv.staffed.few in omega (arith, f, l)

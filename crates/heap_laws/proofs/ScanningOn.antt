@@ -5,14 +5,14 @@ use Rattle.heap_words.specs.declared.kind.Kind.{Kind}
 use Rattle.heap_state.specs.Era.{Era, Memory}
 use Rattle.heap_state.specs.Ghost.{Ghost, Here, Leads}
 use Rattle.heap_state.specs.Inductive.{Invariant, Knows}
+use Rattle.heap_state.specs.Parts.Copying.{Copies, IsOrigin, Keeps, Licensed, Seeks}
 use Rattle.heap_state.specs.Parts.Scanning.{Scans, Stepping}
-use Rattle.heap_state.specs.Worker.{Worker, Team, Copy, Scan, Seen}
+use Rattle.heap_state.specs.Worker.{Worker, Team, Copy, Scan, Seen, Quest, is_late}
 use Rattle.heap_state.proofs.Holding.{writer}
 use Rattle.heap_state.proofs.Puts.{some_same, none≢some}
-use Rattle.heap_laws.specs.Keeping.{Keeps}
-use Rattle.heap_laws.specs.Steps.{with_worker}
 use Rattle.heap_laws.specs.ScanningWords.{scanning, is_past, on_to}
-use Rattle.heap_laws.proofs.KeepingTeams.{Alike, learns}
+use Rattle.heap_laws.specs.Steps.{with_worker, Preserves}
+use Rattle.heap_laws.proofs.Learning.{learns}
 
 -- from s the scan may go on as t over these words
 pub record GoesOn (E : Era) (front : ℕ) (size writer : ℕ → ℕ) (kind : ℕ → Kind) (heap : ℕ → ℕ) (s t : Scan) : Type 0 where
@@ -48,7 +48,7 @@ module _ (E : Era) (m : Memory) (team : Team) (g : Ghost) (k : ℕ) (s : Scan) (
   me = inv.workers k below
 
   -- what the worker knows of its scan after it went on
-  pub scans_on : (heap : ℕ → ℕ) (t : Scan) → GoesOn E m.front g.size g.writer g.kind heap s t → Scans E m.front g.size g.writer g.kind heap m.page k s → Scans E m.front g.size g.writer g.kind heap m.page k t
+  scans_on : (heap : ℕ → ℕ) (t : Scan) → GoesOn E m.front g.size g.writer g.kind heap s t → Scans E m.front g.size g.writer g.kind heap m.page k s → Scans E m.front g.size g.writer g.kind heap m.page k t
   scans_on heap t on p = record {
     claimed = rw on.page p.claimed;
     place = rw on.page p.place;
@@ -57,42 +57,27 @@ module _ (E : Era) (m : Memory) (team : Team) (g : Ghost) (k : ℕ) (s : Scan) (
     above = λ b x st w l n e. absurd (let y = writer E m team g inv b k st w in no_copy y.copy y.copies);
   }
 
-  like : (t : Scan) → Alike team.worker k (scanning (team.worker k) t)
-  like t = record { post = refl; epoch = refl; account = refl; registers = refl; done = refl; stock = refl }
-
   pub same_page : (t : Scan) → t.page ≡ s.page → (r : Scan) → (team.worker k).scan ≡ Some r → (u : Scan) × ((scanning (team.worker k) t).scan ≡ Some u) × (u.page ≡ r.page)
   same_page t e r f = let z : s ≡ r = some_same (sym scans ∙ f) in (t, refl, e ∙ ap (λ (y : Scan). y.page) z)
 
+  -- what the worker knows after it went on
+  pub knows_on : (heap : ℕ → ℕ) (t : Scan) → GoesOn E m.front g.size g.writer g.kind heap s t → Scans E m.front g.size g.writer g.kind heap m.page k s → KnowsThen heap (scanning (team.worker k) t)
+  knows_on heap t on sc =
+      let u = me in
+      let o1 : (q : Quest) → None ≡ Some q → IsOrigin E g.size g.writer g.kind heap (is_late E.epoch (team.worker k)) (team.worker k).done (team.worker k).registers (Some t) q.old q.origin = λ q e. none≢some e in
+      let o2 : (q : Quest) → None ≡ Some q → Seeks E g.size g.writer g.copy q = λ q e. none≢some e in
+      let o3 : Licensed m.gate.behind g.kept k (is_late E.epoch (team.worker k)) (team.worker k).copy None (Some t) =
+      record { licensed = λ c e. absurd (no_copy c e); asked = λ c e. absurd (no_copy c e); counted = me.licensed.counted; idle = me.licensed.idle } in
+      let o4 : (c : Copy) → (team.worker k).copy ≡ Some c → Copies E m.front g.size g.writer g.copy g.keeper g.kept m.announced m.cross heap k c = λ c e. absurd (no_copy c e) in
+      let o5 : (c : Copy) → (team.worker k).copy ≡ Some c → Keeps g.kind g.identity heap c = λ c e. absurd (no_copy c e) in
+      let o6 : (r : Scan) → Some t ≡ Some r → (team.worker k).epoch ≡ E.epoch = λ r e. me.present s scans in
+      let o7 : (r : Scan) → Some t ≡ Some r → Scans E m.front g.size g.writer g.kind heap m.page k r = λ r e. rw (← some_same e) (scans_on heap t on sc) in
+      let o8 : (r : Scan) → Some t ≡ Some r → Stepping E m.front g.size g.writer g.kind r = λ r e. rw (← some_same e) on.stepping in
+      assumption
+
   -- a load after which the scan goes on
-  pub goes_on : (t : Scan) → GoesOn E m.front g.size g.writer g.kind m.heap s t → Keeps E m m team (with_worker team k (scanning (team.worker k) t)) g
-  goes_on t on = learns E m team g k (scanning (team.worker k) t) inv (like t) (same_page t on.page)
-      (record {
-        timely = me.timely;
-        ends = me.ends;
-        outside = me.outside;
-        stock = me.stock;
-        registers = me.registers;
-        active = me.active;
-        access = me.access;
-        board = me.board;
-        origin = λ q e. none≢some e;
-        quest = λ q e. none≢some e;
-        licensed = record { licensed = λ c e. absurd (no_copy c e); asked = λ c e. absurd (no_copy c e); counted = me.licensed.counted; idle = me.licensed.idle };
-        copy = me.copy;
-        keeps = me.keeps;
-        present = λ r e. me.present s scans;
-        scan = λ r e. rw (← some_same e) (scans_on m.heap t on (me.scan s scans));
-        stepping = λ r e. rw (← some_same e) on.stepping;
-        round = me.round;
-        claim = me.claim;
-        look = me.look;
-        last_look = me.last_look;
-        seen_traced = me.seen_traced;
-        flips = me.flips;
-        passage = me.passage;
-        resets = me.resets;
-        reset = me.reset;
-      })
+  pub goes_on : (t : Scan) → GoesOn E m.front g.size g.writer g.kind m.heap s t → Preserves E m m team (with_worker team k (scanning (team.worker k) t)) g g
+  goes_on t on = learns E m team g k (scanning (team.worker k) t) inv (assumption) (same_page t on.page) (knows_on m.heap t on (me.scan s scans))
 
 -- who asks for nothing copies nothing
 pub no_copy : (E : Era) (m : Memory) (team : Team) (g : Ghost) (k : ℕ) → Invariant E m team g → k < team.count → (team.worker k).quest ≡ None → (c : Copy) → (team.worker k).copy ≡ Some c → ⊥

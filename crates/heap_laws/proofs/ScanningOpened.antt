@@ -8,19 +8,19 @@ use Rattle.heap_state.specs.Era.{Era, Memory, IsLaidOut}
 use Rattle.heap_state.specs.Functions.{put}
 use Rattle.heap_state.specs.Ghost.{Ghost, Here}
 use Rattle.heap_state.specs.Inductive.{Invariant, Knows}
-use Rattle.heap_state.specs.Parts.Copying.{IsOrigin}
-use Rattle.heap_state.specs.Parts.Gate.{Counted, Staffed}
+use Rattle.heap_state.specs.Parts.Copying.{IsOrigin, Licensed}
 use Rattle.heap_state.specs.Parts.Leading.{Opened}
 use Rattle.heap_state.specs.Parts.Pages.{Shut, Filling, ScannedBy}
-use Rattle.heap_state.specs.Parts.Scanning.{Scans}
-use Rattle.heap_state.specs.Parts.Stocks.{Stocks, Numbered}
-use Rattle.heap_state.specs.Worker.{Worker, Team, Origin, Register, Scanned, Copy, Scan, Claim, Look, LastLook, Access, is_late, is_running}
+use Rattle.heap_state.specs.Parts.Scanning.{Scans, Stepping}
+use Rattle.heap_state.specs.Worker.{Worker, Team, Origin, Register, Scanned, Copy, Scan, is_late, Quest}
+use Rattle.heap_state.proofs.Frames.{counted_put, staffed_put, stocks_put, numbered_put, rooted_put}
 use Rattle.heap_state.proofs.Holding.{writer}
 use Rattle.heap_state.proofs.Puts.{put_at, put_other, each_put, team_put, some_same, none≢some}
-use Rattle.heap_laws.specs.Steps.{with_worker}
 use Rattle.heap_laws.specs.Scanning.{with_page, HasScanned, ends_scan, OpensPage}
-use Rattle.heap_laws.proofs.KeepingTeams.{Alike, placed, counted_placed, staffed_placed, stocks_placed, numbered_placed, shown_alike, cycle_alike}
-use Rattle.heap_laws.proofs.ScanningFrames.{PageTurns, stays, grows, quiet_turns, tracing_turns, aged_turns, old_pages_turn, new_turns, old_space_turns, stocks_turn, accesses_turn, claims_turn, looks_turn, last_looks_turn}
+use Rattle.heap_laws.specs.Steps.{with_worker}
+use Rattle.heap_laws.proofs.Learning.{shown_put}
+use Rattle.heap_laws.proofs.PageTurns.{Turns, grows, quiet_turns, tracing_turns, aged_turns, old_pages_turn, old_space_turns, scans_beside, knows_turns}
+use Rattle.heap_laws.proofs.ScanningFrames.{PageTurns, not_old_word, new_turns, stocks_turn}
 use Rattle.heap_laws.proofs.ScanningWho.{scan_age, open_scan, scan_scan, not_late, here_lies}
 
 module _ (E : Era) (m : Memory) (team : Team) (g : Ghost) (k : ℕ) (s : Scan) (out : IsLaidOut E) (inv : Invariant E m team g) (has : HasScanned team k s) where
@@ -42,16 +42,11 @@ module _ (E : Era) (m : Memory) (team : Team) (g : Ghost) (k : ℕ) (s : Scan) (
   mine : Scans E m.front g.size g.writer g.kind m.heap m.page k s
   mine = me.scan s has.scans
 
+  turn : Turns E m.page s.page v
+  turn = record { young = inv.aged.young s.page; turned = refl; open_stays = λ o. refl }
+
   turns : PageTurns E m.front m.low m.page s.page v
-  turns = record {
-    out = out;
-    order = inv.laid.order;
-    aligned = inv.laid.aligned;
-    place = mine.place;
-    young = inv.aged.young s.page;
-    turned = refl;
-    open_stays = λ o. refl;
-  }
+  turns = record { out = out; order = inv.laid.order; aligned = inv.laid.aligned; place = mine.place; turn = turn }
 
   same_age : (p : ℕ) → age_of (page' p) ≡ age_of (m.page p)
   same_age p = each_put (λ y w. y ≡ p → age_of w ≡ age_of (m.page p)) m.page s.page v p (λ _ _. refl)
@@ -97,13 +92,7 @@ module _ (E : Era) (m : Memory) (team : Team) (g : Ghost) (k : ℕ) (s : Scan) (
   }
 
   filling : Filling E m.gate.behind m.front page'
-  filling = record { filling = λ p l r a. quiet_turns turns (inv.filling.filling p l r (rw (same_age p) at a)) }
-
-  scans : (j : ℕ) (q : Scan) → j ≢ k → Scans E m.front g.size g.writer g.kind m.heap m.page j q → Scans E m.front g.size g.writer g.kind m.heap page' j q
-  scans j q d p = let c : page' q.page ≡ Scanning E.epoch j = (let n : q.page ≢ s.page = (λ e. d (scan_scan (rw e at p.claimed) mine.claimed)) in rw (put_other m.page s.page v q.page n) p.claimed) in assumption
-
-  like : Alike team.worker k w'
-  like = record { post = refl; epoch = refl; account = refl; registers = refl; done = refl; stock = refl }
+  filling = record { filling = λ p l r a. quiet_turns turn (inv.filling.filling p l r (rw (same_age p) at a)) }
 
   its_page : (j : ℕ) (q : Scan) → j ≡ k → (team.worker j).scan ≡ Some q → s.page ≡ q.page
   its_page j q y e = let z : (team.worker k).scan ≡ Some q = rw y at e in let t : s ≡ q = some_same (sym has.scans ∙ z) in ap (λ (u : Scan). u.page) t
@@ -122,45 +111,20 @@ module _ (E : Era) (m : Memory) (team : Team) (g : Ghost) (k : ℕ) (s : Scan) (
   KnowsNow = Knows E m.gate m.traced m.front m.low m.old_front m.old_low m.old_owed g page' m.cross m.announced m.heap
 
   others : (j : ℕ) → j < team.count → j ≢ k → KnowsNow j (team.worker j)
-  others j l d =
-      let u = inv.workers j l in
-      let a = λ (f : Access) (e : (team.worker j).access ≡ Some f). accesses_turn turns f (u.access f e) in
-      let b : (team.worker j).board_open ≡ true → (is_running (team.worker j).post ≡ true) × (page' (E.board / 64) ≡ Open E.epoch) = λ e. ((u.board e).0, stays turns (E.board / 64) (u.board e).1) in
-      let s = λ (s : Scan) (e : (team.worker j).scan ≡ Some s). scans j s d (u.scan s e) in
-      let c = λ (c : Claim) (e : (team.worker j).claim ≡ Some c). claims_turn turns (team.worker j).epoch c (u.claim c e) in
-      let o = λ (c : Look) (e : (team.worker j).look ≡ Some c). looks_turn turns (team.worker j).epoch c (u.look c e) in
-      let p = λ (c : LastLook) (e : (team.worker j).last_look ≡ Some c). last_looks_turn turns (team.worker j).epoch c (u.last_look c e) in
-      assumption
+  others j l d = knows_turns turn (λ q e p. scans_beside turn j q (λ y. d (scan_scan (rw y at p.claimed) mine.claimed)) p) (inv.workers j l)
 
   own : KnowsNow k w'
   own =
-      record {
-        timely = me.timely;
-        ends = me.ends;
-        outside = me.outside;
-        stock = me.stock;
-        registers = me.registers;
-        active = me.active;
-        access = λ f e. accesses_turn turns f (me.access f e);
-        board = λ e. ((me.board e).0, stays turns (E.board / 64) (me.board e).1);
-        origin = λ y e. origin y.old y.origin (me.origin y e);
-        quest = me.quest;
-        licensed = record { licensed = λ c e. absurd (no_copy c e); asked = me.licensed.asked; counted = me.licensed.counted; idle = me.licensed.idle };
-        copy = me.copy;
-        keeps = me.keeps;
-        present = λ s e. none≢some e;
-        scan = λ s e. none≢some e;
-        stepping = λ s e. none≢some e;
-        round = me.round;
-        claim = λ c e. claims_turn turns (team.worker k).epoch c (me.claim c e);
-        look = λ c e. looks_turn turns (team.worker k).epoch c (me.look c e);
-        last_look = λ c e. last_looks_turn turns (team.worker k).epoch c (me.last_look c e);
-        seen_traced = me.seen_traced;
-        flips = me.flips;
-        passage = me.passage;
-        resets = me.resets;
-        reset = me.reset;
-      }
+      let u = me in
+      let o1 : (y : Quest) → (team.worker k).quest ≡ Some y → IsOrigin E g.size g.writer g.kind m.heap (is_late E.epoch (team.worker k)) (team.worker k).done (team.worker k).registers None y.old y.origin =
+      λ y e. origin y.old y.origin (me.origin y e) in
+      let o2 : Licensed m.gate.behind g.kept k (is_late E.epoch (team.worker k)) (team.worker k).copy (team.worker k).quest None =
+      record { licensed = λ c e. absurd (no_copy c e); asked = me.licensed.asked; counted = me.licensed.counted; idle = me.licensed.idle } in
+      let o3 : (s : Scan) → None ≡ Some s → (team.worker k).epoch ≡ E.epoch = λ s e. none≢some e in
+      let o4 : (s : Scan) → None ≡ Some s → Scans E m.front g.size g.writer g.kind m.heap m.page k s = λ s e. none≢some e in
+      let o5 : (s : Scan) → None ≡ Some s → Stepping E m.front g.size g.writer g.kind s = λ s e. none≢some e in
+      let forgotten : Knows E m.gate m.traced m.front m.low m.old_front m.old_low m.old_owed g m.page m.cross m.announced m.heap k w' = assumption in
+      knows_turns turn (λ s e p. none≢some e) forgotten
     where
       origin : (old : ℕ) (o : Origin) → IsOrigin E g.size g.writer g.kind m.heap (is_late E.epoch (team.worker k)) (team.worker k).done (team.worker k).registers (team.worker k).scan old o
           → IsOrigin E g.size g.writer g.kind m.heap (is_late E.epoch (team.worker k)) (team.worker k).done (team.worker k).registers None old o
@@ -169,19 +133,19 @@ module _ (E : Era) (m : Memory) (team : Team) (g : Ghost) (k : ℕ) (s : Scan) (
 
   invariant : Invariant E (with_page m s.page v) (with_worker team k w') g
   invariant =
-      let p1 : Counted m.gate team.count (put team.worker k w') = counted_placed (placed like) inv.counted in
-      let p2 : Staffed team.mutators team.count (put team.worker k w') = staffed_placed (placed like) inv.staffed in
+      let p1 = counted_put team.worker k w' refl refl inv.counted in
+      let p2 = staffed_put team.worker k w' refl inv.staffed in
       let p3 : ScannedBy E team.count page' (put team.worker k w') = scanned in
       let p4 = shut in
       let p5 = opened in
       let p6 = filling in
-      let p7 = tracing_turns turns inv.tracing in
-      let p8 = aged_turns turns inv.aged in
+      let p7 = tracing_turns turn inv.tracing in
+      let p8 = aged_turns turn inv.aged in
       let p9 = new_turns turns inv.new in
-      let p10 = old_space_turns turns inv.old_space in
-      let p11 = old_pages_turn turns inv.old_pages in
-      let p12 : Stocks E m.low team.count g.size m.heap page' (put team.worker k w') = stocks_placed (placed like) (stocks_turn turns inv.stocks) in
-      let p13 : Numbered team.mutators g.size g.identity (put team.worker k w') = numbered_placed (placed like) inv.numbered in
+      let p10 = old_space_turns turn (not_old_word turns) inv.old_space in
+      let p11 = old_pages_turn turn inv.old_pages in
+      let p12 = stocks_put team.worker k w' (λ _ e. e) (stocks_turn turns inv.stocks) in
+      let p13 = numbered_put team.worker k w' refl inv.numbered in
       let p14 = team_put team.count KnowsNow team.worker k w' others own in
       assumption
 
@@ -191,8 +155,8 @@ module _ (E : Era) (m : Memory) (team : Team) (g : Ghost) (k : ℕ) (s : Scan) (
     was = mine.claimed;
     keeps = record {
       invariant = invariant;
-      shown = λ p y. shown_alike E m (with_page m s.page v) team g k w' p like refl y;
-      cycle = λ p y. cycle_alike E m (with_page m s.page v) team g k w' p like refl refl y;
-      ages = grows turns;
+      shown = λ p y. shown_put E m (with_page m s.page v) team g k w' p refl refl refl y;
+      cycle = λ p y. record { copying = y.copying; rooted = rooted_put team.worker k w' refl refl refl (λ _ _ a b. (a, b)) y.rooted };
+      ages = grows turn;
     };
   }

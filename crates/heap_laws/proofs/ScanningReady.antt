@@ -9,45 +9,19 @@ use Rattle.heap_state.specs.Worker.{Team, Claim}
 use Rattle.heap_state.proofs.Holding.{writer}
 use Rattle.heap_state.proofs.Puts.{some_same}
 use Rattle.heap_laws.specs.Keeping.{Keeps}
-use Rattle.heap_laws.specs.Steps.{with_worker}
 use Rattle.heap_laws.specs.Scanning.{claiming, claim_of, BeginningClaimKeeps, LookingAtPlaceKeeps, LookingAtGateKeeps}
-use Rattle.heap_laws.proofs.KeepingTeams.{learns}
+use Rattle.heap_laws.specs.Steps.{with_worker}
+use Rattle.heap_laws.proofs.Learning.{learns}
 
 -- a worker that knows what its new claim says
 module _ (E : Era) (m : Memory) (team : Team) (g : Ghost) (k : ℕ) (q : Claim) (inv : Invariant E m team g) (below : k < team.count)
     (new : Claims E m.front m.gate.behind g.size g.writer m.page (team.worker k).epoch q) where
   pub claims_more : Keeps E m m team (with_worker team k (claiming (team.worker k) q)) g
   claims_more = learns E m team g k (claiming (team.worker k) q) inv
-      (record { post = refl; epoch = refl; account = refl; registers = refl; done = refl; stock = refl })
+      (assumption)
       (λ s e. (s, e, refl))
       (let me = inv.workers k below in let c : (c : Claim) → Some q ≡ Some c → Claims E m.front m.gate.behind g.size g.writer m.page (team.worker k).epoch c = λ c e. rw (← some_same e) new in
-      record {
-        timely = me.timely;
-        ends = me.ends;
-        outside = me.outside;
-        stock = me.stock;
-        registers = me.registers;
-        active = me.active;
-        access = me.access;
-        board = me.board;
-        origin = me.origin;
-        quest = me.quest;
-        licensed = me.licensed;
-        copy = me.copy;
-        keeps = me.keeps;
-        present = me.present;
-        scan = me.scan;
-        stepping = me.stepping;
-        round = me.round;
-        claim = c;
-        look = me.look;
-        last_look = me.last_look;
-        seen_traced = me.seen_traced;
-        flips = me.flips;
-        passage = me.passage;
-        resets = me.resets;
-        reset = me.reset;
-      })
+      assumption)
 
 pub begins_claim : BeginningClaimKeeps
 begins_claim E m team g k p old inv may = claims_more E m team g k (claim_of old p) inv may.below (record {

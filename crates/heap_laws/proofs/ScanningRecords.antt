@@ -14,8 +14,8 @@ use Rattle.heap_state.proofs.Puts.{some_same}
 use Rattle.heap_laws.specs.Keeping.{Keeps}
 use Rattle.heap_laws.specs.ScanningWords.{scanning, first_to_load, in_record, IsScanning, ReadingCrossingKeeps, ReadingFirstHeaderKeeps, ReadingFrontKeeps, ReadingNextHeaderKeeps}
 use Rattle.heap_laws.specs.Steps.{with_worker}
+use Rattle.heap_laws.proofs.FieldSlot.{here_field}
 use Rattle.heap_laws.proofs.ScanningOn.{past, goes_on, no_copy}
-use Rattle.heap_laws.proofs.ScanningSlot.{slot_word}
 
 -- two headers that a word decodes to are one
 header_same : {k l : Kind} {a b s t i j : ℕ} (w : ℕ) → decode w ≡ HeaderWord k a s i → decode w ≡ HeaderWord l b t j → (k ≡ l) × (a ≡ b)
@@ -137,8 +137,8 @@ module _ (E : Era) (m : Memory) (team : Team) (g : Ghost) (k : ℕ) (s : Scan) (
       raw_field k i r f = let q : is_field k i ≡ false = rw r refl in let z = sym q ∙ f in absurd (cc)
 
       no_field : (x : ℕ) → Here E g.size g.writer g.kind x → a ≤ x → g.kind a ≡ kind → g.size a ≡ len + 1 → (x ≡ a) ⊎ ((kind ≡ Raw) × (x < a + (len + 1))) → ⊥
-      no_field x u f kd sz (inl z) = let q = slot_word E m.front m.low g.size g.writer g.kind x out inv.laid u a 0 st (omega arith) in omega (arith, q.0)
-      no_field x u f kd sz (inr z) = let q = slot_word E m.front m.low g.size g.writer g.kind x out inv.laid u a (x - a) (omega (arith, sz, z.1, f, st)) (omega arith) in raw_field (g.kind a) (x - a) (kd ∙ z.0) q.2
+      no_field x u f kd sz (inl z) = let q = here_field out inv.laid g.writer g.kind x u a 0 st (omega arith) in omega (arith, q.0)
+      no_field x u f kd sz (inr z) = let q = here_field out inv.laid g.writer g.kind x u a (x - a) (omega (arith, sz, z.1, f, st)) (omega arith) in raw_field (g.kind a) (x - a) (kd ∙ z.0) q.1
 
   -- the header of the record over the page's first word
   pub enters_first : (a len serial mutator : ℕ) (kind : Kind) → s.over ≡ Some a → s.cursor ≡ 64 * s.page → decode (m.heap a) ≡ HeaderWord kind len serial mutator

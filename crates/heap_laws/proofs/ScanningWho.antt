@@ -1,5 +1,5 @@
 -- Who copies and who scans, and where words of this epoch's records lie.
-use Rattle.std.proofs.Common.{◌≡◌, ℕ, ◌+◌, ◌-◌, ◌*◌, ◌/◌, ◌<◌, ◌≤◌, Bool, true, false, ◌&&◌, eqb, Some, refl, sym, ◌∙◌, arith, ⊎_elim, ◌⊎◌, inl, inr}
+use Rattle.std.proofs.Common.{◌≡◌, ℕ, ◌+◌, ◌-◌, ◌*◌, ◌/◌, ◌<◌, ◌≤◌, Bool, true, false, ◌&&◌, eqb, Some, refl, arith, ⊎_elim, ◌⊎◌, inl, inr}
 use Rattle.std.proofs.lemmas.Bool.{cases_lt, ne_eqb}
 use Rattle.space_map.specs.declared.page_word.PageWord.{PageWord}
 use Rattle.space_map.specs.declared.page_word.PageWord.TheVariants.{Open, Scanning}
@@ -8,8 +8,9 @@ use Rattle.heap_state.specs.Era.{Era, Memory, IsLaidOut}
 use Rattle.heap_state.specs.Ghost.{Ghost, IsField, Here, OnBoard}
 use Rattle.heap_state.specs.Inductive.{Invariant}
 use Rattle.heap_state.specs.Parts.Pages.{Quiet}
-use Rattle.heap_state.specs.Worker.{Team, Worker, Copy, Scan, is_live, is_late}
+use Rattle.heap_state.specs.Worker.{Team, Worker, Post, Copy, Scan, is_live, is_behind, is_late}
 use Rattle.heap_state.proofs.Holding.{writer}
+use Rattle.heap_state.proofs.Puts.{true_false}
 
 -- ---- page words
 
@@ -31,12 +32,15 @@ scan_scan q r = cc
 -- ---- who is late
 
 -- who is of the current epoch is not late
-pub not_late : (e : ℕ) (w : Worker) {A : Type 0} → w.epoch ≡ e → is_late e w ≡ true → A
-not_late e w now late = absurd (let n : eqb (w.epoch + 1) e ≡ false = ne_eqb (w.epoch + 1) e (omega arith) in both (is_live w.post) (eqb (w.epoch + 1) e) n late)
+pub now_not_late : (e own : ℕ) (post : Post) → own ≡ e → is_behind e post own ≡ false
+now_not_late e own post now = both (is_live post) (eqb (own + 1) e) (ne_eqb (own + 1) e (omega arith))
   where
-    both : (a b : Bool) → b ≡ false → a && b ≡ true → ⊥
-    both true b n e = let q = sym n ∙ e in absurd (cc)
-    both false b n e = absurd (cc)
+    both : (a b : Bool) → b ≡ false → a && b ≡ false
+    both true b n = n
+    both false b n = refl
+
+pub not_late : (e : ℕ) (w : Worker) {A : Type 0} → w.epoch ≡ e → is_late e w ≡ true → A
+not_late e w now late = true_false (now_not_late e w.epoch w.post now) late
 
 -- ---- who copies
 

@@ -1,5 +1,5 @@
 -- At the end of a cycle what was copied is what was reachable at the flip.
-use Rattle.std.proofs.Common.{◌≡◌, ℕ, ◌+◌, ◌-◌, ◌<◌, ◌≤◌, true, length, Some, refl, sym, ◌∙◌, arith, ⊎_elim, inl, inr}
+use Rattle.std.proofs.Common.{◌≡◌, ℕ, ◌+◌, ◌-◌, ◌<◌, true, length, Some, sym, ◌∙◌, arith, ⊎_elim, inl}
 use Rattle.std.specs.Prelude.{slice_get}
 use Rattle.std.proofs.lemmas.Option.{slice_get_within}
 use Rattle.plain_state.specs.declared.value.Identity.{Identity}
@@ -7,15 +7,15 @@ use Rattle.plain_state.specs.declared.value.Value.TheVariants.{Reference}
 use Rattle.plain_state.specs.State as plain
 use Rattle.heap_state.specs.Cycle.{Cycle, RootLeads, ByBoard, ByRegister, IsRoot, InRegister, OnTheBoard, IsCopied, RefersInFields}
 use Rattle.heap_state.specs.Era.{Era, Memory, IsLaidOut}
-use Rattle.heap_state.specs.Ghost.{Ghost, is_field, IsField, Here}
+use Rattle.heap_state.specs.Ghost.{Ghost, is_field}
 use Rattle.heap_state.specs.Inductive.{Invariant}
 use Rattle.heap_state.specs.Reachable.{Reachable, FromRegister, FromBoard, FromRecord}
 use Rattle.heap_state.specs.Values.{value_at}
 use Rattle.heap_state.specs.Worker.{Team}
 use Rattle.heap_state.proofs.Puts.{some_same}
 use Rattle.heap_laws.specs.Tracing.{NothingLeads, CopiesReachable}
-use Rattle.heap_laws.proofs.ScanningCycle.{still_leads}
 use Rattle.heap_laws.proofs.TracingWon.{leads_nowhere}
+use Rattle.heap_laws.proofs.Words.{board_here, field_here, still_leads}
 
 module _ (E : Era) (m : Memory) (team : Team) (g : Ghost) (p : plain.Plain) (out : IsLaidOut E) (inv : Invariant E m team g) (cy : Cycle E m team g p) (traced : m.traced ≡ E.epoch + 1) where
   abbrev Copied : Identity → Type 0
@@ -24,19 +24,11 @@ module _ (E : Era) (m : Memory) (team : Team) (g : Ghost) (p : plain.Plain) (out
   nothing : NothingLeads E m team g
   nothing = leads_nowhere E m team g out inv traced
 
-  board_here : (x : ℕ) → x < 16 → Here E g.size g.writer g.kind (E.board + x)
-  unfolding Here
-  board_here x l = inr (omega arith, omega arith)
-
-  field_here : (b i : ℕ) → IsField g.size g.writer g.kind b i → E.start ≤ b → b < m.front → Here E g.size g.writer g.kind (b + i)
-  unfolding Here
-  field_here b i f s l = inl (record { a = b; i = i; field = f; inside = (s, let o = inv.laid.order in omega (arith, l, o)); at = refl })
-
   rooted : (i : Identity) → IsRoot p i → Copied i
   rooted i r = ⊎_elim (λ c. c) (λ l. by_root l) (cy.rooted.roots i r)
     where
       by_root : RootLeads E team.count g.identity m.heap team.worker i → Copied i
-      by_root (ByBoard x l t) = absurd (nothing.clean (E.board + x) (board_here x l) (still_leads E g.identity (m.heap (E.board + x)) i t))
+      by_root (ByBoard x l t) = absurd (nothing.clean (E.board + x) (board_here E g.size g.writer g.kind x l) (still_leads E g.identity (m.heap (E.board + x)) i t))
       by_root (ByRegister k r l s late d t) = absurd (let q = (inv.workers k l).licensed.counted late in let z = (inv.tracing.quiet traced).none in omega (arith, q, z))
 
   refers_in_field : (k : _) (z : ℕ) (r : plain.Record) → RefersInFields k z r → (n : ℕ) (i : Identity) → 0 < n → n < z → value_at r n ≡ Some (Reference i) → is_field k n ≡ true
@@ -57,7 +49,7 @@ module _ (E : Era) (m : Memory) (team : Team) (g : Ghost) (p : plain.Plain) (out
       let value : value_at r (n + 1) ≡ Some (Reference j) = rw back refers in
       ⊎_elim (λ y. y)
       (λ t. absurd (nothing.clean (c.at + (n + 1))
-      (field_here c.at (n + 1) (record { stands = c.stands.0; written = c.stands.1; field = refers_in_field (g.kind c.at) (g.size c.at) r shape (n + 1) j (omega arith) small value; first = omega arith; last = small }) c.below.0 c.below.1)
+      (field_here E g.size g.writer g.kind c.at (n + 1) (record { stands = c.stands.0; written = c.stands.1; field = refers_in_field (g.kind c.at) (g.size c.at) r shape (n + 1) j (omega arith) small value; first = omega arith; last = small }) (c.below.0, let o = inv.laid.order in omega (arith, c.below.1, o)))
       (still_leads E g.identity (m.heap (c.at + (n + 1))) j t)))
       (cy.copying.complete c.at (n + 1) r j c.stands.0 c.stands.1 c.below.0 c.below.1 (omega arith) small of' value)
 

@@ -13,7 +13,7 @@ use Rattle.heap_state.proofs.Puts.{some_same, none≢some}
 use Rattle.heap_laws.specs.Keeping.{Keeps}
 use Rattle.heap_laws.specs.Steps.{with_worker}
 use Rattle.heap_laws.specs.Tracing.{in_round, ReadingTracedKeeps, ReadingRoundFrontKeeps, looking, first_look, BeginningLookKeeps, LookingAtFrontKeeps, LookingAtBoardKeeps, LookingAtPageKeeps, LookingAtFillingPageKeeps, LooksAgain, about_to_trace, LookingAgainKeeps, filling_claim, about_to_fill, ClaimingFillingPageKeeps}
-use Rattle.heap_laws.proofs.KeepingTeams.{learns}
+use Rattle.heap_laws.proofs.Learning.{learns}
 use Rattle.heap_laws.proofs.ScanningWho.{open_age}
 
 module _ (E : Era) (m : Memory) (team : Team) (g : Ghost) (k : ℕ) (inv : Invariant E m team g) (below : k < team.count) where
@@ -23,68 +23,18 @@ module _ (E : Era) (m : Memory) (team : Team) (g : Ghost) (k : ℕ) (inv : Invar
   -- a worker that knows what its new round says
   pub rounds_more : (r : Round) → Rounds E m.traced m.front (team.worker k).epoch r → Keeps E m m team (with_worker team k (in_round (team.worker k) r)) g
   rounds_more r new = learns E m team g k (in_round (team.worker k) r) inv
-      (record { post = refl; epoch = refl; account = refl; registers = refl; done = refl; stock = refl }) (λ s e. (s, e, refl))
+      (assumption) (λ s e. (s, e, refl))
       (let c : (q : Round) → Some r ≡ Some q → Rounds E m.traced m.front (team.worker k).epoch q = λ q e. rw (← some_same e) new in
-      record {
-        timely = me.timely;
-        ends = me.ends;
-        outside = me.outside;
-        stock = me.stock;
-        registers = me.registers;
-        active = me.active;
-        access = me.access;
-        board = me.board;
-        origin = me.origin;
-        quest = me.quest;
-        licensed = me.licensed;
-        copy = me.copy;
-        keeps = me.keeps;
-        present = me.present;
-        scan = me.scan;
-        stepping = me.stepping;
-        round = c;
-        claim = me.claim;
-        look = me.look;
-        last_look = me.last_look;
-        seen_traced = me.seen_traced;
-        flips = me.flips;
-        passage = me.passage;
-        resets = me.resets;
-        reset = me.reset;
-      })
+      let u = me in
+      assumption)
 
   -- its new look
   pub looks_more : (l : Look) → Looks E m.gate.behind m.front m.page (team.worker k).epoch l → Keeps E m m team (with_worker team k (looking (team.worker k) l)) g
   looks_more l new = learns E m team g k (looking (team.worker k) l) inv
-      (record { post = refl; epoch = refl; account = refl; registers = refl; done = refl; stock = refl }) (λ s e. (s, e, refl))
+      (assumption) (λ s e. (s, e, refl))
       (let c : (q : Look) → Some l ≡ Some q → Looks E m.gate.behind m.front m.page (team.worker k).epoch q = λ q e. rw (← some_same e) new in
-      record {
-        timely = me.timely;
-        ends = me.ends;
-        outside = me.outside;
-        stock = me.stock;
-        registers = me.registers;
-        active = me.active;
-        access = me.access;
-        board = me.board;
-        origin = me.origin;
-        quest = me.quest;
-        licensed = me.licensed;
-        copy = me.copy;
-        keeps = me.keeps;
-        present = me.present;
-        scan = me.scan;
-        stepping = me.stepping;
-        round = me.round;
-        claim = me.claim;
-        look = c;
-        last_look = me.last_look;
-        seen_traced = me.seen_traced;
-        flips = me.flips;
-        passage = me.passage;
-        resets = me.resets;
-        reset = me.reset;
-      })
+      let u = me in
+      assumption)
 
 pub reads_traced : ReadingTracedKeeps
 reads_traced E m team g k inv below n = rounds_more E m team g k inv below (record { traced = m.traced; front = None }) (record { traced_then = (omega arith, n); front_then = λ f e. none≢some e })
@@ -206,66 +156,16 @@ pub looks_again : LookingAgainKeeps
 looks_again E m team g k l inv again filled =
     let me = inv.workers k again.below in
     learns E m team g k (about_to_trace (team.worker k) l) inv
-    (record { post = refl; epoch = refl; account = refl; registers = refl; done = refl; stock = refl }) (λ s e. (s, e, refl))
+    (assumption) (λ s e. (s, e, refl))
     (let c : (q : LastLook) → Some (record { traced = l.traced }) ≡ Some q → LastLooks E m.traced m.gate.behind m.front m.page (team.worker k).epoch q = λ q e. rw (← some_same e) (looks_last E m team g k l inv again filled) in
-    record {
-      timely = me.timely;
-      ends = me.ends;
-      outside = me.outside;
-      stock = me.stock;
-      registers = me.registers;
-      active = me.active;
-      access = me.access;
-      board = me.board;
-      origin = me.origin;
-      quest = me.quest;
-      licensed = me.licensed;
-      copy = me.copy;
-      keeps = me.keeps;
-      present = me.present;
-      scan = me.scan;
-      stepping = me.stepping;
-      round = me.round;
-      claim = me.claim;
-      look = λ q e. none≢some e;
-      last_look = c;
-      seen_traced = me.seen_traced;
-      flips = me.flips;
-      passage = me.passage;
-      resets = me.resets;
-      reset = me.reset;
-    })
+    let none : (q : Look) → None ≡ Some q → Looks E m.gate.behind m.front m.page (team.worker k).epoch q = λ q e. none≢some e in
+    assumption)
 
 pub claims_filling : ClaimingFillingPageKeeps
 claims_filling E m team g k l p old inv again s f n a =
     let me = inv.workers k again.below in
     learns E m team g k (about_to_fill (team.worker k) p old) inv
-    (record { post = refl; epoch = refl; account = refl; registers = refl; done = refl; stock = refl }) (λ s e. (s, e, refl))
+    (assumption) (λ s e. (s, e, refl))
     (let c : (q : Claim) → Some (filling_claim p old) ≡ Some q → Claims E m.front m.gate.behind g.size g.writer m.page (team.worker k).epoch q = λ q e. rw (← some_same e) (fills E m team g k l inv again p old s f n a) in
-    record {
-      timely = me.timely;
-      ends = me.ends;
-      outside = me.outside;
-      stock = me.stock;
-      registers = me.registers;
-      active = me.active;
-      access = me.access;
-      board = me.board;
-      origin = me.origin;
-      quest = me.quest;
-      licensed = me.licensed;
-      copy = me.copy;
-      keeps = me.keeps;
-      present = me.present;
-      scan = me.scan;
-      stepping = me.stepping;
-      round = me.round;
-      claim = c;
-      look = λ q e. none≢some e;
-      last_look = me.last_look;
-      seen_traced = me.seen_traced;
-      flips = me.flips;
-      passage = me.passage;
-      resets = me.resets;
-      reset = me.reset;
-    })
+    let none : (q : Look) → None ≡ Some q → Looks E m.gate.behind m.front m.page (team.worker k).epoch q = λ q e. none≢some e in
+    assumption)

@@ -3,20 +3,18 @@ use Rattle.std.proofs.Common.{◌≡◌, ◌≢◌, ℕ, ◌+◌, ◌*◌, ◌/�
 use Rattle.std.proofs.lemmas.Bool.{cases_lt}
 use Rattle.space_map.specs.declared.page_word.PageWord.TheVariants.{Open}
 use Rattle.heap_state.specs.Era.{Era, Memory, IsLaidOut}
-use Rattle.heap_state.specs.Functions.{put}
 use Rattle.heap_state.specs.Ghost.{Ghost, Here, Leads}
 use Rattle.heap_state.specs.Inductive.{Invariant, Knows}
 use Rattle.heap_state.specs.Parts.Copies.{Room}
-use Rattle.heap_state.specs.Parts.Gate.{Counted, Staffed}
 use Rattle.heap_state.specs.Parts.OldSpace.{OldSpace}
-use Rattle.heap_state.specs.Parts.Pages.{Quiet, IsLastOpen, Tracing, ScannedBy}
+use Rattle.heap_state.specs.Parts.Pages.{Quiet, IsLastOpen, Tracing}
 use Rattle.heap_state.specs.Parts.Scanning.{Rounds, LastLooks}
-use Rattle.heap_state.specs.Parts.Stocks.{Stocks, Numbered}
 use Rattle.heap_state.specs.Worker.{Worker, Team, Copy, Scan, Round, LastLook, is_mutator, is_running, is_flipper}
+use Rattle.heap_state.proofs.Frames.{counted_put, staffed_put, scanned_put, stocks_put, numbered_put, rooted_put}
 use Rattle.heap_state.proofs.Puts.{team_put, none≢some}
 use Rattle.heap_laws.specs.Steps.{with_worker}
 use Rattle.heap_laws.specs.Tracing.{with_traced, WinsTraced, has_traced, Traces, SleeperLosesTraced, NothingLeads}
-use Rattle.heap_laws.proofs.KeepingTeams.{Alike, placed, counted_placed, staffed_placed, stocks_placed, numbered_placed, scanned_placed, shown_alike, cycle_alike}
+use Rattle.heap_laws.proofs.Learning.{shown_put}
 use Rattle.heap_laws.proofs.ScanningWho.{open_scan, scans_last, copies_last, none_writes, here_lies}
 
 pub sleeper_loses_traced : SleeperLosesTraced
@@ -59,47 +57,23 @@ module _ (E : Era) (m : Memory) (team : Team) (g : Ghost) (k : ℕ) (l : LastLoo
       assumption
 
   own : KnowsNow k w'
-  own = record {
-    timely = me.timely;
-    ends = me.ends;
-    outside = me.outside;
-    stock = me.stock;
-    registers = me.registers;
-    active = me.active;
-    access = me.access;
-    board = me.board;
-    origin = me.origin;
-    quest = me.quest;
-    licensed = me.licensed;
-    copy = me.copy;
-    keeps = me.keeps;
-    present = me.present;
-    scan = me.scan;
-    stepping = me.stepping;
-    round = λ r e. rounds (team.worker k).epoch r (me.round r e);
-    claim = me.claim;
-    look = me.look;
-    last_look = λ q e. none≢some e;
-    seen_traced = λ e. ((me.seen_traced e).0, refl);
-    flips = me.flips;
-    passage = me.passage;
-    resets = me.resets;
-    reset = me.reset;
-  }
-
-  like : Alike team.worker k w'
-  like = record { post = refl; epoch = refl; account = refl; registers = refl; done = refl; stock = refl }
+  own =
+      let u = me in
+      let a = λ (r : Round) (e : (team.worker k).round ≡ Some r). rounds (team.worker k).epoch r (u.round r e) in
+      let b : (q : LastLook) → None ≡ Some q → LastLooks E (E.epoch + 1) m.gate.behind m.front m.page (team.worker k).epoch q = λ q e. none≢some e in
+      let c : (team.worker k).traced_seen ≡ true → ((is_running (team.worker k).post ≡ true) ⊎ (is_flipper (team.worker k).post ≡ true)) × (E.epoch + 1 ≡ E.epoch + 1) = λ e. ((u.seen_traced e).0, refl) in
+      assumption
 
   invariant : Invariant E (with_traced m (E.epoch + 1)) (with_worker team k w') g
   invariant =
-      let p1 : Counted m.gate team.count (put team.worker k w') = counted_placed (placed like) inv.counted in
-      let p2 : Staffed team.mutators team.count (put team.worker k w') = staffed_placed (placed like) inv.staffed in
-      let p3 : ScannedBy E team.count m.page (put team.worker k w') = scanned_placed (placed like) refl inv.scanned in
+      let p1 = counted_put team.worker k w' refl refl inv.counted in
+      let p2 = staffed_put team.worker k w' refl inv.staffed in
+      let p3 = scanned_put team.worker k w' refl inv.scanned in
       let p4 : Room E (E.epoch + 1) m.front m.low m.owed g.size g.copy = record { needs = λ y. absurd (omega (arith, y)); fits = λ y. absurd (omega (arith, y)); small = inv.room.small } in
       let p5 : Tracing E (E.epoch + 1) m.gate.behind m.front m.page = record { begun = omega arith; bottom = omega arith; top = omega arith; quiet = λ _. now.0; last = λ _. now.1 } in
       let p6 : OldSpace E (E.epoch + 1) m.old_front m.old_low g.size m.heap m.page = record { walks = λ y. absurd (omega (arith, y)) } in
-      let p7 : Stocks E m.low team.count g.size m.heap m.page (put team.worker k w') = stocks_placed (placed like) inv.stocks in
-      let p8 : Numbered team.mutators g.size g.identity (put team.worker k w') = numbered_placed (placed like) inv.numbered in
+      let p7 = stocks_put team.worker k w' (λ _ e. e) inv.stocks in
+      let p8 = numbered_put team.worker k w' refl inv.numbered in
       let p9 = team_put team.count KnowsNow team.worker k w' others own in
       assumption
 
@@ -108,8 +82,8 @@ module _ (E : Era) (m : Memory) (team : Team) (g : Ghost) (k : ℕ) (l : LastLoo
     now = of_now;
     keeps = record {
       invariant = invariant;
-      shown = λ p y. shown_alike E m (with_traced m (E.epoch + 1)) team g k w' p like refl y;
-      cycle = λ p y. cycle_alike E m (with_traced m (E.epoch + 1)) team g k w' p like refl refl y;
+      shown = λ p y. shown_put E m (with_traced m (E.epoch + 1)) team g k w' p refl refl refl y;
+      cycle = λ p y. record { copying = y.copying; rooted = rooted_put team.worker k w' refl refl refl (λ _ _ a b. (a, b)) y.rooted };
       ages = λ p. omega arith;
     };
   }

@@ -24,6 +24,7 @@ use Rattle.heap_state.specs.Walk.{walk, walk_of}
 use Rattle.heap_state.specs.Worked.{made}
 use Rattle.heap_state.specs.Worker.{Worker}
 use Rattle.heap_state.proofs.FlippedParts.{flipped_table, flipped_era, flipped_ghost, workers, heap, page, size, none, identity, only, blank_word, zero_word, first_register, number_lands, pointer_lands, counted, staffed, laid, headed, copied, once, kept_by, room, raw_words, shut, filling, tracing, aged, scanned, opened, landing, older, new_area, new_written, old_space, old_pages, crossing, stocks, numbered}
+use Rattle.heap_state.proofs.Idle.{idle_knows}
 use Rattle.heap_state.proofs.Keeping.{holds}
 use Rattle.heap_state.proofs.Puts.{some_same, none≢some, true_false}
 use Rattle.heap_state.proofs.Representing.{represents}
@@ -45,33 +46,14 @@ clean = record {
 }
 
 mutator_knows : Known 0 late_mutator
-mutator_knows = record {
-  timely = record { past = omega arith; live = λ l. inr refl; running = λ r. true_false refl r; flipping = λ f. true_false refl f; rest = λ r. refl; below = omega arith };
-  ends = record { stays = λ e. true_false refl e; gone = λ e. true_false refl e };
-  outside = λ e. absurd (cc);
-  stock = λ q e. none≢some e;
-  registers = λ m n. clean;
-  active = λ f e. none≢some e;
-  access = λ f e. none≢some e;
-  board = λ e. true_false refl e;
-  origin = λ q e. none≢some e;
-  quest = λ q e. none≢some e;
-  licensed = record { licensed = λ c e. none≢some e; asked = λ c e. none≢some e; counted = λ e. omega arith; idle = λ e. refl };
-  copy = λ c e. none≢some e;
-  keeps = λ c e. none≢some e;
-  present = λ s e. none≢some e;
-  scan = λ s e. none≢some e;
-  stepping = λ s e. none≢some e;
-  round = λ r e. none≢some e;
-  claim = λ q e. none≢some e;
-  look = λ l e. none≢some e;
-  last_look = λ l e. none≢some e;
-  seen_traced = λ e. true_false refl e;
-  flips = λ e. true_false refl e;
-  passage = λ s e. none≢some e;
-  resets = λ r e. none≢some e;
-  reset = λ r e. none≢some e;
-}
+mutator_knows = idle_knows (assumption)
+    (record { past = omega arith; live = λ l. inr refl; running = λ r. true_false refl r; flipping = λ f. true_false refl f; rest = λ r. refl; below = omega arith })
+    (record { stays = λ e. true_false refl e; gone = λ e. true_false refl e })
+    (λ e. absurd (cc))
+    (λ q e. none≢some e)
+    (λ m n. clean)
+    (λ e. omega arith)
+    refl
 
 knows : (k : ℕ) → k < 1 → Known k (workers.worker k)
 knows zero l = mutator_knows

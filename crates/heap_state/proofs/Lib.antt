@@ -18,6 +18,7 @@ pub mod Still
 pub mod Keeping
 pub mod Teams
 pub mod Frames
+pub mod Idle
 pub mod Writing
 pub mod WorkedGhost
 pub mod WorkedRecords

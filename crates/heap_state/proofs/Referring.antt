@@ -1,5 +1,5 @@
 -- Where records refer to others.
-use Rattle.std.proofs.Common.{◌≡◌, ℕ, ◌<◌, Bool, true, false, Option, Some, ◌∙◌, ⊎_elim, ◌⊎◌}
+use Rattle.std.proofs.Common.{◌≡◌, ℕ, Option, Some, ◌∙◌, ⊎_elim}
 use Rattle.std.proofs.lemmas.Bool.{cases_Bool}
 use Rattle.heap_words.specs.declared.kind.Kind.{Kind}
 use Rattle.plain_state.specs.declared.value.Identity.{Identity}

@@ -3,12 +3,12 @@ use Rattle.std.proofs.Common.{◌≡◌, ◌≢◌, ℕ, zero, suc, ◌+◌, ◌
 use Rattle.std.specs.List.{All, Contains}
 use Rattle.std.proofs.lemmas.Bool.{cases_eq, cases_lt, le-ltb}
 use Rattle.std.proofs.lemmas.List.Elements.{All-nil, All-cons}
+use Rattle.std.specs.Prelude.{if◌then◌else◌}
 use Rattle.space_map.specs.Spaces.{page_of, first_word}
 use Rattle.heap_state.specs.Functions.{sum_below}
 use Rattle.heap_state.specs.Sums.{sum_of_sizes}
-use Rattle.heap_state.proofs.Puts.{sum_below-same}
-use Rattle.std.specs.Prelude.{if◌then◌else◌}
 use Rattle.heap_state.specs.Walk.{Met, AtEnd, Nothing, Reserved, Record, Broken, meets, next_place, Walked, walked_at, walk, IsRead, ReadsAll}
+use Rattle.heap_state.proofs.Puts.{sum_below-same}
 
 -- what stands at a place where a walk meets this
 abbrev pub StandsAt : (end : ℕ) (size writer : ℕ → ℕ) → ℕ → Met → Type 0
@@ -59,7 +59,7 @@ module _ (passes : ℕ → Bool) (reserved heap : ℕ → ℕ) (end : ℕ) where
   reads_end (suc turns) at l = rw (meets_end at l) (tt, reads_end turns end (omega arith))
 
 -- sums over an interval: its first term and those from z on, and those from a later place on
-sum_below-from : (z m : ℕ) (f : ℕ → ℕ) → sum_below (m + z) f ≡ sum_below z f + sum_below m (λ x. f (z + x))
+pub sum_below-from : (z m : ℕ) (f : ℕ → ℕ) → sum_below (m + z) f ≡ sum_below z f + sum_below m (λ x. f (z + x))
 unfolding sum_below
 sum_below-from z zero f = rw zero-add (sym (add-zero _))
 sum_below-from z (suc m) f =

@@ -13,6 +13,7 @@ use Rattle.heap_state.specs.Parts.Knowledge.{Clean}
 use Rattle.heap_state.specs.Parts.Scanning.{Scans, Stepping}
 use Rattle.heap_state.specs.Worked.{worked_mutator, worked_scanner}
 use Rattle.heap_state.specs.Worker.{Worker, Copy, Scan, Quest, Scanned}
+use Rattle.heap_state.proofs.Idle.{idle_knows}
 use Rattle.heap_state.proofs.Puts.{some_same, none≢some, true_false}
 use Rattle.heap_state.proofs.WorkedGhost.{worked_table, worked_era, worked_ghost, size, writer, copy, keeper, identity, kept, each_place}
 use Rattle.heap_state.proofs.WorkedPages.{page}
@@ -45,33 +46,14 @@ clean = record {
 }
 
 pub mutator_knows : Known 0 worked_mutator
-mutator_knows = record {
-  timely = record { past = omega arith; live = λ l. inl refl; running = λ r. refl; flipping = λ f. true_false refl f; rest = λ r. refl; below = omega arith };
-  ends = record { stays = λ e. true_false refl e; gone = λ e. true_false refl e };
-  outside = λ e. absurd (cc);
-  stock = λ q e. let s : record { epoch = 1; at = 320; end = 512; zeroed = 512; opened = 512 } ≡ q = some_same e in rw (← s) refl;
-  registers = λ m n. clean;
-  active = λ f e. none≢some e;
-  access = λ f e. none≢some e;
-  board = λ e. true_false refl e;
-  origin = λ q e. none≢some e;
-  quest = λ q e. none≢some e;
-  licensed = record { licensed = λ c e. none≢some e; asked = λ c e. none≢some e; counted = λ e. true_false refl e; idle = λ e. refl };
-  copy = λ c e. none≢some e;
-  keeps = λ c e. none≢some e;
-  present = λ s e. none≢some e;
-  scan = λ s e. none≢some e;
-  stepping = λ s e. none≢some e;
-  round = λ r e. none≢some e;
-  claim = λ q e. none≢some e;
-  look = λ l e. none≢some e;
-  last_look = λ l e. none≢some e;
-  seen_traced = λ e. true_false refl e;
-  flips = λ e. true_false refl e;
-  passage = λ s e. none≢some e;
-  resets = λ r e. none≢some e;
-  reset = λ r e. none≢some e;
-}
+mutator_knows = idle_knows (assumption)
+    (record { past = omega arith; live = λ l. inl refl; running = λ r. refl; flipping = λ f. true_false refl f; rest = λ r. refl; below = omega arith })
+    (record { stays = λ e. true_false refl e; gone = λ e. true_false refl e })
+    (λ e. absurd (cc))
+    (λ q e. let s : record { epoch = 1; at = 320; end = 512; zeroed = 512; opened = 512 } ≡ q = some_same e in rw (← s) refl)
+    (λ m n. clean)
+    (λ e. true_false refl e)
+    refl
 
 -- ---- scanner 1
 
