@@ -1,5 +1,5 @@
 -- The command line of `ael`: what it takes, and what it then gives.
-use Rattle.std.proofs.Common.{◌≡◌, ◌∙◌, ◌&&◌, ℕ, Bool, cond, codes, true, false, refl, sym, ap, List, [], Option, Some, None, Result, Err, true≢false}
+use Rattle.std.proofs.Common.{◌≡◌, ◌∙◌, ◌&&◌, ℕ, Bool, cond, codes, true, false, refl, sym, ap, List, [], Option, Some, None, Result, Err, true≢false, inl, inr}
 use Rattle.std.specs.Prelude.{IfSome, option_map, pos}
 use Rattle.std.specs.Option.{option_map_or}
 use Rattle.clap.specs.ValueTests.{is_signed_in, is_unsigned_in}
@@ -8,7 +8,7 @@ use Rattle.clap.specs.declared.builder.value_parser.Reading.TheVariants.{AsWritt
 use Rattle.clap.specs.declared.builder.value_parser.ValueParser.TheVariants as vp
 use Rattle.clap.specs.Walk.{Row, Text, answers_to, nothing_held, rows_after, stop_after}
 use Rattle.clap.specs.Simple.{built_leaf, inherited, marked_built}
-use Rattle.ael_cli.specs.CommandLine.{ael_app, number, sim_app}
+use Rattle.ael_cli.specs.CommandLine.{ael_app, asm_app, number, sim_app}
 use Rattle.clap.specs.Simple.{App, Shape, argument_words, built, entered, is_simple, label_of, names_of, rows_at, subcommand_of}
 use Rattle.clap.specs.Takes.{entered_passes, level_passes, takes}
 use Rattle.clap.specs.Faults.{fault_of, is_simple_and_free}
@@ -32,6 +32,9 @@ free = refl
 
 pub taken : (words : List Text) → fault_of ael_app words ≡ [] → takes ael_app words ≡ true
 taken words e = taken_without_fault ael_app words refl refl refl e
+
+abbrev asm : Shape
+asm = built_leaf (inherited (marked_built ael_app.top) asm_app.top)
 
 abbrev sim : Shape
 sim = built_leaf (inherited (marked_built ael_app.top) sim_app.top)
@@ -83,12 +86,13 @@ module _ (words : List Text) (pass : level_passes sim [] nothing_held words fals
 
 known_at : (stop : Option (Text × List Text)) → entered_passes (built ael_app) stop ≡ true → IfSome (entered (built ael_app) stop) IsKnown
 known_at None pass = tt
-known_at (Some p) pass = go (answers_to p.0 (label_of sim)) pass
+known_at (Some p) pass = go (answers_to p.0 (label_of asm)) (answers_to p.0 (label_of sim)) pass
   where
-    go : (a : Bool) → option_map_or (λ s. level_passes s [] nothing_held p.1 false) (cond a (Some sim) None) true ≡ true
-        → IfSome (option_map (λ s. rows_at s p.1) (cond a (Some sim) None)) IsKnown
-    go true f = (refl, sim_held p.1 f)
-    go false f = tt
+    go : (a b : Bool) → option_map_or (λ s. level_passes s [] nothing_held p.1 false) (cond a (Some asm) (cond b (Some sim) None)) true ≡ true
+        → IfSome (option_map (λ s. rows_at s p.1) (cond a (Some asm) (cond b (Some sim) None))) IsKnown
+    go true b f = inl refl
+    go false true f = inr (refl, sim_held p.1 f)
+    go false false f = tt
 
 left : (a b : Bool) → (a && b) ≡ true → a ≡ true
 left true b e = refl

@@ -4,23 +4,21 @@ use Rattle.mutator_asm.specs.declared.instr.Instr.{Instr}
 use Rattle.mutator_asm.specs.declared.item.Item.{Item}
 use Rattle.mutator_asm.specs.Text.{IsText, IsFault}
 use Rattle.ael_cli.specs.declared.job.Job.{Job}
-use Rattle.ael_cli.specs.declared.job.Job.TheVariants.{Sim}
-use Rattle.ael_cli.specs.declared.job.SimOptions.{SimOptions}
 use Rattle.ael_cli.specs.declared.status.Status.{Status}
 use Rattle.ael_cli.specs.declared.status.Status.TheVariants.{Done, Text, Usage, Ended, StepsOut, ReadFault, WriteFault, NoMemory, TooLong}
 use Rattle.ael_cli.specs.Ends.{Drawn}
+use Rattle.ael_cli.specs.Performing.{IsPerformed}
 use Rattle.ael_cli.specs.Input.{IsWhole, IsPastLimit}
-use Rattle.ael_cli.specs.Simulation.{IsSimulated}
 use Rattle.ael_cli.specs.Stream.{Rose}
 
--- the whole input is a text that means a program, and the output and the status are those of its simulation
-pub record IsRun (options : SimOptions) (left : Option (List ℕ)) (output : List ℕ) (status : Status) : Type 0 where
+-- the whole input is a text that means a program, and the output and the status are those of the job on it
+pub record IsJobDone (job : Job) (left : Option (List ℕ)) (output : List ℕ) (status : Status) : Type 0 where
   pub bytes : List ℕ
   pub whole : IsWhole left bytes
   pub code : List (List Instr)
   pub items : List Item
   pub text : IsText bytes code items
-  pub simulated : IsSimulated options items code output status
+  pub performed : IsPerformed job items code output status
 
 -- the whole input is a text with this fault
 pub record IsFaulty (left : Option (List ℕ)) (number line : ℕ) : Type 0 where
@@ -28,19 +26,19 @@ pub record IsFaulty (left : Option (List ℕ)) (number line : ℕ) : Type 0 wher
   pub whole : IsWhole left bytes
   pub fault : IsFault bytes number line
 
--- the answer to a simulation: by its status, with its cause
-abbrev pub IsCaused : SimOptions → Drawn → List ℕ → Status → Type 0
-IsCaused options source output Done = IsRun options source.left output Done
-IsCaused options source output Ended = IsRun options source.left output Ended
-IsCaused options source output StepsOut = IsRun options source.left output StepsOut
-IsCaused options source output (Text number line) = (output ≡ []) × IsFaulty source.left number line
-IsCaused options source output ReadFault = (output ≡ []) × Rose source.before source.after
-IsCaused options source output TooLong = (output ≡ []) × IsPastLimit source.left
-IsCaused options source output NoMemory = output ≡ []
-IsCaused options source output Usage = ⊥
-IsCaused options source output WriteFault = ⊥
+-- the answer to a job: by its status, with its cause
+abbrev pub IsCaused : Job → Drawn → List ℕ → Status → Type 0
+IsCaused job source output Done = IsJobDone job source.left output Done
+IsCaused job source output Ended = IsJobDone job source.left output Ended
+IsCaused job source output StepsOut = IsJobDone job source.left output StepsOut
+IsCaused job source output (Text number line) = (output ≡ []) × IsFaulty source.left number line
+IsCaused job source output ReadFault = (output ≡ []) × Rose source.before source.after
+IsCaused job source output TooLong = (output ≡ []) × IsPastLimit source.left
+IsCaused job source output NoMemory = output ≡ []
+IsCaused job source output Usage = ⊥
+IsCaused job source output WriteFault = ⊥
 
 -- the answer to the words; where they are no command it is the usage, or there was no memory to read them
 abbrev pub IsAnswer : Option Job → Drawn → List ℕ → Status → Type 0
 IsAnswer None source output status = (output ≡ []) × ((status ≡ Usage) ⊎ (status ≡ NoMemory))
-IsAnswer (Some (Sim options)) source output status = IsCaused options source output status
+IsAnswer (Some job) source output status = IsCaused job source output status

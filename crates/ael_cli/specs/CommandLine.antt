@@ -33,6 +33,10 @@ sim_app = record {
   subs = [];
 }
 
+-- `asm`
+abbrev pub asm_app : App
+asm_app = record { top = new_shape (codes "asm"); subs = [] }
+
 -- the subcommands, with no name of the program before them and no help
 abbrev pub ael_app : App
 ael_app = record {
@@ -42,5 +46,5 @@ ael_app = record {
     disable_help_flag = true;
     disable_help_subcommand = true;
   };
-  subs = sim_app.top ∷ [];
+  subs = asm_app.top ∷ sim_app.top ∷ [];
 }

@@ -5,6 +5,7 @@ pub mod Ends
 pub mod Headline
 pub mod Input
 pub mod Memory
+pub mod Performing
 pub mod Schedule
 pub mod Scheduler
 pub mod Seen

@@ -1,5 +1,5 @@
 -- What the words of the command line ask for.
-use Rattle.std.specs.Prelude.{◌≡◌, ◌<◌, ◌≤◌, ◌^◌, ℕ, IsTrue, Bool, pos, true, false, List, Option, Some, None, codes, find, option_map, if◌then◌else◌}
+use Rattle.std.specs.Prelude.{◌≡◌, ◌⊎◌, ⊤, ◌<◌, ◌≤◌, ◌^◌, ℕ, IsTrue, Bool, pos, true, false, List, Option, Some, None, codes, find, option_map, if◌then◌else◌}
 use Rattle.std.specs.Option.{option_map_or}
 use Rattle.std.specs.Str.{bytes_eq}
 use Rattle.std.specs.Str.Parse.{digits_value, without_leading_plus}
@@ -13,7 +13,7 @@ use Rattle.clap.specs.declared.error.kind.ErrorKind.TheVariants.{OutOfMemory}
 use Rattle.clap.specs.declared.parser.matches.ValueSource.{ValueSource}
 use Rattle.clap.specs.declared.parser.matches.ValueSource.TheVariants.{DefaultValue, CommandLine}
 use Rattle.ael_cli.specs.declared.job.Job.{Job}
-use Rattle.ael_cli.specs.declared.job.Job.TheVariants.{Sim}
+use Rattle.ael_cli.specs.declared.job.Job.TheVariants.{Asm, Sim}
 use Rattle.ael_cli.specs.declared.job.SimOptions.{SimOptions}
 use Rattle.ael_cli.specs.declared.words.WordsError.{WordsError}
 use Rattle.ael_cli.specs.declared.words.WordsError.TheVariants.{NoMemory, Refused}
@@ -50,9 +50,9 @@ options_of rows = record {
   order = was_given (codes "order") rows;
 }
 
--- the job of a subcommand, by its name and its rows; `sim` is the only one
+-- the job of a subcommand, by its name and its rows; there are `asm` and `sim`
 abbrev pub job_from : Text × List Row → Job
-job_from p = Sim (options_of p.1)
+job_from p = if bytes_eq p.0 (codes "asm") then Asm else Sim (options_of p.1)
 
 -- the job that the words ask for: `clap` takes them as a command line of `ael`, and they name a subcommand
 abbrev pub job_of : List Text → Option Job
@@ -83,7 +83,7 @@ pub record IsSim (rows : List Row) : Type 0 where
 
 -- a subcommand of the command line, with rows that it may have
 abbrev pub IsKnown : Text × List Row → Type 0
-IsKnown p = (p.0 ≡ codes "sim") × IsSim p.1
+IsKnown p = (p.0 ≡ codes "asm") ⊎ ((p.0 ≡ codes "sim") × IsSim p.1)
 
 -- a space may have so many pages, there may be so many scanners, and a mutator may execute so many instructions
 pub record AreInRange (options : SimOptions) : Type 0 where
@@ -93,6 +93,7 @@ pub record AreInRange (options : SimOptions) : Type 0 where
 
 -- the numbers of a job are in their ranges
 abbrev pub IsInRange : Job → Type 0
+IsInRange Asm = ⊤
 IsInRange (Sim options) = AreInRange options
 
 abbrev pub error_for : ErrorKind → WordsError

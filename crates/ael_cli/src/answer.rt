@@ -1,6 +1,6 @@
 //! What a command answers: the output, how it went, and the line that tells it.
 
-ghost use Rattle.std.specs.Prelude.{◌≡◌, ◌⊎◌, [], IfOk, OnErr, string_bytes, true};
+ghost use Rattle.std.specs.Prelude.{◌≡◌, ◌⊎◌, [], IfOk, OnErr, true};
 ghost use Rattle.std.specs.Cow.{cow_str_bytes};
 ghost use Rattle.ael_cli.specs.Status.{is_text, line_of};
 
@@ -12,7 +12,7 @@ use std::borrow::CowStr;
 /// What a command answers. All of it is there before its first byte is written.
 #[derive(Debug, Drop)]
 pub struct Answer {
-    pub output: String,
+    pub output: Vec<u8>,
     pub status: Status,
     /// What standard error gets.
     pub line: CowStr<'static, Global>,
@@ -21,8 +21,8 @@ pub struct Answer {
 
 impl Answer {
     /// The answer with this output, and with the line of the status.
-    pub fn new(alloc: Global, output: String, status: Status) -> Result<Answer, NoMemory>
-        ensures whole { IfOk result (λ answer. (string_bytes answer.output ≡ string_bytes output) × (answer.status ≡ status)) }
+    pub fn new(alloc: Global, output: Vec<u8>, status: Status) -> Result<Answer, NoMemory>
+        ensures whole { IfOk result (λ answer. (answer.output.items ≡ output.items) × (answer.status ≡ status)) }
         ensures spends { OnErr result (is_text status ≡ true) }
     {
         let line = status.line(alloc)?;
@@ -35,13 +35,13 @@ impl Answer {
 
     /// An answer without output. Where there is no memory for the line of a text's fault, it tells that.
     pub fn failed(alloc: Global, status: Status) -> Answer
-        ensures output { string_bytes result.output ≡ [] }
+        ensures output { result.output.items ≡ [] }
         ensures status { (result.status ≡ status) ⊎ ((result.status ≡ Status.NoMemory) × (is_text status ≡ true)) }
     {
-        match Answer::new(alloc, String::new(alloc), status) {
+        match Answer::new(alloc, Vec::new(alloc), status) {
             Ok(answer) => answer,
             Err(NoMemory) => Answer {
-                output: String::new(alloc),
+                output: Vec::new(alloc),
                 status: Status::NoMemory,
                 line: CowStr::Borrowed(NO_MEMORY),
             },

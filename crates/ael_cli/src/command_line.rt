@@ -53,10 +53,12 @@ fn sim_command<'a>(alloc: Global) -> Result<Command<'a>, AllocError>
 pub fn command<'a>(alloc: Global) -> Result<Command<'a>, AllocError>
     ensures { IfOk result (λ r. app_of r ≡ ael_app) }
 {
+    let asm = Command::new(alloc, "asm");
     let sim = sim_command(alloc)?;
     Command::new(alloc, "ael")
         .no_binary_name(true)
         .disable_help_flag(true)
         .disable_help_subcommand(true)
+        .subcommand(asm)?
         .subcommand(sim)
 }

@@ -3,6 +3,8 @@
 /// What a call of the program is to do.
 #[derive(Clone, Copy, Debug, PartialEq, Eq)]
 pub enum Job {
+    /// To list a program.
+    Asm,
     /// To run a program by a schedule, and print what its mutators printed.
     Sim(SimOptions),
 }

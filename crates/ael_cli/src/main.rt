@@ -1,7 +1,8 @@
-//! The program `ael`: mutators in a small register assembler, run over a collected heap.
+//! The program `ael`: mutators in a small register assembler, listed, or run over a bounded heap.
 #![tactic(auto)]
 
 mod answer;
+mod asm;
 mod command_line;
 mod job;
 mod memory;
@@ -26,12 +27,15 @@ use crate::status::Status;
 use crate::top_call::ael;
 use crate::writing::emit;
 use std::env;
+use std::io::ErrorKind;
 use std::process::ExitCode;
 
 /// The words after the program's name.
 fn given(rt: &HostRuntime) -> Result<Vec<String>, Status> {
-    let Ok(mut args) = env::args(rt) else {
-        return Err(Status::Usage);
+    let mut args = match env::args(rt) {
+        Ok(args) => args,
+        Err(error) if error.kind() == ErrorKind::OutOfMemory => return Err(Status::NoMemory),
+        Err(_) => return Err(Status::Usage),
     };
     let _ = args.next();
     match args.collect::<Vec<String>>(rt.alloc()) {

@@ -92,7 +92,7 @@ fn verdict(core: &Core) -> Status
 /// Runs a program, and prints what its mutators printed.
 pub fn sim(alloc: Global, program: &Program, options: SimOptions) -> Result<Answer, NoMemory>
     requires { AreInRange options }
-    ensures { IfOk result (λ answer. IsSimulated options program.now.schedule program.now.code (string_bytes answer.output) answer.status) }
+    ensures { IfOk result (λ answer. IsSimulated options program.now.schedule program.now.code answer.output.items answer.status) }
 {
     runs_follow();
     let mut core = open(alloc, program, options)?;
@@ -100,5 +100,5 @@ pub fn sim(alloc: Global, program: &Program, options: SimOptions) -> Result<Answ
     let mut output = String::new(alloc);
     push_mutators(&mut output, &core)?;
     push_flags(&mut output, options, &order)?;
-    Answer::new(alloc, output, verdict(&core))
+    Answer::new(alloc, output.into_bytes(), verdict(&core))
 }

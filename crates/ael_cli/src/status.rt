@@ -18,7 +18,7 @@ pub const NO_MEMORY: &str = "ael: out of memory\n";
 /// How a call went, from which its exit status follows and the line that standard error gets.
 #[derive(Clone, Copy, Debug, PartialEq, Eq)]
 pub enum Status {
-    /// All was done, and every mutator halted.
+    /// All was done: every mutator halted, or the listing was given.
     Done,
     /// The text has this fault in this line.
     Text { no: u8, line: u32 },

@@ -4,10 +4,9 @@ ghost use Rattle.std.specs.Prelude.{◌≡◌, ◌≤◌, ◌⊎◌, List, None,
 ghost use Rattle.mutator_asm.specs.declared.instr.Instr.{Instr};
 ghost use Rattle.mutator_asm.specs.declared.item.Item.{Item};
 ghost use Rattle.mutator_asm.specs.Text.{IsText};
-ghost use Rattle.ael_cli.specs.declared.job.Job.TheVariants.{Sim};
-ghost use Rattle.ael_cli.specs.declared.job.SimOptions.{SimOptions};
+ghost use Rattle.ael_cli.specs.declared.job.Job.{Job};
 ghost use Rattle.ael_cli.specs.declared.reading.TheConstants.{MAX_INPUT};
-ghost use Rattle.ael_cli.specs.Simulation.{status_of};
+ghost use Rattle.ael_cli.specs.Performing.{status_for};
 ghost use Rattle.ael_cli.specs.Status.{code_of};
 ghost use Rattle.ael_cli.specs.Words.{job_of};
 
@@ -74,9 +73,9 @@ impl Sink for SureSink {
 
 /// The exit status of a call whose ends never fail.
 pub fn sure_status<R>(rt: &R, alloc: Global, words: &[String], input: Vec<u8>) -> u8
-    ensures { (options : SimOptions) (items : List Item) (program : List (List Instr)) → job_of (map string_bytes words.now) ≡ Some (Sim options)
+    ensures { (job : Job) (items : List Item) (program : List (List Instr)) → job_of (map string_bytes words.now) ≡ Some job
         → length input.items ≤ MAX_INPUT → IsText input.items program items
-        → (result ≡ code_of (status_of options items program)) ⊎ (result ≡ 7) }
+        → (result ≡ code_of (status_for job items program)) ⊎ (result ≡ 7) }
 {
     let mut src = SureSource::new(input);
     ael(rt, alloc, words, &mut src, &mut SureSink, &mut SureSink)

@@ -71,10 +71,13 @@ fn job_in(matches: &ArgMatches) -> Option<Job>
     ensures value { result ≡ option_map job_from (subcommand_rows_of matches.now) }
     ensures range { IfSome result IsInRange }
 {
-    match matches.subcommand_matches("sim") {
-        Some(sim) => Some(Job::Sim(sim_options(sim))),
-        None => None,
+    if matches.subcommand_matches("asm").is_some() {
+        return Some(Job::Asm);
     }
+    if let Some(sim) = matches.subcommand_matches("sim") {
+        return Some(Job::Sim(sim_options(sim)));
+    }
+    None
 }
 
 /// Reads the words after the program's name. They are refused exactly where `clap` does not take

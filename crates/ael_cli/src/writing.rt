@@ -1,6 +1,6 @@
 //! Writing an answer.
 
-ghost use Rattle.std.specs.Prelude.{◌≡◌, ◌≤◌, OnOk, OnErr, string_bytes};
+ghost use Rattle.std.specs.Prelude.{◌≡◌, ◌≤◌, OnOk, OnErr};
 ghost use Rattle.ael_cli.specs.Ends.{filled, IsWritten, IsCutOff};
 ghost use Rattle.ael_cli.specs.Headline.{Emits};
 
@@ -31,10 +31,10 @@ pub fn write_all<K: Sink>(sink: &mut K, bytes: &[u8]) -> Result<(), WriteFault>
 /// Writes an answer, its output to `out` and then its line to `err`, and answers how the call went.
 /// A failed write is how it went, whatever else it was.
 pub fn emit<O: Sink, E: Sink>(answer: &Answer, out: &mut O, err: &mut E) -> Status
-    ensures { Emits (string_bytes answer.now.output) answer.now.status
+    ensures { Emits answer.now.output.items answer.now.status
         (filled O.held O.faults out.old out.new) (filled E.held E.faults err.old err.new) result }
 {
-    if let Err(WriteFault) = write_all(out, answer.output.as_bytes()) {
+    if let Err(WriteFault) = write_all(out, answer.output.as_slice()) {
         let _ = write_all(err, WRITE_FAULT.as_bytes());
         return Status::WriteFault;
     }

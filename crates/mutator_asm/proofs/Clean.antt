@@ -38,6 +38,10 @@ clean_cases lines i d none clean before line after cut (inr e) =
 below_cases : (n i : ℕ) → n < i + 1 → (n < i) ⊎ (n ≡ i)
 below_cases n i lt = elim (cases_lt n i) [ inl h ↦ inl h | inr h ↦ inr (omega arith) ]
 
+-- no lines have no error
+pub clean_none : (lines : List Line) → IsCleanUpTo 0 lines
+clean_none lines = record { no_error = λ before line after cut lt. absurd (omega arith) }
+
 -- one more line without an error
 pub clean_more : (lines : List Line) (i : ℕ) (d : Line) → error_at lines i d ≡ None → IsCleanUpTo i lines → IsCleanUpTo (i + 1) lines
 clean_more lines i d none clean = record { no_error = λ before line after cut lt. clean_cases lines i d none clean before line after cut (below_cases (length before) i lt) }
@@ -63,7 +67,3 @@ unfolding error_at
 clean_at lines n i d clean lt inside =
     let place : length (take i lines) ≡ i = length-take-le i lines (omega arith) in
     clean.no_error (take i lines) (get_or lines i d) (drop (i + 1) lines) (cut_at lines i d inside) (rw place lt)
-
-pub none_from : (o : Option Mistake) → ((x : Mistake) → o ≡ Some x → ⊥) → None ≡ o
-none_from None h = refl
-none_from (Some x) h = absurd (h x refl)

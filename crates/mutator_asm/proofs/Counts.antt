@@ -87,7 +87,7 @@ prefix_at (suc j) before rest e =
     rw (get_or_after_one (slice_split begins (before ++ rest)) j [], get_or_after_one (slice_split begins before) j [], next, seam begins before rest) (take-append_seam (lines_since before) (get_or (slice_split begins rest) 0 []))
 
 -- the lines of a section that stand before a line of it
-pub prefix : (before rest : List Line) → take (length (lines_since before)) (section_no (before ++ rest) (count_by begins before)) ≡ section_no before (count_by begins before)
+prefix : (before rest : List Line) → take (length (lines_since before)) (section_no (before ++ rest) (count_by begins before)) ≡ section_no before (count_by begins before)
 prefix before rest = prefix_at (count_by begins before) before rest refl
 
 -- the table, at a line
@@ -103,7 +103,7 @@ error_row lines i l before lt is b-is =
 
 -- ---- the sections that the code keeps
 
-pub part_at : (parts : List Part) (lines : List Line) (k : ℕ) (x : Part) → parts_view parts ≡ [] ∷ sections_in lines → k < length parts → x ≡ get_or parts k x → part_view x ≡ section_no lines k
+part_at : (parts : List Part) (lines : List Line) (k : ℕ) (x : Part) → parts_view parts ≡ [] ∷ sections_in lines → k < length parts → x ≡ get_or parts k x → part_view x ≡ section_no lines k
 part_at parts lines k x e lt is =
     ap part_view is ∙ sym (get_or-map part_view parts k x [] lt) ∙ ap (λ (ss : List (List Line)). get_or ss k []) e
 

@@ -2,7 +2,7 @@
 use Rattle.std.proofs.Common.{◌≡◌, ℕ, ◌+◌, ◌^◌, ◌<◌, ◌≤◌, Bool, true, false, cond, ◌&&◌, eqb, List, [], ◌∷◌, length, drop, map, refl, sym, ap, ◌∙◌, arith}
 use Rattle.std.specs.Prelude.{count_by, sum_by}
 use Rattle.std.specs.List.{slice_split, onto_first, filter_map, cons_option, list_all, before_first, position_or_len}
-use Rattle.std.proofs.lemmas.Bool.{le-leb}
+use Rattle.std.proofs.lemmas.Bool.{and_parts, and_from, cond_both, le-leb}
 use Rattle.std.proofs.lemmas.List.{length-map, length-drop, take_all}
 use Rattle.std.proofs.lemmas.List.Folds.{list_all-append}
 use Rattle.std.proofs.lemmas.List.Splits.{length-slice_split}
@@ -16,38 +16,33 @@ use Rattle.mutator_asm.specs.declared.line.Line.{Line as Read}
 use Rattle.mutator_asm.specs.declared.part.Part.{Part}
 use Rattle.mutator_asm.specs.Instr.{jump_to}
 use Rattle.mutator_asm.specs.Labels.{before_of}
-use Rattle.mutator_asm.specs.Line.{Word, Nothing, Begins, Schedules, Does, Jumps, Bad, Line, line_of, lines_of}
+use Rattle.mutator_asm.specs.Line.{Word, Nothing, Begins, Schedules, Does, Jumps, Line, line_of, lines_of}
 use Rattle.mutator_asm.specs.Program.{IsWellFormed, is_valid, is_item, leads_within, is_closed}
 use Rattle.mutator_asm.specs.Part.{parts_view}
 use Rattle.mutator_asm.specs.Read.{line_view, lines_view}
 use Rattle.mutator_asm.specs.Text.{begins, counts, is_begin, has_instr, items_on, items_in, defines, has_label, target_of, instr_by, section_of, sections_in, code_of, schedule_of, IsCleanUpTo, IsText}
 use Rattle.mutator_asm.proofs.Limits.{within_up_to}
-use Rattle.mutator_asm.proofs.Sound.{is_plain, is_jump_valid, is_sound, is_sound_line, lines_sound, and_parts, both}
+use Rattle.mutator_asm.proofs.Passing.{if_passes, all_weaker, count_by-cons}
+use Rattle.mutator_asm.proofs.Sound.{is_plain, is_jump_valid, is_sound, is_sound_line, lines_sound}
 
 -- ---- a section's instructions
 
 length_on : (t : List ℕ → ℕ) (w : Word) (instrs : List Instr) → length (cons_option (instr_by t w) instrs) ≡ cond (has_instr w) 1 0 + length instrs
 length_on t Nothing instrs = omega arith
-length_on t (Begins alone) instrs = omega arith
-length_on t (Schedules items) instrs = omega arith
-length_on t (Does instr) instrs = omega arith
-length_on t (Jumps jump label) instrs = omega arith
-length_on t (Bad mistake) instrs = omega arith
+length_on t _ instrs = omega arith
 
 length_by : (t : List ℕ → ℕ) (lines : List Line) → length (filter_map (λ l. instr_by t l.word) lines) ≡ count_by counts lines
 length_by t [] = refl
-length_by t (line ∷ lines) = omega (arith, length_on t line.word (filter_map (λ l. instr_by t l.word) lines), length_by t lines, sum_by-cons (λ l. cond (counts l) 1 0) line lines)
+length_by t (line ∷ lines) = omega (arith, length_on t line.word (filter_map (λ l. instr_by t l.word) lines), length_by t lines, count_by-cons counts line lines)
 
 pub length_section : (lines : List Line) → length (section_of lines) ≡ count_by counts lines
 unfolding section_of
 length_section lines = length_by (target_of lines) lines
 
-target_if : (b : Bool) (lines before : List Line) → count_by counts before ≤ count_by counts lines → cond b (count_by counts before) 0 ≤ count_by counts lines
-target_if true lines before h = h
-target_if false lines before h = omega arith
-
 target_le : (lines : List Line) (label : List ℕ) → target_of lines label ≤ count_by counts lines
-target_le lines label = target_if (has_label lines label) lines (before_first (defines label) lines) (sum_by-take-le (λ l. cond (counts l) 1 0) lines (position_or_len (defines label) lines))
+target_le lines label =
+    let before = before_first (defines label) lines in
+    cond_both (has_label lines label) (count_by counts before) 0 (λ n. n ≤ count_by counts lines) (λ e. sum_by-take-le (λ l. cond (counts l) 1 0) lines (position_or_len (defines label) lines)) (λ e. omega arith)
 
 -- an instruction is of the language, and stays in a section of n instructions
 is_fine : ℕ → Instr → Bool
@@ -61,30 +56,19 @@ plain_leads n _ h = refl
 
 jump_fine : (n t : ℕ) (jump : Jump) → is_jump_valid jump ≡ true → t ≤ n → n ≤ 65536 → is_fine n (jump_to jump t) ≡ true
 unfolding is_fine
-jump_fine n t Always h le few = both _ _ (le-leb t 65536 (omega arith)) (le-leb t n le)
-jump_fine n t (IfZero a) h le few = both _ _ (both _ _ h (le-leb t 65536 (omega arith))) (le-leb t n le)
-jump_fine n t (Link d) h le few = both _ _ (both _ _ h (le-leb t 65536 (omega arith))) (le-leb t n le)
+jump_fine n t Always h le few = and_from _ _ (le-leb t 65536 (omega arith)) (le-leb t n le)
+jump_fine n t (IfZero a) h le few = and_from _ _ (and_from _ _ h (le-leb t 65536 (omega arith))) (le-leb t n le)
+jump_fine n t (Link d) h le few = and_from _ _ (and_from _ _ h (le-leb t 65536 (omega arith))) (le-leb t n le)
 
 word_fine : (n : ℕ) (t : List ℕ → ℕ) (w : Word) (instrs : List Instr) → is_sound w ≡ true → ((q : List ℕ) → t q ≤ n) → n ≤ 65536 → list_all (is_fine n) instrs ≡ true → list_all (is_fine n) (cons_option (instr_by t w) instrs) ≡ true
 unfolding is_fine
-word_fine n t Nothing instrs h le few rest = rest
-word_fine n t (Begins alone) instrs h le few rest = rest
-word_fine n t (Schedules items) instrs h le few rest = rest
-word_fine n t (Does instr) instrs h le few rest = let parts = and_parts _ _ h in both _ _ (both _ _ parts.1 (plain_leads n instr parts.0)) rest
-word_fine n t (Jumps jump label) instrs h le few rest = both _ _ (jump_fine n (t label) jump h (le label) few) rest
-word_fine n t (Bad mistake) instrs h le few rest = rest
+word_fine n t (Does instr) instrs h le few rest = let parts = and_parts _ _ h in and_from _ _ (and_from _ _ parts.1 (plain_leads n instr parts.0)) rest
+word_fine n t (Jumps jump label) instrs h le few rest = and_from _ _ (jump_fine n (t label) jump h (le label) few) rest
+word_fine n t _ instrs h le few rest = rest
 
 fine_by : (n : ℕ) (t : List ℕ → ℕ) (lines : List Line) → list_all is_sound_line lines ≡ true → ((q : List ℕ) → t q ≤ n) → n ≤ 65536 → list_all (is_fine n) (filter_map (λ l. instr_by t l.word) lines) ≡ true
 fine_by n t [] h le few = refl
 fine_by n t (line ∷ lines) h le few = let parts = and_parts _ _ h in word_fine n t line.word _ parts.0 le few (fine_by n t lines parts.1 le few)
-
-all_and : {A : Type 0} (p q : A → Bool) (xs : List A) → list_all (λ x. p x && q x) xs ≡ true → (list_all p xs ≡ true) × (list_all q xs ≡ true)
-all_and p q [] h = (refl, refl)
-all_and p q (x ∷ xs) h =
-    let parts = and_parts _ _ h in
-    let here = and_parts _ _ parts.0 in
-    let rest = all_and p q xs parts.1 in
-    (both _ _ here.0 rest.0, both _ _ here.1 rest.1)
 
 -- a section of sound lines has instructions of the language, and stays in itself
 record IsGood (section : List Instr) : Type 0 where
@@ -95,26 +79,24 @@ section_good : (lines : List Line) → list_all is_sound_line lines ≡ true →
 unfolding section_of is_fine
 section_good lines h few =
     let n = count_by counts lines in
-    let parts = all_and is_valid (leads_within n) (section_of lines) (fine_by n (target_of lines) lines h (target_le lines) few) in
-    record { valid = parts.0; closed = rw (length_by (target_of lines) lines) parts.1 }
+    let fine = fine_by n (target_of lines) lines h (target_le lines) few in
+    let valid = all_weaker (is_fine n) is_valid (λ instr e. (and_parts (is_valid instr) (leads_within n instr) e).0) (section_of lines) fine in
+    let closed = all_weaker (is_fine n) (leads_within n) (λ instr e. (and_parts (is_valid instr) (leads_within n instr) e).1) (section_of lines) fine in
+    record { valid = valid; closed = rw (length_by (target_of lines) lines) closed }
 
 -- ---- sections
 
 -- all sections have as many instructions as the lines
 onto_sum : (line : Line) (parts : List (List Line)) → sum_by (count_by counts) (onto_first line parts) ≡ cond (counts line) 1 0 + sum_by (count_by counts) parts
-onto_sum line [] = omega (arith, sum_by-cons (count_by counts) (line ∷ []) [], sum_by-cons (λ l. cond (counts l) 1 0) line [])
-onto_sum line (part ∷ parts) = omega (arith, sum_by-cons (count_by counts) (line ∷ part) parts, sum_by-cons (count_by counts) part parts, sum_by-cons (λ l. cond (counts l) 1 0) line part)
+onto_sum line [] = omega (arith, sum_by-cons (count_by counts) (line ∷ []) [], count_by-cons counts line [])
+onto_sum line (part ∷ parts) = omega (arith, sum_by-cons (count_by counts) (line ∷ part) parts, sum_by-cons (count_by counts) part parts, count_by-cons counts line part)
 
 abbrev weight_of : Word → ℕ
 weight_of w = cond (has_instr w) 1 0
 
 begin_counts : (w : Word) → is_begin w ≡ true → weight_of w ≡ 0
 begin_counts (Begins alone) h = refl
-begin_counts Nothing h = absurd cc
-begin_counts (Schedules items) h = absurd cc
-begin_counts (Does instr) h = absurd cc
-begin_counts (Jumps jump label) h = absurd cc
-begin_counts (Bad mistake) h = absurd cc
+begin_counts _ h = absurd cc
 
 split_step : (b : Bool) (line : Line) (parts : List (List Line)) → is_begin line.word ≡ b → sum_by (count_by counts) (cond b ([] ∷ parts) (onto_first line parts)) ≡ cond (counts line) 1 0 + sum_by (count_by counts) parts
 split_step true line parts h = omega (arith, sum_by-cons (count_by counts) [] parts, begin_counts line.word h)
@@ -123,24 +105,20 @@ split_step false line parts h = onto_sum line parts
 split_sum : (lines : List Line) → sum_by (count_by counts) (slice_split begins lines) ≡ count_by counts lines
 split_sum [] = refl
 split_sum (line ∷ lines) =
-    split_step (begins line) line (slice_split begins lines) refl ∙ ap (λ n. cond (counts line) 1 0 + n) (split_sum lines) ∙ sym (sum_by-cons (λ l. cond (counts l) 1 0) line lines)
+    split_step (begins line) line (slice_split begins lines) refl ∙ ap (λ n. cond (counts line) 1 0 + n) (split_sum lines) ∙ sym (count_by-cons counts line lines)
 
 rest_sum : (parts : List (List Line)) → sum_by (count_by counts) (drop 1 parts) ≤ sum_by (count_by counts) parts
 rest_sum [] = omega arith
 rest_sum (part ∷ parts) = omega (arith, sum_by-cons (count_by counts) part parts)
 
 onto_all : {A : Type 0} (p : A → Bool) (x : A) (parts : List (List A)) → p x ≡ true → list_all (list_all p) parts ≡ true → list_all (list_all p) (onto_first x parts) ≡ true
-onto_all p x [] h k = both _ _ (both _ _ h refl) refl
-onto_all p x (part ∷ parts) h k = let rest = and_parts _ _ k in both _ _ (both _ _ h rest.0) rest.1
-
-all_step : {A : Type 0} (p : A → Bool) (b : Bool) (x : A) (parts : List (List A)) → p x ≡ true → list_all (list_all p) parts ≡ true → list_all (list_all p) (cond b ([] ∷ parts) (onto_first x parts)) ≡ true
-all_step p true x parts h k = k
-all_step p false x parts h k = onto_all p x parts h k
+onto_all p x [] h k = and_from _ _ (and_from _ _ h refl) refl
+onto_all p x (part ∷ parts) h k = let rest = and_parts _ _ k in and_from _ _ (and_from _ _ h rest.0) rest.1
 
 -- what all elements pass, all parts pass
 split_all : {A : Type 0} (p q : A → Bool) (xs : List A) → list_all p xs ≡ true → list_all (list_all p) (slice_split q xs) ≡ true
 split_all p q [] h = refl
-split_all p q (x ∷ xs) h = let parts = and_parts _ _ h in all_step p (q x) x (slice_split q xs) parts.0 (split_all p q xs parts.1)
+split_all p q (x ∷ xs) h = let parts = and_parts _ _ h in let rest = split_all p q xs parts.1 in if_passes (list_all (list_all p)) (q x) ([] ∷ slice_split q xs) _ rest (onto_all p x (slice_split q xs) parts.0 rest)
 
 rest_all : {A : Type 0} (p : A → Bool) (xs : List A) → list_all p xs ≡ true → list_all p (drop 1 xs) ≡ true
 rest_all p [] h = refl
@@ -158,7 +136,7 @@ sections_good (part ∷ parts) h few =
     let sum = sum_by-cons (count_by counts) part parts in
     let here = section_good part sound.0 (omega arith) in
     let rest = sections_good parts sound.1 (omega arith) in
-    record { valid = both _ _ here.valid rest.valid; closed = both _ _ here.closed rest.closed }
+    record { valid = and_from _ _ here.valid rest.valid; closed = and_from _ _ here.closed rest.closed }
 
 sections_sum : (parts : List (List Line)) → sum_by length (map section_of parts) ≡ sum_by (count_by counts) parts
 sections_sum [] = refl
@@ -168,17 +146,13 @@ sections_sum (part ∷ parts) = omega (arith, sum_by-cons length (section_of par
 
 items_good : (w : Word) → is_sound w ≡ true → list_all is_item (items_in w) ≡ true
 items_good (Schedules items) h = h
-items_good Nothing h = refl
-items_good (Begins alone) h = refl
-items_good (Does instr) h = refl
-items_good (Jumps jump label) h = refl
-items_good (Bad mistake) h = refl
+items_good _ h = refl
 
 schedule_good : (lines : List Line) → list_all is_sound_line lines ≡ true → list_all is_item (schedule_of lines) ≡ true
 schedule_good [] h = refl
 schedule_good (line ∷ lines) h =
     let parts = and_parts _ _ h in
-    rw (list_all-append is_item (items_on line) (schedule_of lines)) (both _ _ (items_good line.word parts.0) (schedule_good lines parts.1))
+    rw (list_all-append is_item (items_on line) (schedule_of lines)) (and_from _ _ (items_good line.word parts.0) (schedule_good lines parts.1))
 
 -- ---- a text
 

@@ -1,5 +1,7 @@
+pub mod Passing
 pub mod Firsts
 pub mod Lists
+pub mod Options
 pub mod Numerals
 pub mod Programs
 pub mod Sections
@@ -12,3 +14,14 @@ pub mod Sound
 pub mod Readings
 pub mod Fetching
 pub mod Forming
+pub mod Listed
+pub mod Writing
+pub mod Splitting
+pub mod Tokens
+pub mod Rereading
+pub mod Relisted
+pub mod ListedLabels
+pub mod ListedRows
+pub mod ListedClean
+pub mod ListedCode
+pub mod Listings

@@ -1,12 +1,13 @@
 -- How many sections, instructions and items a text without an error has.
-use Rattle.std.proofs.Common.{◌≡◌, ℕ, zero, suc, ◌+◌, ◌<◌, ◌≤◌, Bool, true, false, cond, ◌&&◌, ◌||◌, eqb, leb, List, [], ◌∷◌, length, get_or, take, Option, Some, None, refl, ◌∙◌, add-one, arith}
+use Rattle.std.proofs.Common.{◌≡◌, ℕ, zero, suc, ◌+◌, ◌<◌, ◌≤◌, Bool, true, false, cond, ◌&&◌, ◌||◌, eqb, leb, List, [], length, get_or, take, Option, Some, None, refl, ◌∙◌, add-one, arith}
 use Rattle.std.specs.Option.{is_some}
-use Rattle.std.proofs.lemmas.Bool.{leb-false, ltb-false}
+use Rattle.std.proofs.lemmas.Bool.{or_parts, leb-false, ltb-false}
+use Rattle.std.proofs.lemmas.List.{get_or_default}
 use Rattle.mutator_asm.specs.declared.before.Before.{Before}
 use Rattle.mutator_asm.specs.declared.mistake.Mistake.{Mistake}
 use Rattle.mutator_asm.specs.declared.mistake.Mistake.TheVariants.{UnknownInstr, BadOperand, UnknownLabel, LabelTwice, NoMutator, TooManyMutators, CodeTooLong, BadSchedule, NumberTooBig}
 use Rattle.mutator_asm.specs.Labels.{before_of, and_line}
-use Rattle.mutator_asm.specs.Line.{Word, Nothing, Begins, Schedules, Does, Jumps, Bad, Line, plain}
+use Rattle.mutator_asm.specs.Line.{Word, Nothing, Schedules, Line, plain}
 use Rattle.mutator_asm.specs.Text.{items_in, is_begin, has_instr, is_instr, is_bad, is_begin_with_more, is_lost, is_again, is_overlong, error_by, section_no, has_label, IsCleanUpTo}
 use Rattle.mutator_asm.proofs.Clean.{clean_at}
 use Rattle.mutator_asm.proofs.Counts.{before_more, error_row}
@@ -16,10 +17,6 @@ use Rattle.mutator_asm.proofs.Counts.{before_more, error_row}
 row : (b : Bool) (mistake : Mistake) (later : Option Mistake) → cond b (Some mistake) later ≡ None → (b ≡ false) × (later ≡ None)
 row true mistake later e = absurd cc
 row false mistake later e = (refl, e)
-
-or_false : (a b : Bool) → (a || b) ≡ false → (a ≡ false) × (b ≡ false)
-or_false true b e = absurd cc
-or_false false b e = (refl, e)
 
 -- the rows with a limit don't hold
 record NoneTooMany (before : Before) (line : Line) : Type 0 where
@@ -37,7 +34,7 @@ none_too_many known earlier before line e =
     let sixth = row (is_begin line.word && leb 16 before.sections) TooManyMutators _ fifth.1 in
     let seventh = row (is_instr line.word && leb 65536 before.instrs) CodeTooLong _ sixth.1 in
     let eighth = row (is_bad BadSchedule line.word || is_overlong before.items line.word) BadSchedule _ seventh.1 in
-    record { sections = sixth.0; instrs = seventh.0; items = (or_false (is_bad BadSchedule line.word) (is_overlong before.items line.word) eighth.0).1 }
+    record { sections = sixth.0; instrs = seventh.0; items = (or_parts (is_bad BadSchedule line.word) (is_overlong before.items line.word) eighth.0).1 }
 
 few_sections : (b : Bool) (n : ℕ) → (b && leb 16 n) ≡ false → n ≤ 16 → n + cond b 1 0 ≤ 16
 few_sections true n e h = let less = leb-false 16 n e in omega arith
@@ -49,11 +46,7 @@ few_instrs false b n e h = omega arith
 
 few_items : (n : ℕ) (w : Word) → is_overlong n w ≡ false → n ≤ 65536 → n + length (items_in w) ≤ 65536
 few_items n (Schedules items) e h = ltb-false 65536 (n + length items) e
-few_items n Nothing e h = omega arith
-few_items n (Begins alone) e h = omega arith
-few_items n (Does instr) e h = omega arith
-few_items n (Jumps jump label) e h = omega arith
-few_items n (Bad mistake) e h = omega arith
+few_items n _ e h = omega arith
 
 -- ---- lines without an error
 
@@ -71,11 +64,6 @@ within_step known earlier before line e h =
       items = few_items before.items line.word none.items h.items;
     }
 
-same_default : {A : Type 0} (xs : List A) (i : ℕ) (d e : A) → i < length xs → get_or xs i d ≡ get_or xs i e
-same_default [] i d e lt = absurd (omega arith)
-same_default (x ∷ xs) zero d e lt = refl
-same_default (x ∷ xs) (suc i) d e lt = same_default xs i d e (omega arith)
-
 at_first : IsWithinLimits (before_of [])
 unfolding before_of
 at_first = record { sections = omega arith; instrs = omega arith; items = omega arith }
@@ -85,7 +73,7 @@ within_up_to lines m zero le inside clean = at_first
 within_up_to lines m (suc n) le inside clean =
     let lt : n < length lines = omega arith in
     let line = get_or lines n (plain Nothing) in
-    let is = same_default lines n (plain Nothing) line lt in
+    let is = get_or_default lines n (plain Nothing) line lt in
     let before = before_of (take n lines) in
     let none = clean_at lines m n line clean (omega arith) lt in
     let row = error_row lines n line before lt is refl in

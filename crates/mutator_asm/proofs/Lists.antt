@@ -1,9 +1,9 @@
 -- Lists that are read element by element, through a view of the elements.
-use Rattle.std.proofs.Common.{◌≡◌, ℕ, suc, zero, ◌+◌, ◌<◌, ◌&&◌, Bool, true, false, List, [], ◌∷◌, ◌++◌, length, get_or, take, map, Option, Some, None, refl, sym, ap, arith}
+use Rattle.std.proofs.Common.{◌≡◌, ℕ, ◌+◌, ◌<◌, Bool, true, false, List, [], ◌∷◌, ◌++◌, length, get_or, take, map, Option, Some, refl, sym, ap, ◌∙◌}
 use Rattle.std.specs.List.{filter_map, list_all, flat_map}
 use Rattle.std.proofs.lemmas.List.{map_more}
 use Rattle.std.proofs.lemmas.List.Elements.{filter_map-append}
-use Rattle.std.proofs.lemmas.List.Folds.{list_all-append}
+use Rattle.std.proofs.lemmas.List.Folds.{list_all-append, list_all-map, list_all_at}
 use Rattle.std.proofs.lemmas.List.Concat.{flat_map-append}
 use Rattle.std.proofs.lemmas.List.{append-nil}
 
@@ -13,26 +13,14 @@ kept_more f v xs i d so_far z lt before here =
     let one : filter_map f (v (get_or xs i d) ∷ []) ≡ z ∷ [] = rw here refl in
     rw (map_more v xs i d lt, filter_map-append f (map v (take i xs)) (v (get_or xs i d) ∷ []), one, before) refl
 
--- one more element that isn't kept
-pub kept_same : {X Y Z : Type 0} (f : Y → Option Z) (v : X → Y) (xs : List X) (i : ℕ) (d : X) (so_far : List Z) → i < length xs → so_far ≡ filter_map f (map v (take i xs)) → f (v (get_or xs i d)) ≡ None → so_far ≡ filter_map f (map v (take (i + 1) xs))
-kept_same f v xs i d so_far lt before here =
-    let none : filter_map f (v (get_or xs i d) ∷ []) ≡ [] = rw here refl in
-    rw (map_more v xs i d lt, filter_map-append f (map v (take i xs)) (v (get_or xs i d) ∷ []), none, append-nil (filter_map f (map v (take i xs)))) before
-
 -- one more element that passes
 pub all_more : {X Y : Type 0} (p : Y → Bool) (v : X → Y) (xs : List X) (i : ℕ) (d : X) → i < length xs → list_all p (map v (take i xs)) ≡ true → p (v (get_or xs i d)) ≡ true → list_all p (map v (take (i + 1) xs)) ≡ true
 all_more p v xs i d lt before here =
     rw (map_more v xs i d lt, list_all-append p (map v (take i xs)) (v (get_or xs i d) ∷ []), before, here) refl
 
-pub false_after : (b : Bool) → (b && false) ≡ false
-false_after true = refl
-false_after false = refl
-
 -- one element that doesn't pass
 pub not_all : {X Y : Type 0} (p : Y → Bool) (v : X → Y) (xs : List X) (i : ℕ) (d : X) → i < length xs → p (v (get_or xs i d)) ≡ false → list_all p (map v xs) ≡ false
-not_all p v [] i d lt here = absurd (omega arith)
-not_all p v (x ∷ xs) zero d lt here = rw here refl
-not_all p v (x ∷ xs) (suc i) d lt here = rw (not_all p v xs i d (omega arith) here) (false_after (p (v x)))
+not_all p v xs i d lt here = list_all-map p v xs ∙ list_all_at (λ x. p (v x)) xs i d lt here
 
 -- one more element that gives some
 pub gathered_more : {X Y Z : Type 0} (f : Y → List Z) (v : X → Y) (xs : List X) (i : ℕ) (d : X) (so_far more : List Z) → i < length xs → so_far ≡ flat_map f (map v (take i xs)) → more ≡ f (v (get_or xs i d)) → so_far ++ more ≡ flat_map f (map v (take (i + 1) xs))

@@ -6,7 +6,6 @@ use Rattle.std.specs.List.{before_first}
 use Rattle.std.specs.Option.{option_or}
 use Rattle.std.specs.Str.{bytes_eq}
 use Rattle.std.proofs.Math.ListN.{drop_of_length-le}
-use Rattle.std.proofs.lemmas.List.Sums.{sum_by-cons}
 use Rattle.std.proofs.lemmas.Slice.Eq.{bytes_eq-Decides}
 use denote.Ref.{Bor}
 use Rattle.mutator_asm.specs.declared.labels.Place.{Place}
@@ -16,6 +15,8 @@ use Rattle.mutator_asm.specs.Line.{Line}
 use Rattle.mutator_asm.specs.Read.{label_view, line_view, lines_view}
 use Rattle.mutator_asm.specs.Text.{counts, defines, is_label, has_label}
 use Rattle.mutator_asm.proofs.Firsts.{before_cons, first_within, none_within}
+use Rattle.mutator_asm.proofs.Options.{option_or-None}
+use Rattle.mutator_asm.proofs.Passing.{count_by-cons}
 
 -- ---- the places, where n lines and k instructions stand before these lines
 
@@ -37,7 +38,7 @@ from_step : (b any : Bool) (n k : ℕ) (l : Line) (before whole : List Line) (la
 unfolding shifted
 from_step true any n k l before whole later e f = rw e (same_place n k (n + 0) (k + 0) (omega arith) (omega arith))
 from_step false true n k l before whole later e f =
-    rw (e, f) (same_place (n + 1 + length before) (k + cond (counts l) 1 0 + count_by counts before) (n + length (l ∷ before)) (k + count_by counts (l ∷ before)) (omega arith) (omega (arith, sum_by-cons (λ x. cond (counts x) 1 0) l before)))
+    rw (e, f) (same_place (n + 1 + length before) (k + cond (counts l) 1 0 + count_by counts before) (n + length (l ∷ before)) (k + count_by counts (l ∷ before)) (omega arith) (omega (arith, count_by-cons counts l before)))
 from_step false false n k l before whole later e f = f
 
 from_is : (n k : ℕ) (ls : List Line) (name : List ℕ) → place_from n k ls name ≡ cond (has_label ls name) (shifted n k (before_first (defines name) ls)) None
@@ -53,7 +54,7 @@ place_is ls name =
 -- ---- one more line
 
 -- the line at i, before those after it
-pub views_at : (ls : List Read) (i : ℕ) (l : Read) → i < length ls → l ≡ get_or ls i l → lines_view (drop i ls) ≡ line_view l ∷ lines_view (drop (i + 1) ls)
+views_at : (ls : List Read) (i : ℕ) (l : Read) → i < length ls → l ≡ get_or ls i l → lines_view (drop i ls) ≡ line_view l ∷ lines_view (drop (i + 1) ls)
 views_at ls i l lt is = rw (add-one, is) (ap lines_view (drop-cons ls i l lt))
 
 join : (f : Option Place) (b : Bool) (x : Place) (y : Option Place) → option_or (option_or f (cond b (Some x) None)) y ≡ option_or f (cond b (Some x) y)
@@ -71,10 +72,6 @@ place_step old new ls i k w l name total lt is w-is new-is so_far =
 pub weight-le : (b : Bool) (w : ℕ) → w ≡ cond b 1 0 → w ≤ 1
 weight-le true w e = omega arith
 weight-le false w e = omega arith
-
-option_or-None : (o : Option Place) → option_or o None ≡ o
-option_or-None None = refl
-option_or-None (Some p) = refl
 
 pub place_end : (o : Option Place) (ls : List Read) (i k : ℕ) (name : List ℕ) → length ls ≤ i → option_or o (place_from i k (lines_view (drop i ls)) name) ≡ place_from 0 0 (lines_view ls) name → o ≡ place_of (lines_view ls) name
 place_end o ls i k name le so_far =
@@ -136,7 +133,3 @@ within_some labels ls n name place knows found = ap (is_before n) (sym found ∙
 
 pub within_none : {S : Type 0} (labels : Labels S) (ls : List Line) (n : ℕ) (name : List ℕ) → get_place labels name ≡ place_of ls name → get_place labels name ≡ None → false ≡ has_label (take n ls) name
 within_none labels ls n name knows found = ap (is_before n) (sym found ∙ knows) ∙ within ls n name
-
-pub none_if_not : (o : Option Place) → ((p : Place) → o ≡ Some p → ⊥) → o ≡ None
-none_if_not None h = refl
-none_if_not (Some p) h = absurd (h p refl)

@@ -1,14 +1,14 @@
 -- Each text is read in exactly one way.
 use Rattle.std.proofs.Common.{◌≡◌, ℕ, ◌+◌, ◌<◌, ◌≤◌, ◌⊎◌, inl, inr, zero, suc, List, ◌∷◌, length, Option, Some, None, refl, sym, ap, ◌∙◌, add-one, arith}
 use Rattle.std.specs.Prelude.{count_by, option_map}
-use Rattle.std.proofs.lemmas.Bool.{cases_lt}
+use Rattle.std.proofs.lemmas.Bool.{cases_order}
 use Rattle.std.proofs.lemmas.List.{length-append}
 use Rattle.mutator_asm.specs.declared.mistake.Mistake.{Mistake}
 use Rattle.mutator_asm.specs.Mistake.{number_of_mistake}
 use Rattle.mutator_asm.specs.Line.{Line, Nothing, plain, lines_of}
 use Rattle.mutator_asm.specs.Text.{begins, error_of, code_of, schedule_of, IsCleanUpTo, IsFirstError, IsFaultIn}
 use Rattle.mutator_asm.specs.Theorems.{Means, Has}
-use Rattle.mutator_asm.proofs.Clean.{error_at, error_is, clean_more, first_error}
+use Rattle.mutator_asm.proofs.Clean.{error_at, error_is, clean_none, clean_more, first_error}
 
 -- ---- a first error
 
@@ -16,7 +16,7 @@ inside : {lines : List Line} {number line : ℕ} (f : IsFirstError lines number 
 inside {lines} f = omega (arith, ap length f.cut, length-append f.before (f.here ∷ f.after))
 
 -- no error stands among lines without one
-pub not_clean : (lines : List Line) (number line n : ℕ) (f : IsFirstError lines number line) → IsCleanUpTo n lines → length f.before < n → ⊥
+not_clean : (lines : List Line) (number line n : ℕ) (f : IsFirstError lines number line) → IsCleanUpTo n lines → length f.before < n → ⊥
 not_clean lines number line n f clean lt =
     let none = ap (option_map number_of_mistake) (clean.no_error f.before f.here f.after f.cut lt) in
     let some : None ≡ Some number = sym none ∙ f.error in
@@ -30,18 +30,15 @@ same_error lines number line other another f g e =
     let numbers : Some number ≡ Some other = sym f.error ∙ ap (option_map number_of_mistake) errors ∙ g.error in
     (cc, f.place ∙ ap (λ (n : ℕ). n + 1) e ∙ sym g.place)
 
-place_cases : (m n : ℕ) → (m < n) ⊎ ((n < m) ⊎ (m ≡ n))
-place_cases m n = elim (cases_lt m n) [ inl lt ↦ inl lt | inr le ↦ elim (cases_lt n m) [ inl gt ↦ inr (inl gt) | inr ge ↦ inr (inr (omega arith)) ] ]
-
 -- ---- at most one
 
-first_only : (lines : List Line) (number line other another : ℕ) (f : IsFirstError lines number line) (g : IsFirstError lines other another) → (length f.before < length g.before) ⊎ ((length g.before < length f.before) ⊎ (length f.before ≡ length g.before)) → (number ≡ other) × (line ≡ another)
-first_only lines number line other another f g (inl lt) = absurd (not_clean lines number line (length g.before) f g.clean lt)
-first_only lines number line other another f g (inr (inl gt)) = absurd (not_clean lines other another (length f.before) g f.clean gt)
-first_only lines number line other another f g (inr (inr e)) = same_error lines number line other another f g e
+first_only : (lines : List Line) (number line other another : ℕ) (f : IsFirstError lines number line) (g : IsFirstError lines other another) → (length f.before ≡ length g.before) ⊎ ((length f.before < length g.before) ⊎ (length g.before < length f.before)) → (number ≡ other) × (line ≡ another)
+first_only lines number line other another f g (inl e) = same_error lines number line other another f g e
+first_only lines number line other another f g (inr (inl lt)) = absurd (not_clean lines number line (length g.before) f g.clean lt)
+first_only lines number line other another f g (inr (inr gt)) = absurd (not_clean lines other another (length f.before) g f.clean gt)
 
 pub one_fault_in : (lines : List Line) (number line other another : ℕ) → IsFaultIn lines number line → IsFaultIn lines other another → (number ≡ other) × (line ≡ another)
-one_fault_in lines number line other another (inl f) (inl g) = first_only lines number line other another f g (place_cases (length f.before) (length g.before))
+one_fault_in lines number line other another (inl f) (inl g) = first_only lines number line other another f g (cases_order (length f.before) (length g.before))
 one_fault_in lines number line other another (inl f) (inr g) = absurd (not_clean lines number line (length lines) f g.clean (inside f))
 one_fault_in lines number line other another (inr f) (inl g) = absurd (not_clean lines other another (length lines) g f.clean (inside g))
 one_fault_in lines number line other another (inr f) (inr g) = (f.error ∙ sym g.error, f.place ∙ sym g.place)
@@ -68,7 +65,7 @@ search_step lines n lt (inr found) = inr found
 
 searched : (lines : List Line) (n : ℕ) → n ≤ length lines → Searched lines n
 unfolding Searched
-searched lines zero le = inl (record { no_error = λ before line after cut lt. absurd (omega arith) })
+searched lines zero le = inl (clean_none lines)
 searched lines (suc n) le = rw (← add-one) (search_step lines n (omega arith) (searched lines n (omega arith)))
 
 reading : (bytes : List ℕ) (n : ℕ) → count_by begins (lines_of bytes) ≡ n → Searched (lines_of bytes) (length (lines_of bytes)) → Means bytes ⊎ Has bytes

@@ -27,7 +27,7 @@ split_step : {X Y : Type 0} (f : X → Y) (b : Bool) (x : X) (parts : List (List
 split_step f true x parts = refl
 split_step f false x parts = onto_first-map f x parts
 
-pub slice_split-map : {X Y : Type 0} (p : Y → Bool) (f : X → Y) (xs : List X) → slice_split p (map f xs) ≡ map (map f) (slice_split (λ x. p (f x)) xs)
+slice_split-map : {X Y : Type 0} (p : Y → Bool) (f : X → Y) (xs : List X) → slice_split p (map f xs) ≡ map (map f) (slice_split (λ x. p (f x)) xs)
 slice_split-map p f [] = refl
 slice_split-map p f (x ∷ xs) = rw (slice_split-map p f xs) (split_step f (p (f x)) x (slice_split (λ x. p (f x)) xs))
 

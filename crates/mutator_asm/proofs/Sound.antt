@@ -1,10 +1,10 @@
 -- What is read of a line has registers, numbers and operands of the language.
-use Rattle.std.proofs.Common.{◌≡◌, ℕ, ◌-◌, ◌≤◌, Bool, true, false, cond, ◌&&◌, List, [], ◌∷◌, map, Option, Some, None, Result, Ok, Err, get_or, eqb, leb, refl, arith}
+use Rattle.std.proofs.Common.{◌≡◌, ◌⊎◌, inl, inr, ℕ, ◌-◌, Bool, true, false, ◌&&◌, List, [], ◌∷◌, map, Option, Some, None, Result, Ok, Err, get_or, eqb, leb, refl, arith}
 use Rattle.std.specs.List.{list_all, list_any, filter_map, cons_option, before_first, after_first, slice_split}
 use Rattle.std.specs.Str.{bytes_eq}
 use Rattle.std.specs.Str.Parse.{digits_value}
 use Rattle.std.specs.Prelude.{codes}
-use Rattle.std.proofs.lemmas.Bool.{lt-ltb, leb-true}
+use Rattle.std.proofs.lemmas.Bool.{and_parts, and_from, cond_both, lt-ltb, leb-true}
 use Rattle.mutator_asm.specs.declared.instr.Instr.{Instr}
 use Rattle.mutator_asm.specs.declared.instr.Instr.TheVariants.{Li, Mov, Add, Sub, Mul, Div, Rem, Lt, Eq, Jmp, Jz, Jal, Jr, New, Raw, Ld, St, Len, Isp, Get, Put, Swap, Out, Halt}
 use Rattle.mutator_asm.specs.declared.jump.Jump.{Jump}
@@ -14,10 +14,11 @@ use Rattle.mutator_asm.specs.declared.mistake.Mistake.{Mistake}
 use Rattle.mutator_asm.specs.declared.mistake.Mistake.TheVariants.{BadOperand, BadSchedule, NumberTooBig}
 use Rattle.mutator_asm.specs.declared.operand.Operand.{Operand}
 use Rattle.mutator_asm.specs.Program.{is_register, is_number, is_operand, is_valid, is_item}
-use Rattle.mutator_asm.specs.Token.{is_register_name, is_numeral, register_of, number_of, number_or, register_or, operand_of, is_name, label_of, tokens_of}
-use Rattle.mutator_asm.specs.Instr.{◌>>=◌, made, nothing, one_register, two_registers, three_registers, register_number, register_operand, operand_register, two_registers_operand, register_operand_register, instr_of}
+use Rattle.mutator_asm.specs.Token.{is_register_name, is_numeral, register_of, number_of, number_or, operand_of, is_name, label_of, tokens_of}
+use Rattle.mutator_asm.specs.Instr.{made, nothing, one_register, two_registers, three_registers, register_number, register_operand, operand_register, two_registers_operand, register_operand_register, instr_of}
 use Rattle.mutator_asm.specs.Line.{Word, Nothing, Begins, Schedules, Does, Jumps, Bad, Line, plain, jump_of, register_jump_of, jz_of, jal_of, does_or, named_of, labelled_of, begins_of, schedules_of, line_with, line_from, line_of, lines_of}
 use Rattle.mutator_asm.specs.Item.{is_star, within, worker_of, times_of, item_from, item_of}
+use Rattle.mutator_asm.proofs.Passing.{if_passes}
 
 -- what was read passes the test
 abbrev pub good : {A : Type 0} → (A → Bool) → Result A Mistake → Bool
@@ -54,46 +55,27 @@ is_sound (Bad mistake) = true
 abbrev pub is_sound_line : Line → Bool
 is_sound_line line = is_sound line.word
 
-pub and_parts : (a b : Bool) → (a && b) ≡ true → (a ≡ true) × (b ≡ true)
-and_parts true b e = (refl, e)
-and_parts false b e = absurd cc
-
-pub both : (a b : Bool) → a ≡ true → b ≡ true → (a && b) ≡ true
-both a b e f = rw (e, f) refl
-
-good_bind : {A B : Type 0} (p : A → Bool) (q : B → Bool) (r : Result A Mistake) (f : A → Result B Mistake) → good p r ≡ true → ((x : A) → p x ≡ true → good q (f x) ≡ true) → good q (r >>= f) ≡ true
-good_bind p q (Ok x) f h k = k x h
-good_bind p q (Err mistake) f h k = refl
-
-good_if : {A : Type 0} (p : A → Bool) (b : Bool) (x y : Result A Mistake) → good p x ≡ true → good p y ≡ true → good p (cond b x y) ≡ true
-good_if p true x y h k = h
-good_if p false x y h k = k
-
 -- ---- tokens
 
-register_if : (b : Bool) (x : ℕ) → (b ≡ true → x ≤ 55) → good is_register (cond b (Ok (x - 48)) (Err BadOperand)) ≡ true
-register_if true x h = let le = h refl in lt-ltb (x - 48) 8 (omega arith)
-register_if false x h = refl
+last_register : (x : ℕ) → leb x 55 ≡ true → is_register (x - 48) ≡ true
+last_register x h = lt-ltb (x - 48) 8 (omega (arith, leb-true x 55 h))
 
 register_good : (t : List ℕ) → good is_register (register_of t) ≡ true
 unfolding register_of
-register_good t = register_if (is_register_name t) (get_or t 1 0) (λ e. leb-true (get_or t 1 0) 55 (and_parts _ _ e).1)
-
-number_kept : (b : Bool) (n : ℕ) → is_number n ≡ b → good is_number (cond b (Ok n) (Err NumberTooBig)) ≡ true
-number_kept true n e = e
-number_kept false n e = refl
+register_good t = cond_both (is_register_name t) (Ok (get_or t 1 0 - 48)) (Err BadOperand) (λ r. good is_register r ≡ true) (λ e. last_register (get_or t 1 0) (and_parts _ _ e).1) (λ e. refl)
 
 number_good : (t : List ℕ) → good is_number (number_of t) ≡ true
 unfolding number_of
-number_good t = good_if is_number (is_numeral t) (number_or t) (Err BadOperand) (number_kept (is_number (digits_value 10 t)) (digits_value 10 t) refl) refl
+number_good t =
+    let n = digits_value 10 t in
+    if_passes (good is_number) (is_numeral t) (number_or t) (Err BadOperand) (cond_both (is_number n) (Ok n) (Err NumberTooBig) (λ r. good is_number r ≡ true) (λ e. e) (λ e. refl)) refl
 
-operand_if : (r n : Result ℕ Mistake) → good is_register r ≡ true → good is_number n ≡ true → good is_operand (register_or r n) ≡ true
-operand_if (Ok r) n h k = h
-operand_if (Err mistake) (Ok n) h k = k
-operand_if (Err mistake) (Err other) h k = refl
+cases_read : {A : Type 0} (r : Result A Mistake) → ((x : A) × (r ≡ Ok x)) ⊎ ((mistake : Mistake) × (r ≡ Err mistake))
+cases_read (Ok x) = inl (x, refl)
+cases_read (Err mistake) = inr (mistake, refl)
 
 operand_good : (t : List ℕ) → good is_operand (operand_of t) ≡ true
-operand_good t = operand_if (register_of t) (number_of t) (register_good t) (number_good t)
+operand_good t = grind (arith, cases_read, register_good t, number_good t)
 
 -- ---- operands
 
@@ -106,109 +88,69 @@ nothing_good [] = refl
 nothing_good (more ∷ others) = refl
 
 one_good : (operands : List (List ℕ)) → good is_register (one_register operands) ≡ true
-one_good [] = refl
 one_good (a ∷ []) = register_good a
-one_good (a ∷ more ∷ others) = refl
+one_good _ = refl
 
 two_good : (operands : List (List ℕ)) → good (λ o. is_register o.0 && is_register o.1) (two_registers operands) ≡ true
-two_good [] = refl
-two_good (d ∷ []) = refl
-two_good (d ∷ a ∷ []) =
-    good_bind is_register _ (register_of d) _ (register_good d) (λ rd hd.
-    good_bind is_register _ (register_of a) _ (register_good a) (λ ra ha. both _ _ hd ha))
-two_good (d ∷ a ∷ more ∷ others) = refl
+two_good (d ∷ a ∷ []) = grind (arith, cases_read, register_good d, register_good a)
+two_good _ = refl
 
 three_good : (operands : List (List ℕ)) → good (λ o. is_register o.0 && is_register o.1 && is_register o.2) (three_registers operands) ≡ true
-three_good [] = refl
-three_good (d ∷ []) = refl
-three_good (d ∷ a ∷ []) = refl
-three_good (d ∷ a ∷ b ∷ []) =
-    good_bind is_register _ (register_of d) _ (register_good d) (λ rd hd.
-    good_bind is_register _ (register_of a) _ (register_good a) (λ ra ha.
-    good_bind is_register _ (register_of b) _ (register_good b) (λ rb hb. both _ _ (both _ _ hd ha) hb)))
-three_good (d ∷ a ∷ b ∷ more ∷ others) = refl
+three_good (d ∷ a ∷ b ∷ []) = grind (arith, cases_read, register_good d, register_good a, register_good b)
+three_good _ = refl
 
 register_number_good : (operands : List (List ℕ)) → good (λ o. is_register o.0 && is_number o.1) (register_number operands) ≡ true
-register_number_good [] = refl
-register_number_good (d ∷ []) = refl
-register_number_good (d ∷ k ∷ []) =
-    good_bind is_register _ (register_of d) _ (register_good d) (λ rd hd.
-    good_bind is_number _ (number_of k) _ (number_good k) (λ n hn. both _ _ hd hn))
-register_number_good (d ∷ k ∷ more ∷ others) = refl
+register_number_good (d ∷ k ∷ []) = grind (arith, cases_read, register_good d, number_good k)
+register_number_good _ = refl
 
 register_operand_good : (operands : List (List ℕ)) → good (λ o. is_register o.0 && is_operand o.1) (register_operand operands) ≡ true
-register_operand_good [] = refl
-register_operand_good (d ∷ []) = refl
-register_operand_good (d ∷ x ∷ []) =
-    good_bind is_register _ (register_of d) _ (register_good d) (λ rd hd.
-    good_bind is_operand _ (operand_of x) _ (operand_good x) (λ o ho. both _ _ hd ho))
-register_operand_good (d ∷ x ∷ more ∷ others) = refl
+register_operand_good (d ∷ x ∷ []) = grind (arith, cases_read, register_good d, operand_good x)
+register_operand_good _ = refl
 
 operand_register_good : (operands : List (List ℕ)) → good (λ o. is_operand o.0 && is_register o.1) (operand_register operands) ≡ true
-operand_register_good [] = refl
-operand_register_good (x ∷ []) = refl
-operand_register_good (x ∷ a ∷ []) =
-    good_bind is_register _ (register_of a) _ (register_good a) (λ ra ha.
-    good_bind is_operand _ (operand_of x) _ (operand_good x) (λ o ho. both _ _ ho ha))
-operand_register_good (x ∷ a ∷ more ∷ others) = refl
+operand_register_good (x ∷ a ∷ []) = grind (arith, cases_read, operand_good x, register_good a)
+operand_register_good _ = refl
 
 two_registers_operand_good : (operands : List (List ℕ)) → good (λ o. is_register o.0 && is_register o.1 && is_operand o.2) (two_registers_operand operands) ≡ true
-two_registers_operand_good [] = refl
-two_registers_operand_good (d ∷ []) = refl
-two_registers_operand_good (d ∷ a ∷ []) = refl
-two_registers_operand_good (d ∷ a ∷ x ∷ []) =
-    good_bind is_register _ (register_of d) _ (register_good d) (λ rd hd.
-    good_bind is_register _ (register_of a) _ (register_good a) (λ ra ha.
-    good_bind is_operand _ (operand_of x) _ (operand_good x) (λ o ho. both _ _ (both _ _ hd ha) ho)))
-two_registers_operand_good (d ∷ a ∷ x ∷ more ∷ others) = refl
+two_registers_operand_good (d ∷ a ∷ x ∷ []) = grind (arith, cases_read, register_good d, register_good a, operand_good x)
+two_registers_operand_good _ = refl
 
 register_operand_register_good : (operands : List (List ℕ)) → good (λ o. is_register o.0 && is_operand o.1 && is_register o.2) (register_operand_register operands) ≡ true
-register_operand_register_good [] = refl
-register_operand_register_good (a ∷ []) = refl
-register_operand_register_good (a ∷ x ∷ []) = refl
-register_operand_register_good (a ∷ x ∷ b ∷ []) =
-    good_bind is_register _ (register_of a) _ (register_good a) (λ ra ha.
-    good_bind is_register _ (register_of b) _ (register_good b) (λ rb hb.
-    good_bind is_operand _ (operand_of x) _ (operand_good x) (λ o ho. both _ _ (both _ _ ha ho) hb)))
-register_operand_register_good (a ∷ x ∷ b ∷ more ∷ others) = refl
+register_operand_register_good (a ∷ x ∷ b ∷ []) = grind (arith, cases_read, register_good a, operand_good x, register_good b)
+register_operand_register_good _ = refl
 
 -- ---- instructions
 
 instr_good : (name : List ℕ) (operands : List (List ℕ)) → good is_plain_valid (instr_of name operands) ≡ true
 unfolding instr_of
 instr_good name operands =
-    good_if is_plain_valid (bytes_eq name (codes "li")) _ _ (made_good is_plain_valid (λ (o : ℕ × ℕ). Li o.0 o.1) (register_number operands) (register_number_good operands))
-    (good_if is_plain_valid (bytes_eq name (codes "mov")) _ _ (made_good is_plain_valid (λ (o : ℕ × ℕ). Mov o.0 o.1) (two_registers operands) (two_good operands))
-    (good_if is_plain_valid (bytes_eq name (codes "add")) _ _ (made_good is_plain_valid (λ (o : ℕ × ℕ × ℕ). Add o.0 o.1 o.2) (three_registers operands) (three_good operands))
-    (good_if is_plain_valid (bytes_eq name (codes "sub")) _ _ (made_good is_plain_valid (λ (o : ℕ × ℕ × ℕ). Sub o.0 o.1 o.2) (three_registers operands) (three_good operands))
-    (good_if is_plain_valid (bytes_eq name (codes "mul")) _ _ (made_good is_plain_valid (λ (o : ℕ × ℕ × ℕ). Mul o.0 o.1 o.2) (three_registers operands) (three_good operands))
-    (good_if is_plain_valid (bytes_eq name (codes "div")) _ _ (made_good is_plain_valid (λ (o : ℕ × ℕ × ℕ). Div o.0 o.1 o.2) (three_registers operands) (three_good operands))
-    (good_if is_plain_valid (bytes_eq name (codes "rem")) _ _ (made_good is_plain_valid (λ (o : ℕ × ℕ × ℕ). Rem o.0 o.1 o.2) (three_registers operands) (three_good operands))
-    (good_if is_plain_valid (bytes_eq name (codes "lt")) _ _ (made_good is_plain_valid (λ (o : ℕ × ℕ × ℕ). Lt o.0 o.1 o.2) (three_registers operands) (three_good operands))
-    (good_if is_plain_valid (bytes_eq name (codes "eq")) _ _ (made_good is_plain_valid (λ (o : ℕ × ℕ × ℕ). Eq o.0 o.1 o.2) (three_registers operands) (three_good operands))
-    (good_if is_plain_valid (bytes_eq name (codes "jr")) _ _ (made_good is_plain_valid (λ (o : ℕ). Jr o) (one_register operands) (one_good operands))
-    (good_if is_plain_valid (bytes_eq name (codes "new")) _ _ (made_good is_plain_valid (λ (o : ℕ × Operand). New o.0 o.1) (register_operand operands) (register_operand_good operands))
-    (good_if is_plain_valid (bytes_eq name (codes "raw")) _ _ (made_good is_plain_valid (λ (o : ℕ × Operand). Raw o.0 o.1) (register_operand operands) (register_operand_good operands))
-    (good_if is_plain_valid (bytes_eq name (codes "ld")) _ _ (made_good is_plain_valid (λ (o : ℕ × ℕ × Operand). Ld o.0 o.1 o.2) (two_registers_operand operands) (two_registers_operand_good operands))
-    (good_if is_plain_valid (bytes_eq name (codes "st")) _ _ (made_good is_plain_valid (λ (o : ℕ × Operand × ℕ). St o.0 o.1 o.2) (register_operand_register operands) (register_operand_register_good operands))
-    (good_if is_plain_valid (bytes_eq name (codes "len")) _ _ (made_good is_plain_valid (λ (o : ℕ × ℕ). Len o.0 o.1) (two_registers operands) (two_good operands))
-    (good_if is_plain_valid (bytes_eq name (codes "isp")) _ _ (made_good is_plain_valid (λ (o : ℕ × ℕ). Isp o.0 o.1) (two_registers operands) (two_good operands))
-    (good_if is_plain_valid (bytes_eq name (codes "get")) _ _ (made_good is_plain_valid (λ (o : ℕ × Operand). Get o.0 o.1) (register_operand operands) (register_operand_good operands))
-    (good_if is_plain_valid (bytes_eq name (codes "put")) _ _ (made_good is_plain_valid (λ (o : Operand × ℕ). Put o.0 o.1) (operand_register operands) (operand_register_good operands))
-    (good_if is_plain_valid (bytes_eq name (codes "swap")) _ _ (made_good is_plain_valid (λ (o : ℕ × Operand). Swap o.0 o.1) (register_operand operands) (register_operand_good operands))
-    (good_if is_plain_valid (bytes_eq name (codes "out")) _ _ (made_good is_plain_valid (λ (o : ℕ). Out o) (one_register operands) (one_good operands))
-    (good_if is_plain_valid (bytes_eq name (codes "halt")) _ _ (made_good is_plain_valid (λ (o : Unit {0}). Halt) (nothing operands) (nothing_good operands)) refl))))))))))))))))))))
+    if_passes (good is_plain_valid) (bytes_eq name (codes "li")) _ _ (made_good is_plain_valid (λ (o : ℕ × ℕ). Li o.0 o.1) (register_number operands) (register_number_good operands))
+    (if_passes (good is_plain_valid) (bytes_eq name (codes "mov")) _ _ (made_good is_plain_valid (λ (o : ℕ × ℕ). Mov o.0 o.1) (two_registers operands) (two_good operands))
+    (if_passes (good is_plain_valid) (bytes_eq name (codes "add")) _ _ (made_good is_plain_valid (λ (o : ℕ × ℕ × ℕ). Add o.0 o.1 o.2) (three_registers operands) (three_good operands))
+    (if_passes (good is_plain_valid) (bytes_eq name (codes "sub")) _ _ (made_good is_plain_valid (λ (o : ℕ × ℕ × ℕ). Sub o.0 o.1 o.2) (three_registers operands) (three_good operands))
+    (if_passes (good is_plain_valid) (bytes_eq name (codes "mul")) _ _ (made_good is_plain_valid (λ (o : ℕ × ℕ × ℕ). Mul o.0 o.1 o.2) (three_registers operands) (three_good operands))
+    (if_passes (good is_plain_valid) (bytes_eq name (codes "div")) _ _ (made_good is_plain_valid (λ (o : ℕ × ℕ × ℕ). Div o.0 o.1 o.2) (three_registers operands) (three_good operands))
+    (if_passes (good is_plain_valid) (bytes_eq name (codes "rem")) _ _ (made_good is_plain_valid (λ (o : ℕ × ℕ × ℕ). Rem o.0 o.1 o.2) (three_registers operands) (three_good operands))
+    (if_passes (good is_plain_valid) (bytes_eq name (codes "lt")) _ _ (made_good is_plain_valid (λ (o : ℕ × ℕ × ℕ). Lt o.0 o.1 o.2) (three_registers operands) (three_good operands))
+    (if_passes (good is_plain_valid) (bytes_eq name (codes "eq")) _ _ (made_good is_plain_valid (λ (o : ℕ × ℕ × ℕ). Eq o.0 o.1 o.2) (three_registers operands) (three_good operands))
+    (if_passes (good is_plain_valid) (bytes_eq name (codes "jr")) _ _ (made_good is_plain_valid (λ (o : ℕ). Jr o) (one_register operands) (one_good operands))
+    (if_passes (good is_plain_valid) (bytes_eq name (codes "new")) _ _ (made_good is_plain_valid (λ (o : ℕ × Operand). New o.0 o.1) (register_operand operands) (register_operand_good operands))
+    (if_passes (good is_plain_valid) (bytes_eq name (codes "raw")) _ _ (made_good is_plain_valid (λ (o : ℕ × Operand). Raw o.0 o.1) (register_operand operands) (register_operand_good operands))
+    (if_passes (good is_plain_valid) (bytes_eq name (codes "ld")) _ _ (made_good is_plain_valid (λ (o : ℕ × ℕ × Operand). Ld o.0 o.1 o.2) (two_registers_operand operands) (two_registers_operand_good operands))
+    (if_passes (good is_plain_valid) (bytes_eq name (codes "st")) _ _ (made_good is_plain_valid (λ (o : ℕ × Operand × ℕ). St o.0 o.1 o.2) (register_operand_register operands) (register_operand_register_good operands))
+    (if_passes (good is_plain_valid) (bytes_eq name (codes "len")) _ _ (made_good is_plain_valid (λ (o : ℕ × ℕ). Len o.0 o.1) (two_registers operands) (two_good operands))
+    (if_passes (good is_plain_valid) (bytes_eq name (codes "isp")) _ _ (made_good is_plain_valid (λ (o : ℕ × ℕ). Isp o.0 o.1) (two_registers operands) (two_good operands))
+    (if_passes (good is_plain_valid) (bytes_eq name (codes "get")) _ _ (made_good is_plain_valid (λ (o : ℕ × Operand). Get o.0 o.1) (register_operand operands) (register_operand_good operands))
+    (if_passes (good is_plain_valid) (bytes_eq name (codes "put")) _ _ (made_good is_plain_valid (λ (o : Operand × ℕ). Put o.0 o.1) (operand_register operands) (operand_register_good operands))
+    (if_passes (good is_plain_valid) (bytes_eq name (codes "swap")) _ _ (made_good is_plain_valid (λ (o : ℕ × Operand). Swap o.0 o.1) (register_operand operands) (register_operand_good operands))
+    (if_passes (good is_plain_valid) (bytes_eq name (codes "out")) _ _ (made_good is_plain_valid (λ (o : ℕ). Out o) (one_register operands) (one_good operands))
+    (if_passes (good is_plain_valid) (bytes_eq name (codes "halt")) _ _ (made_good is_plain_valid (λ (o : Unit {0}). Halt) (nothing operands) (nothing_good operands)) refl))))))))))))))))))))
 
 -- ---- jumps
 
-sound_if : (b : Bool) (x y : Word) → is_sound x ≡ true → is_sound y ≡ true → is_sound (cond b x y) ≡ true
-sound_if true x y h k = h
-sound_if false x y h k = k
-
 jump_sound : (jump : Jump) (labels : List (List ℕ)) → is_jump_valid jump ≡ true → is_sound (jump_of jump labels) ≡ true
-jump_sound jump [] h = refl
-jump_sound jump (label ∷ []) h = sound_if (is_name label) (Jumps jump label) (Bad BadOperand) h refl
-jump_sound jump (label ∷ more ∷ others) h = refl
+jump_sound jump (label ∷ []) h = if_passes is_sound (is_name label) (Jumps jump label) (Bad BadOperand) h refl
+jump_sound jump _ h = refl
 
 register_jump_sound : (read : Result Jump Mistake) (labels : List (List ℕ)) → good is_jump_valid read ≡ true → is_sound (register_jump_of read labels) ≡ true
 register_jump_sound (Ok jump) labels h = jump_sound jump labels h
@@ -229,9 +171,9 @@ does_sound (Err mistake) h = refl
 named_sound : (name : List ℕ) (operands : List (List ℕ)) → is_sound (named_of name operands) ≡ true
 unfolding named_of
 named_sound name operands =
-    sound_if (bytes_eq name (codes "jmp")) _ _ (jump_sound Always operands refl)
-    (sound_if (bytes_eq name (codes "jz")) _ _ (jz_sound operands)
-    (sound_if (bytes_eq name (codes "jal")) _ _ (jal_sound operands) (does_sound (instr_of name operands) (instr_good name operands))))
+    if_passes is_sound (bytes_eq name (codes "jmp")) _ _ (jump_sound Always operands refl)
+    (if_passes is_sound (bytes_eq name (codes "jz")) _ _ (jz_sound operands)
+    (if_passes is_sound (bytes_eq name (codes "jal")) _ _ (jal_sound operands) (does_sound (instr_of name operands) (instr_good name operands))))
 
 labelled_sound : (tokens : List (List ℕ)) → is_sound (labelled_of tokens) ≡ true
 labelled_sound [] = refl
@@ -244,36 +186,27 @@ abbrev good_some : {A : Type 0} → (A → Bool) → Option A → Bool
 good_some p None = true
 good_some p (Some x) = p x
 
-kept_good : (p : ℕ → Bool) (b : Bool) (n : ℕ) → p n ≡ b → good_some p (cond b (Some n) None) ≡ true
-kept_good p true n e = e
-kept_good p false n e = refl
-
 within_good : (low high : ℕ) (r : Result ℕ Mistake) → good_some (λ n. leb low n && leb n high) (within low high r) ≡ true
-within_good low high (Ok n) = kept_good (λ m. leb low m && leb m high) (leb low n && leb n high) n refl
+within_good low high (Ok n) = cond_both (leb low n && leb n high) (Some n) None (λ o. good_some (λ m. leb low m && leb m high) o ≡ true) (λ e. e) (λ e. refl)
 within_good low high (Err mistake) = refl
 
 item_good : (worker times : Option ℕ) → good_some (λ n. leb 0 n && leb n 23) worker ≡ true → good_some (λ n. leb 1 n && leb n 1000000) times ≡ true → good_some is_item (item_from worker times) ≡ true
 item_good (Some worker) (Some times) h k =
     let few = and_parts (leb 0 worker) (leb worker 23) h in
     let room = and_parts (leb 1 times) (leb times 1000000) k in
-    both _ _ (both _ _ few.1 room.0) room.1
-item_good (Some worker) None h k = refl
-item_good None times h k = refl
-
-some_if : (b : Bool) (x y : Option Item) → good_some is_item x ≡ true → good_some is_item y ≡ true → good_some is_item (cond b x y) ≡ true
-some_if true x y h k = h
-some_if false x y h k = k
+    and_from _ _ (and_from _ _ few.1 room.0) room.1
+item_good _ _ h k = refl
 
 item_sound : (t : List ℕ) → good_some is_item (item_of t) ≡ true
 unfolding item_of
 item_sound t =
-    some_if (list_any is_star t) _ _
+    if_passes (good_some is_item) (list_any is_star t) _ _
     (item_good (worker_of (before_first is_star t)) (times_of (after_first is_star t)) (within_good 0 23 (number_of (before_first is_star t))) (within_good 1 1000000 (number_of (after_first is_star t))))
     (item_good (worker_of t) (Some 1) (within_good 0 23 (number_of t)) refl)
 
 cons_sound : (o : Option Item) (items : List Item) → good_some is_item o ≡ true → list_all is_item items ≡ true → list_all is_item (cons_option o items) ≡ true
 cons_sound None items h k = k
-cons_sound (Some item) items h k = both _ _ h k
+cons_sound (Some item) items h k = and_from _ _ h k
 
 items_sound : (tokens : List (List ℕ)) → list_all is_item (filter_map item_of tokens) ≡ true
 items_sound [] = refl
@@ -281,7 +214,7 @@ items_sound (t ∷ ts) = cons_sound (item_of t) (filter_map item_of ts) (item_so
 
 schedules_sound : (operands : List (List ℕ)) → is_sound (schedules_of operands) ≡ true
 unfolding schedules_of
-schedules_sound operands = sound_if _ (Schedules (filter_map item_of operands)) (Bad BadSchedule) (items_sound operands) refl
+schedules_sound operands = if_passes is_sound _ (Schedules (filter_map item_of operands)) (Bad BadSchedule) (items_sound operands) refl
 
 -- ---- lines
 
@@ -293,15 +226,11 @@ with_sound : (label : Option (List ℕ)) (first : List ℕ) (rest : List (List �
 with_sound None first rest = named_sound first rest
 with_sound (Some label) first rest = labelled_sound rest
 
-line_if : (b : Bool) (x y : Line) → is_sound_line x ≡ true → is_sound_line y ≡ true → is_sound_line (cond b x y) ≡ true
-line_if true x y h k = h
-line_if false x y h k = k
-
 from_sound : (tokens : List (List ℕ)) → is_sound_line (line_from tokens) ≡ true
 from_sound [] = refl
 from_sound (first ∷ rest) =
-    line_if (bytes_eq first (codes ".mutator")) (plain (begins_of rest)) _ (begins_sound rest)
-    (line_if (bytes_eq first (codes ".schedule")) (plain (schedules_of rest)) (line_with (label_of first) first rest) (schedules_sound rest) (with_sound (label_of first) first rest))
+    if_passes is_sound_line (bytes_eq first (codes ".mutator")) (plain (begins_of rest)) _ (begins_sound rest)
+    (if_passes is_sound_line (bytes_eq first (codes ".schedule")) (plain (schedules_of rest)) (line_with (label_of first) first rest) (schedules_sound rest) (with_sound (label_of first) first rest))
 
 line_sound : (line : List ℕ) → is_sound_line (line_of line) ≡ true
 unfolding line_of
@@ -309,7 +238,7 @@ line_sound line = from_sound (tokens_of line)
 
 all_sound : (lines : List (List ℕ)) → list_all is_sound_line (map line_of lines) ≡ true
 all_sound [] = refl
-all_sound (line ∷ lines) = both _ _ (line_sound line) (all_sound lines)
+all_sound (line ∷ lines) = and_from _ _ (line_sound line) (all_sound lines)
 
 -- each line of a text is sound
 pub lines_sound : (text : List ℕ) → list_all is_sound_line (lines_of text) ≡ true

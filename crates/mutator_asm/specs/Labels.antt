@@ -1,12 +1,14 @@
 -- What the code keeps of a section and of the lines before one.
-use Rattle.std.specs.Prelude.{◌≡◌, ℕ, ◌+◌, List, [], length, Option, Some, None, if◌then◌else◌, count_by, slice_index_or}
+use Rattle.std.specs.Prelude.{◌≡◌, ℕ, ◌+◌, ◌≤◌, Bool, List, [], length, Option, Some, None, if◌then◌else◌, count_by, slice_get, slice_index_or}
 use Rattle.std.specs.List.{before_first, slice_split}
 use Rattle.std.specs.HashMap.{HashMap, get_by}
 use Rattle.std.specs.Str.{bytes_eq}
 use denote.Ref.{Bor}
+use Rattle.mutator_asm.specs.declared.instr.Instr.{Instr}
 use Rattle.mutator_asm.specs.declared.labels.Place.{Place}
 use Rattle.mutator_asm.specs.declared.before.Before.{Before}
 use Rattle.mutator_asm.specs.Line.{Line}
+use Rattle.mutator_asm.specs.Listing.{is_target_in}
 use Rattle.mutator_asm.specs.Text.{begins, counts, defines, items_on, has_label, schedule_of}
 
 -- ---- labels
@@ -48,3 +50,11 @@ and_line before line = record {
   instrs = before.instrs + (if counts line then 1 else 0);
   items = before.items + length (items_on line);
 }
+
+-- ---- the targets of jumps
+
+-- of each number of a section, and of the one behind its last instruction, it is known whether a jump
+-- leads there
+pub record KnowsTargets (targets : List Bool) (section : List Instr) : Type 0 where
+  pub all : length targets ≡ length section + 1
+  pub each : (k : ℕ) → k ≤ length section → slice_get targets k ≡ Some (is_target_in section k)

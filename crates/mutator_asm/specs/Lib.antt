@@ -9,4 +9,5 @@ pub mod Read
 pub mod Text
 pub mod Labels
 pub mod Part
+pub mod Listing
 pub mod Theorems

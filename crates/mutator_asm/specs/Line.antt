@@ -13,8 +13,8 @@ use Rattle.mutator_asm.specs.Token.{tokens_of, is_name, label_of, register_of}
 use Rattle.mutator_asm.specs.Item.{item_of}
 use Rattle.mutator_asm.specs.Instr.{instr_of, made}
 
--- what a line has beside its label: nothing, a section's begin (alone on its line, or with operands),
--- items of the schedule, an instruction, a jump to a label, or something wrong
+-- what a line has beside its label: nothing, `.mutator`, which begins a section (alone on its line, or
+-- with operands), items of the schedule, an instruction, a jump to a label, or something wrong
 pub data Word : Type 0 where
   Nothing : Word
   Begins : (alone : Bool) → Word
@@ -72,7 +72,7 @@ labelled_of (name ∷ operands) = named_of name operands
 
 -- ---- directives
 
--- .mutator stands alone
+-- .mutator begins a section, also where operands follow it, which is an error
 abbrev pub begins_of : List (List ℕ) → Word
 begins_of [] = Begins true
 begins_of _ = Begins false

@@ -24,7 +24,7 @@ abbrev pub is_operand : Operand → Bool
 is_operand (Reg r) = is_register r
 is_operand (Number n) = is_number n
 
--- a jump leads to an instruction of its section or behind the last one
+-- a jump's target is at most 65,536, the most instructions that a text may have
 abbrev pub is_target : ℕ → Bool
 is_target t = nat_le t 65536
 
@@ -55,7 +55,8 @@ is_valid (Swap d x) = is_register d && is_operand x
 is_valid (Out a) = is_register a
 is_valid Halt = true
 
--- where a jump in a section of n instructions leads: to one of them, or behind the last
+-- a jump in a section of n instructions leads to one of them or behind the last; of no other
+-- instruction anything is asked
 abbrev pub leads_within : ℕ → Instr → Bool
 leads_within n (Jmp t) = nat_le t n
 leads_within n (Jz a t) = nat_le t n
@@ -66,7 +67,7 @@ leads_within n _ = true
 abbrev pub is_closed : List Instr → Bool
 is_closed section = list_all (leads_within (length section)) section
 
--- a part of a schedule names a worker from 0 to 23 and 1 to 1,000,000 of its steps
+-- an item of a schedule names a worker from 0 to 23 and 1 to 1,000,000 of its steps
 abbrev pub is_item : Item → Bool
 is_item i = nat_le i.worker 23 && nat_le 1 i.times && nat_le i.times 1000000
 

@@ -1,7 +1,8 @@
--- What is proved of the grammar itself.
+-- What is proved of the grammar itself, and of listings.
 use Rattle.std.specs.Prelude.{◌≡◌, ℕ, ◌<◌, ◌⊎◌, List, Some, IsTrue}
 use Rattle.mutator_asm.specs.declared.instr.Instr.{Instr}
 use Rattle.mutator_asm.specs.declared.item.Item.{Item}
+use Rattle.mutator_asm.specs.Listing.{listing}
 use Rattle.mutator_asm.specs.Program.{IsWellFormed, instr_at, is_valid}
 use Rattle.mutator_asm.specs.Text.{IsText, IsFault}
 
@@ -40,3 +41,19 @@ FetchesInstrs = (code : List (List Instr)) (schedule : List Item) (mutator count
 -- a well-formed program has no instruction from number 65,536 on
 abbrev pub FetchesEarly : Type 0
 FetchesEarly = (code : List (List Instr)) (schedule : List Item) (mutator counter : ℕ) (instr : Instr) → IsWellFormed code schedule → instr_at code mutator counter ≡ Some instr → counter < 65536
+
+-- the program of a text is well formed
+abbrev pub MeansWellFormed : Type 0
+MeansWellFormed = (bytes : List ℕ) (code : List (List Instr)) (schedule : List Item) → IsText bytes code schedule → IsWellFormed code schedule
+
+-- the listing of a well-formed program is a text of it
+abbrev pub ListsText : Type 0
+ListsText = (code : List (List Instr)) (schedule : List Item) → IsWellFormed code schedule → IsText (listing code schedule) code schedule
+
+-- the listing of a well-formed program means that program and no other
+abbrev pub ReadsBack : Type 0
+ReadsBack = (code other : List (List Instr)) (schedule another : List Item) → IsWellFormed code schedule → IsText (listing code schedule) other another → (other ≡ code) × (another ≡ schedule)
+
+-- the listing of a well-formed program has no fault
+abbrev pub ListsNoFault : Type 0
+ListsNoFault = (code : List (List Instr)) (schedule : List Item) (number line : ℕ) → IsWellFormed code schedule → IsFault (listing code schedule) number line → ⊥

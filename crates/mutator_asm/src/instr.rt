@@ -1,6 +1,7 @@
 //! The instructions.
 
 use crate::operand::Operand;
+use std::fmt;
 
 /// An instruction, its operands in the order of the text. A register is its number, 0 to 7. A jump's
 /// target is the number of an instruction in the same section, or the section's length.
@@ -54,4 +55,57 @@ pub enum Instr {
     Out(u8),
     /// `halt`: the mutator ends.
     Halt,
+}
+
+impl Instr {
+    ghost use Rattle.std.specs.Prelude.{◌≡◌};
+    ghost use Rattle.mutator_asm.specs.Listing.{jump_target};
+
+    /// The target of a jump to a label: the number of an instruction of its section, or the section's
+    /// length. `None` for every other instruction, `jr` among them.
+    pub fn target(self) -> Option<u32>
+        ensures { result ≡ jump_target self }
+    {
+        match self {
+            Instr::Jmp(target) | Instr::Jz(_, target) | Instr::Jal(_, target) => Some(target),
+            _ => None,
+        }
+    }
+}
+
+/// An instruction as a listing has it, without its label.
+impl fmt::Display for Instr {
+    ghost use Rattle.std.specs.Prelude.{Some};
+    ghost use Rattle.mutator_asm.specs.Listing.{instr_tokens, spaced};
+
+    ghost output = { λ instr. Some (spaced (instr_tokens instr)) };
+
+    fn fmt<W: fmt::Write>(&self, f: &mut fmt::Formatter<W>) -> fmt::Result {
+        match self {
+            Instr::Li(d, k) => write!(f, "li r{d} {k}"),
+            Instr::Mov(d, a) => write!(f, "mov r{d} r{a}"),
+            Instr::Add(d, a, b) => write!(f, "add r{d} r{a} r{b}"),
+            Instr::Sub(d, a, b) => write!(f, "sub r{d} r{a} r{b}"),
+            Instr::Mul(d, a, b) => write!(f, "mul r{d} r{a} r{b}"),
+            Instr::Div(d, a, b) => write!(f, "div r{d} r{a} r{b}"),
+            Instr::Rem(d, a, b) => write!(f, "rem r{d} r{a} r{b}"),
+            Instr::Lt(d, a, b) => write!(f, "lt r{d} r{a} r{b}"),
+            Instr::Eq(d, a, b) => write!(f, "eq r{d} r{a} r{b}"),
+            Instr::Jmp(t) => write!(f, "jmp L{t}"),
+            Instr::Jz(a, t) => write!(f, "jz r{a} L{t}"),
+            Instr::Jal(d, t) => write!(f, "jal r{d} L{t}"),
+            Instr::Jr(a) => write!(f, "jr r{a}"),
+            Instr::New(d, x) => write!(f, "new r{d} {x}"),
+            Instr::Raw(d, x) => write!(f, "raw r{d} {x}"),
+            Instr::Ld(d, a, x) => write!(f, "ld r{d} r{a} {x}"),
+            Instr::St(a, x, b) => write!(f, "st r{a} {x} r{b}"),
+            Instr::Len(d, a) => write!(f, "len r{d} r{a}"),
+            Instr::Isp(d, a) => write!(f, "isp r{d} r{a}"),
+            Instr::Get(d, x) => write!(f, "get r{d} {x}"),
+            Instr::Put(x, a) => write!(f, "put {x} r{a}"),
+            Instr::Swap(d, x) => write!(f, "swap r{d} {x}"),
+            Instr::Out(a) => write!(f, "out r{a}"),
+            Instr::Halt => f.write_str("halt"),
+        }
+    }
 }

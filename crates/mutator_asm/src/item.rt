@@ -1,4 +1,4 @@
-//! A part of a schedule.
+//! An item of a schedule.
 
 ghost use Rattle.std.specs.Prelude.{◌≡◌};
 ghost use Rattle.std.specs.List.{position};
@@ -6,6 +6,7 @@ ghost use Rattle.mutator_asm.specs.Item.{is_star, within, worker_of, times_of, i
 
 use crate::mistake::Mistake;
 use crate::token::number;
+use std::fmt;
 
 /// The last worker that may be named.
 const LAST_WORKER: u64 = 23;
@@ -20,6 +21,22 @@ pub struct Item {
     pub worker: u8,
     /// How many steps it makes, 1 to 1,000,000.
     pub times: u32,
+}
+
+/// An item as a listing has it: `w`, or `w*k`.
+impl fmt::Display for Item {
+    ghost use Rattle.std.specs.Prelude.{Some};
+    ghost use Rattle.mutator_asm.specs.Listing.{item_token};
+
+    ghost output = { λ item. Some (item_token item) };
+
+    fn fmt<W: fmt::Write>(&self, f: &mut fmt::Formatter<W>) -> fmt::Result {
+        if self.times == 1 {
+            write!(f, "{}", self.worker)
+        } else {
+            write!(f, "{}*{}", self.worker, self.times)
+        }
+    }
 }
 
 /// The worker of this number.

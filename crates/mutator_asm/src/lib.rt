@@ -1,4 +1,4 @@
-//! The assembler: the text of mutators, read to a program.
+//! The assembler: the text of mutators, read to a program, and the listing of a program.
 #![tactic(auto)]
 
 mod asm_error;
@@ -12,6 +12,7 @@ mod jump;
 mod labels;
 mod laws;
 mod line;
+mod listing;
 mod mistake;
 mod operand;
 mod operands;
@@ -27,8 +28,12 @@ pub use asm_error::{AsmError, error_text};
 pub use code::Code;
 pub use instr::Instr;
 pub use item::Item;
-pub use laws::{fetched_instr, never_both, one_fault, one_program, some_reading};
+pub use laws::{
+    fetched_instr, listing_is_a_text, never_both, one_fault, one_program, some_reading,
+};
+pub use listing::list;
 pub use operand::Operand;
+pub use plain_state::NoMemory;
 pub use program::Program;
 pub use schedule::Schedule;
 pub use section::Section;

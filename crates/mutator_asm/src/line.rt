@@ -23,7 +23,8 @@ use std::alloc::{AllocError, Global};
 pub enum Word<'a> {
     /// Nothing.
     Nothing,
-    /// A mutator's section begins; whether `.mutator` stands alone.
+    /// `.mutator`, which begins a section: true where it is alone on its line, false where operands
+    /// follow it.
     Begins(bool),
     /// Items of the schedule.
     Schedules(Vec<Item>),

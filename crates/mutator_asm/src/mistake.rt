@@ -6,7 +6,8 @@ ghost use Rattle.mutator_asm.specs.Mistake.{number_of_mistake};
 /// What is wrong with a line.
 #[derive(Clone, Copy, Debug, PartialEq, Eq)]
 pub enum Mistake {
-    /// What stands behind the label is no instruction, and no directive that may stand there.
+    /// The first token, or the first behind the label, is no instruction; or it is a directive that
+    /// isn't known or stands behind a label.
     UnknownInstr,
     /// An instruction or a `.mutator` has operands of a wrong count or kind.
     BadOperand,
@@ -22,7 +23,7 @@ pub enum Mistake {
     CodeTooLong,
     /// A `.schedule` has no items, a wrong one, or the 65,537th of the text.
     BadSchedule,
-    /// A number operand has more than 62 bits.
+    /// A number of 2^62 or more stands where a number may stand.
     NumberTooBig,
 }
 

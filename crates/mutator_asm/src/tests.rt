@@ -246,3 +246,54 @@ fn an_error_has_its_text(rt: HostRuntime) -> Result<(), Fail> {
     }
     Ok(())
 }
+
+/// The listing of a text that has a program.
+fn listing_of(rt: &HostRuntime, text: &str) -> Result<String, Fail> {
+    let listing = list(rt.alloc(), &program_of(rt, text)?)?;
+    Ok(String::from_utf8(listing).ok().ok_or("it is no UTF-8")?)
+}
+
+#[test]
+fn a_listing_is_laid_out_in_one_way(rt: HostRuntime) -> Result<(), Fail> {
+    let rows = [
+        (".mutator\nl: jmp l ; x", ".mutator\nL0: jmp L0\n"),
+        (
+            ".mutator\n\tli\tr1   007\r\nunused: jz r1 end\nend:\n.schedule 0 0*1 07 3*1000000",
+            ".schedule 0 0 7 3*1000000\n.mutator\nli r1 7\njz r1 L2\nL2:\n",
+        ),
+        (
+            ".mutator\na:\nb: put 1 r2\njal r7 a\njmp b\n.mutator\n.mutator\nc: st r0 r1 r2\njmp c",
+            ".mutator\nL0: put 1 r2\njal r7 L0\njmp L0\n.mutator\n.mutator\nL0: st r0 r1 r2\njmp L0\n",
+        ),
+    ];
+    for (text, wanted) in rows {
+        assert_eq!(rt; listing_of(&rt, text)?.as_str(), wanted);
+        assert_eq!(rt; listing_of(&rt, wanted)?.as_str(), wanted);
+    }
+    Ok(())
+}
+
+/// So many instructions, each of which jumps to itself.
+fn loops(rt: &HostRuntime, instrs: u32) -> Result<String, Fail> {
+    let mut text = String::from_str(rt.alloc(), ".mutator\n")?;
+    for k in 0..instrs {
+        writeln!(text, "L{k}: jmp L{k}")?;
+    }
+    Ok(text)
+}
+
+#[test]
+fn texts_at_the_limits_list_themselves(rt: HostRuntime) -> Result<(), Fail> {
+    let rows = [
+        ("", ".mutator\n", 16, ""),
+        (".mutator\n", "halt\n", 65536, ""),
+        (".schedule", " 0", 65536, "\n.mutator\n"),
+    ];
+    for (first, line, times, last) in rows {
+        let text = repeated(&rt, first, line, times, last)?;
+        assert!(rt; listing_of(&rt, &text)? == text, "{line}");
+    }
+    let text = loops(&rt, 65536)?;
+    assert!(rt; listing_of(&rt, &text)? == text);
+    Ok(())
+}

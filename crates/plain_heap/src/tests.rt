@@ -2,7 +2,7 @@ ghost use Rattle.std.specs.Prelude.{[], ◌∷◌};
 ghost use Rattle.mutator_asm.specs.Program.{IsWellFormed};
 
 use super::*;
-use mutator_asm::{Code, Instr, Operand, Program, Schedule, Section};
+use mutator_asm::{Code, Instr, Operand, Program, Schedule, Section, listing_is_a_text};
 use std::alloc::Global;
 use std::process::Abort;
 use std::test::Fail;
@@ -20,6 +20,7 @@ const FIRST: [Instr; 6] = [
 fn program(alloc: Global, instrs: &[Instr]) -> Result<Program, NoMemory>
     requires { IsWellFormed (instrs.now ∷ []) [] }
 {
+    listing_is_a_text();
     let mut sections = Vec::new(alloc);
     sections.push(Section::new(Vec::from_slice(alloc, instrs)?))?;
     Ok(Program {

@@ -1,223 +1,129 @@
 //! What the words of a command line mean.
 
-use super::owned;
+use super::{same, words_of};
 use crate::job::{Job, SimOptions};
 use crate::words::{WordsError, read_words};
+use std::alloc::Global;
 use std::test::Fail;
 
-/// What is asked for where no option is given.
-const PLAIN: SimOptions = SimOptions {
-    pages: 256,
-    scanners: 1,
-    turns: 1_000_000,
-    steps: 10_000_000,
-    seed: None,
-    order: false,
-};
+/// Words and their job, which is a simulation's pages, scanners, turns, steps, seed and order.
+const ROWS: &str = "\
+sim|256 1 1000000 10000000 None false
+sim --|256 1 1000000 10000000 None false
+sim --order|256 1 1000000 10000000 None true
+sim --order --|256 1 1000000 10000000 None true
+sim --pages 8|8 1 1000000 10000000 None false
+sim --pages=8|8 1 1000000 10000000 None false
+sim --pages 08|8 1 1000000 10000000 None false
+sim --pages +8|8 1 1000000 10000000 None false
+sim --pages 4 --order|4 1 1000000 10000000 None true
+sim --order --pages 2048|2048 1 1000000 10000000 None true
+sim --scanners 0|256 0 1000000 10000000 None false
+sim --scanners 8|256 8 1000000 10000000 None false
+sim --scanners=-0|256 0 1000000 10000000 None false
+sim --scanners=+0|256 0 1000000 10000000 None false
+sim --turns 1|256 1 1 10000000 None false
+sim --turns 10000000|256 1 10000000 10000000 None false
+sim --steps 1|256 1 1000000 1 None false
+sim --steps 100000000|256 1 1000000 100000000 None false
+sim --seed 0|256 1 1000000 10000000 Some(0) false
+sim --seed=1|256 1 1000000 10000000 Some(1) false
+sim --seed +5|256 1 1000000 10000000 Some(5) false
+sim --seed 18446744073709551615|256 1 1000000 10000000 Some(18446744073709551615) false
+sim --turns 3 --steps 5|256 1 3 5 None false
+sim --order --seed 1 --steps 6 --turns 5 --scanners 0 --pages 8|8 0 5 6 Some(1) true
+asm|asm
+asm --|asm
+|refused
+''|refused
+--|refused
+-- sim|refused
+sim --pages|refused
+sim --pages --order|refused
+sim --pages 8 --pages 8|refused
+sim --pages 0x8|refused
+sim --pages 8.0|refused
+sim --pages ''|refused
+sim --pages=|refused
+sim --pages 3|refused
+sim --pages 2049|refused
+sim --pages -8|refused
+sim --scanners -0|refused
+sim --scanners 9|refused
+sim --scanners=-1|refused
+sim --turns 0|refused
+sim --turns 10000001|refused
+sim --steps 0|refused
+sim --steps 100000001|refused
+sim --seed|refused
+sim --seed -1|refused
+sim --seed=-0|refused
+sim --seed 18446744073709551616|refused
+sim --seed 1 --seed 2|refused
+sim --seed --steps 5|refused
+sim --order --order|refused
+sim --order=x|refused
+sim --order=|refused
+sim --page 8|refused
+sim --cycles|refused
+sim x|refused
+sim -- x|refused
+sim -- --order|refused
+--order sim|refused
+--pages 8 sim|refused
+help|refused
+help sim|refused
+--help|refused
+-h|refused
+-V|refused
+--version|refused
+sim --help|refused
+bench 1 1|refused
+asm x|refused
+asm asm|refused
+asm sim|refused
+sim asm|refused
+asm --order|refused
+asm --pages 8|refused
+asm ''|refused
+asm -- x|refused
+asm --help|refused
+-- asm|refused
+Asm|refused
+as|refused
+sim_--order|refused
+sim --pages=_8|refused";
 
-/// Lines that are taken, and what they ask for.
-const TAKEN: [(&[&str], SimOptions); 24] = [
-    (&["sim"], PLAIN),
-    (&["sim", "--"], PLAIN),
-    (
-        &["sim", "--order"],
-        SimOptions {
-            order: true,
-            ..PLAIN
-        },
-    ),
-    (
-        &["sim", "--order", "--"],
-        SimOptions {
-            order: true,
-            ..PLAIN
-        },
-    ),
-    (&["sim", "--pages", "8"], SimOptions { pages: 8, ..PLAIN }),
-    (&["sim", "--pages=8"], SimOptions { pages: 8, ..PLAIN }),
-    (&["sim", "--pages", "08"], SimOptions { pages: 8, ..PLAIN }),
-    (&["sim", "--pages", "+8"], SimOptions { pages: 8, ..PLAIN }),
-    (
-        &["sim", "--pages", "4", "--order"],
-        SimOptions {
-            pages: 4,
-            order: true,
-            ..PLAIN
-        },
-    ),
-    (
-        &["sim", "--order", "--pages", "2048"],
-        SimOptions {
-            pages: 2048,
-            order: true,
-            ..PLAIN
-        },
-    ),
-    (
-        &["sim", "--scanners", "0"],
-        SimOptions {
-            scanners: 0,
-            ..PLAIN
-        },
-    ),
-    (
-        &["sim", "--scanners", "8"],
-        SimOptions {
-            scanners: 8,
-            ..PLAIN
-        },
-    ),
-    (
-        &["sim", "--scanners=-0"],
-        SimOptions {
-            scanners: 0,
-            ..PLAIN
-        },
-    ),
-    (
-        &["sim", "--scanners=+0"],
-        SimOptions {
-            scanners: 0,
-            ..PLAIN
-        },
-    ),
-    (&["sim", "--turns", "1"], SimOptions { turns: 1, ..PLAIN }),
-    (
-        &["sim", "--turns", "10000000"],
-        SimOptions {
-            turns: 10_000_000,
-            ..PLAIN
-        },
-    ),
-    (&["sim", "--steps", "1"], SimOptions { steps: 1, ..PLAIN }),
-    (
-        &["sim", "--steps", "100000000"],
-        SimOptions {
-            steps: 100_000_000,
-            ..PLAIN
-        },
-    ),
-    (
-        &["sim", "--seed", "0"],
-        SimOptions {
-            seed: Some(0),
-            ..PLAIN
-        },
-    ),
-    (
-        &["sim", "--seed=1"],
-        SimOptions {
-            seed: Some(1),
-            ..PLAIN
-        },
-    ),
-    (
-        &["sim", "--seed", "+5"],
-        SimOptions {
-            seed: Some(5),
-            ..PLAIN
-        },
-    ),
-    (
-        &["sim", "--seed", "18446744073709551615"],
-        SimOptions {
-            seed: Some(18_446_744_073_709_551_615),
-            ..PLAIN
-        },
-    ),
-    (
-        &["sim", "--turns", "3", "--steps", "5"],
-        SimOptions {
-            turns: 3,
-            steps: 5,
-            ..PLAIN
-        },
-    ),
-    (
-        &[
-            "sim",
-            "--order",
-            "--seed",
-            "1",
-            "--steps",
-            "6",
-            "--turns",
-            "5",
-            "--scanners",
-            "0",
-            "--pages",
-            "8",
-        ],
-        SimOptions {
-            pages: 8,
-            scanners: 0,
-            turns: 5,
-            steps: 6,
-            seed: Some(1),
-            order: true,
-        },
-    ),
-];
+/// The text of a simulation's options.
+fn options_text(alloc: Global, options: SimOptions) -> Result<String, Fail> {
+    let SimOptions {
+        pages,
+        scanners,
+        turns,
+        steps,
+        seed,
+        order,
+    } = options;
+    Ok(format!(in alloc; "{pages} {scanners} {turns} {steps} {seed:?} {order}")?)
+}
 
-/// Lines that are refused.
-const REFUSED: [&[&str]; 46] = [
-    &[],
-    &[""],
-    &["--"],
-    &["--", "sim"],
-    &["sim", "--pages"],
-    &["sim", "--pages", "--order"],
-    &["sim", "--pages", "8", "--pages", "8"],
-    &["sim", "--pages", "0x8"],
-    &["sim", "--pages", "8.0"],
-    &["sim", "--pages", ""],
-    &["sim", "--pages="],
-    &["sim", "--pages", "3"],
-    &["sim", "--pages", "2049"],
-    &["sim", "--pages", "-8"],
-    &["sim", "--scanners", "-0"],
-    &["sim", "--scanners", "9"],
-    &["sim", "--scanners=-1"],
-    &["sim", "--turns", "0"],
-    &["sim", "--turns", "10000001"],
-    &["sim", "--steps", "0"],
-    &["sim", "--steps", "100000001"],
-    &["sim", "--seed"],
-    &["sim", "--seed", "-1"],
-    &["sim", "--seed=-0"],
-    &["sim", "--seed", "18446744073709551616"],
-    &["sim", "--seed", "1", "--seed", "2"],
-    &["sim", "--seed", "--steps", "5"],
-    &["sim", "--order", "--order"],
-    &["sim", "--order=x"],
-    &["sim", "--order="],
-    &["sim", "--page", "8"],
-    &["sim", "--cycles"],
-    &["sim", "x"],
-    &["sim", "--", "x"],
-    &["sim", "--", "--order"],
-    &["--order", "sim"],
-    &["--pages", "8", "sim"],
-    &["help"],
-    &["help", "sim"],
-    &["--help"],
-    &["-h"],
-    &["-V"],
-    &["--version"],
-    &["sim", "--help"],
-    &["asm"],
-    &["bench", "1", "1"],
-];
+/// The text of what words were read to.
+fn found_text(alloc: Global, found: Result<Job, WordsError>) -> Result<String, Fail> {
+    match found {
+        Ok(Job::Asm) => Ok(String::from_str(alloc, "asm")?),
+        Ok(Job::Sim(options)) => options_text(alloc, options),
+        Err(WordsError::Refused) => Ok(String::from_str(alloc, "refused")?),
+        Err(WordsError::NoMemory) => Ok(String::from_str(alloc, "no memory")?),
+    }
+}
 
 #[test]
 fn words_are_read_as_clap_takes_them(rt: HostRuntime) -> Result<(), Fail> {
-    for (words, options) in TAKEN {
-        let found = read_words(rt.alloc(), &owned(rt.alloc(), words)?);
-        assert_eq!(rt; found, Ok(Job::Sim(options)), "{words:?}");
-    }
-    for words in REFUSED {
-        let found = read_words(rt.alloc(), &owned(rt.alloc(), words)?);
-        assert_eq!(rt; found, Err(WordsError::Refused), "{words:?}");
+    let alloc = rt.alloc();
+    for row in ROWS.split('\n') {
+        let (line, wanted) = row.split_once('|').ok_or("a row without its job")?;
+        let found = found_text(alloc, read_words(alloc, &words_of(alloc, line)?))?;
+        same(line, "job", found.as_bytes(), wanted.as_bytes())?;
     }
     Ok(())
 }

@@ -10,4 +10,5 @@ returns c =
     let named = ap app_of_fields c.no_binary_name.ensures ∙ ap (on_top (λ (s : Shape). record s { no_binary_name = true })) c.new.ensures.app in
     let no_flag = ap app_of_fields c.disable_help_flag.ensures ∙ ap (on_top (λ (s : Shape). record s { disable_help_flag = true })) named in
     let bare = ap app_of_fields c.disable_help_subcommand.ensures ∙ ap (on_top (λ (s : Shape). record s { disable_help_subcommand = true })) no_flag in
-    IfOk-weaker c.subcommand.result _ _ (λ r h. h.shape c.in_ok-sim.ensures.local ∙ ap₂ with_subcommand bare (ap top c.in_ok-sim.ensures.app)) c.subcommand.ensures
+    let asm = c.in_ok-subcommand.ensures.shape c.new-asm.ensures.local ∙ ap₂ with_subcommand bare (ap top c.new-asm.ensures.app) in
+    IfOk-weaker c.subcommand-2.result _ _ (λ r h. h.shape c.in_ok-sim.ensures.local ∙ ap₂ with_subcommand asm (ap top c.in_ok-sim.ensures.app)) c.subcommand-2.ensures

@@ -1,4 +1,5 @@
-use Rattle.std.proofs.Common.{◌∙◌}
+use Rattle.std.proofs.Common.{◌∙◌, ap, ℕ}
+use Rattle.std.specs.Global.{Vec}
 use Rattle.std.proofs.lemmas.Result.{IfOk-weaker}
 use Rattle.gc_core.specs.Configuration.{opening_core, workers_of}
 use Rattle.ael_cli.specs.Schedule.{schedule_of}
@@ -16,5 +17,5 @@ returns c =
     (c.runs_follow.ensures code items (config options) schedule options.steps c.args.program.now.well_formed c.requires.pages c.requires.turns.1)
     (rw (c.in_ok-core.ensures, c.as_slice.ensures) at c.in_ok-order.ensures.core)
     (rw (c.in_ok-core.ensures, c.as_slice.ensures) at c.in_ok-order.ensures.order)
-    (new.0 ∙ rw (c.in_ok-push_flags.ensures, c.in_ok-push_mutators.ensures, c.new-output.ensures.bytes, c.deref.ensures.value))
+    (new.0 ∙ ap (λ (v : Vec ℕ). v.items) c.into_bytes.ensures.value ∙ rw (c.in_ok-push_flags.ensures, c.in_ok-push_mutators.ensures, c.new-output.ensures.bytes, c.deref.ensures.value))
     (new.1 ∙ c.verdict.ensures)) c.new.ensures.whole

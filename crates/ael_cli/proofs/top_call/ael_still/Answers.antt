@@ -2,7 +2,7 @@ use Rattle.std.proofs.Common.{refl}
 use Rattle.std.specs.Prelude.{string_bytes, map}
 use Rattle.ael_cli.specs.Ends.{Drawn, Filled, drawn, filled}
 use Rattle.ael_cli.specs.Headline.{IsAnswered}
-use Rattle.ael_cli.proofs.Plainly.{prints_plainly, ends_as_ordered, is_always_the_same}
+use Rattle.ael_cli.proofs.Plainly.{prints_plainly, prints_listing, ends_as_ordered, is_always_the_same}
 use Rattle.ael_cli.proofs.top_call.ael_still.Goals as goal
 
 pub returns : goal.returns
@@ -13,7 +13,7 @@ returns g c =
     let err : Filled = filled g.E.Sink.held g.E.Sink.faults c.args.err.now c.emit-status.new.err in
     let code = c.code.result in
     let answered : IsAnswered words source out err code = record {
-      output = string_bytes c.answer-answer.result.output;
+      output = c.answer-answer.result.output.items;
       status = c.answer-answer.result.status;
       final = c.emit-status.result;
       drawn = c.answer-answer.ensures.drawn;
@@ -29,5 +29,6 @@ returns g c =
       headline = answered;
       complete = ends_as_ordered one no_fault words source out err code answered;
       prints = prints_plainly one no_fault words source out err code answered;
+      lists = prints_listing one no_fault words source out err code answered c.listing_is_a_text.ensures.well_formed c.listing_is_a_text.ensures.text;
       always_the_same = is_always_the_same one no_fault words source out err code answered c.alone_mutators_are_independent.ensures.same;
     }

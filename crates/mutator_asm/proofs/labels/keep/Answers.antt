@@ -1,7 +1,8 @@
 use Rattle.std.proofs.Common.{◌≡◌, Some, None, sym, ◌∙◌}
 use Rattle.std.proofs.lemmas.Map.Text.{hash_map_updates_str}
 use Rattle.mutator_asm.specs.Labels.{get_place}
-use Rattle.mutator_asm.proofs.Places.{kept_new, kept_first, none_if_not}
+use Rattle.mutator_asm.proofs.Options.{none_if_not}
+use Rattle.mutator_asm.proofs.Places.{kept_new, kept_first}
 use Rattle.mutator_asm.proofs.labels.keep.Goals as goal
 
 pub returns-in_ok-insert : goal.returns-in_ok-insert

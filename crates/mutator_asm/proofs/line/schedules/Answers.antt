@@ -1,15 +1,16 @@
 use Rattle.std.proofs.Common.{refl, sym, ap, ◌∙◌}
+use Rattle.std.proofs.Math.Bool.{and-false}
 use Rattle.std.specs.Option.{is_some}
 use Rattle.mutator_asm.specs.Item.{item_of}
 use Rattle.mutator_asm.specs.Line.{is_item_token, schedules_of}
-use Rattle.mutator_asm.proofs.Lists.{kept_more, all_more, not_all, false_after}
+use Rattle.mutator_asm.proofs.Lists.{kept_more, all_more, not_all}
 use Rattle.mutator_asm.proofs.line.schedules.Goals as goal
 
 pub returns-in-None : goal.returns-in-None
 unfolding schedules_of
 returns-in-None c =
     let none = ap is_some (sym c.in-None.ensures) in
-    rw (not_all is_item_token (λ t. t.now) c.args.operands.now c.loop-operand.operand-index _ c.loop-operand-test.true none, false_after) refl
+    rw (not_all is_item_token (λ t. t.now) c.args.operands.now c.loop-operand.operand-index _ c.loop-operand-test.true none, and-false) refl
 
 pub loop-operand-preserved : goal.loop-operand-preserved
 loop-operand-preserved c = record {

@@ -4,9 +4,10 @@ use Rattle.mutator_asm.specs.declared.before.Before.{Before}
 use Rattle.mutator_asm.specs.Labels.{and_line}
 use Rattle.mutator_asm.specs.Read.{line_view, lines_view}
 use Rattle.mutator_asm.specs.Text.{IsFirstError}
-use Rattle.mutator_asm.proofs.Clean.{first_error, clean_more, none_from}
+use Rattle.mutator_asm.proofs.Clean.{first_error, clean_more}
 use Rattle.mutator_asm.proofs.Counts.{few_read, before_more, parts_enough, read_at, error_here, all_read}
 use Rattle.mutator_asm.proofs.Limits.{within_step, within_up_to}
+use Rattle.mutator_asm.proofs.Options.{none_if_not}
 use Rattle.mutator_asm.proofs.text.check.Goals as goal
 
 pub offset_bounds-parts-before : goal.offset_bounds-parts-before
@@ -24,35 +25,21 @@ returns-in-Some-clause-fault c =
     let error = error_here c.args.lines.now c.args.parts.now c.loop-i.i c.index-lines-i.result c.index-parts-before.result c.loop-i.before _ c.loop-i-test.true c.index-lines-i.is c.loop-i.invariant.before c.requires.parts c.index-parts-before.is c.in-Some.ensures in
     inl (subst (λ (n : ℕ). IsFirstError lines n (c.loop-i.i + 1)) (sym c.number.ensures) (first_error lines c.loop-i.i (line_view c.index-lines-i.result) c.in-Some.mistake (omega arith) error c.loop-i.invariant.clean))
 
-pub and-before-requires-clause-sections : goal.and-before-requires-clause-sections
-and-before-requires-clause-sections c =
-    let few = few_read c.args.lines.now c.loop-i.i c.loop-i.before c.loop-i-test.true c.loop-i.invariant.before in
-    omega arith
-
-pub and-before-requires-clause-lines : goal.and-before-requires-clause-lines
-and-before-requires-clause-lines c =
-    let few = few_read c.args.lines.now c.loop-i.i c.loop-i.before c.loop-i-test.true c.loop-i.invariant.before in
-    omega arith
-
-pub and-before-requires-clause-instrs : goal.and-before-requires-clause-instrs
-and-before-requires-clause-instrs c =
-    let few = few_read c.args.lines.now c.loop-i.i c.loop-i.before c.loop-i-test.true c.loop-i.invariant.before in
-    omega arith
-
-pub and-before-requires-clause-items : goal.and-before-requires-clause-items
-and-before-requires-clause-items c =
+pub and-before-requires : goal.and-before-requires
+and-before-requires c =
     let lines = lines_view c.args.lines.now in
     let inside = length-map c.args.lines.now line_view in
-    let none = none_from c.error.result c.in_default.not-Some ∙ c.error.ensures in
+    let few = few_read c.args.lines.now c.loop-i.i c.loop-i.before c.loop-i-test.true c.loop-i.invariant.before in
+    let none = sym (none_if_not c.error.result c.in_default.not-Some) ∙ c.error.ensures in
     let within = rw (← c.loop-i.invariant.before) at (within_up_to lines c.loop-i.i c.loop-i.i (omega arith) (omega arith) c.loop-i.invariant.clean) in
     let more = within_step _ _ c.loop-i.before (line_view c.index-lines-i.result) (sym none) within in
-    omega (arith, more.items)
+    record { sections = omega arith; lines = omega arith; instrs = omega arith; items = omega (arith, more.items) }
 
 pub loop-i-preserved : goal.loop-i-preserved
 loop-i-preserved c =
     let lines = lines_view c.args.lines.now in
     let inside = length-map c.args.lines.now line_view in
-    let none = none_from c.error.result c.in_default.not-Some ∙ c.error.ensures in
+    let none = sym (none_if_not c.error.result c.in_default.not-Some) ∙ c.error.ensures in
     let error = error_here c.args.lines.now c.args.parts.now c.loop-i.i c.index-lines-i.result c.index-parts-before.result c.loop-i.before _ c.loop-i-test.true c.index-lines-i.is c.loop-i.invariant.before c.requires.parts c.index-parts-before.is none in
     record {
       before = c.and-before.ensures ∙ ap (λ (b : Before). and_line b (line_view c.index-lines-i.result)) c.loop-i.invariant.before ∙ before_more lines c.loop-i.i (line_view c.index-lines-i.result) (omega arith) (read_at c.args.lines.now c.loop-i.i c.index-lines-i.result c.loop-i-test.true c.index-lines-i.is);
