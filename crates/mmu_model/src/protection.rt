@@ -40,9 +40,9 @@ pub fn unprotect(epoch: u32) -> u64
 
 /// Where the collector reaches a heap word, whatever the protection of its page.
 pub fn second_map(spaces: Spaces, addr: u32) -> usize
-    requires { addr ≤ 128 * spaces + 63 }
-    ensures place { result ≡ place_of spaces (HeapWord addr) }
-    ensures in_table { result < table_length spaces }
+    requires { addr ≤ 128 * spaces.pages + 63 }
+    ensures place { result ≡ place_of spaces.pages (HeapWord addr) }
+    ensures in_table { result < table_length spaces.pages }
 {
     spaces.word_place(addr)
 }

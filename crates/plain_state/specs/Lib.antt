@@ -1,3 +1,5 @@
 pub mod End
 pub mod State
 pub mod Operation
+pub mod Layout
+pub mod Writing

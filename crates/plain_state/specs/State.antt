@@ -1,5 +1,6 @@
 -- The state of the plain machine.
-use Rattle.std.specs.Prelude.{ℕ, ◌-◌, ◌^◌, ◌<◌, ◌≤◌, List, [], length, Option, slice_get, slice_index_or}
+use Rattle.std.specs.Prelude.{ℕ, ◌^◌, ◌<◌, ◌≤◌, List, [], length, Option, None, slice_get, slice_index_or}
+use Rattle.std.proofs.Common.{zero, suc}
 use Rattle.plain_state.specs.declared.end.End.{End}
 use Rattle.plain_state.specs.declared.kind.Kind.{Kind}
 use Rattle.plain_state.specs.declared.value.Identity.{Identity}
@@ -34,9 +35,14 @@ pub record Plain : Type 0 where
 abbrev pub made_by : Heap → ℕ → List Record
 made_by heap m = slice_index_or heap.records m []
 
--- the record of an identity; serials count from 1
+-- the record with this serial among those that a mutator has made; serials count from 1
+abbrev pub at_serial : List Record → ℕ → Option Record
+at_serial records zero = None
+at_serial records (suc n) = slice_get records n
+
+-- the record of an identity
 abbrev pub record_of : Heap → Identity → Option Record
-record_of heap i = slice_get (made_by heap i.mutator) (i.serial - 1)
+record_of heap i = at_serial (made_by heap i.mutator) i.serial
 
 -- how many records a mutator has made, which is the serial of its latest
 abbrev pub serial_of : Heap → ℕ → ℕ

@@ -1,6 +1,10 @@
 -- The two spaces of n pages each and the board after them: where their pages and words lie.
 use Rattle.std.specs.Prelude.{ℕ, ◌+◌, ◌*◌, ◌/◌, ◌%◌, ◌<◌, ◌≤◌}
 
+-- the layout of a heap: how many pages a space has
+pub record Layout : Type 0 where
+  pub pages : ℕ
+
 -- a space may have this many pages
 abbrev pub IsPageCount : ℕ → Type 0
 IsPageCount n = (4 ≤ n) × (n ≤ 2048)

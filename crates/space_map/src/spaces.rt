@@ -32,21 +32,20 @@ pub struct Spaces {
 }
 
 impl Model for Spaces {
-    ghost use Rattle.std.specs.Prelude.{ℕ};
-    ghost use Rattle.space_map.specs.Spaces.{IsPageCount};
+    ghost use Rattle.space_map.specs.Spaces.{Layout, IsPageCount};
 
-    ghost Value = { ℕ };
+    ghost Value = { Layout };
 
-    ghost view = { λ spaces. spaces.pages };
+    ghost view = { λ spaces. record { pages = spaces.pages } };
 
     ghost invariant = { λ spaces. IsPageCount spaces.pages };
 
-    ghost inverse = { λ n. record { pages = n } };
+    ghost inverse = { λ layout. record { pages = layout.pages } };
 }
 
 impl Spaces {
     pub fn new(n: u32) -> Result<Spaces, BadPages>
-        ensures pages { IfOk result (λ spaces. spaces ≡ n) }
+        ensures pages { IfOk result (λ spaces. spaces.pages ≡ n) }
         ensures refused_exactly_outside { IsOk result ↔ IsPageCount n }
     {
         if n < MIN_PAGES || n > MAX_PAGES {
@@ -57,7 +56,7 @@ impl Spaces {
 
     /// The number of pages in a space.
     pub fn pages(self) -> u32
-        ensures pages { result ≡ self }
+        ensures pages { result ≡ self.pages }
         ensures in_range { IsPageCount result }
     {
         self.pages
@@ -70,7 +69,7 @@ impl Spaces {
     }
 
     pub fn first_word(self, page: u32) -> u32
-        requires { page ≤ board_page self }
+        requires { page ≤ board_page self.pages }
         ensures { result ≡ first_word page }
     {
         PAGE_WORDS * page
@@ -87,21 +86,25 @@ impl Spaces {
     /// The first word of a space.
     pub fn space_start(self, space: u8) -> u32
         requires { space < 2 }
-        ensures { result ≡ space_start self space }
+        ensures { result ≡ space_start self.pages space }
     {
         PAGE_WORDS * (self.pages * u32::from(space))
     }
 
     /// Whether the word is one of the space's own. The board is in neither space.
     pub fn in_space(self, addr: u32, space: u8) -> bool
-        ensures { IsTrue result ↔ IsInSpace self addr space }
+        ensures { IsTrue result ↔ IsInSpace self.pages addr space }
     {
-        space < 2 && self.page_of(addr) / self.pages == u32::from(space)
+        if space >= 2 {
+            return false;
+        }
+        let start = self.space_start(space);
+        start <= addr && addr < start + PAGE_WORDS * self.pages
     }
 
     /// The page after both spaces, of which 16 words are used.
     pub fn board_page(self) -> u32
-        ensures { result ≡ board_page self }
+        ensures { result ≡ board_page self.pages }
     {
         2 * self.pages
     }
@@ -112,23 +115,23 @@ impl Spaces {
 impl Spaces {
     /// The number of words in the table.
     pub fn table_len(self) -> usize
-        ensures { result ≡ table_length self }
+        ensures { result ≡ table_length self.pages }
     {
         self.announce_start() + WORKERS
     }
 
     /// The place of the gate word.
     pub fn gate_place(self) -> usize
-        ensures place { result ≡ place_of self Gate }
-        ensures in_table { result < table_length self }
+        ensures place { result ≡ place_of self.pages Gate }
+        ensures in_table { result < table_length self.pages }
     {
         GATE_PLACE
     }
 
     /// The place of the word that says which epoch was traced last.
     pub fn traced_place(self) -> usize
-        ensures place { result ≡ place_of self Traced }
-        ensures in_table { result < table_length self }
+        ensures place { result ≡ place_of self.pages Traced }
+        ensures in_table { result < table_length self.pages }
     {
         TRACED_PLACE
     }
@@ -136,35 +139,35 @@ impl Spaces {
     /// The place of a space's area word.
     pub fn area_place(self, space: u8) -> usize
         requires { space < 2 }
-        ensures place { result ≡ place_of self (Area space) }
-        ensures in_table { result < table_length self }
+        ensures place { result ≡ place_of self.pages (Area space) }
+        ensures in_table { result < table_length self.pages }
     {
         AREA_START + usize::from(space)
     }
 
     /// The place of a page's word. The board has one too.
     pub fn page_place(self, page: u32) -> usize
-        requires { page ≤ board_page self }
-        ensures place { result ≡ place_of self (Page page) }
-        ensures in_table { result < table_length self }
+        requires { page ≤ board_page self.pages }
+        ensures place { result ≡ place_of self.pages (Page page) }
+        ensures in_table { result < table_length self.pages }
     {
         PAGE_START + page as usize
     }
 
     /// The place of a page's crossing word: the address of the copied record that covers the page's first word.
     pub fn cross_place(self, page: u32) -> usize
-        requires { page < board_page self }
-        ensures place { result ≡ place_of self (Cross page) }
-        ensures in_table { result < table_length self }
+        requires { page < board_page self.pages }
+        ensures place { result ≡ place_of self.pages (Cross page) }
+        ensures in_table { result < table_length self.pages }
     {
         self.cross_start() + page as usize
     }
 
     /// The place of a heap word, or of a word of the board's page.
     pub fn word_place(self, addr: u32) -> usize
-        requires { addr ≤ 128 * self + 63 }
-        ensures place { result ≡ place_of self (HeapWord addr) }
-        ensures in_table { result < table_length self }
+        requires { addr ≤ 128 * self.pages + 63 }
+        ensures place { result ≡ place_of self.pages (HeapWord addr) }
+        ensures in_table { result < table_length self.pages }
     {
         self.word_start() + addr as usize
     }
@@ -172,8 +175,8 @@ impl Spaces {
     /// The place of the word in which a worker announces where it is about to reserve room for a copy.
     pub fn announce_place(self, k: u8) -> usize
         requires { k ≤ 23 }
-        ensures place { result ≡ place_of self (Announce k) }
-        ensures in_table { result < table_length self }
+        ensures place { result ≡ place_of self.pages (Announce k) }
+        ensures in_table { result < table_length self.pages }
     {
         self.announce_start() + usize::from(k)
     }
@@ -181,19 +184,19 @@ impl Spaces {
     // Each family of rows begins where the one before it ends.
 
     fn cross_start(self) -> usize
-        ensures { result ≡ 17 + 2 * self }
+        ensures { result ≡ 17 + 2 * self.pages }
     {
         PAGE_START + self.board_page() as usize + 1
     }
 
     fn word_start(self) -> usize
-        ensures { result ≡ 17 + 4 * self }
+        ensures { result ≡ 17 + 4 * self.pages }
     {
         self.cross_start() + self.board_page() as usize
     }
 
     fn announce_start(self) -> usize
-        ensures { result ≡ 81 + 132 * self }
+        ensures { result ≡ 81 + 132 * self.pages }
     {
         self.word_start() + (PAGE_WORDS * (self.board_page() + 1)) as usize
     }
