@@ -7,6 +7,7 @@ use Rattle.heap_words.specs.declared.kind.Kind.{Kind}
 use Rattle.plain_state.specs.State as plain
 use Rattle.plain_state.specs.declared.value.Identity.{Identity}
 use Rattle.plain_state.specs.declared.value.Value.TheVariants.{Number}
+use Rattle.plain_state.specs.Writing.{with_heap, gained}
 use Rattle.heap_state.specs.Era.{Era, IsLaidOut, Memory}
 use Rattle.heap_state.specs.Functions.{put}
 use Rattle.heap_state.specs.Ghost.{Ghost, Lands}
@@ -14,15 +15,14 @@ use Rattle.heap_state.specs.Inductive.{Invariant}
 use Rattle.heap_state.specs.Values.{value_of, Shows, ShowsAll, Accounts, RegistersShow, BoardShows, Shown}
 use Rattle.heap_state.specs.Worker.{Worker, Team, Stock}
 use Rattle.heap_state.proofs.Puts.{put_at, put_other, put_same, proj_put}
-use Rattle.heap_laws.specs.Fields.{with_heap}
 use Rattle.heap_laws.specs.Opening.{opening_mutator}
-use Rattle.heap_laws.specs.Placing.{next_identity, born, placed, gained, PlacesNext, PlacingShows}
+use Rattle.heap_laws.specs.Placing.{next_identity, born, placed, PlacesNext, PlacingShows, zeros_of}
 use Rattle.heap_laws.specs.Steps.{with_word, with_worker}
 use Rattle.heap_laws.proofs.AllocFree.{IsFree, word_same, board_same}
 use Rattle.heap_laws.proofs.AllocHeader.{cradle, free, mutator, zeros}
 use Rattle.heap_laws.proofs.BirthParts.{Cradle, unused as unused_place, was, same_size, same_writer}
 use Rattle.heap_laws.proofs.BirthValues.{field_lands, value_born}
-use Rattle.heap_laws.proofs.PlainGains.{fresh_record, gained_there, gained_elsewhere, gained_serial, gained_serial_other, gained_makers}
+use Rattle.heap_laws.proofs.PlainGains.{gained_there, gained_elsewhere, gained_serial, gained_serial_other, gained_makers}
 use Rattle.heap_laws.proofs.PlainLists.{slice_get-of_replicate}
 use Rattle.heap_laws.proofs.Words.{board_here, zero_value}
 
@@ -39,8 +39,11 @@ module _ (E : Era) (m : Memory) (team : Team) (g : Ghost) (p : plain.Plain) (k :
   abbrev w : Worker
   w = placed team k q z
 
+  abbrev new : plain.Record
+  new = zeros_of c (z - 1)
+
   abbrev after : plain.Heap
-  after = gained p.heap k c (z - 1)
+  after = gained p.heap k new
 
   is_free : IsFree E g.size q.at
   is_free = free E m team g k q c z v lay inv places
@@ -64,7 +67,7 @@ module _ (E : Era) (m : Memory) (team : Team) (g : Ghost) (p : plain.Plain) (k :
 
   -- ---- values
 
-  shows_new : Shows (value_of g'.identity) heap q.at c z (fresh_record p.heap k c (z - 1) within)
+  shows_new : Shows (value_of g'.identity) heap q.at c z new
   shows_new = record {
     kind = refl;
     size = let n = length-replicate (z - 1) (Number 0) in let l = places.some in omega arith;
@@ -78,7 +81,7 @@ module _ (E : Era) (m : Memory) (team : Team) (g : Ghost) (p : plain.Plain) (k :
       let a = s.objects.shows b st w o in
       let t : Shows (value_of g.identity) m.heap b (g.kind b) (g.size b) a.0 = a.2 in (
         a.0,
-        gained_elsewhere p.heap k c (z - 1) within (g.identity b) a.0 a.1,
+        gained_elsewhere p.heap k new within (g.identity b) a.0 a.1,
         record {
           kind = t.kind;
           size = t.size;
@@ -91,7 +94,7 @@ module _ (E : Era) (m : Memory) (team : Team) (g : Ghost) (p : plain.Plain) (k :
   objects = record {
     shows = λ b st w o. ⊎_elim
         (λ (e : b ≡ q.at). rw (put_at g.size q.at z b e, put_at g.kind q.at c b e, put_at g.identity q.at i b e, e)
-        (fresh_record p.heap k c (z - 1) within, gained_there p.heap k c (z - 1) within i refl (let n = serial in omega arith), shows_new))
+        (new, gained_there p.heap k new within i refl (let n = serial in omega arith), shows_new))
         (λ (d : b ≢ q.at). rw (same_size is_cradle b d, put_other g.kind q.at c b d, put_other g.identity q.at i b d)
         (shows_old b (was is_cradle b d st) (rw (same_writer is_cradle g.writer b d) at w) o))
         (cases_eq b q.at);
@@ -111,14 +114,14 @@ module _ (E : Era) (m : Memory) (team : Team) (g : Ghost) (p : plain.Plain) (k :
         printed = a.printed;
         executed = a.executed;
         end = a.end;
-        serial = let n = a.serial in let t = gained_serial p.heap k c (z - 1) within in omega arith;
+        serial = let n = a.serial in let t = gained_serial p.heap k new within in omega arith;
       }))
       (λ (d : j ≢ k). let a = s.accounts j r e in rw (put_other team.worker k w j d) (record {
         counter = a.counter;
         printed = a.printed;
         executed = a.executed;
         end = a.end;
-        serial = a.serial ∙ sym (gained_serial_other p.heap k c (z - 1) within j d);
+        serial = a.serial ∙ sym (gained_serial_other p.heap k new within j d);
       }))
       (cases_eq j k)
 
@@ -145,7 +148,7 @@ module _ (E : Era) (m : Memory) (team : Team) (g : Ghost) (p : plain.Plain) (k :
     objects = objects;
     board = board;
     as_many = s.as_many;
-    makers = gained_makers p.heap k c (z - 1) within ∙ s.makers;
+    makers = gained_makers p.heap k new within ∙ s.makers;
     accounts = accounts;
     registers = registers;
   }

@@ -5,6 +5,7 @@ use Rattle.std.proofs.lemmas.Bool.{cases_eq}
 use Rattle.plain_state.specs.State as plain
 use Rattle.plain_state.specs.declared.value.Identity.{Identity}
 use Rattle.plain_state.specs.declared.value.Value.{Value}
+use Rattle.plain_state.specs.Writing.{stored, with_heap}
 use Rattle.heap_state.specs.Era.{Era, IsLaidOut, Memory}
 use Rattle.heap_state.specs.Functions.{put}
 use Rattle.heap_state.specs.Ghost.{Ghost, is_field, Leads, Lands}
@@ -12,7 +13,7 @@ use Rattle.heap_state.specs.Inductive.{Invariant}
 use Rattle.heap_state.specs.Values.{value_at, value_of, Shows, Shown}
 use Rattle.heap_state.specs.Worker.{Team}
 use Rattle.heap_state.proofs.Puts.{put_at, put_other, some_same}
-use Rattle.heap_laws.specs.Fields.{IsWordOf, StandsFor, stored, with_heap, StoresShow, BoardStoresShow, HeadersAreRead, RegistersAreHeld, NumbersAreHeld}
+use Rattle.heap_laws.specs.Fields.{IsWordOf, StandsFor, StoresShow, BoardStoresShow, HeadersAreRead, RegistersAreHeld, NumbersAreHeld}
 use Rattle.heap_laws.specs.Steps.{with_word}
 use Rattle.heap_laws.proofs.OtherWords.{shows_same}
 use Rattle.heap_laws.proofs.PlainHeaps.{stored_there, stored_elsewhere, stored_serial, stored_makers}
@@ -43,12 +44,8 @@ module _ (E : Era) (m : Memory) (team : Team) (g : Ghost) (lay : IsLaidOut E) (i
       (inv.once.once b a sb st e)
 
   -- two places of which nobody else shows the identity have identities apart
-  pub apart : (a b : ℕ) → 0 < g.size a → 0 < g.size b → (b ≢ a) → (g.identity b ≡ g.identity a → b ≡ a) → (g.identity b).mutator ≡ (g.identity a).mutator → (g.identity b).serial - 1 ≢ (g.identity a).serial - 1
-  apart a b sa sb d alone e f =
-      let x = inv.numbered.first a sa in
-      let y = inv.numbered.first b sb in
-      let s : (g.identity b).serial ≡ (g.identity a).serial = omega arith in
-      d (alone (same_identity (g.identity b) (g.identity a) e s))
+  pub apart : (a b : ℕ) → 0 < g.size a → 0 < g.size b → (b ≢ a) → (g.identity b ≡ g.identity a → b ≡ a) → (g.identity b).mutator ≡ (g.identity a).mutator → (g.identity b).serial ≢ (g.identity a).serial
+  apart a b sa sb d alone e f = d (alone (same_identity (g.identity b) (g.identity a) e f))
     where
       same_parts : (a b c d : ℕ) → a ≡ c → b ≡ d → of_parts a b ≡ of_parts c d
       same_parts a b c d e f = rw (e, f) refl

@@ -1,10 +1,10 @@
 -- Stores and loads of a mutator in records of the epoch's space and on the board.
-use Rattle.std.specs.Prelude.{◌≡◌, ℕ, ◌+◌, ◌-◌, ◌/◌, ◌^◌, ◌<◌, ◌≤◌, Bool, true, false, Some, None, slice_set}
+use Rattle.std.specs.Prelude.{◌≡◌, ℕ, ◌+◌, ◌-◌, ◌/◌, ◌^◌, ◌<◌, ◌≤◌, Bool, true, false, Some, None}
 use Rattle.heap_words.specs.Decoded.{NumberWord, PointerWord, HeaderWord, decode}
-use Rattle.plain_state.specs.declared.value.Identity.{Identity}
 use Rattle.plain_state.specs.declared.value.Value.{Value}
 use Rattle.plain_state.specs.declared.value.Value.TheVariants.{Number}
 use Rattle.plain_state.specs.State as plain
+use Rattle.plain_state.specs.Writing.{with_heap, stored, with_board}
 use Rattle.space_map.specs.declared.page_word.PageWord.TheVariants.{Open}
 use Rattle.heap_state.specs.Cycle.{Cycle}
 use Rattle.heap_state.specs.Era.{Era, IsLaidOut, Memory}
@@ -35,21 +35,6 @@ pub record StandsFor (g : Ghost) (field : Bool) (v : ℕ) (y : Value) : Type 0 w
   pub denotes : field ≡ true → value_of g.identity v ≡ Some y
   pub number : field ≡ false → Number v ≡ y
 
--- ---- the plain heap
-
--- word x of the record r with identity i takes a value
-abbrev pub stored : plain.Heap → Identity → plain.Record → ℕ → Value → plain.Heap
-stored heap i r x y = record heap {
-  records = slice_set heap.records i.mutator (slice_set (plain.made_by heap i.mutator) (i.serial - 1) (record r { values = slice_set r.values x y }));
-}
-
--- word x of the board takes a value
-abbrev pub put_on_board : plain.Heap → ℕ → Value → plain.Heap
-put_on_board heap x y = record heap { board = slice_set heap.board x y }
-
-abbrev pub with_heap : plain.Plain → plain.Heap → plain.Plain
-with_heap p heap = record p { heap = heap }
-
 -- ---- stores
 
 -- a store in a word of a record, whose page is open
@@ -74,7 +59,7 @@ BoardIsStored = (E : Era) (m : Memory) (team : Team) (g : Ghost) (x v : ℕ) →
 
 abbrev pub BoardStoresShow : Type 0
 BoardStoresShow = (E : Era) (m : Memory) (team : Team) (g : Ghost) (p : plain.Plain) (x v : ℕ) (y : Value) → IsLaidOut E → Invariant E m team g → x < 16
-    → value_of g.identity v ≡ Some y → Shown E m team g p → Shown E (with_word m (E.board + x) v) team g (with_heap p (put_on_board p.heap x y))
+    → value_of g.identity v ≡ Some y → Shown E m team g p → Shown E (with_word m (E.board + x) v) team g (with_heap p (with_board p.heap x y))
 
 abbrev pub BoardStoresKeepCycle : Type 0
 BoardStoresKeepCycle = (E : Era) (m : Memory) (team : Team) (g : Ghost) (p : plain.Plain) (x v : ℕ) → IsLaidOut E → Invariant E m team g → x < 16

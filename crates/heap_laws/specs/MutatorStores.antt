@@ -4,6 +4,7 @@ use Rattle.std.specs.Prelude.{◌≡◌, ℕ, ◌+◌, ◌-◌, ◌/◌, ◌<◌
 use Rattle.heap_words.specs.declared.kind.Kind.{Kind}
 use Rattle.plain_state.specs.declared.value.Value.{Value}
 use Rattle.plain_state.specs.State as plain
+use Rattle.plain_state.specs.Writing.{with_heap, stored, with_board, gained}
 use Rattle.space_map.specs.declared.page_word.PageWord.TheVariants.{Open}
 use Rattle.space_map.specs.PageWord.{age_of}
 use Rattle.heap_state.specs.Cycle.{Cycle}
@@ -12,9 +13,9 @@ use Rattle.heap_state.specs.Ghost.{Ghost, is_field}
 use Rattle.heap_state.specs.Inductive.{Invariant}
 use Rattle.heap_state.specs.Values.{Shown, Accounts, RegistersShow, value_of}
 use Rattle.heap_state.specs.Worker.{Worker, Team, Stock, is_running}
-use Rattle.heap_laws.specs.Fields.{with_heap, IsWordOf, MayStore, StandsFor, stored, put_on_board}
+use Rattle.heap_laws.specs.Fields.{IsWordOf, MayStore, StandsFor}
 use Rattle.heap_laws.specs.MutatorSteps.{with_mutator, MayHold, GoesOn}
-use Rattle.heap_laws.specs.Placing.{PlacesNext, born, next_identity, placed, gained}
+use Rattle.heap_laws.specs.Placing.{PlacesNext, born, next_identity, placed, zeros_of}
 use Rattle.heap_laws.specs.Steps.{Ready, with_word, with_worker}
 
 -- ---- what a step makes
@@ -53,13 +54,13 @@ abbrev pub MutatorsStoreOnBoard : Type 0
 MutatorsStoreOnBoard = (E : Era) (m : Memory) (team : Team) (g : Ghost) (p : plain.Plain) (k : ℕ) (next : Worker) (q : plain.Mutator) (x v : ℕ) (y : Value)
     → Ready E m team g k → is_running (team.worker k).post ≡ true → Shown E m team g p
     → x < 16 → m.page (E.board / 64) ≡ Open E.epoch → MayHold E g.size g.writer v → value_of g.identity v ≡ Some y
-    → GoesOn E (with_word m (E.board + x) v) g (team.worker k) next → IsAs g (put_on_board p.heap x y) k next q
-    → Makes E m (with_word m (E.board + x) v) team (with_worker team k next) g g (with_mutator (with_heap p (put_on_board p.heap x y)) k q)
+    → GoesOn E (with_word m (E.board + x) v) g (team.worker k) next → IsAs g (with_board p.heap x y) k next q
+    → Makes E m (with_word m (E.board + x) v) team (with_worker team k next) g g (with_mutator (with_heap p (with_board p.heap x y)) k q)
 
 -- the store of a new record's header: the plain heap gains the record
 abbrev pub MutatorsPlace : Type 0
 MutatorsPlace = (E : Era) (m : Memory) (team : Team) (g : Ghost) (p : plain.Plain) (k : ℕ) (next : Worker) (q : plain.Mutator) (s : Stock) (c : Kind) (z v : ℕ)
     → Ready E m team g k → Shown E m team g p → PlacesNext E team k s c z v
     → GoesOn E (with_word m s.at v) (born g s.at z c (next_identity team k)) (placed team k s z) next
-    → IsAs (born g s.at z c (next_identity team k)) (gained p.heap k c (z - 1)) k next q
-    → Makes E m (with_word m s.at v) team (with_worker team k next) g (born g s.at z c (next_identity team k)) (with_mutator (with_heap p (gained p.heap k c (z - 1))) k q)
+    → IsAs (born g s.at z c (next_identity team k)) (gained p.heap k (zeros_of c (z - 1))) k next q
+    → Makes E m (with_word m s.at v) team (with_worker team k next) g (born g s.at z c (next_identity team k)) (with_mutator (with_heap p (gained p.heap k (zeros_of c (z - 1)))) k q)

@@ -3,6 +3,7 @@ use Rattle.std.specs.Prelude.{◌≡◌, ℕ, ◌+◌, ◌-◌, ◌*◌, ◌/◌
 use Rattle.heap_words.specs.declared.kind.Kind.{Kind}
 use Rattle.plain_state.specs.declared.value.Value.{Value}
 use Rattle.plain_state.specs.State as plain
+use Rattle.plain_state.specs.Writing.{with_heap, stored, with_board, gained}
 use Rattle.space_map.specs.declared.area_word.AreaWord.{AreaWord}
 use Rattle.space_map.specs.declared.page_word.PageWord.TheVariants.{Open}
 use Rattle.space_map.specs.Spaces.{to_space}
@@ -13,11 +14,11 @@ use Rattle.heap_state.specs.Ghost.{Ghost, is_field}
 use Rattle.heap_state.specs.Values.{value_of}
 use Rattle.heap_state.specs.Worker.{Worker, Stock, is_running}
 use Rattle.heap_laws.specs.Allocating.{HasStock, HasRoom, OpensNext, claimed, zeroed_further, opened_further}
-use Rattle.heap_laws.specs.Fields.{with_heap, IsWordOf, MayStore, StandsFor, stored, put_on_board}
+use Rattle.heap_laws.specs.Fields.{IsWordOf, MayStore, StandsFor}
 use Rattle.heap_laws.specs.Lifting.{stepped, StandsWith, StandsAsBefore}
 use Rattle.heap_laws.specs.MutatorSteps.{with_mutator, MayHold, GoesOn}
 use Rattle.heap_laws.specs.MutatorStores.{IsAs}
-use Rattle.heap_laws.specs.Placing.{PlacesNext, born, next_identity, placed, gained}
+use Rattle.heap_laws.specs.Placing.{PlacesNext, born, next_identity, placed, zeros_of}
 use Rattle.heap_laws.specs.Steps.{with_word}
 
 -- the configuration stands for the plain state q, and what a cycle kept of the earlier one it keeps of this
@@ -54,12 +55,12 @@ pub record MutatorStands (c : Configuration) (p : plain.Plain) (s : Stands c p) 
       → StandsAfter c (stepped c (Some (WordIs (a + i) v)) k next) (with_mutator (with_heap p (stored p.heap (s.ghost.identity a) r (i - 1) y)) k q) s.ghost s.ghost
   pub board_stored : (next : Worker) (q : plain.Mutator) (x v : ℕ) (y : Value) → x < 16 → (memory c).page ((era c).board / 64) ≡ Open (era c).epoch
       → MayHold (era c) s.ghost.size s.ghost.writer v → value_of s.ghost.identity v ≡ Some y
-      → GoesOn (era c) (with_word (memory c) ((era c).board + x) v) s.ghost ((team c).worker k) next → IsAs s.ghost (put_on_board p.heap x y) k next q
-      → StandsAfter c (stepped c (Some (WordIs ((era c).board + x) v)) k next) (with_mutator (with_heap p (put_on_board p.heap x y)) k q) s.ghost s.ghost
+      → GoesOn (era c) (with_word (memory c) ((era c).board + x) v) s.ghost ((team c).worker k) next → IsAs s.ghost (with_board p.heap x y) k next q
+      → StandsAfter c (stepped c (Some (WordIs ((era c).board + x) v)) k next) (with_mutator (with_heap p (with_board p.heap x y)) k q) s.ghost s.ghost
   pub record_placed : (next : Worker) (q : plain.Mutator) (t : Stock) (o : Kind) (z v : ℕ) → PlacesNext (era c) (team c) k t o z v
       → GoesOn (era c) (with_word (memory c) t.at v) (born s.ghost t.at z o (next_identity (team c) k)) (placed (team c) k t z) next
-      → IsAs (born s.ghost t.at z o (next_identity (team c) k)) (gained p.heap k o (z - 1)) k next q
-      → StandsAfter c (stepped c (Some (WordIs t.at v)) k next) (with_mutator (with_heap p (gained p.heap k o (z - 1))) k q)
+      → IsAs (born s.ghost t.at z o (next_identity (team c) k)) (gained p.heap k (zeros_of o (z - 1))) k next q
+      → StandsAfter c (stepped c (Some (WordIs t.at v)) k next) (with_mutator (with_heap p (gained p.heap k (zeros_of o (z - 1)))) k q)
       s.ghost (born s.ghost t.at z o (next_identity (team c) k))
 
 abbrev pub StocksStand : Type 0
