@@ -8,7 +8,7 @@ use Rattle.heap_words.specs.Word.{header_word, pointer_word, tag_of}
 use Rattle.plain_state.specs.declared.value.Value.TheVariants.{Number, Reference}
 use Rattle.plain_state.specs.State as plain
 use Rattle.heap_state.specs.Configuration.{team, Stands}
-use Rattle.heap_state.specs.Denotes.{denoted}
+use Rattle.heap_state.specs.Denotes.{denoted, denoted_in}
 use Rattle.heap_state.specs.Entries.{EachFits}
 use Rattle.heap_state.specs.Era.{era_of, memory_of}
 use Rattle.heap_state.specs.Flipped.{flipped, flipped_entries, flipped_plain, late_mutator}
@@ -20,7 +20,7 @@ use Rattle.heap_state.specs.Theorems.Examples.{IsWorkedOutFlipped}
 use Rattle.heap_state.specs.Theorems.Rows.{Written}
 use Rattle.heap_state.specs.Theorems.Standing.{IsSound}
 use Rattle.heap_state.specs.Values.{value_of, ShowsAll, Accounts, RegistersShow, BoardShows, Shown}
-use Rattle.heap_state.specs.Walk.{walk, walk_of}
+use Rattle.heap_state.specs.Walk.{walk, old_walk_of}
 use Rattle.heap_state.specs.Worked.{made}
 use Rattle.heap_state.specs.Worker.{Worker}
 use Rattle.heap_state.proofs.FlippedParts.{flipped_table, flipped_era, flipped_ghost, workers, heap, page, size, none, identity, only, blank_word, zero_word, first_register, number_lands, pointer_lands, counted, staffed, laid, headed, copied, once, kept_by, room, raw_words, shut, filling, tracing, aged, scanned, opened, landing, older, new_area, new_written, old_space, old_pages, crossing, stocks, numbered}
@@ -190,16 +190,16 @@ stands = record {
 sound : IsSound flipped flipped_plain
 sound = record { holds = holds flipped stands.ghost stands.invariant; represents = represents flipped stands.ghost stands.invariant flipped_plain stands.shown }
 
-old : walk_of flipped 0 ≡ record { at = 192; size = 3 } ∷ []
+old : old_walk_of flipped ≡ record { at = 192; size = 3 } ∷ []
 unfolding put walk decode tag_of header_word
 old = rw table_is.says refl
 
-uncopied_words : uncopied flipped (walk_of flipped 0) ≡ 3
+uncopied_words : uncopied flipped (old_walk_of flipped) ≡ 3
 unfolding put decode tag_of header_word
 uncopied_words = rw (old, table_is.says) refl
 
 in_place : denoted flipped (pointer_word 192) ≡ Some (Reference (made 1))
-unfolding put denoted decode tag_of pointer_word header_word
+unfolding put denoted_in decode tag_of pointer_word header_word
 in_place = rw table_is.says refl
 
 pub worked_out_flipped : IsWorkedOutFlipped

@@ -4,6 +4,7 @@ use Rattle.heap_words.specs.declared.kind.Kind.{Kind}
 use Rattle.heap_words.specs.Decoded.{HeaderWord, Malformed}
 use Rattle.plain_state.specs.declared.value.Identity.{Identity}
 use Rattle.heap_state.specs.Configuration.{Configuration, era, memory, team}
+use Rattle.heap_state.specs.Dump.{dump_of}
 use Rattle.heap_state.specs.Era.{Era, Memory}
 use Rattle.heap_state.specs.Ghost.{Ghost, IsField, is_field, Here}
 use Rattle.heap_state.specs.Holds.{IsWalkedField}
@@ -34,7 +35,7 @@ module _ (c : Configuration) (g : Ghost) (inv : Invariant (era c) (memory c) (te
     pub named : identity_at mutator serial ≡ g.identity w.at
     pub own : (g.copy w.at ≡ 0) ⊎ (0 < g.keeper w.at)
 
-  pub owns : (w : Walked) (kind : Kind) (len serial mutator : ℕ) → IsOwn c w kind len serial mutator → Owns w kind len serial mutator
+  pub owns : (w : Walked) (kind : Kind) (len serial mutator : ℕ) → IsOwn (dump_of c) w kind len serial mutator → Owns w kind len serial mutator
   owns w kind len serial mutator is =
       let known = in_heap_sound c g inv w is.walked in
       by_headers known (headers c g inv w.at (omega (arith, known.sized)) known.written)

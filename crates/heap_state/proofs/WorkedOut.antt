@@ -7,14 +7,14 @@ use Rattle.heap_words.specs.Word.{header_word, pointer_word, forward_word, busy_
 use Rattle.plain_state.specs.declared.value.Identity.{Identity}
 use Rattle.plain_state.specs.declared.value.Value.TheVariants.{Number, Reference}
 use Rattle.plain_state.specs.State as plain
-use Rattle.heap_state.specs.Denotes.{denoted}
+use Rattle.heap_state.specs.Denotes.{denoted, denoted_in}
 use Rattle.heap_state.specs.Functions.{put}
 use Rattle.heap_state.specs.Reachable.{Reachable, FromRegister, FromBoard, FromRecord, IsLive}
 use Rattle.heap_state.specs.Sums.{uncopied}
 use Rattle.heap_state.specs.Theorems.Rows.{Written}
 use Rattle.heap_state.specs.Theorems.Standing.{IsSound}
 use Rattle.heap_state.specs.Theorems.Examples.{IsWorkedOut}
-use Rattle.heap_state.specs.Walk.{walk, walk_of}
+use Rattle.heap_state.specs.Walk.{walk, walk_of, old_walk_of}
 use Rattle.heap_state.specs.Worked.{worked, worked_entries, worked_plain, made}
 use Rattle.heap_state.proofs.Puts.{some_same, none≢some}
 use Rattle.std.proofs.lemmas.List.Elements.{All-nil, All-cons}
@@ -36,36 +36,36 @@ use Rattle.heap_state.proofs.Writing.{writes_tables}
 table_is : Written 4 worked_entries
 table_is = writes_tables 4 worked_entries entries_fit
 
-copies : walk_of worked 1 ≡ record { at = 256; size = 3 } ∷ []
+copies : walk_of worked ≡ record { at = 256; size = 3 } ∷ []
 unfolding put walk decode tag_of header_word
 copies = rw table_is.says refl
 
-old : walk_of worked 0 ≡ record { at = 192; size = 3 } ∷ record { at = 195; size = 2 } ∷ []
+old : old_walk_of worked ≡ record { at = 192; size = 3 } ∷ record { at = 195; size = 2 } ∷ []
 unfolding put walk decode tag_of forward_word busy_word
 old = rw table_is.says refl
 
-uncopied_words : uncopied worked (walk_of worked 0) ≡ 0
+uncopied_words : uncopied worked (old_walk_of worked) ≡ 0
 unfolding put decode tag_of forward_word busy_word
 uncopied_words = rw (old, table_is.says) refl
 
 number : denoted worked (number_word 7) ≡ Some (Number 7)
-unfolding denoted decode tag_of number_word
+unfolding denoted_in decode tag_of number_word
 number = refl
 
 copied : denoted worked (pointer_word 256) ≡ Some (Reference (made 1))
-unfolding put denoted decode tag_of pointer_word header_word
+unfolding put denoted_in decode tag_of pointer_word header_word
 copied = rw table_is.says refl
 
 forwarded : denoted worked (pointer_word 192) ≡ Some (Reference (made 1))
-unfolding put denoted decode tag_of pointer_word forward_word header_word
-forwarded = rw (table_is.says, table_is.says) refl
+unfolding put denoted_in decode tag_of pointer_word forward_word header_word
+forwarded = rw table_is.says refl
 
 in_copy : denoted worked (pointer_word 195) ≡ Some (Reference (made 2))
-unfolding put denoted decode tag_of pointer_word busy_word header_word
+unfolding put denoted_in decode tag_of pointer_word busy_word header_word
 in_copy = rw table_is.says refl
 
 not_there : denoted worked (pointer_word 193) ≡ None
-unfolding put denoted decode tag_of pointer_word number_word
+unfolding put denoted_in decode tag_of pointer_word number_word
 not_there = rw table_is.says refl
 
 -- ---- what is reachable

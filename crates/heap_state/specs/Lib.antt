@@ -7,8 +7,10 @@ pub mod Parts
 pub mod Inductive
 pub mod Values
 pub mod Configuration
+pub mod Kept
 pub mod Walk
 pub mod Denotes
+pub mod Dump
 pub mod Represents
 pub mod Sums
 pub mod Holds
