@@ -1,6 +1,6 @@
 -- What a cycle keeps is kept where a new record begins to stand.
 use Rattle.std.proofs.Common.{◌≡◌, ℕ, ◌+◌, ◌<◌, refl, sym, ◌∙◌, ⊎_elim, inl, inr}
-use Rattle.heap_words.specs.declared.kind.Kind.{Kind}
+use Rattle.plain_state.specs.declared.kind.Kind.{Kind}
 use Rattle.plain_state.specs.State as plain
 use Rattle.plain_state.specs.declared.value.Identity.{Identity}
 use Rattle.heap_state.specs.Cycle.{Cycle, Copying, Rooted, RootLeads, ByBoard, ByRegister, StillLeads, IsCopied}

@@ -1,6 +1,6 @@
 -- What a worker knows where a record begins to stand in the new area.
 use Rattle.std.proofs.Common.{◌≡◌, ℕ, ◌+◌, ◌<◌, Bool, Option, refl, arith, ⊎_elim, true, None, Some}
-use Rattle.heap_words.specs.declared.kind.Kind.{Kind}
+use Rattle.plain_state.specs.declared.kind.Kind.{Kind}
 use Rattle.plain_state.specs.declared.value.Identity.{Identity}
 use Rattle.space_map.specs.declared.page_word.PageWord.{PageWord}
 use Rattle.heap_state.specs.Era.{Era, Memory}

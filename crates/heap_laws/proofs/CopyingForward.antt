@@ -2,10 +2,11 @@
 use Rattle.std.proofs.Common.{◌≡◌, ◌≢◌, ℕ, ◌+◌, ◌-◌, ◌*◌, ◌/◌, ◌^◌, ◌<◌, ◌≤◌, Bool, true, false, refl, sym, ap, ◌∙◌, arith, Option, Some, None, ⊎_elim, ◌⊎◌, inl, inr}
 use Rattle.std.proofs.lemmas.Bool.{cases_eq}
 use Rattle.heap_words.specs.Decoded.{HeaderWord, ForwardWord, PointerWord, decode}
+use Rattle.plain_state.specs.Layout.{is_field}
 use Rattle.space_map.specs.declared.page_word.PageWord.TheVariants.{Scanning}
 use Rattle.heap_state.specs.Era.{Era, Memory}
 use Rattle.heap_state.specs.Functions.{put}
-use Rattle.heap_state.specs.Ghost.{Ghost, IsField, Here, Lands, is_field}
+use Rattle.heap_state.specs.Ghost.{Ghost, IsField, Here, Lands, header_kind}
 use Rattle.heap_state.specs.Inductive.{Invariant, Knows}
 use Rattle.heap_state.specs.Parts.Copies.{Copied, Kept}
 use Rattle.heap_state.specs.Parts.Copying.{IsOrigin, Seeks, Copies, Licensed, Keeps}
@@ -77,7 +78,7 @@ module _ {E : Era} {m : Memory} {team : Team} {g : Ghost} {k : ℕ} {c : Copy} {
   pub copied_word : (i : ℕ) → 0 < i → i < c.size → heap' (c.to + i) ≡ m.heap (c.from + i)
   copied_word i p l = let n : c.to + i ≢ c.from + 0 = omega (arith, ready.laid_out.apart, placed.4, placed.5, mine.old, inv.laid.order, l) in rw (put_other m.heap (c.from + 0) v (c.to + i) n) (mine.same i p (omega (arith, full)))
 
-  copied_head : decode (heap' c.to) ≡ HeaderWord (g.kind c.to) (g.size c.to - 1) (g.identity c.to).serial (g.identity c.to).mutator
+  copied_head : decode (heap' c.to) ≡ HeaderWord (header_kind (g.kind c.to)) (g.size c.to - 1) (g.identity c.to).serial (g.identity c.to).mutator
   copied_head = rw (put_other m.heap (c.from + 0) v c.to (λ e. apart (omega arith)), twin.5, twin.6, placed.3) ((me.keeps c has).head (omega (arith, full, mine.old)))
 
   heap_other : (b : ℕ) → b ≢ c.from → heap' b ≡ m.heap b

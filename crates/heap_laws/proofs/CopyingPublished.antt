@@ -5,10 +5,11 @@ use Rattle.heap_words.specs.Decoded.{PointerWord, decode}
 use Rattle.plain_state.specs.State as plain
 use Rattle.plain_state.specs.declared.value.Identity.{Identity}
 use Rattle.plain_state.specs.declared.value.Value.TheVariants.{Reference}
+use Rattle.plain_state.specs.Layout.{is_field}
 use Rattle.heap_state.specs.Cycle.{Copying, Rooted, IsCopied, StillLeads}
 use Rattle.heap_state.specs.Era.{Era, Memory}
 use Rattle.heap_state.specs.Functions.{put}
-use Rattle.heap_state.specs.Ghost.{Ghost, Here, is_field}
+use Rattle.heap_state.specs.Ghost.{Ghost, Here}
 use Rattle.heap_state.specs.Inductive.{Invariant}
 use Rattle.heap_state.specs.Reachable.{Reachable, FromRecord}
 use Rattle.heap_state.specs.Values.{ShowsAll, Shows, value_at, value_of}

@@ -11,7 +11,7 @@ use Rattle.heap_state.specs.Era.{Era, Memory}
 use Rattle.heap_state.specs.Functions.{put}
 use Rattle.heap_state.specs.Ghost.{Ghost, Here, IsField, Lands}
 use Rattle.heap_state.specs.Inductive.{Invariant, Knows}
-use Rattle.heap_state.specs.Values.{Shown, ShowsAll, Shows, RegistersShow, kind_of, value_at, value_of}
+use Rattle.heap_state.specs.Values.{Shown, ShowsAll, Shows, RegistersShow, value_at, value_of}
 use Rattle.heap_state.specs.Worker.{Team, Copy, is_mutator}
 use Rattle.heap_state.proofs.Frames.{accounts_put, registers_put, rooted_put}
 use Rattle.heap_state.proofs.Puts.{put_at, put_other, put_same}
@@ -129,7 +129,7 @@ module _ {E : Era} {m : Memory} {team : Team} {g : Ghost} {k : ℕ} {c : Copy} (
     from_old : (0 < g.size c.from) × (E.old_start ≤ c.from) × (c.from < E.old_start + E.old_span) × (0 < g.keeper c.from)
     from_old = let o = (mine reserving).old in (omega (arith, o), omega (arith, o), omega (arith, o), omega (arith, o))
 
-    new_size : (r : plain.Record) × (plain.record_of p.heap (g.identity c.from) ≡ Some r) × (length r.values + 1 ≡ c.size) × (r.kind ≡ kind_of (g.kind c.from)) × RefersInFields (g.kind c.from) c.size r
+    new_size : (r : plain.Record) × (plain.record_of p.heap (g.identity c.from) ≡ Some r) × (length r.values + 1 ≡ c.size) × (r.kind ≡ g.kind c.from) × RefersInFields (g.kind c.from) c.size r
     new_size =
         let o = cy.old c.from from_old.0 from_old.1 from_old.2 (inr from_old.3) in
         let s : Shows (value_of g.identity) m.heap c.from (g.kind c.from) (g.size c.from) (o.0) = o.2 in

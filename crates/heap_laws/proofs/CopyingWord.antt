@@ -9,7 +9,7 @@ use Rattle.space_map.specs.declared.page_word.PageWord.{PageWord}
 use Rattle.heap_state.specs.Cycle.{Copying, Rooted, RootLeads, ByBoard, ByRegister}
 use Rattle.heap_state.specs.Era.{Era, Memory}
 use Rattle.heap_state.specs.Functions.{put}
-use Rattle.heap_state.specs.Ghost.{Ghost}
+use Rattle.heap_state.specs.Ghost.{Ghost, header_kind}
 use Rattle.heap_state.specs.Inductive.{Invariant, Knows}
 use Rattle.heap_state.specs.Parts.Copies.{Copied}
 use Rattle.heap_state.specs.Parts.Copying.{Copies, Keeps}
@@ -124,7 +124,7 @@ module _ (E : Era) (m : Memory) (team : Team) (g : Ghost) (k : ℕ) (c : Copy) (
   head : Keeps g.kind g.identity heap' further
   head = record { keeps = (me.keeps c has).keeps; head = λ _. by_word next }
     where
-      by_word : IsNextWord c v → decode (heap' c.to) ≡ HeaderWord (g.kind c.from) (c.size - 1) (g.identity c.from).serial (g.identity c.from).mutator
+      by_word : IsNextWord c v → decode (heap' c.to) ≡ HeaderWord (header_kind (g.kind c.from)) (c.size - 1) (g.identity c.from).serial (g.identity c.from).mutator
       by_word (inl q) = let y : c.to ≡ c.to + c.done = omega (arith, q.0) in rw (put_at m.heap (c.to + c.done) v c.to y, q.1) ((me.keeps c has).keeps)
       by_word (inr q) = let p = (mine.loaded v q).0 in let y : c.to ≢ c.to + c.done = omega (arith, p) in rw (put_other m.heap (c.to + c.done) v c.to y) ((me.keeps c has).head p)
 

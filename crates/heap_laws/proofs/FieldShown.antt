@@ -6,9 +6,10 @@ use Rattle.plain_state.specs.State as plain
 use Rattle.plain_state.specs.declared.value.Identity.{Identity}
 use Rattle.plain_state.specs.declared.value.Value.{Value}
 use Rattle.plain_state.specs.Writing.{stored, with_heap}
+use Rattle.plain_state.specs.Layout.{is_field}
 use Rattle.heap_state.specs.Era.{Era, IsLaidOut, Memory}
 use Rattle.heap_state.specs.Functions.{put}
-use Rattle.heap_state.specs.Ghost.{Ghost, is_field, Leads, Lands}
+use Rattle.heap_state.specs.Ghost.{Ghost, Leads, Lands}
 use Rattle.heap_state.specs.Inductive.{Invariant}
 use Rattle.heap_state.specs.Values.{value_at, value_of, Shows, Shown}
 use Rattle.heap_state.specs.Worker.{Team}

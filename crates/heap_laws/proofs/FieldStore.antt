@@ -1,9 +1,10 @@
 -- A mutator's store in a word of a record or on the board keeps the invariant and the cycle.
 use Rattle.std.proofs.Common.{◌≡◌, ◌≢◌, ℕ, ◌+◌, ◌/◌, ◌<◌, true, false, Some, refl, sym, ap, ◌∙◌, arith, ◌⊎◌, inl, inr}
+use Rattle.plain_state.specs.Layout.{is_field}
 use Rattle.space_map.specs.declared.page_word.PageWord.TheVariants.{Open, Scanning}
 use Rattle.heap_state.specs.Era.{Era, IsLaidOut, Memory}
 use Rattle.heap_state.specs.Functions.{put}
-use Rattle.heap_state.specs.Ghost.{Ghost, is_field, InRecord, OnBoard, Here}
+use Rattle.heap_state.specs.Ghost.{Ghost, InRecord, OnBoard, Here}
 use Rattle.heap_state.specs.Inductive.{Invariant, Knows}
 use Rattle.heap_state.specs.Worker.{Worker, Team, Quest, Copy, Scan, is_late}
 use Rattle.heap_laws.specs.Fields.{IsWordOf, MayStore, WordsAreStored, BoardIsStored, WordsAreLoaded, BoardIsLoaded, AccessesAreAllowed}

@@ -1,6 +1,6 @@
 -- A page's word becomes one of this epoch, and open where it was open: what speaks of page words stays.
 use Rattle.std.proofs.Common.{◌≡◌, ◌≢◌, ℕ, ◌+◌, ◌/◌, ◌<◌, ◌≤◌, true, Some, refl, ap, arith, ⊎_elim, inl, inr}
-use Rattle.heap_words.specs.declared.kind.Kind.{Kind}
+use Rattle.plain_state.specs.declared.kind.Kind.{Kind}
 use Rattle.space_map.specs.declared.gate_word.GateWord.{GateWord}
 use Rattle.space_map.specs.declared.page_word.PageWord.{PageWord}
 use Rattle.space_map.specs.declared.page_word.PageWord.TheVariants.{Open, Scanning}

@@ -1,11 +1,12 @@
 -- The fields of a page that is scanned: passed where they are clean, and replaced by the copy's address where they are not.
 use Rattle.std.proofs.Common.{◌≡◌, ◌≢◌, ℕ, ◌+◌, ◌-◌, ◌/◌, ◌<◌, ◌≤◌, true, Some, None, refl, sym, ◌∙◌, arith, ⊎_elim, inl, inr}
-use Rattle.heap_words.specs.declared.kind.Kind.{Kind}
-use Rattle.heap_words.specs.declared.kind.Kind.TheVariants.{Fields}
+use Rattle.plain_state.specs.declared.kind.Kind.{Kind}
+use Rattle.plain_state.specs.Layout.{is_field}
+use Rattle.plain_state.specs.declared.kind.Kind.TheVariants.{Fields}
 use Rattle.heap_words.specs.Decoded.{PointerWord, decode}
 use Rattle.heap_state.specs.Era.{Era, Memory, IsLaidOut}
 use Rattle.heap_state.specs.Functions.{put}
-use Rattle.heap_state.specs.Ghost.{Ghost, is_field, InRecord, Here, Leads}
+use Rattle.heap_state.specs.Ghost.{Ghost, InRecord, Here, Leads}
 use Rattle.heap_state.specs.Inductive.{Invariant, Knows}
 use Rattle.heap_state.specs.Parts.Copying.{IsOrigin, Seeks, Licensed}
 use Rattle.heap_state.specs.Parts.Pages.{ScannedBy}

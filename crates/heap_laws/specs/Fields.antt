@@ -5,10 +5,11 @@ use Rattle.plain_state.specs.declared.value.Value.{Value}
 use Rattle.plain_state.specs.declared.value.Value.TheVariants.{Number}
 use Rattle.plain_state.specs.State as plain
 use Rattle.plain_state.specs.Writing.{with_heap, stored, with_board}
+use Rattle.plain_state.specs.Layout.{is_field}
 use Rattle.space_map.specs.declared.page_word.PageWord.TheVariants.{Open}
 use Rattle.heap_state.specs.Cycle.{Cycle}
 use Rattle.heap_state.specs.Era.{Era, IsLaidOut, Memory}
-use Rattle.heap_state.specs.Ghost.{Ghost, is_field}
+use Rattle.heap_state.specs.Ghost.{Ghost, header_kind}
 use Rattle.heap_state.specs.Inductive.{Invariant}
 use Rattle.heap_state.specs.Values.{Shown, Shows, value_of}
 use Rattle.heap_state.specs.Worker.{Team, Access, is_mutator, is_late}
@@ -72,7 +73,7 @@ BoardStoresKeepCycle = (E : Era) (m : Memory) (team : Team) (g : Ghost) (p : pla
 pub record IsLedTo (E : Era) (m : Memory) (g : Ghost) (p : plain.Plain) (a : ℕ) : Type 0 where
   pub stands : (0 < g.size a) × (g.writer a ≡ 0)
   pub inside : (E.start ≤ a) × (a < E.start + E.span)
-  pub header : decode (m.heap a) ≡ HeaderWord (g.kind a) (g.size a - 1) (g.identity a).serial (g.identity a).mutator
+  pub header : decode (m.heap a) ≡ HeaderWord (header_kind (g.kind a)) (g.size a - 1) (g.identity a).serial (g.identity a).mutator
   pub shows : (r : plain.Record) × (plain.record_of p.heap (g.identity a) ≡ Some r) × Shows (value_of g.identity) m.heap a (g.kind a) (g.size a) r
 
 abbrev pub HeadersAreRead : Type 0

@@ -1,15 +1,16 @@
 -- One step of a running mutator that is one of the plain machine: it stores nothing, or in a record, on the board, or a new
 -- record's header.
 use Rattle.std.specs.Prelude.{◌≡◌, ℕ, ◌+◌, ◌-◌, ◌/◌, ◌<◌, ◌≤◌, true, Some}
-use Rattle.heap_words.specs.declared.kind.Kind.{Kind}
+use Rattle.plain_state.specs.declared.kind.Kind.{Kind}
 use Rattle.plain_state.specs.declared.value.Value.{Value}
 use Rattle.plain_state.specs.State as plain
 use Rattle.plain_state.specs.Writing.{with_heap, stored, with_board, gained}
+use Rattle.plain_state.specs.Layout.{is_field}
 use Rattle.space_map.specs.declared.page_word.PageWord.TheVariants.{Open}
 use Rattle.space_map.specs.PageWord.{age_of}
 use Rattle.heap_state.specs.Cycle.{Cycle}
 use Rattle.heap_state.specs.Era.{Era, Memory}
-use Rattle.heap_state.specs.Ghost.{Ghost, is_field}
+use Rattle.heap_state.specs.Ghost.{Ghost}
 use Rattle.heap_state.specs.Inductive.{Invariant}
 use Rattle.heap_state.specs.Values.{Shown, Accounts, RegistersShow, value_of}
 use Rattle.heap_state.specs.Worker.{Worker, Team, Stock, is_running}

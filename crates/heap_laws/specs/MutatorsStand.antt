@@ -1,16 +1,17 @@
 -- The steps of a mutator, of a configuration that stands.
 use Rattle.std.specs.Prelude.{◌≡◌, ℕ, ◌+◌, ◌-◌, ◌*◌, ◌/◌, ◌<◌, true, length, Some, None}
-use Rattle.heap_words.specs.declared.kind.Kind.{Kind}
+use Rattle.plain_state.specs.declared.kind.Kind.{Kind}
 use Rattle.plain_state.specs.declared.value.Value.{Value}
 use Rattle.plain_state.specs.State as plain
 use Rattle.plain_state.specs.Writing.{with_heap, stored, with_board, gained}
+use Rattle.plain_state.specs.Layout.{is_field}
 use Rattle.space_map.specs.declared.area_word.AreaWord.{AreaWord}
 use Rattle.space_map.specs.declared.page_word.PageWord.TheVariants.{Open}
 use Rattle.space_map.specs.Spaces.{to_space}
 use Rattle.heap_state.specs.Configuration.{Configuration, Stands, table, era, memory, team}
 use Rattle.heap_state.specs.Cycle.{Cycle}
 use Rattle.heap_state.specs.Entries.{WordIs, AreaIs, PageIs}
-use Rattle.heap_state.specs.Ghost.{Ghost, is_field}
+use Rattle.heap_state.specs.Ghost.{Ghost}
 use Rattle.heap_state.specs.Values.{value_of}
 use Rattle.heap_state.specs.Worker.{Worker, Stock, is_running}
 use Rattle.heap_laws.specs.Allocating.{HasStock, HasRoom, OpensNext, claimed, zeroed_further, opened_further}

@@ -1,10 +1,11 @@
 -- The words of a page that is scanned: which are read, and what becomes of those that lead into the old space.
 use Rattle.std.specs.Prelude.{◌≡◌, ◌≢◌, ℕ, ◌+◌, ◌*◌, ◌/◌, ◌<◌, ◌≤◌, ◌==◌, ◌⊎◌, Bool, true, false, Some, None, nat_le, nat_lt, if◌then◌else◌}
-use Rattle.heap_words.specs.declared.kind.Kind.{Kind}
-use Rattle.heap_words.specs.declared.kind.Kind.TheVariants.{Fields, Raw}
+use Rattle.plain_state.specs.declared.kind.Kind.{Kind}
+use Rattle.heap_words.specs.declared.kind.Kind.{Kind as HeaderKind}
+use Rattle.plain_state.specs.declared.kind.Kind.TheVariants.{Fields, Raw}
 use Rattle.heap_words.specs.Decoded.{PointerWord, HeaderWord, decode}
 use Rattle.heap_state.specs.Era.{Era, Memory, IsLaidOut}
-use Rattle.heap_state.specs.Ghost.{Ghost, OnBoard, Leads}
+use Rattle.heap_state.specs.Ghost.{Ghost, OnBoard, Leads, said_kind}
 use Rattle.heap_state.specs.Inductive.{Invariant}
 use Rattle.heap_state.specs.Worker.{Worker, Team, Seen, Scanned, Quest, Scan}
 use Rattle.heap_laws.specs.Keeping.{Keeps}
@@ -53,9 +54,9 @@ ReadingCrossingKeeps = (E : Era) (m : Memory) (team : Team) (g : Ghost) (k : ℕ
 
 -- the header of the record over the page's first word is read
 abbrev pub ReadingFirstHeaderKeeps : Type 0
-ReadingFirstHeaderKeeps = (E : Era) (m : Memory) (team : Team) (g : Ghost) (k : ℕ) (s : Scan) (a len serial mutator : ℕ) (kind : Kind) → IsLaidOut E → Invariant E m team g → IsScanning team k s
-    → s.page ≢ E.board / 64 → s.over ≡ Some a → s.cursor ≡ 64 * s.page → decode (m.heap a) ≡ HeaderWord kind len serial mutator
-    → Keeps E m m team (with_worker team k (scanning (team.worker k) (in_record E s (record { at = a; size = len + 1; kind = kind })))) g
+ReadingFirstHeaderKeeps = (E : Era) (m : Memory) (team : Team) (g : Ghost) (k : ℕ) (s : Scan) (a len serial mutator : ℕ) (head : HeaderKind) → IsLaidOut E → Invariant E m team g → IsScanning team k s
+    → s.page ≢ E.board / 64 → s.over ≡ Some a → s.cursor ≡ 64 * s.page → decode (m.heap a) ≡ HeaderWord head len serial mutator
+    → Keeps E m m team (with_worker team k (scanning (team.worker k) (in_record E s (record { at = a; size = len + 1; kind = said_kind head (m.heap (a + 1)) })))) g
 
 -- at a record's end on the page being filled, FRONT is read: the scan is at it, or another record begins
 abbrev pub ReadingFrontKeeps : Type 0
@@ -64,10 +65,10 @@ ReadingFrontKeeps = (E : Era) (m : Memory) (team : Team) (g : Ghost) (k : ℕ) (
 
 -- the header of the next record is read, on a full page or where FRONT was seen past it
 abbrev pub ReadingNextHeaderKeeps : Type 0
-ReadingNextHeaderKeeps = (E : Era) (m : Memory) (team : Team) (g : Ghost) (k : ℕ) (s : Scan) (r : Seen) (len serial mutator : ℕ) (kind : Kind) → IsLaidOut E → Invariant E m team g → IsScanning team k s
+ReadingNextHeaderKeeps = (E : Era) (m : Memory) (team : Team) (g : Ghost) (k : ℕ) (s : Scan) (r : Seen) (len serial mutator : ℕ) (head : HeaderKind) → IsLaidOut E → Invariant E m team g → IsScanning team k s
     → s.page ≢ E.board / 64 → s.current ≡ Some r → s.cursor ≡ r.at + r.size → s.cursor < 64 * s.page + 64 → (s.inner ≡ true) ⊎ (s.in_place ≡ false)
-    → decode (m.heap s.cursor) ≡ HeaderWord kind len serial mutator
-    → Keeps E m m team (with_worker team k (scanning (team.worker k) (in_record E s (record { at = s.cursor; size = len + 1; kind = kind })))) g
+    → decode (m.heap s.cursor) ≡ HeaderWord head len serial mutator
+    → Keeps E m m team (with_worker team k (scanning (team.worker k) (in_record E s (record { at = s.cursor; size = len + 1; kind = said_kind head (m.heap (s.cursor + 1)) })))) g
 
 -- ---- the fields
 

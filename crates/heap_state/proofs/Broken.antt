@@ -2,7 +2,7 @@
 use Rattle.std.proofs.Common.{◌≡◌, ◌+◌, ◌/◌, ◌≤◌, [], ◌∷◌, Some, None, refl, sym, ◌∙◌, arith, inl, inr, subst}
 use Rattle.std.specs.Prelude.{List, length, slice_get}
 use Rattle.std.specs.List.{Contains}
-use Rattle.heap_words.specs.declared.kind.Kind.TheVariants.{Fields}
+use Rattle.plain_state.specs.declared.kind.Kind.TheVariants.{Fields}
 use Rattle.heap_words.specs.Decoded.{decode}
 use Rattle.heap_words.specs.Word.{header_word, pointer_word, forward_word, busy_word, number_word, tag_of}
 use Rattle.heap_words.proofs.Decoding.{decode-pointer_word, decode-header_word}
@@ -13,7 +13,7 @@ use Rattle.heap_state.specs.Dump.{dump_of}
 use Rattle.heap_state.specs.Entries.{PageIs, AreaIs, WordIs}
 use Rattle.heap_state.specs.Era.{memory_of}
 use Rattle.heap_state.specs.Functions.{put}
-use Rattle.heap_state.specs.Ghost.{Leads}
+use Rattle.heap_state.specs.Ghost.{Leads, header_kind}
 use Rattle.heap_state.specs.Holds.{AccessHolds, RoomHolds, IsWalkedField}
 use Rattle.heap_state.specs.Represents.{IsCopying, IsOwn, Represents}
 use Rattle.heap_state.specs.Table.{Table}
@@ -53,7 +53,9 @@ own_copy : IsOwn (dump_of opened_early) (record { at = 256; size = 3 }) Fields 2
 unfolding put
 own_copy = record {
   walked = inl the_copy;
-  header = rw page_open.says (rw (decode-header_word Fields 2 1 0 (omega arith) (omega arith)) refl);
+  head = header_kind Fields;
+  said = refl;
+  header = rw page_open.says (rw (decode-header_word (header_kind Fields) 2 1 0 (omega arith) (omega arith)) refl);
 }
 
 the_field : IsWalkedField opened_early 258
@@ -86,6 +88,8 @@ own_second : IsOwn (dump_of forwarded_wrong) (record { at = 195; size = 2 }) Fie
 unfolding put decode tag_of busy_word header_word
 own_second = record {
   walked = inr (in_old, the_second);
+  head = header_kind Fields;
+  said = refl;
   header = rw forward_257.says refl;
 }
 

@@ -11,7 +11,7 @@ use Rattle.heap_state.specs.Kept.{kept_of}
 use Rattle.heap_state.specs.Represents.{own_header}
 use Rattle.heap_state.proofs.Reserving.{kept_there}
 use Rattle.heap_state.specs.Era.{Era, Memory}
-use Rattle.heap_state.specs.Ghost.{Ghost, IsField, Here, Leads, Lands}
+use Rattle.heap_state.specs.Ghost.{Ghost, IsField, Here, Leads, Lands, header_kind}
 use Rattle.heap_state.specs.Inductive.{Invariant}
 use Rattle.heap_state.specs.Values.{value_of, value_said}
 use Rattle.heap_state.proofs.Holding.{First, OwnHeader, KeptBy, GoneTo, first, keeper, uncopied_here}
@@ -26,7 +26,7 @@ module _ (c : Configuration) (g : Ghost) (inv : Invariant (era c) (memory c) (te
 
   -- the header of a record, by its kind, size and identity
   abbrev pub header_of : ℕ → Decoded
-  header_of a = HeaderWord (g.kind a) (g.size a - 1) (g.identity a).serial (g.identity a).mutator
+  header_of a = HeaderWord (header_kind (g.kind a)) (g.size a - 1) (g.identity a).serial (g.identity a).mutator
 
   -- a record has its own header, or is forwarded to its copy
   pub data Headers (a : ℕ) : Type 0 where

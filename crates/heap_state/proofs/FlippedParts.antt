@@ -2,7 +2,7 @@
 use Rattle.std.proofs.Common.{◌≡◌, ◌≢◌, ℕ, ◌+◌, ◌/◌, ◌<◌, ◌≤◌, Some, true, false, zero, suc, refl, sym, ◌∙◌, arith, ⊎_elim, inl, inr}
 use Rattle.std.specs.Prelude.{if◌then◌else◌, ◌==◌, nat_lt}
 use Rattle.std.proofs.lemmas.Bool.{cases_eq, ne_eqb}
-use Rattle.heap_words.specs.declared.kind.Kind.TheVariants.{Raw}
+use Rattle.plain_state.specs.declared.kind.Kind.TheVariants.{Raw}
 use Rattle.heap_words.specs.Decoded.{PointerWord, NumberWord, HeaderWord, decode}
 use Rattle.heap_words.specs.Word.{number_word, pointer_word}
 use Rattle.heap_words.proofs.Decoding.{decode-number_word, decode-pointer_word, decode-header_word}
@@ -15,7 +15,7 @@ use Rattle.heap_state.specs.Entries.{table_with}
 use Rattle.heap_state.specs.Era.{Era}
 use Rattle.heap_state.specs.Flipped.{flipped, flipped_entries}
 use Rattle.heap_state.specs.Functions.{put, sum_below}
-use Rattle.heap_state.specs.Ghost.{Ghost, Here, Leads, Lands}
+use Rattle.heap_state.specs.Ghost.{Ghost, Here, Leads, Lands, header_kind}
 use Rattle.heap_state.specs.Parts.Copies.{Copied, Once, Kept, Room}
 use Rattle.heap_state.specs.Parts.Crossing.{Crossing}
 use Rattle.heap_state.specs.Parts.Gate.{Counted, Staffed}
@@ -64,9 +64,9 @@ only a st = ⊎_elim (λ (e : a ≡ 192). (e, rw e refl)) (λ (n : a ≢ 192). a
 
 -- ---- words
 
-pub word_192 : decode (heap 192) ≡ HeaderWord Raw 2 1 0
+pub word_192 : decode (heap 192) ≡ HeaderWord (header_kind Raw) 2 1 0
 unfolding put
-word_192 = decode-header_word Raw 2 1 0 (omega arith) (omega arith)
+word_192 = decode-header_word (header_kind Raw) 2 1 0 (omega arith) (omega arith)
 
 pub blank_word : (x : ℕ) → 195 ≤ x → heap x ≡ 0
 unfolding put

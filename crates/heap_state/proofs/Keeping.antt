@@ -4,7 +4,7 @@ use Rattle.std.proofs.lemmas.Bool.{cases_eq, cases_lt, cases_Bool, eq-eqb, ne_eq
 use Rattle.heap_words.specs.Decoded.{BusyWord, ForwardWord, decode}
 use Rattle.heap_state.specs.Configuration.{Configuration, era, memory, team}
 use Rattle.heap_state.specs.Era.{Era, Memory}
-use Rattle.heap_state.specs.Ghost.{Ghost, Here, OnBoard}
+use Rattle.heap_state.specs.Ghost.{Ghost, Here, OnBoard, header_kind}
 use Rattle.heap_state.specs.Holds.{worker_of, IsWalkedField, GateHolds, HeadersHold, AccessHolds, RoomHolds, CrossingHolds, ClaimsHold, FreeHolds, Holds}
 use Rattle.heap_state.specs.Inductive.{Invariant, Knows}
 use Rattle.heap_state.specs.Parts.Copies.{owing}
@@ -74,7 +74,7 @@ module _ (c : Configuration) (g : Ghost) (inv : Invariant (era c) (memory c) (te
     kept = λ w len k h e.
         let q = kept_here w len k h e in
         let kp = keeper E m (team c) g inv w.at k q.0 q.1 in
-        record { below = kp.below; copy = kp.copy; copies = kp.copies; from = kp.from; size = omega (arith, kp.sized, q); kind = g.kind w.at; serial = (g.identity w.at).serial; mutator = (g.identity w.at).mutator; header = rw q.2 at kp.keeps };
+        record { below = kp.below; copy = kp.copy; copies = kp.copies; from = kp.from; size = omega (arith, kp.sized, q); head = header_kind (g.kind w.at); serial = (g.identity w.at).serial; mutator = (g.identity w.at).mutator; header = rw q.2 at kp.keeps };
     alone = λ w len k other copy h e l cp from.
         let q = kept_here w len k h e in
         let o = ((knows other l).copy copy cp).old.2 in

@@ -5,6 +5,7 @@ pub mod Spelled
 pub mod Walking
 pub mod SpaceWalks
 pub mod Spaces
+pub mod Headers
 pub mod Holding
 pub mod Referring
 pub mod Reserving

@@ -1,13 +1,13 @@
 -- Where records refer to others.
 use Rattle.std.proofs.Common.{◌≡◌, ℕ, Option, Some, ◌∙◌, ⊎_elim}
 use Rattle.std.proofs.lemmas.Bool.{cases_Bool}
-use Rattle.heap_words.specs.declared.kind.Kind.{Kind}
+use Rattle.plain_state.specs.declared.kind.Kind.{Kind}
 use Rattle.plain_state.specs.declared.value.Identity.{Identity}
 use Rattle.plain_state.specs.declared.value.Value.{Value}
 use Rattle.plain_state.specs.declared.value.Value.TheVariants.{Number, Reference}
 use Rattle.plain_state.specs.State as plain
+use Rattle.plain_state.specs.Layout.{is_field}
 use Rattle.heap_state.specs.Cycle.{RefersInFields}
-use Rattle.heap_state.specs.Ghost.{is_field}
 use Rattle.heap_state.specs.Values.{Shows}
 
 number_reference : {n : ℕ} {i : Identity} {o : Option Value} {A : Type 0} → Some (Number n) ≡ o → o ≡ Some (Reference i) → A

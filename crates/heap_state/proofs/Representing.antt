@@ -4,13 +4,14 @@ use Rattle.std.specs.List.{Contains}
 use Rattle.std.specs.Prelude.{slice_get}
 use Rattle.std.proofs.lemmas.Bool.{lt-ltb}
 use Rattle.std.proofs.lemmas.Option.{slice_get_within}
-use Rattle.heap_words.specs.declared.kind.Kind.{Kind}
+use Rattle.plain_state.specs.declared.kind.Kind.{Kind}
 use Rattle.plain_state.specs.declared.value.Identity.{Identity}
 use Rattle.plain_state.specs.State as plain
+use Rattle.plain_state.specs.Layout.{is_field}
 use Rattle.heap_state.specs.Configuration.{Configuration, table, era, memory, team}
 use Rattle.heap_state.specs.Denotes.{denoted}
 use Rattle.heap_state.specs.Era.{Era, Memory}
-use Rattle.heap_state.specs.Ghost.{Ghost, Leads, Lands, is_field}
+use Rattle.heap_state.specs.Ghost.{Ghost, Leads, Lands, header_kind}
 use Rattle.heap_state.specs.Inductive.{Invariant}
 use Rattle.heap_state.specs.Dump.{dump_of}
 use Rattle.heap_state.specs.Represents.{IsOwn, HasOwn, IsFieldOf, LeadsToRecord, RegisterShows, BoardWordShows, Represents}
@@ -21,6 +22,7 @@ use Rattle.heap_state.proofs.Denoting.{denotes, reaches, field_lands, board_land
 use Rattle.heap_state.proofs.Holding.{uncopied_here}
 use Rattle.heap_state.proofs.InHeap.{in_heap_complete, lay, now_sound, now_read, old_readable}
 use Rattle.heap_state.proofs.Owning.{Owns, owns, field_of}
+use Rattle.heap_state.proofs.Headers.{said_kind-header_kind}
 
 module _ (c : Configuration) (g : Ghost) (inv : Invariant (era c) (memory c) (team c) g) (p : plain.Plain) (shown : Shown (era c) (memory c) (team c) g p) where
   abbrev E : Era
@@ -73,7 +75,7 @@ module _ (c : Configuration) (g : Ghost) (inv : Invariant (era c) (memory c) (te
       let i = now_sound c g inv w h in
       let st : 0 < g.size w.at = omega (arith, i.sized) in
       let u = uncopied_here E m (team c) g inv (lay c g inv) w.at st i.inside.0 i.inside.1 in
-      record { kind = g.kind w.at; len = g.size w.at - 1; serial = (g.identity w.at).serial; mutator = (g.identity w.at).mutator; own = record { walked = inl h; header = rw (inv.headed.own w.at st i.written u.0 u.1) refl } }
+      record { kind = g.kind w.at; len = g.size w.at - 1; serial = (g.identity w.at).serial; mutator = (g.identity w.at).mutator; own = record { walked = inl h; head = header_kind (g.kind w.at); header = rw (inv.headed.own w.at st i.written u.0 u.1) refl; said = sym (said_kind-header_kind (g.kind w.at) (m.heap (w.at + 1))) } }
 
   -- ---- where words lead
 

@@ -19,11 +19,11 @@ use Rattle.heap_state.specs.Worked.{worked, worked_entries, worked_plain, made}
 use Rattle.heap_state.proofs.Puts.{some_same, none≢some}
 use Rattle.std.proofs.lemmas.List.Elements.{All-nil, All-cons}
 use Rattle.plain_state.specs.declared.kind.Kind.TheVariants as plain_kind
-use Rattle.heap_words.specs.declared.kind.Kind.TheVariants.{Fields}
+use Rattle.plain_state.specs.declared.kind.Kind.TheVariants.{Fields}
 use Rattle.heap_state.specs.Configuration.{team}
 use Rattle.heap_state.specs.Cycle.{IsCopied, StillLeads, IsRoot, InRegister, OnTheBoard, Copying, Rooted, Cycle, RefersInFields}
 use Rattle.heap_state.specs.Era.{era_of, memory_of}
-use Rattle.heap_state.specs.Values.{kind_of, value_at}
+use Rattle.heap_state.specs.Values.{value_at}
 use Rattle.std.proofs.lemmas.Bool.{cases_eq, ne_eqb}
 use Rattle.heap_state.proofs.WorkedGhost.{worked_table, worked_era, worked_ghost, size, writer, copy, keeper, identity, each_place}
 use Rattle.heap_state.proofs.WorkedRecords.{heap, older, word_258}
@@ -196,7 +196,7 @@ copying = record {
   sound = λ x i h l. still_reached (heap x) i l;
   reached = λ a st l m o. all_reached a;
   sizes = each_place (λ b. 256 ≤ b → b < 261
-      → (r : plain.Record) × (plain.record_of worked_plain.heap (identity b) ≡ Some r) × (length r.values + 1 ≡ size b) × (r.kind ≡ kind_of Fields) × RefersInFields Fields (size b) r)
+      → (r : plain.Record) × (plain.record_of worked_plain.heap (identity b) ≡ Some r) × (length r.values + 1 ≡ size b) × (r.kind ≡ Fields) × RefersInFields Fields (size b) r)
       (λ l m. absurd (omega (arith, l))) (λ l m. absurd (omega (arith, l))) (λ l m. (first_record, refl, refl, refl, all_fields 3 first_record)) (λ l m. (second, refl, refl, refl, all_fields 2 second));
   complete = λ b n r i st w l m f z e v. complete b st w l n f z r e i v;
   from = each_place (λ b. 256 ≤ b → b < 261 → (a : ℕ) × (0 < size a) × (copy a ≡ b + 1))

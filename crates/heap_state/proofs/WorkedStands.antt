@@ -2,7 +2,7 @@
 use Rattle.std.proofs.Common.{◌≡◌, ◌≢◌, ℕ, ◌+◌, ◌<◌, [], ◌∷◌, Some, None, zero, suc, refl, sym, ◌∙◌, arith, ⊎_elim, ◌⊎◌}
 use Rattle.std.specs.Prelude.{slice_get}
 use Rattle.std.proofs.lemmas.Bool.{cases_eq, ne_eqb}
-use Rattle.heap_words.specs.declared.kind.Kind.TheVariants.{Fields}
+use Rattle.plain_state.specs.declared.kind.Kind.TheVariants.{Fields}
 use Rattle.heap_words.specs.Decoded.{PointerWord, NumberWord, decode}
 use Rattle.plain_state.specs.declared.value.Value.TheVariants.{Number, Reference}
 use Rattle.plain_state.specs.State as plain

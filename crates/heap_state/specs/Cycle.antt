@@ -1,15 +1,16 @@
 -- What a cycle of the collector keeps, from its flip on: which records it copies, and that they are those that were reachable
 -- at the flip. This stands beside the invariant.
 use Rattle.std.specs.Prelude.{◌≡◌, ℕ, ◌+◌, ◌<◌, ◌≤◌, ◌⊎◌, true, length, Some, None, slice_get}
-use Rattle.heap_words.specs.declared.kind.Kind.{Kind}
+use Rattle.plain_state.specs.declared.kind.Kind.{Kind}
 use Rattle.heap_words.specs.Decoded.{PointerWord, decode}
 use Rattle.plain_state.specs.declared.value.Identity.{Identity}
 use Rattle.plain_state.specs.declared.value.Value.TheVariants.{Reference}
 use Rattle.plain_state.specs.State as plain
+use Rattle.plain_state.specs.Layout.{is_field}
 use Rattle.heap_state.specs.Era.{Era, Memory}
-use Rattle.heap_state.specs.Ghost.{Ghost, Here, is_field}
+use Rattle.heap_state.specs.Ghost.{Ghost, Here}
 use Rattle.heap_state.specs.Reachable.{Reachable}
-use Rattle.heap_state.specs.Values.{kind_of, value_at, value_of, Shows}
+use Rattle.heap_state.specs.Values.{value_at, value_of, Shows}
 use Rattle.heap_state.specs.Worker.{Worker, Team, is_late, is_mutator}
 
 -- a copy of this identity stands, and nobody writes it any more
@@ -51,7 +52,7 @@ pub record Copying (E : Era) (front : ℕ) (size writer copy keeper : ℕ → �
   pub sound : (x : ℕ) (i : Identity) → Here E size writer kind x → StillLeads E identity (heap x) i → Reachable p i
   pub reached : (a : ℕ) → 0 < size a → E.old_start ≤ a → a < E.old_start + E.old_span → (0 < copy a) ⊎ (0 < keeper a) → Reachable p (identity a)
   pub sizes : (b : ℕ) → 0 < size b → E.start ≤ b → b < front
-      → (r : plain.Record) × (plain.record_of p.heap (identity b) ≡ Some r) × (length r.values + 1 ≡ size b) × (r.kind ≡ kind_of (kind b)) × RefersInFields (kind b) (size b) r
+      → (r : plain.Record) × (plain.record_of p.heap (identity b) ≡ Some r) × (length r.values + 1 ≡ size b) × (r.kind ≡ kind b) × RefersInFields (kind b) (size b) r
   pub complete : (b n : ℕ) (r : plain.Record) (i : Identity) → 0 < size b → writer b ≡ 0 → E.start ≤ b → b < front → 0 < n → n < size b
       → plain.record_of p.heap (identity b) ≡ Some r → value_at r n ≡ Some (Reference i)
       → IsCopied E front size writer identity i ⊎ StillLeads E identity (heap (b + n)) i

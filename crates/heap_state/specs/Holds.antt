@@ -1,7 +1,8 @@
 -- The invariant of the collected heap, by its words and workers alone.
 use Rattle.std.specs.Prelude.{◌≡◌, ◌≢◌, ℕ, ◌+◌, ◌*◌, ◌/◌, ◌<◌, ◌≤◌, ◌⊎◌, true, false, Contains, Some, None}
-use Rattle.heap_words.specs.declared.kind.Kind.{Kind}
+use Rattle.plain_state.specs.declared.kind.Kind.{Kind}
 use Rattle.heap_words.specs.Decoded.{HeaderWord, BusyWord, decode}
+use Rattle.heap_words.specs.declared.kind.Kind.{Kind as HeaderKind}
 use Rattle.space_map.specs.declared.page_word.PageWord.TheVariants.{Open, Scanning}
 use Rattle.space_map.specs.PageWord.{age_of}
 use Rattle.heap_state.specs.Configuration.{Configuration, table, era, memory, team}
@@ -47,10 +48,10 @@ pub record KeepsHeader (c : Configuration) (k len a : ℕ) : Type 0 where
   pub copies : (worker_of c k).copy ≡ Some copy
   pub from : copy.from ≡ a
   pub size : copy.size ≡ len + 1
-  pub kind : Kind
+  pub head : HeaderKind
   pub serial : ℕ
   pub mutator : ℕ
-  pub header : decode copy.header ≡ HeaderWord kind len serial mutator
+  pub header : decode copy.header ≡ HeaderWord head len serial mutator
 
 -- ---- the parts
 

@@ -1,14 +1,16 @@
 -- What it means that a dump or a configuration represents a state of the plain machine.
 use Rattle.std.specs.Prelude.{◌≡◌, ◌≢◌, ℕ, ◌+◌, ◌<◌, ◌≤◌, ◌⊎◌, true, length, Contains, Option, Some, None, slice_get}
-use Rattle.heap_words.specs.declared.kind.Kind.{Kind}
+use Rattle.heap_words.specs.declared.kind.Kind.{Kind as HeaderKind}
 use Rattle.heap_words.specs.Decoded.{Decoded, PointerWord, HeaderWord, decode}
+use Rattle.plain_state.specs.declared.kind.Kind.{Kind}
 use Rattle.plain_state.specs.State as plain
+use Rattle.plain_state.specs.Layout.{is_field}
 use Rattle.plain_state.specs.declared.value.Value.{Value}
 use Rattle.heap_state.specs.Configuration.{Configuration, team}
 use Rattle.heap_state.specs.Denotes.{denoted_in, own_header_in}
 use Rattle.heap_state.specs.Dump.{Dump, dump_of}
 use Rattle.heap_state.specs.Era.{era_of}
-use Rattle.heap_state.specs.Ghost.{is_field}
+use Rattle.heap_state.specs.Ghost.{said_kind}
 use Rattle.heap_state.specs.Table.{Table}
 use Rattle.heap_state.specs.Values.{Shows, Accounts}
 use Rattle.heap_state.specs.Walk.{Walked, walk_in, old_walk_in, IsReadable, IsOldReadable}
@@ -31,10 +33,12 @@ own_header d a = own_header_in d.kept (decode (d.table.heap a))
 abbrev pub denoted_in_dump : Dump → ℕ → Option Value
 denoted_in_dump d = denoted_in d.table.heap d.kept
 
--- a record whose own header says its kind, length, serial and mutator
+-- a record whose own header, with the word after it, says its kind, length, serial and mutator
 pub record IsOwn (d : Dump) (w : Walked) (kind : Kind) (len serial mutator : ℕ) : Type 0 where
   pub walked : IsInHeap d w
-  pub header : own_header d w.at ≡ HeaderWord kind len serial mutator
+  pub head : HeaderKind
+  pub header : own_header d w.at ≡ HeaderWord head len serial mutator
+  pub said : kind ≡ said_kind head (d.table.heap (w.at + 1))
 
 -- the record has a header of its own, in its place or kept by a worker
 pub record HasOwn (d : Dump) (w : Walked) : Type 0 where

@@ -1,6 +1,6 @@
 -- What a worker holds between two steps, by component. Each machine's state is read as these, whatever its phases are.
 use Rattle.std.specs.Prelude.{ℕ, ◌+◌, ◌==◌, ◌&&◌, Bool, true, false, List, [], Option, None}
-use Rattle.heap_words.specs.declared.kind.Kind.{Kind}
+use Rattle.plain_state.specs.declared.kind.Kind.{Kind}
 use Rattle.plain_state.specs.declared.end.End.{End}
 use Rattle.space_map.specs.declared.gate_word.GateWord.{GateWord}
 use Rattle.space_map.specs.declared.page_word.PageWord.{PageWord}
