@@ -193,7 +193,7 @@ module _ (E : Era) (m : Memory) (team : Team) (g : Ghost) (k : ℕ) (r : Reset) 
       sound = λ x i u t. board_reached x i (here_board ready x u) t;
       reached = λ a st l n y. absurd (omega (arith, y));
       sizes = λ b st l n. absurd (let f = ready.front in omega (arith, f, l, n));
-      complete = λ b n r i st w l f. absurd (let z = ready.front in omega (arith, z, l, f));
+      complete = λ b x r i st w l n. absurd (let f = ready.front in omega (arith, f, l, n));
       from = λ b st l n. absurd (let f = ready.front in omega (arith, f, l, n));
     }
 

@@ -108,11 +108,11 @@ objects = record {
     record {
       kind = refl;
       size = refl;
-      fields = λ i a b f. absurd (cc);
-      words = λ i a b f. ⊎_elim
-          (λ (q : i ≡ 1). rw q refl)
-          (λ (n : i ≢ 1). let q : i ≡ 2 = omega arith in rw q refl)
-          (cases_eq i 1);
+      fields = λ x l f. absurd (cc);
+      numbers = λ x l f. ⊎_elim
+          (λ (q : x ≡ 0). rw q refl)
+          (λ (n : x ≢ 0). let q : x ≡ 1 = omega arith in rw q refl)
+          (cases_eq x 0);
     },
   );
 }

@@ -80,8 +80,8 @@ objects = record {
         record {
           kind = refl;
           size = refl;
-          fields = λ i a b f. let q : i ≡ 1 = omega arith in rw q (pointer_value (heap 196) 192 word_196);
-          words = λ i a b f. absurd (cc);
+          fields = λ x l f. let q : x ≡ 0 = omega arith in rw q (pointer_value (heap 196) 192 word_196);
+          numbers = λ x l f. absurd (cc);
         },
       ))
       (λ w o. (
@@ -90,11 +90,11 @@ objects = record {
         record {
           kind = refl;
           size = refl;
-          fields = λ i a b f. ⊎_elim
-              (λ (q : i ≡ 1). rw q (number_value (heap 257) 7 word_257))
-              (λ (n : i ≢ 1). let q : i ≡ 2 = omega arith in rw q (pointer_value (heap 258) 195 word_258))
-              (cases_eq i 1);
-          words = λ i a b f. absurd (cc);
+          fields = λ x l f. ⊎_elim
+              (λ (q : x ≡ 0). rw q (number_value (heap 257) 7 word_257))
+              (λ (n : x ≢ 0). let q : x ≡ 1 = omega arith in rw q (pointer_value (heap 258) 195 word_258))
+              (cases_eq x 0);
+          numbers = λ x l f. absurd (cc);
         },
       ))
       (λ w o. absurd (omega (arith, w)));
