@@ -109,11 +109,10 @@ board_is_loaded E m team g x lay inv l o = record {
 }
 
 pub accesses_are_allowed : AccessesAreAllowed
-accesses_are_allowed E m team g k f inv l has allowed =
+accesses_are_allowed E m team g k f inv l has opened =
     let a = (inv.workers k l).access f has in
-    let s = a.of.sized in
     record {
-      word = λ x e. record { stands = let z = a.of.stands in omega arith; written = a.of.written; inside = a.inside; last = let z = a.word.1 in omega (arith, e) };
-      opens = a.allowed allowed;
-      kind = a.of.of_kind;
+      word = λ x e. record { stands = a.stands; written = a.written; inside = a.inside; last = let z = a.word.1 in omega (arith, e) };
+      opens = ((inv.workers k l).opened ((f.at + f.word) / 64) opened).1;
+      role = a.role;
     }

@@ -12,6 +12,7 @@ use Rattle.heap_state.specs.Cycle.{Cycle}
 use Rattle.heap_state.specs.Era.{Era, IsLaidOut, Memory}
 use Rattle.heap_state.specs.Ghost.{Ghost, header_kind}
 use Rattle.heap_state.specs.Inductive.{Invariant}
+use Rattle.heap_state.specs.Parts.Knowledge.{HasRole}
 use Rattle.heap_state.specs.Values.{Shown, Shows, value_of}
 use Rattle.heap_state.specs.Worker.{Team, Access, is_mutator, is_late}
 use Rattle.heap_laws.specs.MutatorSteps.{MayHold}
@@ -80,16 +81,16 @@ abbrev pub HeadersAreRead : Type 0
 HeadersAreRead = (E : Era) (m : Memory) (team : Team) (g : Ghost) (p : plain.Plain) (w a : ℕ) → IsLaidOut E → Invariant E m team g → Shown E m team g p
     → MayHold E g.size g.writer w → decode w ≡ PointerWord a → IsLedTo E m g p a
 
--- A word that a mutator has access to is one that it may load and store: of a record of the epoch's space that nobody writes, on
--- an open page, and of the kind that was read.
+-- A word that a mutator has access to, and whose page it has found open, is one that it may load and store: of a record of the
+-- epoch's space that nobody writes, on an open page, and with the role that was read.
 pub record IsAccessed (E : Era) (m : Memory) (g : Ghost) (f : Access) : Type 0 where
-  pub word : (x : ℕ) → f.word ≡ word_of (g.kind f.of.at) x → IsWordOf E g.size g.writer g.kind f.of.at x
-  pub opens : m.page ((f.of.at + f.word) / 64) ≡ Open E.epoch
-  pub kind : g.kind f.of.at ≡ f.of.kind
+  pub word : (x : ℕ) → f.word ≡ word_of (g.kind f.at) x → IsWordOf E g.size g.writer g.kind f.at x
+  pub opens : m.page ((f.at + f.word) / 64) ≡ Open E.epoch
+  pub role : HasRole (g.kind f.at) f.word f.role
 
 abbrev pub AccessesAreAllowed : Type 0
 AccessesAreAllowed = (E : Era) (m : Memory) (team : Team) (g : Ghost) (k : ℕ) (f : Access) → Invariant E m team g → k < team.count
-    → (team.worker k).access ≡ Some f → f.allowed ≡ true → IsAccessed E m g f
+    → (team.worker k).access ≡ Some f → (team.worker k).opened ≡ Some ((f.at + f.word) / 64) → IsAccessed E m g f
 
 -- what is loaded from a field on an open page, or from the open board, a mutator may hold; what is loaded from elsewhere in a
 -- record is a number below 2^62
