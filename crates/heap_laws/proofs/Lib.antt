@@ -54,6 +54,7 @@ pub mod BirthValues
 pub mod BirthShown
 pub mod BirthCycle
 pub mod MutatorStores
+pub mod MutatorPlaces
 pub mod MutatorsStand
 pub mod ScanningRecords
 pub mod AgingEntries
