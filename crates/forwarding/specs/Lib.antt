@@ -1,0 +1,4 @@
+pub mod Evacuation
+pub mod Taken
+pub mod Left
+pub mod Soundness

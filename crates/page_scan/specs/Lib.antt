@@ -1,0 +1,4 @@
+pub mod Scanning
+pub mod Taken
+pub mod Left
+pub mod Soundness
