@@ -2,3 +2,5 @@ pub mod Evacuation
 pub mod Taken
 pub mod Left
 pub mod Soundness
+pub mod Worked
+pub mod Theorems

@@ -4,6 +4,7 @@ use Rattle.atom_store.specs.declared.reply.Reply.{Reply}
 use Rattle.atom_store.specs.declared.reply.Reply.TheVariants.{Value, Done, Won, Lost}
 use Rattle.atom_store.specs.declared.turn.Turn.{Turn}
 use Rattle.atom_store.specs.declared.turn.Turn.TheVariants.{More, Finished}
+use Rattle.atom_store.specs.Machine.{Machine}
 use Rattle.heap_words.specs.Decoded.{Decoded, NumberWord, PointerWord, HeaderWord, ForwardWord, BusyWord, Malformed, decode}
 use Rattle.space_map.specs.declared.area_word.AreaWord.{AreaWord}
 use Rattle.space_map.specs.AreaWord.{decode_area}
@@ -13,7 +14,7 @@ use Rattle.forwarding.specs.declared.reserved.Reserved.{Reserved}
 use Rattle.forwarding.specs.declared.evac_stage.EvacStage.{EvacStage}
 use Rattle.forwarding.specs.declared.evac_stage.EvacStage.TheVariants.{LoadsHeader, TakesHeader, LoadsArea, Announces, Reserves, StoresHeader, LoadsWord, StoresWord, StoresCross, StoresForward, Clears, Ended}
 use Rattle.forwarding.specs.declared.to.To.{To}
-use Rattle.forwarding.specs.Evacuation.{Evacuation, size_of, front_of}
+use Rattle.forwarding.specs.Evacuation.{Evacuation, size_of, front_of, wanted}
 
 -- By the old record's first word: a forward leads to the copy; a header is to be taken; and where another worker has taken
 -- it, the word is loaded again.
@@ -76,3 +77,7 @@ taken v reply = record v { stage = stage_after v.spaces v.epoch v.stage reply }
 abbrev pub told : EvacStage → Turn To
 told (Ended to) = Finished (record { 0 = to })
 told _ = More
+
+-- the copy of a record as a machine
+abbrev pub evac_machine : Machine Evacuation To
+evac_machine = record { wanted = wanted; taken = taken; told = λ v. told v.stage }

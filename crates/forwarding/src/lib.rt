@@ -12,6 +12,7 @@
 mod evac;
 mod evac_stage;
 mod kept_header;
+mod laws;
 mod loaded_word;
 mod reserved;
 mod to;
@@ -19,6 +20,7 @@ mod to;
 pub use evac::Evac;
 pub use evac_stage::EvacStage;
 pub use kept_header::KeptHeader;
+pub use laws::worked_copy_is_made;
 pub use loaded_word::LoadedWord;
 pub use reserved::Reserved;
 pub use to::To;

@@ -4,6 +4,7 @@ use Rattle.atom_store.specs.declared.reply.Reply.{Reply}
 use Rattle.atom_store.specs.declared.reply.Reply.TheVariants.{Value, Done}
 use Rattle.atom_store.specs.declared.turn.Turn.{Turn}
 use Rattle.atom_store.specs.declared.turn.Turn.TheVariants.{More, Finished}
+use Rattle.atom_store.specs.Machine.{Machine}
 use Rattle.heap_words.specs.declared.kind.Kind.{Kind}
 use Rattle.heap_words.specs.declared.kind.Kind.TheVariants.{Fields, Raw}
 use Rattle.heap_words.specs.Decoded.{Decoded, NumberWord, PointerWord, HeaderWord, ForwardWord, BusyWord, Malformed, decode}
@@ -19,7 +20,7 @@ use Rattle.page_scan.specs.declared.scanned.Scanned.TheVariants as told_as
 use Rattle.page_scan.specs.declared.scanned_record.ScannedRecord.{ScannedRecord}
 use Rattle.page_scan.specs.declared.spot.Spot.{Spot}
 use Rattle.page_scan.specs.declared.spot.Spot.TheVariants.{OnBoard, InRecord}
-use Rattle.page_scan.specs.Scanning.{Scanning}
+use Rattle.page_scan.specs.Scanning.{Scanning, wanted}
 
 -- ---- what is scanned
 
@@ -129,3 +130,7 @@ abbrev pub told : ScanStage → Turn Scanned
 told (Asks asked) = Finished (told_as.Ask asked.old)
 told (Ended ending) = Finished (told_as.Ended ending.at_front)
 told _ = More
+
+-- the scan of a page as a machine, which is answered in between
+abbrev pub scan_machine : Machine Scanning Scanned
+scan_machine = record { wanted = wanted; taken = taken; told = λ v. told v.stage }

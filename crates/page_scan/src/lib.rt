@@ -12,6 +12,7 @@
 
 mod asked;
 mod ending;
+mod laws;
 mod scan;
 mod scan_stage;
 mod scanned;
@@ -20,6 +21,7 @@ mod spot;
 
 pub use asked::Asked;
 pub use ending::Ending;
+pub use laws::worked_pages_are_scanned;
 pub use scan::Scan;
 pub use scan_stage::ScanStage;
 pub use scanned::Scanned;
