@@ -7,6 +7,7 @@ pub mod SpaceWalks
 pub mod Spaces
 pub mod Headers
 pub mod Layouts
+pub mod FieldSpans
 pub mod Holding
 pub mod Reserving
 pub mod Placing
