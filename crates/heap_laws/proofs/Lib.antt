@@ -15,6 +15,7 @@ pub mod CopyingRoom
 pub mod CopyingReserve
 pub mod CopyingReserved
 pub mod LiftingSteps
+pub mod LiftingRows
 pub mod LiftingCopies
 pub mod Learning
 pub mod ScanningWho

@@ -114,7 +114,7 @@ mutators_place E m team g p k next q s c z v d pointer r ready shown places behi
     let w = put_same team.worker k (placed team k s z) in
     let inv = records_are_placed E m team g k s c z v ready.laid_out ready.invariant places in
     rw (← t) (both (λ o cy. placing_keeps_cycle E m team g o k s c z v ready.laid_out ready.invariant places cy) (λ page. omega arith)
-    (mutators_step E _ (with_worker team k (placed team k s z)) _ _ k (with_record next s z d pointer) (with_reference p.heap k q d) (record { laid_out = ready.laid_out; invariant = inv; member = ready.member }) (rw w places.runs)
+    (mutators_step E _ (with_worker team k (placed team k s z)) _ _ k (with_record next s z d pointer) (with_reference p.heap k q d) (record { laid_out = ready.laid_out; at_gate = ready.at_gate; invariant = inv; member = ready.member }) (rw w places.runs)
     (placing_shows E m team g p k s c z v r ready.laid_out ready.invariant places behind shown)
     (rw w (goes' E m team g p k next q s c z v d pointer r ready shown places behind small points goes same))
     (same' E m team g p k next q s c z v d pointer r ready shown places behind small points goes same)))

@@ -14,8 +14,8 @@ use Rattle.heap_state.specs.Values.{Accounts}
 use Rattle.heap_state.specs.Worker.{Worker, Team, Account}
 use Rattle.heap_state.proofs.Puts.{put_at, put_other, none≢some}
 use Rattle.heap_laws.specs.MutatorSteps.{GoesOn}
-use Rattle.heap_laws.specs.Steps.{with_word}
-use Rattle.heap_laws.specs.MutatorStores.{Makes, MutatorsStep, MutatorsStore, MutatorsStoreOnBoard, MutatorsEnd, MutatorsFindNoRoom, with_end}
+use Rattle.heap_laws.specs.Steps.{with_word, Makes}
+use Rattle.heap_laws.specs.MutatorStores.{MutatorsStep, MutatorsStore, MutatorsStoreOnBoard, MutatorsEnd, MutatorsFindNoRoom, with_end}
 use Rattle.heap_laws.proofs.FieldCycle.{stores_keep_cycle, board_stores_keep_cycle}
 use Rattle.heap_laws.proofs.FieldShown.{stores_show, board_stores_show}
 use Rattle.heap_laws.proofs.FieldStore.{words_are_stored, board_is_stored}
@@ -48,14 +48,14 @@ mutators_store E m team g p k next q a x v r y ready runs s word opens may is st
     let inv = words_are_stored E m team g a x v ready.laid_out ready.invariant word opens may in
     let account = accounts_in (stored_serial p.heap (g.identity a) r x y is k) same.account in
     both (λ o cy. stores_keep_cycle E m team g o a x v ready.laid_out ready.invariant word opens may cy) (λ page. omega arith)
-    (mutators_step E _ team g _ k next q (record { laid_out = ready.laid_out; invariant = inv; member = ready.member }) runs (stores_show E m team g p a x v r y ready.laid_out ready.invariant word is stands s)
+    (mutators_step E _ team g _ k next q (record { laid_out = ready.laid_out; at_gate = ready.at_gate; invariant = inv; member = ready.member }) runs (stores_show E m team g p a x v r y ready.laid_out ready.invariant word is stands s)
     (goes_on (a + word_of (g.kind a) x) v goes) (record { account = account; registers = same.registers }))
 
 pub mutators_store_on_board : MutatorsStoreOnBoard
 mutators_store_on_board E m team g p k next q x v y ready runs s l opens may denotes goes same =
     let inv = board_is_stored E m team g x v ready.laid_out ready.invariant l opens may in
     both (λ o cy. board_stores_keep_cycle E m team g o x v ready.laid_out ready.invariant l opens may cy) (λ page. omega arith)
-    (mutators_step E _ team g _ k next q (record { laid_out = ready.laid_out; invariant = inv; member = ready.member }) runs (board_stores_show E m team g p x v y ready.laid_out ready.invariant l denotes s)
+    (mutators_step E _ team g _ k next q (record { laid_out = ready.laid_out; at_gate = ready.at_gate; invariant = inv; member = ready.member }) runs (board_stores_show E m team g p x v y ready.laid_out ready.invariant l denotes s)
     (goes_on (E.board + x) v goes) (record { account = accounts_in refl same.account; registers = same.registers }))
 
 -- what is put twice at a place is what was put there last

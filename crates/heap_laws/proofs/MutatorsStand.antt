@@ -17,9 +17,9 @@ use Rattle.heap_state.proofs.Spelled.{spelled}
 use Rattle.heap_laws.specs.Allocating.{HasStock, HasRoom, OpensNext, with_low}
 use Rattle.heap_laws.specs.Fields.{IsWordOf}
 use Rattle.heap_laws.specs.Lifting.{stepped, table_after, RowFits}
-use Rattle.heap_laws.specs.MutatorStores.{Makes, with_record}
+use Rattle.heap_laws.specs.MutatorStores.{with_record}
 use Rattle.heap_laws.specs.MutatorsStand.{StandsAfter, lowered, StockStands, MutatorStands, StocksStand, MutatorsStand}
-use Rattle.heap_laws.specs.Steps.{Ready, with_worker}
+use Rattle.heap_laws.specs.Steps.{Ready, with_worker, Makes}
 use Rattle.heap_laws.proofs.AllocClaim.{stocks_are_claimed}
 use Rattle.heap_laws.proofs.AllocOpen.{stocks_are_opened}
 use Rattle.heap_laws.proofs.AllocZero.{stocks_are_zeroed}

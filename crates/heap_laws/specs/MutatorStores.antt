@@ -1,6 +1,6 @@
 -- One step of a running mutator that is one of the plain machine: it stores nothing, or in a record, on the board, or a new
 -- record's header.
-use Rattle.std.specs.Prelude.{◌≡◌, ℕ, ◌+◌, ◌*◌, ◌/◌, ◌<◌, ◌≤◌, true, Some, None, slice_get, slice_set}
+use Rattle.std.specs.Prelude.{◌≡◌, ℕ, ◌+◌, ◌*◌, ◌/◌, ◌<◌, true, Some, None, slice_get, slice_set}
 use Rattle.heap_words.specs.Decoded.{PointerWord, decode}
 use Rattle.plain_state.specs.declared.end.End.{End}
 use Rattle.plain_state.specs.declared.end.End.TheVariants.{HeapFull}
@@ -11,11 +11,8 @@ use Rattle.plain_state.specs.State as plain
 use Rattle.plain_state.specs.Writing.{with_heap, stored, with_board, gained}
 use Rattle.plain_state.specs.Layout.{word_of}
 use Rattle.space_map.specs.declared.page_word.PageWord.TheVariants.{Open}
-use Rattle.space_map.specs.PageWord.{age_of}
-use Rattle.heap_state.specs.Cycle.{Cycle}
 use Rattle.heap_state.specs.Era.{Era, Memory}
 use Rattle.heap_state.specs.Ghost.{Ghost}
-use Rattle.heap_state.specs.Inductive.{Invariant}
 use Rattle.heap_state.specs.Values.{Shown, Shows, Accounts, RegistersShow, value_of}
 use Rattle.heap_state.specs.Worker.{Worker, Team, Stock, is_running}
 use Rattle.heap_state.specs.Functions.{put}
@@ -23,16 +20,7 @@ use Rattle.heap_laws.specs.Allocating.{HasRoom}
 use Rattle.heap_laws.specs.Fields.{IsWordOf, MayStore, StandsFor}
 use Rattle.heap_laws.specs.MutatorSteps.{with_mutator, MayHold, GoesOn}
 use Rattle.heap_laws.specs.Placing.{PlacesNext, born, next_identity}
-use Rattle.heap_laws.specs.Steps.{Ready, with_word, with_worker}
-
--- ---- what a step makes
-
--- The step keeps the invariant, shows the plain state q, and keeps what a cycle keeps. No page word's epoch falls.
-pub record Makes (E : Era) (m later : Memory) (team after : Team) (g h : Ghost) (q : plain.Plain) : Type 0 where
-  pub invariant : Invariant E later after h
-  pub shown : Shown E later after h q
-  pub cycle : (o : plain.Plain) → Cycle E m team g o → Cycle E later after h o
-  pub ages : (page : ℕ) → age_of (m.page page) ≤ age_of (later.page page)
+use Rattle.heap_laws.specs.Steps.{Ready, with_word, with_worker, Makes}
 
 -- the worker has what the plain mutator has, with this plain heap
 pub record IsAs (g : Ghost) (heap : plain.Heap) (k : ℕ) (w : Worker) (q : plain.Mutator) : Type 0 where
