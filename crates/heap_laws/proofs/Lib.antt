@@ -44,6 +44,7 @@ pub mod PlainHeaps
 pub mod FieldShown
 pub mod AllocFree
 pub mod AllocStock
+pub mod AllocRows
 pub mod AllocZero
 pub mod AllocOpen
 pub mod AllocClaim
@@ -56,7 +57,7 @@ pub mod BirthShown
 pub mod BirthCycle
 pub mod MutatorStores
 pub mod MutatorPlaces
-pub mod MutatorsStand
+pub mod Effects
 pub mod ScanningRecords
 pub mod AgingEntries
 pub mod FlippingReset

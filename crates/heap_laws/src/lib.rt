@@ -17,8 +17,7 @@ mod laws_standing;
 mod laws_tracing;
 
 pub use laws_allocating::{
-    mutators_place, records_are_placed, stocks_are_claimed, stocks_are_opened, stocks_are_zeroed,
-    stocks_stand,
+    mutators_place, stocks_are_claimed, stocks_are_opened, stocks_are_zeroed,
 };
 pub use laws_composing::{steps_follow, steps_forget};
 pub use laws_copying::{
@@ -28,8 +27,8 @@ pub use laws_copying::{
     words_are_copied,
 };
 pub use laws_fields::{
-    board_is_stored, mutators_end, mutators_go_on, mutators_stand, mutators_step, mutators_store,
-    mutators_store_on_board, words_are_loaded, words_are_stored,
+    mutators_are_shown, mutators_end, mutators_step, mutators_store, mutators_store_on_board,
+    words_are_loaded,
 };
 pub use laws_flipping::{epochs_are_flipped, flips_are_made_ready, registers_are_forwarded};
 pub use laws_gating::{epochs_are_taken, gates_are_passed, gates_fit, passages_are_made_ready};
