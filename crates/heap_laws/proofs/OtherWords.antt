@@ -66,6 +66,6 @@ module _ {h other : ℕ → ℕ} where
   shows_same r same s = record {
     kind = s.kind;
     size = s.size;
-    fields = λ i f l t. rw (same i f l) (s.fields i f l t);
-    words = λ i f l t. rw (same i f l) (s.words i f l t);
+    fields = λ x l t. let w = s.size in rw (same (x + 1) (omega arith) (omega (arith, w, l))) (s.fields x l t);
+    numbers = λ x l t. let w = s.size in rw (same (x + 1) (omega arith) (omega (arith, w, l))) (s.numbers x l t);
   }

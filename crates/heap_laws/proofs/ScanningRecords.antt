@@ -1,10 +1,9 @@
 -- The records on a page that is scanned: the crossing, the headers, and FRONT.
 use Rattle.std.proofs.Common.{◌≡◌, ◌≢◌, ℕ, zero, suc, ◌+◌, ◌-◌, ◌*◌, ◌/◌, ◌<◌, ◌≤◌, eqb, true, false, cond, Some, refl, sym, ◌∙◌, arith, ⊎_elim, ◌⊎◌, inl, inr, ap}
-use Rattle.std.proofs.lemmas.Bool.{cases_eq, cases_lt, lt-ltb, le-ltb, eq-eqb, ne_eqb}
+use Rattle.std.proofs.lemmas.Bool.{cases_eq, cases_lt, eq-eqb, ne_eqb}
 use Rattle.plain_state.specs.declared.kind.Kind.{Kind}
 use Rattle.plain_state.specs.Layout.{is_field}
 use Rattle.heap_words.specs.declared.kind.Kind.{Kind as HeaderKind}
-use Rattle.plain_state.specs.declared.kind.Kind.TheVariants.{Fields, Raw}
 use Rattle.heap_words.specs.Decoded.{HeaderWord, decode}
 use Rattle.heap_state.specs.Era.{Era, Memory, IsLaidOut}
 use Rattle.heap_state.specs.Ghost.{Ghost, Here, said_kind}
@@ -14,8 +13,10 @@ use Rattle.heap_state.specs.Worker.{Team, Copy, Scan, Seen}
 use Rattle.heap_state.proofs.Holding.{writer, uncopied_here}
 use Rattle.heap_state.proofs.Puts.{some_same}
 use Rattle.heap_state.proofs.Headers.{said_kind-header_kind}
+use Rattle.heap_state.specs.FieldSpan.{next_in}
+use Rattle.heap_state.proofs.FieldSpans.{goes_on_within, passes_no_field}
 use Rattle.heap_laws.specs.Keeping.{Keeps}
-use Rattle.heap_laws.specs.ScanningWords.{scanning, first_to_load, in_record, IsScanning, ReadingCrossingKeeps, ReadingFirstHeaderKeeps, ReadingFrontKeeps, ReadingNextHeaderKeeps}
+use Rattle.heap_laws.specs.ScanningWords.{scanning, in_record, IsScanning, ReadingCrossingKeeps, ReadingFirstHeaderKeeps, ReadingFrontKeeps, ReadingNextHeaderKeeps}
 use Rattle.heap_laws.specs.Steps.{with_worker}
 use Rattle.heap_laws.proofs.FieldSlot.{here_field}
 use Rattle.heap_laws.proofs.ScanningOn.{past, goes_on, no_copy}
@@ -23,22 +24,6 @@ use Rattle.heap_laws.proofs.ScanningOn.{past, goes_on, no_copy}
 -- two headers that a word decodes to are one
 header_same : {k l : HeaderKind} {a b s t i j : ℕ} (w : ℕ) → decode w ≡ HeaderWord k a s i → decode w ≡ HeaderWord l b t j → (k ≡ l) × (a ≡ b)
 header_same w e f = let q = sym e ∙ f in (cc, cc)
-
--- where a scan goes on within a record
-entered : (k : Kind) (a size cursor : ℕ) → a ≤ cursor → cursor < a + size → (cursor ≤ first_to_load k a size cursor) × (a < first_to_load k a size cursor) × (first_to_load k a size cursor ≤ a + size)
-entered Raw a size cursor l n = (omega arith, omega arith, omega arith)
-entered Fields a size cursor l n = ⊎_elim
-    (λ (p : a < cursor). rw (lt-ltb a cursor p) (omega arith, p, omega arith))
-    (λ (p : cursor ≤ a). rw (le-ltb a cursor p) (omega arith, omega arith, omega arith))
-    (cases_lt a cursor)
-
--- the words that it passes over there are no fields
-passed_over : (k : Kind) (a size cursor x : ℕ) → a ≤ cursor → cursor ≤ x → x < first_to_load k a size cursor → (x ≡ a) ⊎ ((k ≡ Raw) × (x < a + size))
-passed_over Raw a size cursor x l n m = inr (refl, m)
-passed_over Fields a size cursor x l n m = ⊎_elim
-    (λ (p : a < cursor). absurd (let z : x < cursor = rw (lt-ltb a cursor p) at m in omega (arith, z, n)))
-    (λ (p : cursor ≤ a). inl (let z : x < a + 1 = rw (le-ltb a cursor p) at m in omega (arith, z, n, l)))
-    (cases_lt a cursor)
 
 module _ (E : Era) (m : Memory) (team : Team) (g : Ghost) (k : ℕ) (s : Scan) (out : IsLaidOut E) (inv : Invariant E m team g) (is : IsScanning team k s) (no_board : s.page ≢ E.board / 64) where
   me : Knows E m.gate m.traced m.front m.low m.old_front m.old_low m.old_owed g m.page m.cross m.announced m.heap k (team.worker k)
@@ -124,11 +109,11 @@ module _ (E : Era) (m : Memory) (team : Team) (g : Ghost) (k : ℕ) (s : Scan) (
       → decode (m.heap a) ≡ HeaderWord head len serial mutator → Keeps E m m team (with_worker team k (scanning (team.worker k) (in_record E s (record { at = a; size = len + 1; kind = said_kind head (m.heap (a + 1)) })))) g
   enters a len serial mutator head st w l n c d e =
       let h = header a len serial mutator head st w l n e in
-      let within : s.cursor < a + (len + 1) = omega (arith, h.1, d) in
-      let y = entered (kind_at head a) a (len + 1) s.cursor c within in
-      goes_on E m team g k s inv is.below is.scans idle (in_record E s (record { at = a; size = len + 1; kind = kind_at head a })) (record {
+      let seen : Seen = record { at = a; size = len + 1; kind = kind_at head a } in
+      let y = goes_on_within seen s.cursor (omega arith) (omega (arith, h.1, d)) in
+      goes_on E m team g k s inv is.below is.scans idle (in_record E s seen) (record {
         page = refl;
-        clean = λ x u p f o. absurd (no_field x u (omega (arith, c, f)) h.0 h.1 (passed_over (kind_at head a) a (len + 1) s.cursor x c f o));
+        clean = λ x u p f o. absurd (no_field x u (omega (arith, c, f)) f (omega (arith, y.2, o)) o h.0 h.1);
         top = inr (omega (arith, y.2, h.1, n));
         stepping = record {
           over = steps.over;
@@ -137,16 +122,16 @@ module _ (E : Era) (m : Memory) (team : Team) (g : Ghost) (k : ℕ) (s : Scan) (
           inner = λ i. absurd (cc);
           begun = let b = steps.begun in omega (arith, b, y.0);
           full = steps.full;
-          ended = λ i. ⊎_elim (λ z. inl z) (λ z. inr (inl z)) (past E s.page (first_to_load (kind_at head a) a (len + 1) s.cursor) i);
+          ended = λ i. ⊎_elim (λ z. inl z) (λ z. inr (inl z)) (past E s.page (next_in seen s.cursor) i);
         };
       })
     where
-      raw_field : (k : Kind) (i : ℕ) → k ≡ Raw → is_field k i ≡ true → ⊥
-      raw_field k i r f = let q : is_field k i ≡ false = rw r refl in let z = sym q ∙ f in absurd (cc)
-
-      no_field : (x : ℕ) → Here E g.size g.writer g.kind x → a ≤ x → g.kind a ≡ kind_at head a → g.size a ≡ len + 1 → (x ≡ a) ⊎ ((kind_at head a ≡ Raw) × (x < a + (len + 1))) → ⊥
-      no_field x u f kd sz (inl z) = let q = here_field out inv.laid g.writer g.kind x u a 0 st (omega arith) in omega (arith, q.0)
-      no_field x u f kd sz (inr z) = let q = here_field out inv.laid g.writer g.kind x u a (x - a) (omega (arith, sz, z.1, f, st)) (omega arith) in raw_field (g.kind a) (x - a) (kd ∙ z.0) q.1
+      no_field : (x : ℕ) → Here E g.size g.writer g.kind x → a ≤ x → s.cursor ≤ x → x < a + (len + 1) → x < next_in (record { at = a; size = len + 1; kind = kind_at head a }) s.cursor
+          → g.kind a ≡ kind_at head a → g.size a ≡ len + 1 → ⊥
+      no_field x u f c b o kd sz =
+          let q = here_field out inv.laid g.writer g.kind x u a (x - a) (omega (arith, sz, b, f, st)) (omega arith) in
+          let e : is_field (kind_at head a) (x - a) ≡ true = rw kd at q.1 in
+          passes_no_field (record { at = a; size = len + 1; kind = kind_at head a }) s.cursor (omega arith) x c (omega (arith, q.0)) b o e
 
   -- the header of the record over the page's first word
   pub enters_first : (a len serial mutator : ℕ) (head : HeaderKind) → s.over ≡ Some a → s.cursor ≡ 64 * s.page → decode (m.heap a) ≡ HeaderWord head len serial mutator

@@ -20,7 +20,7 @@ use Rattle.heap_state.specs.Parts.Copies.{Copied, Once, Kept, Room}
 use Rattle.heap_state.specs.Parts.Crossing.{Crossing}
 use Rattle.heap_state.specs.Parts.Gate.{Counted, Staffed}
 use Rattle.heap_state.specs.Parts.Leading.{Opened, Landing, Older}
-use Rattle.heap_state.specs.Parts.OldSpace.{OldSpace}
+use Rattle.heap_state.specs.Parts.OldSpace.{OldSpace, OldArea}
 use Rattle.heap_state.specs.Parts.Pages.{Shut, Filling, Tracing, Aged, OldPages, ScannedBy}
 use Rattle.heap_state.specs.Parts.Records.{Laid, Headed, NewArea, NewWritten, SpaceOf, RawWords}
 use Rattle.heap_state.specs.Parts.Stocks.{Stocks, Stocked, Numbered}
@@ -183,6 +183,9 @@ tracing = record { begun = omega arith; bottom = omega arith; top = omega arith;
 pub aged : Aged flipped_era page
 unfolding put
 aged = record { young = λ p. let b = before p in omega (arith, b); board = omega arith }
+
+pub old_words : OldArea flipped_era 0 192
+old_words = record { order = (omega arith, omega arith, omega arith) }
 
 pub old_pages : OldPages flipped_era 0 page
 old_pages = record { old = λ p l m. absurd (omega arith) }

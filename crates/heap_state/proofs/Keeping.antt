@@ -2,6 +2,7 @@
 use Rattle.std.proofs.Common.{◌≡◌, ◌≢◌, ℕ, zero, suc, ◌+◌, ◌-◌, ◌*◌, ◌/◌, ◌<◌, ◌≤◌, true, false, Some, refl, sym, ap, ◌∙◌, arith, ⊎_elim, ◌⊎◌, inl, inr}
 use Rattle.std.proofs.lemmas.Bool.{cases_eq, cases_lt, cases_Bool, eq-eqb, ne_eqb}
 use Rattle.heap_words.specs.Decoded.{BusyWord, ForwardWord, decode}
+use Rattle.space_map.specs.declared.page_word.PageWord.TheVariants.{Open}
 use Rattle.heap_state.specs.Configuration.{Configuration, era, memory, team}
 use Rattle.heap_state.specs.Era.{Era, Memory}
 use Rattle.heap_state.specs.Ghost.{Ghost, Here, OnBoard, header_kind}
@@ -177,6 +178,7 @@ module _ (c : Configuration) (g : Ghost) (inv : Invariant (era c) (memory c) (te
     passed = λ k s x l e h. ((knows k l).scan s e).passed x (here x h);
     young = inv.aged.young;
     board = λ t. (inv.tracing.quiet t).board;
+    first = λ z. let t : m.traced ≡ E.epoch + 1 = omega (arith, z, inv.tracing.begun, inv.tracing.top) in (inv.tracing.quiet t).board ∙ ap Open z;
     copied = λ t p s f. ⊎_elim
         (λ (n : m.front < 64 * p + 64). inv.tracing.last t p f n)
         (λ (n : 64 * p + 64 ≤ m.front). (inv.tracing.quiet t).full p s n)

@@ -43,6 +43,7 @@ clean = record {
       (λ (e : j ≡ 0). rw e (pointer_lands (pointer_word 256) 256 first_register (omega arith) refl))
       (λ (d : j ≢ 0). rw (ne_eqb j 0 d) (number_lands 0 0 zero_register))
       (cases_eq j 0);
+  old = λ e. true_false refl e;
 }
 
 pub mutator_knows : Known 0 worked_mutator
@@ -133,7 +134,7 @@ scanner_knows = record {
   registers = λ m n. true_false refl m;
   active = λ f e. none≢some e;
   access = λ f e. none≢some e;
-  board = λ e. true_false refl e;
+  opened = λ p e. none≢some e;
   origin = λ q e. let s : the_quest ≡ q = some_same e in rw (← s) origin;
   quest = λ q e. let s : the_quest ≡ q = some_same e in rw (← s) seeks;
   licensed = record {

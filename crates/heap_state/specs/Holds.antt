@@ -95,7 +95,7 @@ abbrev pub CrossingHolds : Configuration → Type 0
 CrossingHolds c = CrossingsHold (table c) (kept_of c.workers)
 
 -- A page's word says that a worker scans it where that worker does. What it has passed leads to no old record. No page's word
--- is of a later epoch. Where the epoch is traced the board and all copied pages are open. Who is about to claim a page in this
+-- is of a later epoch. Where the epoch is traced, as the first one always is, the board and all copied pages are open. Who is about to claim a page in this
 -- epoch knows it as full, as the board, or as one that was the filling page. Who is of a past epoch and has read the gate
 -- again, as it does before each exchange, finds a word of that epoch or a later one there. On a page that a worker scans no
 -- other worker has a reserved place.
@@ -106,6 +106,7 @@ pub record ClaimsHold (c : Configuration) : Type 0 where
       → ¬ (Leads (era c) ((memory c).heap x))
   pub young : (p : ℕ) → age_of ((memory c).page p) ≤ (era c).epoch + 1
   pub board : (memory c).traced ≡ (era c).epoch + 1 → (memory c).page ((era c).board / 64) ≡ Open (era c).epoch
+  pub first : (era c).epoch ≡ 0 → (memory c).page ((era c).board / 64) ≡ Open 0
   pub copied : (memory c).traced ≡ (era c).epoch + 1 → (p : ℕ) → (era c).start ≤ 64 * p → 64 * p < (memory c).front → (memory c).page p ≡ Open (era c).epoch
   pub knows : (k : ℕ) (q : Claim) → k < (team c).count → (worker_of c k).claim ≡ Some q → (worker_of c k).epoch ≡ (era c).epoch
       → (q.page ≡ (era c).board / 64)

@@ -2,6 +2,7 @@ pub mod Functions
 pub mod Table
 pub mod Era
 pub mod Worker
+pub mod FieldSpan
 pub mod Ghost
 pub mod Parts
 pub mod Inductive
