@@ -148,7 +148,7 @@ module _ (n : ℕ) where
           old_pages = record { old = λ p a b. absurd (let o = old_front in omega (arith, a, b, o)) };
           crossing = record { crossing = λ p a s u st. absurd (omega (arith, st)) };
           stocks = record { stocked = λ k u q e. absurd (let z = no_stock k in none≢some (sym z ∙ e)); apart = λ i k u v d p q e. absurd (let z = no_stock i in none≢some (sym z ∙ e)) };
-          numbered = record { maker = λ a st. absurd (omega (arith, st)); first = λ a st. absurd (omega (arith, st)); last = λ a st. absurd (omega (arith, st)) };
+          numbered = record { maker = λ a st. absurd (omega (arith, st)); last = λ a st. absurd (omega (arith, st)) };
           workers = λ k u. each_fresh mutators scanners k (λ w. Known k w) (outside k) (scanner k);
         }
 
