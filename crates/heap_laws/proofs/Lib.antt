@@ -33,7 +33,6 @@ pub mod FlippingParts
 pub mod FlippingWorkers
 pub mod FlippingShown
 pub mod FlippingRegisters
-pub mod PlainLists
 pub mod OpeningWorkers
 pub mod Opening
 pub mod MutatorSteps

@@ -25,7 +25,7 @@ use Rattle.heap_laws.proofs.BirthValues.{value_born}
 use Rattle.heap_laws.proofs.BirthWorkers.{accesses_born}
 use Rattle.heap_laws.proofs.MutatorStores.{both, put_twice, mutators_step}
 use Rattle.heap_laws.proofs.PlainGains.{gained_serial}
-use Rattle.heap_laws.proofs.PlainLists.{slice_get-set_same, slice_get-set_other}
+use Rattle.plain_state.proofs.Lists.{slice_get-set_same, slice_get-set_other}
 
 module _ (E : Era) (m : Memory) (team : Team) (g : Ghost) (p : plain.Plain) (k : ℕ) (next : Worker) (q : plain.Mutator) (s : Stock) (c : Kind) (z v d pointer : ℕ) (r : plain.Record)
     (ready : Ready E m team g k) (shown : Shown E m team g p) (places : PlacesNext E team k s c z v) (behind : Shows (value_of g.identity) m.heap s.at c z r) (small : d < 8) (points : decode pointer ≡ PointerWord s.at)

@@ -24,7 +24,7 @@ use Rattle.heap_state.proofs.Puts.{put_at, put_other, none≢some, true_false}
 use Rattle.heap_state.proofs.Writing.{writes_tables}
 use Rattle.heap_laws.specs.Opening.{opening_entries, opening_plain, opening_mutator, OpeningStands}
 use Rattle.heap_laws.proofs.OpeningWorkers.{opening_team, each_fresh, counted, staffed}
-use Rattle.heap_laws.proofs.PlainLists.{slice_get-replicate, slice_get-of_replicate}
+use Rattle.plain_state.proofs.Lists.{slice_get-replicate, slice_get-of_replicate}
 use Rattle.heap_laws.proofs.Words.{zero_word, zero_clean, zero_lands, zero_value}
 
 -- ---- nothing stands
