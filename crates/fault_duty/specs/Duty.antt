@@ -284,9 +284,9 @@ duty_machine = record { wanted = wanted; taken = taken; told = told }
 
 -- ---- the steps that are left
 
--- the pages of the space from this one on
-abbrev pub pages_from : Round → (page : ℕ) → ℕ
-pages_from d page = to_page d + d.layout.pages - page
+-- the pages from this one on, in their order: the board, and the space's
+abbrev pub pages_left : Round → (page : ℕ) → ℕ
+pages_left d page = if page == board_page d.layout.pages then d.layout.pages + 1 else to_page d + d.layout.pages - page
 
 abbrev pub left_at : Round → DutyStage → ℕ
 left_at d LoadsGate = 2 * d.layout.pages + 32
@@ -294,12 +294,11 @@ left_at d (LoadsTraced hindrance) = 2 * d.layout.pages + 31
 left_at d (LoadsWanted seen page) = 2 * d.layout.pages + 30
 left_at d (LoadsFrontFor seen wanted) = 2 * d.layout.pages + 29
 left_at d (LoadsFront seen) = 2 * d.layout.pages + 28
-left_at d (LoadsPage choice page) =
-    if page == board_page d.layout.pages then 2 * d.layout.pages + 27 else pages_from d page + d.layout.pages + 26
+left_at d (LoadsPage choice page) = pages_left d page + d.layout.pages + 26
 left_at d (Claims c) = claim.left c
 left_at d (EndGate traced) = d.layout.pages + 6
 left_at d (EndArea traced) = d.layout.pages + 5
-left_at d (EndPage look page) = if page == board_page d.layout.pages then d.layout.pages + 4 else pages_from d page + 3
+left_at d (EndPage look page) = pages_left d page + 3
 left_at d (EndFilling look) = 3
 left_at d (EndAreaAgain look filling) = 2
 left_at d (Traces traced) = 1

@@ -130,6 +130,7 @@ impl Duty {
         ensures tells { result ≡ told self.new }
         ensures lowers { IsTrue (advances self.old reply) → left self.new < left self.old }
     {
+        let _pages = self.spaces.pages();
         match reply {
             Reply::Value(word) => self.read(word),
             Reply::Won | Reply::Lost(_) | Reply::Done => self.hear(reply),
