@@ -1,1 +1,3 @@
 pub mod Step
+pub mod Machine
+pub mod Runs

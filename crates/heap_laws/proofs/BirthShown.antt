@@ -3,7 +3,7 @@ use Rattle.std.proofs.Common.{◌≡◌, ◌≢◌, ℕ, ◌+◌, ◌-◌, ◌<�
 use Rattle.std.proofs.lemmas.Bool.{cases_eq}
 use Rattle.std.proofs.lemmas.List.{length-replicate}
 use Rattle.std.proofs.lemmas.Option.{slice_get-get_or, slice_get_within}
-use Rattle.heap_words.specs.declared.kind.Kind.{Kind}
+use Rattle.plain_state.specs.declared.kind.Kind.{Kind}
 use Rattle.plain_state.specs.State as plain
 use Rattle.plain_state.specs.declared.value.Identity.{Identity}
 use Rattle.plain_state.specs.declared.value.Value.TheVariants.{Number}
@@ -67,12 +67,18 @@ module _ (E : Era) (m : Memory) (team : Team) (g : Ghost) (p : plain.Plain) (k :
 
   -- ---- values
 
+  within_new : (x : ℕ) → x < length new.values → x < z - 1
+  within_new x l = rw (length-replicate (z - 1) (Number 0)) at l
+
+  zero_word : (x : ℕ) → x < length new.values → heap (q.at + (x + 1)) ≡ 0
+  zero_word x l = let u = within_new x l in zeros E m team g k q c z v lay inv places (x + 1) (omega arith) (omega (arith, u))
+
   shows_new : Shows (value_of g'.identity) heap q.at c z new
   shows_new = record {
     kind = refl;
     size = let n = length-replicate (z - 1) (Number 0) in let l = places.some in omega arith;
-    fields = λ j l u t. zero_value g'.identity (heap (q.at + j)) (zeros E m team g k q c z v lay inv places j l u) ∙ sym (slice_get-of_replicate (z - 1) (j - 1) (Number 0) (omega arith));
-    words = λ j l u t. ap (λ x. Some (Number x)) (zeros E m team g k q c z v lay inv places j l u) ∙ sym (slice_get-of_replicate (z - 1) (j - 1) (Number 0) (omega arith));
+    fields = λ x l t. zero_value g'.identity (heap (q.at + (x + 1))) (zero_word x l) ∙ sym (slice_get-of_replicate (z - 1) x (Number 0) (within_new x l));
+    numbers = λ x l t. ap (λ y. Some (Number y)) (zero_word x l) ∙ sym (slice_get-of_replicate (z - 1) x (Number 0) (within_new x l));
   }
 
   shows_old : (b : ℕ) → 0 < g.size b → g.writer b ≡ 0 → (g.copy b ≡ 0) ⊎ (0 < g.keeper b)
@@ -85,8 +91,13 @@ module _ (E : Era) (m : Memory) (team : Team) (g : Ghost) (p : plain.Plain) (k :
         record {
           kind = t.kind;
           size = t.size;
-          fields = λ j l u f. rw (word_same is_free g.writer g.kind m.heap v b j u) (value_on (m.heap (b + j)) (field_lands E m team g b j inv st w f l u) ∙ t.fields j l u f);
-          words = λ j l u f. rw (word_same is_free g.writer g.kind m.heap v b j u) (t.words j l u f);
+          fields = λ x l f.
+              let u = t.size in
+              let n : x + 1 < g.size b = omega (arith, l, u) in
+              rw (word_same is_free g.writer g.kind m.heap v b (x + 1) n) (value_on (m.heap (b + (x + 1))) (field_lands E m team g b (x + 1) inv st w f (omega arith) n) ∙ t.fields x l f);
+          numbers = λ x l f.
+              let u = t.size in
+              rw (word_same is_free g.writer g.kind m.heap v b (x + 1) (omega (arith, l, u))) (t.numbers x l f);
         },
       )
 

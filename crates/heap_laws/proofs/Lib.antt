@@ -61,6 +61,7 @@ pub mod FlippingReset
 pub mod GatingCounts
 pub mod GatingWorker
 pub mod GatingTeam
+pub mod GatingScanner
 pub mod GatingPassages
 pub mod ForgettingLess
 pub mod ScanningLifted

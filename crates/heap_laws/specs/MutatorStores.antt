@@ -1,15 +1,16 @@
 -- One step of a running mutator that is one of the plain machine: it stores nothing, or in a record, on the board, or a new
 -- record's header.
 use Rattle.std.specs.Prelude.{◌≡◌, ℕ, ◌+◌, ◌-◌, ◌/◌, ◌<◌, ◌≤◌, true, Some}
-use Rattle.heap_words.specs.declared.kind.Kind.{Kind}
+use Rattle.plain_state.specs.declared.kind.Kind.{Kind}
 use Rattle.plain_state.specs.declared.value.Value.{Value}
 use Rattle.plain_state.specs.State as plain
 use Rattle.plain_state.specs.Writing.{with_heap, stored, with_board, gained}
+use Rattle.plain_state.specs.Layout.{word_of}
 use Rattle.space_map.specs.declared.page_word.PageWord.TheVariants.{Open}
 use Rattle.space_map.specs.PageWord.{age_of}
 use Rattle.heap_state.specs.Cycle.{Cycle}
 use Rattle.heap_state.specs.Era.{Era, Memory}
-use Rattle.heap_state.specs.Ghost.{Ghost, is_field}
+use Rattle.heap_state.specs.Ghost.{Ghost}
 use Rattle.heap_state.specs.Inductive.{Invariant}
 use Rattle.heap_state.specs.Values.{Shown, Accounts, RegistersShow, value_of}
 use Rattle.heap_state.specs.Worker.{Worker, Team, Stock, is_running}
@@ -42,12 +43,12 @@ MutatorsStep = (E : Era) (m : Memory) (team : Team) (g : Ghost) (p : plain.Plain
 
 -- a store in a word of a record, whose page is open: the plain heap changes at that word
 abbrev pub MutatorsStore : Type 0
-MutatorsStore = (E : Era) (m : Memory) (team : Team) (g : Ghost) (p : plain.Plain) (k : ℕ) (next : Worker) (q : plain.Mutator) (a i v : ℕ) (r : plain.Record) (y : Value)
+MutatorsStore = (E : Era) (m : Memory) (team : Team) (g : Ghost) (p : plain.Plain) (k : ℕ) (next : Worker) (q : plain.Mutator) (a x v : ℕ) (r : plain.Record) (y : Value)
     → Ready E m team g k → is_running (team.worker k).post ≡ true → Shown E m team g p
-    → IsWordOf E g.size g.writer a i → m.page ((a + i) / 64) ≡ Open E.epoch → MayStore E g.size g.writer (is_field (g.kind a) i) v
-    → plain.record_of p.heap (g.identity a) ≡ Some r → StandsFor g (is_field (g.kind a) i) v y
-    → GoesOn E (with_word m (a + i) v) g (team.worker k) next → IsAs g (stored p.heap (g.identity a) r (i - 1) y) k next q
-    → Makes E m (with_word m (a + i) v) team (with_worker team k next) g g (with_mutator (with_heap p (stored p.heap (g.identity a) r (i - 1) y)) k q)
+    → IsWordOf E g.size g.writer g.kind a x → m.page ((a + word_of (g.kind a) x) / 64) ≡ Open E.epoch → MayStore E g.size g.writer (g.kind a) x v
+    → plain.record_of p.heap (g.identity a) ≡ Some r → StandsFor g (g.kind a) x v y
+    → GoesOn E (with_word m (a + word_of (g.kind a) x) v) g (team.worker k) next → IsAs g (stored p.heap (g.identity a) r x y) k next q
+    → Makes E m (with_word m (a + word_of (g.kind a) x) v) team (with_worker team k next) g g (with_mutator (with_heap p (stored p.heap (g.identity a) r x y)) k q)
 
 -- a store on the open board: the plain board changes at that word
 abbrev pub MutatorsStoreOnBoard : Type 0

@@ -1,16 +1,17 @@
 -- The steps of a mutator, of a configuration that stands.
 use Rattle.std.specs.Prelude.{◌≡◌, ℕ, ◌+◌, ◌-◌, ◌*◌, ◌/◌, ◌<◌, true, length, Some, None}
-use Rattle.heap_words.specs.declared.kind.Kind.{Kind}
+use Rattle.plain_state.specs.declared.kind.Kind.{Kind}
 use Rattle.plain_state.specs.declared.value.Value.{Value}
 use Rattle.plain_state.specs.State as plain
 use Rattle.plain_state.specs.Writing.{with_heap, stored, with_board, gained}
+use Rattle.plain_state.specs.Layout.{word_of}
 use Rattle.space_map.specs.declared.area_word.AreaWord.{AreaWord}
 use Rattle.space_map.specs.declared.page_word.PageWord.TheVariants.{Open}
 use Rattle.space_map.specs.Spaces.{to_space}
 use Rattle.heap_state.specs.Configuration.{Configuration, Stands, table, era, memory, team}
 use Rattle.heap_state.specs.Cycle.{Cycle}
 use Rattle.heap_state.specs.Entries.{WordIs, AreaIs, PageIs}
-use Rattle.heap_state.specs.Ghost.{Ghost, is_field}
+use Rattle.heap_state.specs.Ghost.{Ghost}
 use Rattle.heap_state.specs.Values.{value_of}
 use Rattle.heap_state.specs.Worker.{Worker, Stock, is_running}
 use Rattle.heap_laws.specs.Allocating.{HasStock, HasRoom, OpensNext, claimed, zeroed_further, opened_further}
@@ -48,11 +49,11 @@ pub record StockStands (c : Configuration) (p : plain.Plain) (s : Stands c p) (k
 pub record MutatorStands (c : Configuration) (p : plain.Plain) (s : Stands c p) (k : ℕ) : Type 0 where
   pub nothing_stored : (next : Worker) (q : plain.Mutator) → GoesOn (era c) (memory c) s.ghost ((team c).worker k) next → IsAs s.ghost p.heap k next q
       → StandsAfter c (stepped c None k next) (with_mutator p k q) s.ghost s.ghost
-  pub word_stored : (next : Worker) (q : plain.Mutator) (a i v : ℕ) (r : plain.Record) (y : Value) → IsWordOf (era c) s.ghost.size s.ghost.writer a i
-      → (memory c).page ((a + i) / 64) ≡ Open (era c).epoch → MayStore (era c) s.ghost.size s.ghost.writer (is_field (s.ghost.kind a) i) v
-      → plain.record_of p.heap (s.ghost.identity a) ≡ Some r → StandsFor s.ghost (is_field (s.ghost.kind a) i) v y
-      → GoesOn (era c) (with_word (memory c) (a + i) v) s.ghost ((team c).worker k) next → IsAs s.ghost (stored p.heap (s.ghost.identity a) r (i - 1) y) k next q
-      → StandsAfter c (stepped c (Some (WordIs (a + i) v)) k next) (with_mutator (with_heap p (stored p.heap (s.ghost.identity a) r (i - 1) y)) k q) s.ghost s.ghost
+  pub word_stored : (next : Worker) (q : plain.Mutator) (a x v : ℕ) (r : plain.Record) (y : Value) → IsWordOf (era c) s.ghost.size s.ghost.writer s.ghost.kind a x
+      → (memory c).page ((a + word_of (s.ghost.kind a) x) / 64) ≡ Open (era c).epoch → MayStore (era c) s.ghost.size s.ghost.writer (s.ghost.kind a) x v
+      → plain.record_of p.heap (s.ghost.identity a) ≡ Some r → StandsFor s.ghost (s.ghost.kind a) x v y
+      → GoesOn (era c) (with_word (memory c) (a + word_of (s.ghost.kind a) x) v) s.ghost ((team c).worker k) next → IsAs s.ghost (stored p.heap (s.ghost.identity a) r x y) k next q
+      → StandsAfter c (stepped c (Some (WordIs (a + word_of (s.ghost.kind a) x) v)) k next) (with_mutator (with_heap p (stored p.heap (s.ghost.identity a) r x y)) k q) s.ghost s.ghost
   pub board_stored : (next : Worker) (q : plain.Mutator) (x v : ℕ) (y : Value) → x < 16 → (memory c).page ((era c).board / 64) ≡ Open (era c).epoch
       → MayHold (era c) s.ghost.size s.ghost.writer v → value_of s.ghost.identity v ≡ Some y
       → GoesOn (era c) (with_word (memory c) ((era c).board + x) v) s.ghost ((team c).worker k) next → IsAs s.ghost (with_board p.heap x y) k next q

@@ -1,6 +1,6 @@
 -- A mutator places a new record in its run: its header is stored, and the words behind it are 0 already.
 use Rattle.std.specs.Prelude.{◌≡◌, ℕ, ◌+◌, ◌-◌, ◌<◌, ◌≤◌, true, Some, replicate}
-use Rattle.heap_words.specs.declared.kind.Kind.{Kind}
+use Rattle.plain_state.specs.declared.kind.Kind.{Kind}
 use Rattle.heap_words.specs.Decoded.{HeaderWord, PointerWord, decode}
 use Rattle.plain_state.specs.declared.value.Identity.{Identity}
 use Rattle.plain_state.specs.declared.value.Value.TheVariants.{Number, Reference}
@@ -9,9 +9,9 @@ use Rattle.plain_state.specs.Writing.{with_heap, gained}
 use Rattle.heap_state.specs.Cycle.{Cycle}
 use Rattle.heap_state.specs.Era.{Era, IsLaidOut, Memory}
 use Rattle.heap_state.specs.Functions.{put}
-use Rattle.heap_state.specs.Ghost.{Ghost}
+use Rattle.heap_state.specs.Ghost.{Ghost, header_kind}
 use Rattle.heap_state.specs.Inductive.{Invariant}
-use Rattle.heap_state.specs.Values.{Shown, kind_of, value_of}
+use Rattle.heap_state.specs.Values.{Shown, value_of}
 use Rattle.heap_state.specs.Worker.{Worker, Team, Stock, is_running}
 use Rattle.heap_laws.specs.Steps.{with_word, with_worker}
 use Rattle.heap_laws.specs.Allocating.{HasStock}
@@ -36,7 +36,7 @@ placed team k q z = record (team.worker k) {
 
 -- a record of this kind of n words, all 0
 abbrev pub zeros_of : Kind → ℕ → plain.Record
-zeros_of c n = record { kind = kind_of c; values = replicate n (Number 0) }
+zeros_of c n = record { kind = c; values = replicate n (Number 0) }
 
 -- ---- the law
 
@@ -47,7 +47,7 @@ pub record PlacesNext (E : Era) (team : Team) (k : ℕ) (q : Stock) (c : Kind) (
   pub run : (q.zeroed ≡ q.end) × (q.opened ≡ q.end)
   pub some : 0 < z
   pub fits : q.at + z ≤ q.end
-  pub header : decode v ≡ HeaderWord c (z - 1) ((team.worker k).account.serial + 1) k
+  pub header : decode v ≡ HeaderWord (header_kind c) (z - 1) ((team.worker k).account.serial + 1) k
 
 -- the header is stored
 abbrev pub RecordsArePlaced : Type 0

@@ -1,0 +1,51 @@
+-- How many steps the copy of a record has left.
+use Rattle.std.specs.Prelude.{ℕ, ◌+◌, ◌-◌, ◌*◌, Bool, true, false, is_some}
+use Rattle.atom_store.specs.declared.reply.Reply.{Reply}
+use Rattle.atom_store.specs.declared.reply.Reply.TheVariants.{Value, Done, Won, Lost}
+use Rattle.heap_words.specs.Decoded.{Decoded, HeaderWord, decode}
+use Rattle.space_map.specs.AreaWord.{decode_area}
+use Rattle.space_map.specs.Spaces.{first_word}
+use Rattle.forwarding.specs.declared.evac_stage.EvacStage.{EvacStage}
+use Rattle.forwarding.specs.declared.evac_stage.EvacStage.TheVariants.{LoadsHeader, TakesHeader, LoadsArea, Announces, Reserves, StoresHeader, LoadsWord, StoresWord, StoresCross, StoresForward, Clears, Ended}
+use Rattle.forwarding.specs.Evacuation.{Evacuation, size_of}
+
+-- a longest record has 4096 words, and each takes at most three steps: two to be copied, one for a page that begins there
+abbrev pub longest : ℕ
+longest = 3 * 4096 + 1
+
+-- at most so many steps are left, where no exchange is lost and nobody else copies the record
+abbrev pub left_at : EvacStage → ℕ
+left_at LoadsHeader = longest + 5
+left_at (TakesHeader kept) = longest + 4
+left_at (LoadsArea kept) = longest + 3
+left_at (Announces kept area) = longest + 2
+left_at (Reserves kept area) = longest + 1
+left_at (StoresHeader r) = 3 * size_of r.kept + 1
+left_at (LoadsWord r i) = 2 * (size_of r.kept - i) + size_of r.kept + 2
+left_at (StoresWord r w) = 2 * (size_of r.kept - w.number) + size_of r.kept + 1
+left_at (StoresCross r page) = (r.to + size_of r.kept - first_word page) + 2
+left_at (StoresForward r) = 2
+left_at (Clears to) = 1
+left_at (Ended to) = 0
+
+abbrev pub left : Evacuation → ℕ
+left v = left_at v.stage
+
+abbrev pub is_header : Decoded → Bool
+is_header (HeaderWord kind len serial mutator) = true
+is_header _ = false
+
+-- the reply takes the machine on: no exchange is lost, and no other worker has taken the record
+abbrev pub advances : EvacStage → Reply → Bool
+advances LoadsHeader (Value w) = is_header (decode w)
+advances (TakesHeader kept) Won = true
+advances (LoadsArea kept) (Value w) = is_some (decode_area w)
+advances (Announces kept area) Done = true
+advances (Reserves kept area) Won = true
+advances (StoresHeader r) Done = true
+advances (LoadsWord r i) (Value w) = true
+advances (StoresWord r w) Done = true
+advances (StoresCross r page) Done = true
+advances (StoresForward r) Done = true
+advances (Clears to) Done = true
+advances _ _ = false

@@ -1,0 +1,6 @@
+pub mod Evacuation
+pub mod Taken
+pub mod Left
+pub mod Soundness
+pub mod Worked
+pub mod Theorems

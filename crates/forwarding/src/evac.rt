@@ -1,0 +1,276 @@
+ghost use Rattle.std.specs.Prelude.{◌≡◌, ◌+◌, ◌*◌, ◌^◌, ◌<◌, ◌≤◌, Some, IsTrue};
+ghost use Rattle.atom_store.specs.declared.reply.Reply.TheVariants.{Value, Done, Won, Lost};
+ghost use Rattle.heap_words.specs.Decoded.{decode};
+ghost use Rattle.heap_words.specs.Word.{busy_word, forward_word};
+ghost use Rattle.space_map.specs.AreaWord.{AreaFits, decode_area};
+ghost use Rattle.space_map.specs.Spaces.{IsInSpace, to_space};
+ghost use Rattle.forwarding.specs.Evacuation.{IsGoing, area_past, begun, front_of, size_of, wanted};
+ghost use Rattle.forwarding.specs.Left.{advances, left};
+ghost use Rattle.forwarding.specs.Soundness.{IsSound, HasReserved, HasRoom};
+ghost use Rattle.forwarding.specs.Taken.{by_area, by_first_word, by_other_area, copied, crossed, first_page, reserved_at, stage_after, taken, told};
+
+use crate::evac_stage::EvacStage;
+use crate::kept_header::KeptHeader;
+use crate::loaded_word::LoadedWord;
+use crate::reserved::Reserved;
+use crate::to::To;
+use atom_store::{Reply, Step, Turn};
+use record_layout::{Busy, Forward, pack_busy, pack_forward, read, read_forward};
+use space_map::{AreaWord, PAGE_WORDS, Spaces};
+use std::marker::Model;
+
+/// The copy of the record at an address of the old space of an epoch, by one worker.
+#[derive(Debug, Drop)]
+pub struct Evac {
+    spaces: Spaces,
+    addr: u32,
+    epoch: u32,
+    worker: u8,
+    stage: EvacStage,
+}
+
+impl Model for Evac {
+    ghost use Rattle.forwarding.specs.Evacuation.{Evacuation};
+    ghost use Rattle.forwarding.specs.Soundness.{IsSound};
+
+    ghost Value = { Evacuation };
+
+    ghost view = { λ v. record { spaces = v.spaces; addr = v.addr; epoch = v.epoch; worker = v.worker; stage = v.stage } };
+
+    ghost invariant = { λ v. IsSound (record { spaces = v.spaces; addr = v.addr; epoch = v.epoch; worker = v.worker; stage = v.stage }) };
+}
+
+impl Evac {
+    /// The copy of the record at an address of the space that isn't the epoch's.
+    pub fn new(spaces: Spaces, addr: u32, epoch: u32, worker: u8) -> Evac
+        requires old { IsInSpace spaces.pages addr (to_space (epoch + 1)) }
+        requires worker { worker ≤ 23 }
+        ensures { result ≡ begun spaces addr epoch worker }
+    {
+        let _pages = spaces.pages();
+        Evac {
+            spaces,
+            addr,
+            epoch,
+            worker,
+            stage: EvacStage::LoadsHeader,
+        }
+    }
+
+    /// The next step.
+    pub fn want(&self) -> Step
+        requires { IsGoing self.now.stage }
+        ensures { wanted self.now ≡ Some result }
+    {
+        let spaces = self.spaces;
+        let old = spaces.word_place(self.addr);
+        match self.stage {
+            EvacStage::LoadsHeader => Step::Load(old),
+            EvacStage::TakesHeader(kept) => Step::Exchange(old, kept.word, busy(kept, self.worker)),
+            EvacStage::LoadsArea(_) => Step::Load(spaces.area_place(spaces.to_space(self.epoch))),
+            EvacStage::Announces(kept, area) => Step::Store(
+                spaces.announce_place(self.worker),
+                u64::from(front(spaces, self.epoch, kept, area)) + 1,
+            ),
+            EvacStage::Reserves(kept, area) => Step::Exchange(
+                spaces.area_place(spaces.to_space(self.epoch)),
+                area.pack(),
+                past(kept, area).pack(),
+            ),
+            EvacStage::StoresHeader(r) => Step::Store(spaces.word_place(r.to), r.kept.word),
+            EvacStage::LoadsWord(_, i) => Step::Load(spaces.word_place(self.addr + i)),
+            EvacStage::StoresWord(r, w) => Step::Store(spaces.word_place(r.to + w.number), w.word),
+            EvacStage::StoresCross(r, page) => Step::Store(
+                spaces.cross_place(page),
+                u64::from(r.to),
+            ),
+            EvacStage::StoresForward(r) => Step::Store(old, forward(r)),
+            EvacStage::Clears(_) => Step::Store(spaces.announce_place(self.worker), 0),
+            EvacStage::Ended(_) => unreachable!(),
+        }
+    }
+
+    /// Takes the reply to it.
+    pub fn take(&mut self, reply: Reply) -> Turn<To>
+        requires going { IsGoing self.old.stage }
+        requires sound { IsSound (taken self.old reply) }
+        ensures state { self.new ≡ taken self.old reply }
+        ensures told { result ≡ told (taken self.old reply).stage }
+        ensures lowers { IsTrue (advances self.old.stage reply) → left self.new < left self.old }
+    {
+        match (self.stage, reply) {
+            (EvacStage::LoadsHeader, Reply::Value(word)) => self.reads_header(word),
+            (EvacStage::TakesHeader(kept), Reply::Won) => self.goes_to(EvacStage::LoadsArea(kept)),
+            (EvacStage::TakesHeader(_), Reply::Lost(_)) => self.goes_to(EvacStage::LoadsHeader),
+            (EvacStage::LoadsArea(kept), Reply::Value(word)) => self.reads_area(kept, word),
+            (EvacStage::Announces(kept, area), Reply::Done) => {
+                self.goes_to(EvacStage::Reserves(kept, area))
+            }
+            (EvacStage::Reserves(kept, area), Reply::Won) => self.has_reserved(kept, area),
+            (EvacStage::Reserves(kept, area), Reply::Lost(word)) => {
+                self.reads_other_area(kept, area, word)
+            }
+            (EvacStage::StoresHeader(r), Reply::Done) => self.has_copied(r, 1),
+            (EvacStage::LoadsWord(r, number), Reply::Value(word)) => {
+                self.goes_to(EvacStage::StoresWord(r, LoadedWord { number, word }))
+            }
+            (EvacStage::StoresWord(r, w), Reply::Done) => self.has_copied(r, w.number + 1),
+            (EvacStage::StoresCross(r, page), Reply::Done) => self.has_crossed(r, page + 1),
+            (EvacStage::StoresForward(r), Reply::Done) => self.goes_to(EvacStage::Clears(r.to)),
+            (EvacStage::Clears(to), Reply::Done) => self.ends(to),
+            _ => Turn::More,
+        }
+    }
+
+    fn goes_to(&mut self, stage: EvacStage) -> Turn<To>
+        requires going { IsGoing stage }
+        requires sound { IsSound (record self.old { stage = stage }) }
+        ensures state { self.new ≡ record self.old { stage = stage } }
+        ensures told { result ≡ Turn.More }
+    {
+        self.stage = stage;
+        Turn::More
+    }
+
+    fn ends(&mut self, to: u32) -> Turn<To>
+        requires { to < 2 ^ 32 }
+        ensures state { self.new ≡ record self.old { stage = EvacStage.Ended to } }
+        ensures told { result ≡ Turn.Finished (record { 0 = to }) }
+    {
+        self.stage = EvacStage::Ended(to);
+        Turn::Finished(To(to))
+    }
+
+    /// A forward leads to the copy, a header is to be taken, and what another worker has taken is looked at again.
+    fn reads_header(&mut self, word: u64) -> Turn<To>
+        requires { IsSound (record self.old { stage = by_first_word word (decode word) }) }
+        ensures state { self.new ≡ record self.old { stage = by_first_word word (decode word) } }
+        ensures told { result ≡ told (by_first_word word (decode word)) }
+    {
+        if let Some(forward) = read_forward(word) {
+            return self.ends(forward.addr);
+        }
+        match read(word) {
+            Some(header) => self.goes_to(EvacStage::TakesHeader(KeptHeader {
+                word,
+                len: header.len,
+            })),
+            None => self.goes_to(EvacStage::LoadsHeader),
+        }
+    }
+
+    fn reads_area(&mut self, kept: KeptHeader, word: u64) -> Turn<To>
+        requires { IsSound (record self.old { stage = by_area kept (decode_area word) }) }
+        ensures state { self.new ≡ record self.old { stage = by_area kept (decode_area word) } }
+        ensures told { result ≡ Turn.More }
+    {
+        match AreaWord::read(word) {
+            Some(area) => self.goes_to(EvacStage::Announces(kept, area)),
+            None => self.goes_to(EvacStage::LoadsArea(kept)),
+        }
+    }
+
+    /// Another FRONT is announced first, before the exchange is tried again.
+    fn reads_other_area(&mut self, kept: KeptHeader, area: AreaWord, word: u64) -> Turn<To>
+        requires { IsSound (record self.old { stage = by_other_area kept area (decode_area word) }) }
+        ensures state { self.new ≡ record self.old { stage = by_other_area kept area (decode_area word) } }
+        ensures told { result ≡ Turn.More }
+    {
+        match AreaWord::read(word) {
+            Some(other) if other.front == area.front => self.goes_to(EvacStage::Reserves(
+                kept, other,
+            )),
+            Some(other) => self.goes_to(EvacStage::Announces(kept, other)),
+            None => self.goes_to(EvacStage::Reserves(kept, area)),
+        }
+    }
+
+    fn has_reserved(&mut self, kept: KeptHeader, area: AreaWord) -> Turn<To>
+        requires room { HasRoom self.old.spaces.pages (size_of kept) area }
+        requires sound { IsSound (record self.old { stage = EvacStage.StoresHeader (reserved_at self.old.spaces self.old.epoch kept area) }) }
+        ensures state { self.new ≡ record self.old { stage = EvacStage.StoresHeader (reserved_at self.old.spaces self.old.epoch kept area) } }
+        ensures told { result ≡ Turn.More }
+    {
+        let to = front(self.spaces, self.epoch, kept, area);
+        self.stage = EvacStage::StoresHeader(Reserved { kept, to });
+        Turn::More
+    }
+
+    fn has_copied(&mut self, r: Reserved, count: u32) -> Turn<To>
+        requires room { HasReserved self.old.spaces.pages self.old.addr r }
+        requires sound { IsSound (record self.old { stage = copied r count }) }
+        ensures state { self.new ≡ record self.old { stage = copied r count } }
+        ensures told { result ≡ Turn.More }
+    {
+        let _pages = self.spaces.pages();
+        if count < size(r.kept) {
+            self.goes_to(EvacStage::LoadsWord(r, count))
+        } else {
+            self.has_crossed(r, (r.to + (PAGE_WORDS - 1)) / PAGE_WORDS)
+        }
+    }
+
+    fn has_crossed(&mut self, r: Reserved, page: u32) -> Turn<To>
+        requires room { HasReserved self.old.spaces.pages self.old.addr r }
+        requires near { page ≤ 2 * self.old.spaces.pages }
+        requires sound { IsSound (record self.old { stage = crossed r page }) }
+        ensures state { self.new ≡ record self.old { stage = crossed r page } }
+        ensures told { result ≡ Turn.More }
+    {
+        let _pages = self.spaces.pages();
+        if PAGE_WORDS * page < r.to + size(r.kept) {
+            self.goes_to(EvacStage::StoresCross(r, page))
+        } else {
+            self.goes_to(EvacStage::StoresForward(r))
+        }
+    }
+}
+
+/// The address of FRONT.
+fn front(spaces: Spaces, epoch: u32, kept: KeptHeader, area: AreaWord) -> u32
+    requires { HasRoom spaces.pages (size_of kept) area }
+    ensures front { result ≡ front_of spaces epoch area }
+    ensures in_range { result < 2 ^ 20 }
+{
+    let _pages = spaces.pages();
+    spaces.space_start(spaces.to_space(epoch)) + area.front
+}
+
+/// The area once the copy has its room.
+fn past(kept: KeptHeader, area: AreaWord) -> AreaWord
+    requires { (size_of kept ≤ area.owed) × (area.front + size_of kept ≤ area.low) × AreaFits area }
+    ensures area { result ≡ area_past (size_of kept) area }
+    ensures fits { AreaFits result }
+{
+    AreaWord {
+        front: area.front + size(kept),
+        low: area.low,
+        owed: area.owed - size(kept),
+    }
+}
+
+fn size(kept: KeptHeader) -> u32
+    ensures { result ≡ size_of kept }
+{
+    u32::from(kept.len) + 1
+}
+
+fn busy(kept: KeptHeader, worker: u8) -> u64
+    requires { kept.len ≤ 4095 }
+    ensures { result ≡ busy_word kept.len worker }
+{
+    pack_busy(&Busy {
+        len: kept.len,
+        worker,
+    })
+}
+
+fn forward(r: Reserved) -> u64
+    requires { r.kept.len ≤ 4095 }
+    ensures { result ≡ forward_word r.kept.len r.to }
+{
+    pack_forward(&Forward {
+        len: r.kept.len,
+        addr: r.to,
+    })
+}

@@ -1,0 +1,7 @@
+/// The header of an old record. Its worker keeps it from when it takes the record until it stores the forward.
+#[derive(Clone, Copy, Debug, PartialEq, Eq)]
+pub struct KeptHeader {
+    pub word: u64,
+    /// The number of words after the header.
+    pub len: u16,
+}

@@ -1,0 +1,26 @@
+//! The copy of one record out of the old space, and the forward that it leaves.
+//!
+//! A record is copied in many atomic steps, beside mutators and other workers that copy. So its old header is first
+//! exchanged for a word that names the worker; who meets that word waits. The worker keeps the header, announces where the
+//! copy is going to be, reserves that room by moving FRONT past it, copies the words, and says of each page that begins in
+//! the copy that this record lies over its first word. Then it stores the forward in the old header's place, which from
+//! then on leads every worker to the one copy.
+//!
+//! [`Evac`] is a machine: it names its next atomic step, and takes the reply. [`EvacStage`] lists what it does in turn.
+#![tactic(auto)]
+
+mod evac;
+mod evac_stage;
+mod kept_header;
+mod laws;
+mod loaded_word;
+mod reserved;
+mod to;
+
+pub use evac::Evac;
+pub use evac_stage::EvacStage;
+pub use kept_header::KeptHeader;
+pub use laws::worked_copy_is_made;
+pub use loaded_word::LoadedWord;
+pub use reserved::Reserved;
+pub use to::To;

@@ -1,0 +1,6 @@
+/// A word of the old record, by its number from the header, which has number 0.
+#[derive(Clone, Copy, Debug, PartialEq, Eq)]
+pub struct LoadedWord {
+    pub number: u32,
+    pub word: u64,
+}

@@ -1,0 +1,20 @@
+//! The gate.
+#![tactic(auto)]
+
+mod flip;
+mod flip_stage;
+mod flipped;
+mod gate;
+mod gate_stage;
+mod passage;
+mod passed;
+mod reset;
+
+pub use flip::Flip;
+pub use flip_stage::FlipStage;
+pub use flipped::Flipped;
+pub use gate::Gate;
+pub use gate_stage::GateStage;
+pub use passage::Passage;
+pub use passed::Passed;
+pub use reset::Reset;

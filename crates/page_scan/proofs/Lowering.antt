@@ -1,0 +1,38 @@
+-- What is left of a scan goes down where a word is passed or asked about.
+use Rattle.std.proofs.Common.{◌≡◌, ℕ, ◌+◌, ◌-◌, ◌*◌, ◌<◌, ◌≤◌, Bool, true, false, if◌then◌else◌, arith, refl, ⊎_elim}
+use Rattle.std.proofs.lemmas.Bool.{lt-ltb, le-ltb, cases_lt}
+use Rattle.std.proofs.lemmas.Bool.Decides.{nat_tests}
+use Rattle.heap_words.specs.Decoded.{Decoded, NumberWord, PointerWord, HeaderWord, ForwardWord, BusyWord, Malformed}
+use Rattle.space_map.specs.Spaces.{Layout}
+use Rattle.page_scan.specs.declared.scan_stage.ScanStage.TheVariants.{Asks}
+use Rattle.page_scan.specs.declared.spot.Spot.{Spot}
+use Rattle.page_scan.specs.declared.spot.Spot.TheVariants.{OnBoard, InRecord}
+use Rattle.page_scan.specs.Left.{left_at}
+use Rattle.page_scan.specs.Scanning.{address_of}
+use Rattle.page_scan.specs.Soundness.{IsOnPage}
+use Rattle.page_scan.specs.Taken.{by_word, goes_on, is_old, passes, scan_end}
+
+pub passes-lt : (l : Layout) (p : ℕ) (in_place : Bool) (spot : Spot) → IsOnPage l.pages p spot
+    → left_at (scan_end l p) (passes p in_place spot) < 7 * (scan_end l p - address_of spot)
+passes-lt l p in_place (OnBoard x) on_page = grind (arith, nat_tests)
+passes-lt l p in_place (InRecord r x) on_page = grind (arith, nat_tests)
+
+asks-lt : (l : Layout) (p : ℕ) (spot : Spot) → IsOnPage l.pages p spot
+    → 7 * (scan_end l p - address_of spot - 1) + 1 < 7 * (scan_end l p - address_of spot)
+asks-lt l p (OnBoard x) on_page = grind (arith, nat_tests)
+asks-lt l p (InRecord r x) on_page = grind (arith, nat_tests)
+
+asked-lt : (l : Layout) (p : ℕ) (in_place is_old : Bool) (spot : Spot) (old : ℕ) → IsOnPage l.pages p spot
+    → left_at (scan_end l p) (if is_old then Asks (record { spot = spot; old = old }) else passes p in_place spot)
+    < 7 * (scan_end l p - address_of spot)
+asked-lt l p in_place true spot old on_page = asks-lt l p spot on_page
+asked-lt l p in_place false spot old on_page = passes-lt l p in_place spot on_page
+
+pub by_word-lt : (l : Layout) (p e : ℕ) (in_place : Bool) (spot : Spot) (d : Decoded) → IsOnPage l.pages p spot
+    → left_at (scan_end l p) (by_word l p e in_place spot d) < 7 * (scan_end l p - address_of spot)
+by_word-lt l p e in_place spot (PointerWord address) on_page = asked-lt l p in_place (is_old l e address) spot address on_page
+by_word-lt l p e in_place spot (NumberWord n) on_page = passes-lt l p in_place spot on_page
+by_word-lt l p e in_place spot (HeaderWord kind len serial mutator) on_page = passes-lt l p in_place spot on_page
+by_word-lt l p e in_place spot (ForwardWord len address) on_page = passes-lt l p in_place spot on_page
+by_word-lt l p e in_place spot (BusyWord len worker) on_page = passes-lt l p in_place spot on_page
+by_word-lt l p e in_place spot Malformed on_page = passes-lt l p in_place spot on_page

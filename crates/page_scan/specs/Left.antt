@@ -1,0 +1,39 @@
+-- How many steps the scan of a page has left.
+use Rattle.std.specs.Prelude.{ℕ, ◌+◌, ◌-◌, ◌*◌, Bool, true, false, is_some}
+use Rattle.atom_store.specs.declared.reply.Reply.{Reply}
+use Rattle.atom_store.specs.declared.reply.Reply.TheVariants.{Value, Done}
+use Rattle.heap_words.specs.Decoded.{Decoded, HeaderWord, decode}
+use Rattle.space_map.specs.AreaWord.{decode_area}
+use Rattle.space_map.specs.Spaces.{Layout}
+use Rattle.page_scan.specs.declared.scan_stage.ScanStage.{ScanStage}
+use Rattle.page_scan.specs.declared.scan_stage.ScanStage.TheVariants.{LoadsCross, LoadsFirst, LoadsWord, Asks, StoresCopy, LoadsFront, LoadsNext, Ended}
+use Rattle.page_scan.specs.Scanning.{Scanning, address_of}
+use Rattle.page_scan.specs.Taken.{scan_end}
+
+-- at most so many steps are left of a scan whose words end here, those of the copies that are asked for apart
+abbrev pub left_at : ℕ → ScanStage → ℕ
+left_at end LoadsCross = 450
+left_at end (LoadsFirst at) = 449
+left_at end (LoadsWord spot) = 7 * (end - address_of spot)
+left_at end (Asks asked) = 7 * (end - address_of asked.spot - 1) + 1
+left_at end (StoresCopy asked to) = 7 * (end - address_of asked.spot - 1) + 1
+left_at end (LoadsFront r) = 7 * (end - r.next)
+left_at end (LoadsNext r) = 7 * (end - r.next) - 1
+left_at end (Ended ending) = 0
+
+abbrev pub left : Scanning → ℕ
+left v = left_at (scan_end v.spaces v.page) v.stage
+
+abbrev pub is_header : Decoded → Bool
+is_header (HeaderWord kind len serial mutator) = true
+is_header _ = false
+
+-- the reply takes the scan on, as each does that can be there
+abbrev pub advances : ScanStage → Reply → Bool
+advances LoadsCross (Value w) = true
+advances (LoadsFirst at) (Value w) = is_header (decode w)
+advances (LoadsWord spot) (Value w) = true
+advances (StoresCopy asked to) Done = true
+advances (LoadsFront r) (Value w) = is_some (decode_area w)
+advances (LoadsNext r) (Value w) = is_header (decode w)
+advances _ _ = false

@@ -1,0 +1,8 @@
+use crate::spot::Spot;
+
+/// A word that leads into the old space, and the old address that it leads to.
+#[derive(Clone, Copy, Debug, PartialEq, Eq)]
+pub struct Asked {
+    pub spot: Spot,
+    pub old: u32,
+}

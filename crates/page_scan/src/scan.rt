@@ -1,0 +1,293 @@
+ghost use Rattle.std.specs.Prelude.{◌≡◌, ◌+◌, ◌^◌, ◌<◌, ◌≤◌, Some, IsTrue};
+ghost use Rattle.heap_words.specs.Decoded.{decode};
+ghost use Rattle.space_map.specs.AreaWord.{decode_area};
+ghost use Rattle.space_map.specs.Spaces.{board_page, to_space};
+ghost use Rattle.page_scan.specs.Left.{advances, left};
+ghost use Rattle.page_scan.specs.Scanning.{HasStep, IsAsking, address_of, begun, wanted};
+ghost use Rattle.page_scan.specs.Soundness.{IsOnPage, IsSound};
+ghost use Rattle.page_scan.specs.Taken.{answered, by_area, by_header, by_word, enters, goes_on, passes, record_at, taken, told};
+
+use crate::asked::Asked;
+use crate::ending::Ending;
+use crate::scan_stage::ScanStage;
+use crate::scanned::Scanned;
+use crate::scanned_record::ScannedRecord;
+use crate::spot::Spot;
+use atom_store::{Reply, Step, Turn};
+use heap_words::{Kind, Word};
+use record_layout::read;
+use space_map::{AreaWord, PAGE_WORDS, Spaces};
+use std::marker::Model;
+
+/// The number of words used of the board's page.
+const BOARD_WORDS: u32 = 16;
+
+/// The scan of a page in an epoch, by the worker that has claimed it.
+#[derive(Debug, Drop)]
+pub struct Scan {
+    spaces: Spaces,
+    page: u32,
+    epoch: u32,
+    in_place: bool,
+    stage: ScanStage,
+}
+
+impl Model for Scan {
+    ghost use Rattle.page_scan.specs.Scanning.{Scanning};
+    ghost use Rattle.page_scan.specs.Soundness.{IsSound};
+
+    ghost Value = { Scanning };
+
+    ghost view = { λ v. record { spaces = v.spaces; page = v.page; epoch = v.epoch; in_place = v.in_place; stage = v.stage } };
+
+    ghost invariant = { λ v. IsSound (record { spaces = v.spaces; page = v.page; epoch = v.epoch; in_place = v.in_place; stage = v.stage }) };
+}
+
+impl Scan {
+    /// The scan of a page, or of the board. In place says that the page was claimed as the filling page.
+    pub fn new(spaces: Spaces, page: u32, epoch: u32, in_place: bool) -> Scan
+        requires { page ≤ board_page spaces.pages }
+        ensures { result ≡ begun spaces page epoch in_place }
+    {
+        let _pages = spaces.pages();
+        let stage = if page == spaces.board_page() {
+            ScanStage::LoadsWord(Spot::OnBoard(spaces.first_word(page)))
+        } else {
+            ScanStage::LoadsCross
+        };
+        Scan {
+            spaces,
+            page,
+            epoch,
+            in_place,
+            stage,
+        }
+    }
+
+    /// The next step.
+    pub fn want(&self) -> Step
+        requires { HasStep self.now.stage }
+        ensures { wanted self.now ≡ Some result }
+    {
+        let spaces = self.spaces;
+        match self.stage {
+            ScanStage::LoadsCross => Step::Load(spaces.cross_place(self.page)),
+            ScanStage::LoadsFirst(at) => Step::Load(spaces.word_place(at)),
+            ScanStage::LoadsWord(spot) => Step::Load(spaces.word_place(address(spot))),
+            ScanStage::StoresCopy(asked, to) => {
+                Step::Store(spaces.word_place(address(asked.spot)), Word::pointer(to).0)
+            }
+            ScanStage::LoadsFront(_) => {
+                Step::Load(spaces.area_place(spaces.to_space(self.epoch)))
+            }
+            ScanStage::LoadsNext(r) => Step::Load(spaces.word_place(r.next)),
+            ScanStage::Asks(_) | ScanStage::Ended(_) => unreachable!(),
+        }
+    }
+
+    /// Takes the reply to it.
+    pub fn take(&mut self, reply: Reply) -> Turn<Scanned>
+        requires going { HasStep self.old.stage }
+        requires sound { IsSound (taken self.old reply) }
+        ensures state { self.new ≡ taken self.old reply }
+        ensures told { result ≡ told (taken self.old reply).stage }
+        ensures lowers { IsTrue (advances self.old.stage reply) → left self.new < left self.old }
+    {
+        match (self.stage, reply) {
+            (ScanStage::LoadsCross, Reply::Value(word)) => {
+                self.goes_to(ScanStage::LoadsFirst(word as u32))
+            }
+            (ScanStage::LoadsFirst(at), Reply::Value(word)) => {
+                self.reads_header(at, ScanStage::LoadsFirst(at), word)
+            }
+            (ScanStage::LoadsWord(spot), Reply::Value(word)) => self.reads_word(spot, word),
+            (ScanStage::StoresCopy(asked, _), Reply::Done) => self.passes(asked.spot),
+            (ScanStage::LoadsFront(r), Reply::Value(word)) => self.reads_area(r, word),
+            (ScanStage::LoadsNext(r), Reply::Value(word)) => {
+                self.reads_header(r.next, ScanStage::LoadsNext(r), word)
+            }
+            _ => Turn::More,
+        }
+    }
+
+    /// Takes the address of the copy that it asked for.
+    pub fn answer(&mut self, to: u32)
+        requires { IsAsking self.old.stage }
+        ensures { self.new ≡ answered self.old to }
+    {
+        match self.stage {
+            ScanStage::Asks(asked) => self.stage = ScanStage::StoresCopy(asked, to),
+            _ => unreachable!(),
+        }
+    }
+
+    fn goes_to(&mut self, stage: ScanStage) -> Turn<Scanned>
+        requires going { HasStep stage }
+        requires sound { IsSound (record self.old { stage = stage }) }
+        ensures state { self.new ≡ record self.old { stage = stage } }
+        ensures told { result ≡ Turn.More }
+    {
+        self.stage = stage;
+        Turn::More
+    }
+
+    fn asks(&mut self, asked: Asked) -> Turn<Scanned>
+        requires { IsSound (record self.old { stage = ScanStage.Asks asked }) }
+        ensures state { self.new ≡ record self.old { stage = ScanStage.Asks asked } }
+        ensures told { result ≡ told (ScanStage.Asks asked) }
+    {
+        self.stage = ScanStage::Asks(asked);
+        Turn::Finished(Scanned::Ask(asked.old))
+    }
+
+    fn ends(&mut self, ending: Ending) -> Turn<Scanned>
+        requires { IsSound (record self.old { stage = ScanStage.Ended ending }) }
+        ensures state { self.new ≡ record self.old { stage = ScanStage.Ended ending } }
+        ensures told { result ≡ told (ScanStage.Ended ending) }
+    {
+        self.stage = ScanStage::Ended(ending);
+        Turn::Finished(Scanned::Ended {
+            at_front: ending.at_front,
+        })
+    }
+
+    /// A pointer into the old space is asked about.
+    fn reads_word(&mut self, spot: Spot, word: u64) -> Turn<Scanned>
+        requires on_page { IsOnPage self.old.spaces.pages self.old.page spot }
+        requires sound { IsSound (record self.old { stage = by_word self.old.spaces self.old.page self.old.epoch self.old.in_place spot (decode word) }) }
+        ensures state { self.new ≡ record self.old { stage = by_word self.old.spaces self.old.page self.old.epoch self.old.in_place spot (decode word) } }
+        ensures told { result ≡ told (by_word self.old.spaces self.old.page self.old.epoch self.old.in_place spot (decode word)) }
+    {
+        let old_space = 1 - self.spaces.to_space(self.epoch);
+        match Word(word).as_pointer() {
+            Some(old) if self.spaces.in_space(old, old_space) => self.asks(Asked { spot, old }),
+            _ => self.passes(spot),
+        }
+    }
+
+    /// A header is entered. Another word can't be there, and is loaded again at the stage given.
+    fn reads_header(&mut self, at: u32, stage: ScanStage, word: u64) -> Turn<Scanned>
+        requires going { HasStep stage }
+        requires at { at < 2 ^ 19 }
+        requires sound { IsSound (record self.old { stage = by_header self.old.page self.old.in_place at stage (decode word) }) }
+        ensures state { self.new ≡ record self.old { stage = by_header self.old.page self.old.in_place at stage (decode word) } }
+        ensures told { result ≡ told (by_header self.old.page self.old.in_place at stage (decode word)) }
+    {
+        match read(word) {
+            Some(header) => self.enters(record_at(at, header.kind, header.len)),
+            None => self.goes_to(stage),
+        }
+    }
+
+    /// In place, the scan ends where the next record would be at FRONT.
+    fn reads_area(&mut self, r: ScannedRecord, word: u64) -> Turn<Scanned>
+        requires at { r.next < 2 ^ 20 }
+        requires sound { IsSound (record self.old { stage = by_area self.old.spaces self.old.epoch r (decode_area word) }) }
+        ensures state { self.new ≡ record self.old { stage = by_area self.old.spaces self.old.epoch r (decode_area word) } }
+        ensures told { result ≡ told (by_area self.old.spaces self.old.epoch r (decode_area word)) }
+    {
+        let _pages = self.spaces.pages();
+        let start = self.spaces.space_start(self.spaces.to_space(self.epoch));
+        match AreaWord::read(word) {
+            Some(area) if start + area.front == r.next => self.ends(Ending {
+                cursor: r.next,
+                at_front: true,
+            }),
+            Some(_) => self.goes_to(ScanStage::LoadsNext(r)),
+            None => self.goes_to(ScanStage::LoadsFront(r)),
+        }
+    }
+
+    /// The word at a spot is passed.
+    fn passes(&mut self, spot: Spot) -> Turn<Scanned>
+        requires on_page { IsOnPage self.old.spaces.pages self.old.page spot }
+        requires sound { IsSound (record self.old { stage = passes self.old.page self.old.in_place spot }) }
+        ensures state { self.new ≡ record self.old { stage = passes self.old.page self.old.in_place spot } }
+        ensures told { result ≡ told (passes self.old.page self.old.in_place spot) }
+    {
+        match spot {
+            Spot::OnBoard(x) => self.passes_on_board(x),
+            Spot::InRecord(r, x) => self.goes_on(r, x + 1),
+        }
+    }
+
+    fn passes_on_board(&mut self, x: u32) -> Turn<Scanned>
+        requires on_page { IsOnPage self.old.spaces.pages self.old.page (Spot.OnBoard x) }
+        requires sound { IsSound (record self.old { stage = passes self.old.page self.old.in_place (Spot.OnBoard x) }) }
+        ensures state { self.new ≡ record self.old { stage = passes self.old.page self.old.in_place (Spot.OnBoard x) } }
+        ensures told { result ≡ told (passes self.old.page self.old.in_place (Spot.OnBoard x)) }
+    {
+        let _pages = self.spaces.pages();
+        let end = self.spaces.first_word(self.page) + BOARD_WORDS;
+        let cursor = x + 1;
+        if cursor < end {
+            self.goes_to(ScanStage::LoadsWord(Spot::OnBoard(cursor)))
+        } else {
+            self.ends(Ending {
+                cursor,
+                at_front: false,
+            })
+        }
+    }
+
+    /// A record is entered at its first field on the page.
+    fn enters(&mut self, r: ScannedRecord) -> Turn<Scanned>
+        requires at { r.at < 2 ^ 19 }
+        requires sound { IsSound (record self.old { stage = enters self.old.page self.old.in_place r }) }
+        ensures state { self.new ≡ record self.old { stage = enters self.old.page self.old.in_place r } }
+        ensures told { result ≡ told (enters self.old.page self.old.in_place r) }
+    {
+        let _pages = self.spaces.pages();
+        let first = self.spaces.first_word(self.page);
+        self.goes_on(r, first.max(r.at + 1))
+    }
+
+    /// At a word of a record: a field on the page is loaded. Behind the fields the next record is, unless it begins behind the
+    /// page.
+    fn goes_on(&mut self, r: ScannedRecord, x: u32) -> Turn<Scanned>
+        requires sound { IsSound (record self.old { stage = goes_on self.old.page self.old.in_place r x }) }
+        ensures state { self.new ≡ record self.old { stage = goes_on self.old.page self.old.in_place r x } }
+        ensures told { result ≡ told (goes_on self.old.page self.old.in_place r x) }
+    {
+        let _pages = self.spaces.pages();
+        let end = self.spaces.first_word(self.page) + PAGE_WORDS;
+        let in_fields = x < r.fields_end;
+        let cursor = if in_fields { x } else { r.next };
+        if cursor >= end {
+            return self.ends(Ending {
+                cursor,
+                at_front: false,
+            });
+        }
+        if in_fields {
+            self.goes_to(ScanStage::LoadsWord(Spot::InRecord(r, x)))
+        } else if self.in_place {
+            self.goes_to(ScanStage::LoadsFront(r))
+        } else {
+            self.goes_to(ScanStage::LoadsNext(r))
+        }
+    }
+}
+
+fn record_at(at: u32, kind: Kind, len: u16) -> ScannedRecord
+    requires { at < 2 ^ 19 }
+    ensures { result ≡ record_at at kind len }
+{
+    let next = at + 1 + u32::from(len);
+    ScannedRecord {
+        at,
+        fields_end: match kind {
+            Kind::Fields => next,
+            Kind::Raw => at + 1,
+        },
+        next,
+    }
+}
+
+fn address(spot: Spot) -> u32
+    ensures { result ≡ address_of spot }
+{
+    match spot {
+        Spot::OnBoard(x) | Spot::InRecord(_, x) => x,
+    }
+}

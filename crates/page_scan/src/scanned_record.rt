@@ -1,0 +1,9 @@
+/// A record whose header the scan has read. All three are addresses.
+#[derive(Clone, Copy, Debug, PartialEq, Eq)]
+pub struct ScannedRecord {
+    pub at: u32,
+    /// The first word behind its fields: those are its words from the one after the header up to this.
+    pub fields_end: u32,
+    /// Where the next record begins.
+    pub next: u32,
+}

@@ -1,0 +1,9 @@
+use crate::scanned_record::ScannedRecord;
+
+/// The word at which a scan stands, by its address.
+#[derive(Clone, Copy, Debug, PartialEq, Eq)]
+pub enum Spot {
+    OnBoard(u32),
+    /// A field of a record.
+    InRecord(ScannedRecord, u32),
+}
