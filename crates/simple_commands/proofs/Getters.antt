@@ -12,7 +12,7 @@ use Rattle.clap.specs.Walk.{Text, rows_of}
 use Rattle.clap.specs.declared.parser.matches.Found.{Found}
 use Rattle.clap.proofs.WalkLemmas.{find_row}
 use Rattle.clap.proofs.CallerReads.{signed_reads}
-use Rattle.ael_cli.specs.Words.{came_in_words, is_command_line, number_in, was_given}
+use Rattle.simple_commands.specs.Readers.{came_in_words, is_command_line, number_in, was_given}
 
 pub given_is : (f : Found) (id : Text) → option_map_or is_command_line (option_and_then (λ a. a.source) (matched_of f id)) false ≡ was_given id (rows_of f)
 given_is f id = go (find (λ (e : Entry). bytes_eq e.0.now id) f.entries.items) ∙ ap (λ o. option_map_or came_in_words o false) (sym (find_row f.entries.items id))
