@@ -59,7 +59,6 @@ pub mod MutatorStores
 pub mod MutatorPlaces
 pub mod Effects
 pub mod ScanningRecords
-pub mod AgingEntries
 pub mod FlippingReset
 pub mod GatingCounts
 pub mod GatingWorker

@@ -16,4 +16,3 @@ pub mod Effects
 pub mod FlippingReset
 pub mod Gating
 pub mod Composing
-pub mod Aging

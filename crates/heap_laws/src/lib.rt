@@ -13,7 +13,6 @@ mod laws_gating;
 mod laws_lifting;
 mod laws_opening;
 mod laws_scanning;
-mod laws_standing;
 mod laws_tracing;
 
 pub use laws_allocating::{
@@ -32,16 +31,12 @@ pub use laws_fields::{
 };
 pub use laws_flipping::{epochs_are_flipped, flips_are_made_ready, registers_are_forwarded};
 pub use laws_gating::{epochs_are_taken, gates_are_passed, gates_fit, passages_are_made_ready};
-pub use laws_lifting::{
-    cycles_are_lifted, laws_are_lifted, standing_is_ready, steps_are_lifted, steps_are_seen,
-    steps_stand,
-};
+pub use laws_lifting::{standing_is_ready, steps_are_lifted};
 pub use laws_opening::opening_stands;
 pub use laws_scanning::{
     claims_are_made_ready, fields_are_scanned, pages_are_claimed, pages_are_opened,
     records_are_scanned,
 };
-pub use laws_standing::page_epochs_never_fall;
 pub use laws_tracing::{
     epochs_are_traced, rounds_are_begun, the_end_is_looked_at, traced_epochs_are_clean,
 };
