@@ -67,3 +67,4 @@ pub mod GatingScanner
 pub mod GatingPassages
 pub mod ForgettingLess
 pub mod Composing
+pub mod Composites

@@ -16,3 +16,4 @@ pub mod Effects
 pub mod FlippingReset
 pub mod Gating
 pub mod Composing
+pub mod Composites

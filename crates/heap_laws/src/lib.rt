@@ -18,7 +18,9 @@ mod laws_tracing;
 pub use laws_allocating::{
     mutators_place, stocks_are_claimed, stocks_are_opened, stocks_are_zeroed,
 };
-pub use laws_composing::{steps_follow, steps_forget};
+pub use laws_composing::{
+    knowledge_is_forgotten, registers_are_settled, rounds_are_ended, steps_follow, steps_forget,
+};
 pub use laws_copying::{
     announces_are_cleared, copies_are_published, copies_have_room, crossings_are_stored,
     forwards_are_found, headers_are_taken, knowledge_changes_alone, nothing_changes,
