@@ -1,19 +1,18 @@
 -- Atomic steps that are several changes of what a worker knows.
-use Rattle.std.proofs.Common.{◌≡◌, ◌≢◌, ℕ, zero, suc, ◌+◌, ◌-◌, ◌*◌, ◌<◌, ◌≤◌, true, false, Option, Some, None, is_some, refl, sym, ap, ◌∙◌, arith, ⊎_elim, ◌⊎◌, inl, inr, subst}
-use Rattle.std.proofs.lemmas.Bool.{cases_eq}
-use Rattle.heap_words.specs.Decoded.{PointerWord, decode}
+use Rattle.std.proofs.Common.{◌≡◌, ℕ, zero, suc, ◌+◌, ◌-◌, ◌<◌, ◌≤◌, true, Option, Some, None, is_some, refl, sym, ap, ◌∙◌, arith, ⊎_elim, subst}
+use Rattle.heap_words.specs.Decoded.{decode}
 use Rattle.heap_state.specs.Entries.{Entry, AnnounceIs}
 use Rattle.heap_state.specs.Era.{Era, Memory}
 use Rattle.heap_state.specs.Functions.{put}
-use Rattle.heap_state.specs.Ghost.{Ghost, Leads}
+use Rattle.heap_state.specs.Ghost.{Ghost}
 use Rattle.heap_state.specs.Worker.{Worker, Team, Register, Quest, is_late}
 use Rattle.heap_state.proofs.Puts.{put_same, put_other}
-use Rattle.heap_laws.specs.Composing.{IsAtMost, ends_round, unaware, RoundsAreForgotten, TracedIsForgotten}
+use Rattle.heap_laws.specs.Composing.{ends_round, RoundsAreForgotten, TracedIsForgotten}
 use Rattle.heap_laws.specs.Composites.{AsksAt, AllDone, AsksNext, LeadNowhere, come_to, RegistersArePassed, forwarded_to, RegistersFindForwards, RegistersAreSettled, LookingAtLastPageKeeps, ClaimsBegin, RoundsEnd}
-use Rattle.heap_laws.specs.Flipping.{HasRegister, HasFoundCopy, past_register, forwarded}
+use Rattle.heap_laws.specs.Flipping.{past_register, forwarded}
 use Rattle.heap_laws.specs.Scanning.{claiming, claim_of}
 use Rattle.heap_laws.specs.Steps.{Ready, Steps, with_worker}
-use Rattle.heap_laws.specs.Tracing.{IsLooking, looking}
+use Rattle.heap_laws.specs.Tracing.{looking}
 use Rattle.heap_laws.proofs.Composing.{steps_forget, steps_are_ready, steps_follow}
 use Rattle.heap_laws.proofs.CopyingSteps.{nothing_else_changes, forwards_are_found, announces_are_cleared}
 use Rattle.heap_laws.proofs.FlippingRegisters.{passes_register, asks_for_register, forwards_register}

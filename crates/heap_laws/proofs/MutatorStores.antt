@@ -11,14 +11,15 @@ use Rattle.heap_state.specs.Inductive.{Invariant}
 use Rattle.heap_state.specs.Values.{Accounts, Shown}
 use Rattle.heap_state.specs.Worker.{Worker, Team, Account, is_running}
 use Rattle.heap_state.proofs.Puts.{none≢some}
-use Rattle.heap_laws.specs.MutatorSteps.{GoesOn, with_mutator}
+use Rattle.heap_laws.specs.MutatorSteps.{GoesOn, with_mutator, GoesOnSo}
 use Rattle.heap_laws.specs.Steps.{with_word, with_worker, Makes, NoRow, InWord}
-use Rattle.heap_laws.specs.MutatorStores.{IsAs, MutatorsStep, MutatorsStore, MutatorsStoreOnBoard, MutatorsEnd, MutatorsFindNoRoom, with_end}
+use Rattle.heap_laws.specs.MutatorStores.{IsAs, MutatorsStep, MutatorsStore, MutatorsStoreOnBoard, MutatorsEnd, MutatorsFindNoRoom, with_end, MutatorsLearn}
 use Rattle.heap_laws.proofs.FieldCycle.{stores_keep_cycle, board_stores_keep_cycle}
 use Rattle.heap_laws.proofs.FieldShown.{stores_show, board_stores_show}
 use Rattle.heap_laws.proofs.FieldStore.{words_are_stored, board_is_stored}
 use Rattle.heap_laws.proofs.PlainHeaps.{stored_serial}
 use Rattle.heap_laws.proofs.MutatorSteps.{mutators_go_on, going_on_shows, going_on_keeps_cycle}
+use Rattle.heap_laws.proofs.Learning.{shown_put}
 
 -- a step that stores nothing, of a team of which a part was changed before
 pub goes_as : (E : Era) (m : Memory) (team : Team) (g : Ghost) (p : plain.Plain) (k : ℕ) (next : Worker) (q : plain.Mutator) → Invariant E m team g → k < team.count
@@ -33,6 +34,40 @@ goes_as E m team g p k next q inv member runs s goes same = record {
 
 pub mutators_step : MutatorsStep
 mutators_step E m team g p k next q ready runs s goes same = record { later = m; writes = NoRow; makes = goes_as E m team g p k next q ready.invariant ready.member runs s goes same }
+
+pub goes_on_so : GoesOnSo
+goes_on_so E m team g k account registers access opened ready serial accesses opens holds = record {
+  post = refl;
+  epoch = refl;
+  done = refl;
+  serial = serial;
+  quest = refl;
+  copy = refl;
+  scan = refl;
+  gate_step = refl;
+  stock = λ _ e. e;
+  round = λ _ e. e;
+  claim = λ _ e. e;
+  look = λ _ e. e;
+  last_look = λ _ e. e;
+  traced_seen = λ e. ((ready.invariant.workers k ready.member).seen_traced e).1;
+  reset = λ _ e. e;
+  access = accesses;
+  opened = opens;
+  registers = holds;
+}
+
+pub mutators_learn : MutatorsLearn
+mutators_learn E m team g k next ready runs goes account registers = record {
+  later = m;
+  writes = NoRow;
+  keeps = record {
+    invariant = mutators_go_on E m team g k next ready.invariant ready.member runs goes;
+    shown = λ p s. shown_put E m m team g k next p account registers refl s;
+    cycle = λ p cy. going_on_keeps_cycle E m team g p k next ready.invariant ready.member runs goes cy;
+    ages = λ page. omega arith;
+  };
+}
 
 -- a step in two halves
 pub both : {E : Era} {m n : Memory} {team mid after : Team} {g h : Ghost} {q : plain.Plain} → ((o : plain.Plain) → Cycle E m team g o → Cycle E n mid h o) → ((page : ℕ) → age_of (m.page page) ≤ age_of (n.page page))

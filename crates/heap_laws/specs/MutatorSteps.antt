@@ -1,13 +1,14 @@
 -- What a running mutator may hold, and how it goes on: with other registers, another account, or another access.
 use Rattle.plain_state.specs.declared.value.Value.{Value}
-use Rattle.std.specs.Prelude.{◌≡◌, ℕ, ◌+◌, ◌<◌, true, Some, None, slice_set}
+use Rattle.std.specs.Prelude.{◌≡◌, ℕ, ◌+◌, ◌<◌, true, Some, None, slice_set, Option}
 use Rattle.plain_state.specs.State as plain
 use Rattle.space_map.specs.declared.page_word.PageWord.TheVariants.{Open}
 use Rattle.heap_state.specs.Era.{Era, Memory}
 use Rattle.heap_state.specs.Ghost.{Ghost, Leads, Lands}
 use Rattle.heap_state.specs.Parts.Knowledge.{Accesses}
 use Rattle.heap_state.specs.Values.{value_of}
-use Rattle.heap_state.specs.Worker.{Worker, Stock, Access, Round, Claim, Look, LastLook, Reset}
+use Rattle.heap_state.specs.Worker.{Worker, Stock, Access, Round, Claim, Look, LastLook, Reset, Account, Team}
+use Rattle.heap_laws.specs.Steps.{Ready}
 
 -- a word that a mutator may hold: where it is a pointer, it leads to a record that stands, and not into the old space
 pub record MayHold (E : Era) (size writer : ℕ → ℕ) (w : ℕ) : Type 0 where
@@ -41,6 +42,18 @@ pub record GoesOn (E : Era) (m : Memory) (g : Ghost) (w next : Worker) : Type 0 
   pub access : (f : Access) → next.access ≡ Some f → Accesses E g.size g.writer g.kind f
   pub opened : (p : ℕ) → next.opened ≡ Some p → m.page p ≡ Open E.epoch
   pub registers : next.account.end ≡ None → (j : ℕ) → j < 8 → MayHold E g.size g.writer (next.registers j)
+
+-- Worker w with another account, other registers, another access and another page found open. It knows the rest that it knew.
+abbrev pub going_on : Worker → Account → (ℕ → ℕ) → Option Access → Option ℕ → Worker
+going_on w account registers access opened = record w { account = account; registers = registers; access = access; opened = opened; gate_step = None }
+
+-- what it becomes so goes on, if what it then knows is so
+abbrev pub GoesOnSo : Type 0
+GoesOnSo = (E : Era) (m : Memory) (team : Team) (g : Ghost) (k : ℕ) (account : Account) (registers : ℕ → ℕ) (access : Option Access) (opened : Option ℕ) → Ready E m team g k
+    → account.serial ≡ (team.worker k).account.serial
+    → ((f : Access) → access ≡ Some f → Accesses E g.size g.writer g.kind f) → ((p : ℕ) → opened ≡ Some p → m.page p ≡ Open E.epoch)
+    → (account.end ≡ None → (j : ℕ) → j < 8 → MayHold E g.size g.writer (registers j))
+    → GoesOn E m g (team.worker k) (going_on (team.worker k) account registers access opened)
 
 -- the plain state in which mutator k is this one
 abbrev pub with_mutator : plain.Plain → ℕ → plain.Mutator → plain.Plain

@@ -22,7 +22,7 @@ use Rattle.heap_laws.specs.Allocating.{HasRoom}
 use Rattle.heap_laws.specs.Fields.{IsWordOf, MayStore, StandsFor}
 use Rattle.heap_laws.specs.MutatorSteps.{with_mutator, HoldsValue, GoesOn}
 use Rattle.heap_laws.specs.Placing.{PlacesNext, born, next_identity}
-use Rattle.heap_laws.specs.Steps.{Ready, IsAreaNow, StepsTo}
+use Rattle.heap_laws.specs.Steps.{Ready, IsAreaNow, StepsTo, Steps}
 
 -- the worker has what the plain mutator has, with this plain heap
 pub record IsAs (g : Ghost) (heap : plain.Heap) (k : ℕ) (w : Worker) (q : plain.Mutator) : Type 0 where
@@ -30,6 +30,12 @@ pub record IsAs (g : Ghost) (heap : plain.Heap) (k : ℕ) (w : Worker) (q : plai
   pub registers : RegistersShow (value_of g.identity) w.registers q
 
 -- ---- the steps
+
+-- a running mutator learns something, and its account and registers stay: a load that is no step of the plain machine
+abbrev pub MutatorsLearn : Type 0
+MutatorsLearn = (E : Era) (m : Memory) (team : Team) (g : Ghost) (k : ℕ) (next : Worker) → Ready E m team g k
+    → is_running (team.worker k).post ≡ true → GoesOn E m g (team.worker k) next → next.account ≡ (team.worker k).account → next.registers ≡ (team.worker k).registers
+    → Steps E m team g k None next g
 
 -- nothing is stored: mutator k of the plain state is the next one
 abbrev pub MutatorsStep : Type 0

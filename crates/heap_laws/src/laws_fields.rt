@@ -2,7 +2,8 @@
 
 ghost use Rattle.heap_laws.specs.Effects.{RunnersAreShown, RegistersHold, HeadersSay, AccessesAreValues, BoardWordsAreValues};
 ghost use Rattle.heap_laws.specs.Fields.{AccessesAreAllowed, WordsAreLoaded, BoardIsLoaded, HeadersAreRead, RegistersAreHeld, NumbersAreHeld};
-ghost use Rattle.heap_laws.specs.MutatorStores.{MutatorsStep, MutatorsStore, MutatorsStoreOnBoard, MutatorsEnd, MutatorsFindNoRoom};
+ghost use Rattle.heap_laws.specs.MutatorSteps.{GoesOnSo};
+ghost use Rattle.heap_laws.specs.MutatorStores.{MutatorsLearn, MutatorsStep, MutatorsStore, MutatorsStoreOnBoard, MutatorsEnd, MutatorsFindNoRoom};
 
 /// What a mutator loads leads into the epoch's space, to a record that nobody writes, and it may hold it in a register. Where
 /// a register leads, a record's own header stands, and an access to one of its words is what a load or store needs.
@@ -22,6 +23,12 @@ pub fn mutators_are_shown()
     ensures headers { HeadersSay }
     ensures accesses { AccessesAreValues }
     ensures board { BoardWordsAreValues }
+{}
+
+/// A running mutator learns something, and the plain mutator makes no step; and what it may so become goes on.
+pub fn mutators_learn()
+    ensures learns { MutatorsLearn }
+    ensures goes_on { GoesOnSo }
 {}
 
 /// A step of a running mutator that stores nothing: the plain mutator makes it too.
