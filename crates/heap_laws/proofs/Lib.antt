@@ -14,9 +14,10 @@ pub mod CopyingGrowth
 pub mod CopyingRoom
 pub mod CopyingReserve
 pub mod CopyingReserved
+pub mod Rows
+pub mod CopyingSteps
 pub mod LiftingSteps
 pub mod LiftingRows
-pub mod LiftingCopies
 pub mod Learning
 pub mod ScanningWho
 pub mod ScanningFrames
@@ -65,4 +66,4 @@ pub mod GatingTeam
 pub mod GatingScanner
 pub mod GatingPassages
 pub mod ForgettingLess
-pub mod ScanningLifted
+pub mod Composing

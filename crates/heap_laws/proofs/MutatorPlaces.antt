@@ -12,7 +12,7 @@ use Rattle.heap_state.specs.Era.{Era, Memory}
 use Rattle.heap_state.specs.Ghost.{Ghost}
 use Rattle.heap_state.specs.Values.{Shown, Shows, value_of}
 use Rattle.heap_state.specs.Worker.{Worker, Team, Stock}
-use Rattle.heap_state.proofs.Puts.{put_at, put_other, put_same}
+use Rattle.heap_state.proofs.Puts.{put_at, put_other, put_same, put_twice}
 use Rattle.heap_laws.specs.MutatorSteps.{MayHold, GoesOn}
 use Rattle.heap_laws.specs.MutatorStores.{IsAs, MutatorsPlace, with_record, with_reference}
 use Rattle.heap_laws.specs.Placing.{PlacesNext, IsPlaced, born, next_identity, placed}
@@ -23,7 +23,7 @@ use Rattle.heap_laws.proofs.BirthParts.{Cradle, lands_on, unused}
 use Rattle.heap_laws.proofs.BirthShown.{placing_shows, within as maker_there}
 use Rattle.heap_laws.proofs.BirthValues.{value_born}
 use Rattle.heap_laws.proofs.BirthWorkers.{accesses_born}
-use Rattle.heap_laws.proofs.MutatorStores.{both, put_twice, mutators_step}
+use Rattle.heap_laws.proofs.MutatorStores.{both, mutators_step}
 use Rattle.heap_laws.proofs.PlainGains.{gained_serial}
 use Rattle.plain_state.proofs.Lists.{slice_get-set_same, slice_get-set_other}
 

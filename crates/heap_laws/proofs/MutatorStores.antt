@@ -1,18 +1,15 @@
 -- A mutator's store and its going on are one step.
-use Rattle.std.proofs.Common.{◌≡◌, ◌≢◌, ℕ, ◌+◌, ◌≤◌, Some, refl, sym, ◌∙◌, arith, ⊎_elim}
-use Rattle.std.proofs.Math.Path.{fun_ext}
-use Rattle.std.proofs.lemmas.Bool.{cases_eq}
+use Rattle.std.proofs.Common.{◌≡◌, ℕ, ◌+◌, ◌≤◌, Some, refl, sym, ◌∙◌, arith}
 use Rattle.plain_state.specs.Layout.{word_of}
 use Rattle.plain_state.specs.State as plain
 use Rattle.plain_state.specs.declared.end.End.TheVariants.{HeapFull}
 use Rattle.space_map.specs.PageWord.{age_of}
 use Rattle.heap_state.specs.Cycle.{Cycle}
 use Rattle.heap_state.specs.Era.{Era, Memory}
-use Rattle.heap_state.specs.Functions.{put}
 use Rattle.heap_state.specs.Ghost.{Ghost}
 use Rattle.heap_state.specs.Values.{Accounts}
 use Rattle.heap_state.specs.Worker.{Worker, Team, Account}
-use Rattle.heap_state.proofs.Puts.{put_at, put_other, none≢some}
+use Rattle.heap_state.proofs.Puts.{none≢some}
 use Rattle.heap_laws.specs.MutatorSteps.{GoesOn}
 use Rattle.heap_laws.specs.Steps.{with_word, Makes}
 use Rattle.heap_laws.specs.MutatorStores.{MutatorsStep, MutatorsStore, MutatorsStoreOnBoard, MutatorsEnd, MutatorsFindNoRoom, with_end}
@@ -57,13 +54,6 @@ mutators_store_on_board E m team g p k next q x v y ready runs s l opens may den
     both (λ o cy. board_stores_keep_cycle E m team g o x v ready.laid_out ready.invariant l opens may cy) (λ page. omega arith)
     (mutators_step E _ team g _ k next q (record { laid_out = ready.laid_out; at_gate = ready.at_gate; invariant = inv; member = ready.member }) runs (board_stores_show E m team g p x v y ready.laid_out ready.invariant l denotes s)
     (goes_on (E.board + x) v goes) (record { account = accounts_in refl same.account; registers = same.registers }))
-
--- what is put twice at a place is what was put there last
-pub put_twice : {X : Type 0} (f : ℕ → X) (k : ℕ) (a b : X) → put (put f k a) k b ≡ put f k b
-put_twice f k a b = fun_ext (λ j. ⊎_elim
-    (λ (e : j ≡ k). rw (put_at (put f k a) k b j e, put_at f k b j e) refl)
-    (λ (d : j ≢ k). rw (put_other (put f k a) k b j d, put_other f k b j d, put_other f k a j d) refl)
-    (cases_eq j k))
 
 -- ---- ends
 

@@ -20,14 +20,15 @@ use Rattle.heap_laws.specs.ScanningWords.{scanning, in_record, IsScanning, Readi
 use Rattle.heap_laws.specs.Steps.{with_worker}
 use Rattle.heap_laws.proofs.FieldSlot.{here_field}
 use Rattle.heap_laws.proofs.ScanningOn.{past, goes_on, no_copy}
+use Rattle.heap_laws.proofs.Learning.{learnt}
 
 -- two headers that a word decodes to are one
 header_same : {k l : HeaderKind} {a b s t i j : ℕ} (w : ℕ) → decode w ≡ HeaderWord k a s i → decode w ≡ HeaderWord l b t j → (k ≡ l) × (a ≡ b)
 header_same w e f = let q = sym e ∙ f in (cc, cc)
 
-module _ (E : Era) (m : Memory) (team : Team) (g : Ghost) (k : ℕ) (s : Scan) (out : IsLaidOut E) (inv : Invariant E m team g) (is : IsScanning team k s) (no_board : s.page ≢ E.board / 64) where
+module _ (E : Era) (m : Memory) (team : Team) (g : Ghost) (k : ℕ) (s : Scan) (out : IsLaidOut E) (inv : Invariant E m team g) (below : k < team.count) (is : IsScanning team k s) (no_board : s.page ≢ E.board / 64) where
   me : Knows E m.gate m.traced m.front m.low m.old_front m.old_low m.old_owed g m.page m.cross m.announced m.heap k (team.worker k)
-  me = inv.workers k is.below
+  me = inv.workers k below
 
   mine : Scans E m.front g.size g.writer g.kind m.heap m.page k s
   mine = me.scan s is.scans
@@ -45,7 +46,7 @@ module _ (E : Era) (m : Memory) (team : Team) (g : Ghost) (k : ℕ) (s : Scan) (
   below_front = ⊎_elim (λ b. absurd (no_board b)) (λ y. y) mine.cursor
 
   idle : (c : Copy) → (team.worker k).copy ≡ Some c → ⊥
-  idle = no_copy E m team g k inv is.below is.asks_nothing
+  idle = no_copy E m team g k inv below is.asks_nothing
 
   -- nobody writes a record with a word on the page
   written : (b x : ℕ) → 0 < g.size b → b ≤ x → x < b + g.size b → x / 64 ≡ s.page → g.writer b ≡ 0
@@ -75,7 +76,7 @@ module _ (E : Era) (m : Memory) (team : Team) (g : Ghost) (k : ℕ) (s : Scan) (
       rw c (o.1, w, o.2, o.3)
 
   pub crosses : Keeps E m m team (with_worker team k (scanning (team.worker k) (record s { over = Some (m.cross s.page) }))) g
-  crosses = goes_on E m team g k s inv is.below is.scans idle (record s { over = Some (m.cross s.page) }) (record {
+  crosses = goes_on E m team g k s inv below is.scans idle (record s { over = Some (m.cross s.page) }) (record {
     page = refl;
     clean = λ x u e l n. absurd (omega (arith, l, n));
     top = mine.cursor;
@@ -111,7 +112,7 @@ module _ (E : Era) (m : Memory) (team : Team) (g : Ghost) (k : ℕ) (s : Scan) (
       let h = header a len serial mutator head st w l n e in
       let seen : Seen = record { at = a; size = len + 1; kind = kind_at head a } in
       let y = goes_on_within seen s.cursor (omega arith) (omega (arith, h.1, d)) in
-      goes_on E m team g k s inv is.below is.scans idle (in_record E s seen) (record {
+      goes_on E m team g k s inv below is.scans idle (in_record E s seen) (record {
         page = refl;
         clean = λ x u p f o. absurd (no_field x u (omega (arith, c, f)) f (omega (arith, y.2, o)) o h.0 h.1);
         top = inr (omega (arith, y.2, h.1, n));
@@ -169,7 +170,7 @@ module _ (E : Era) (m : Memory) (team : Team) (g : Ghost) (k : ℕ) (s : Scan) (
       (cases_eq s.cursor m.front)
     where
       at_front : s.cursor ≡ m.front → Keeps E m m team (with_worker team k (scanning (team.worker k) (record s { ended = true }))) g
-      at_front e = goes_on E m team g k s inv is.below is.scans idle (record s { ended = true }) (record {
+      at_front e = goes_on E m team g k s inv below is.scans idle (record s { ended = true }) (record {
         page = refl;
         clean = λ x u p l n. absurd (omega (arith, l, n));
         top = mine.cursor;
@@ -177,7 +178,7 @@ module _ (E : Era) (m : Memory) (team : Team) (g : Ghost) (k : ℕ) (s : Scan) (
       })
 
       before : s.cursor ≢ m.front → Keeps E m m team (with_worker team k (scanning (team.worker k) (record s { inner = true }))) g
-      before n = goes_on E m team g k s inv is.below is.scans idle (record s { inner = true }) (record {
+      before n = goes_on E m team g k s inv below is.scans idle (record s { inner = true }) (record {
         page = refl;
         clean = λ x u p l o. absurd (omega (arith, l, o));
         top = mine.cursor;
@@ -185,13 +186,14 @@ module _ (E : Era) (m : Memory) (team : Team) (g : Ghost) (k : ℕ) (s : Scan) (
       })
 
 pub reads_crossing : ReadingCrossingKeeps
-reads_crossing = crosses
+reads_crossing E m team g k s ready is n = learnt (crosses E m team g k s ready.laid_out ready.invariant ready.member is n)
 
 pub reads_first_header : ReadingFirstHeaderKeeps
-reads_first_header E m team g k s a len serial mutator kind out inv is n over cursor says = enters_first E m team g k s out inv is n a len serial mutator kind over cursor says
+reads_first_header E m team g k s a len serial mutator head ready is n over cursor says = learnt (enters_first E m team g k s ready.laid_out ready.invariant ready.member is n a len serial mutator head over cursor says)
 
 pub reads_front : ReadingFrontKeeps
-reads_front = sees_front
+reads_front E m team g k s ready is n = learnt (sees_front E m team g k s ready.laid_out ready.invariant ready.member is n)
 
 pub reads_next_header : ReadingNextHeaderKeeps
-reads_next_header E m team g k s r len serial mutator kind out inv is n current cursor page inner says = enters_next E m team g k s out inv is n r len serial mutator kind current cursor page inner says
+reads_next_header E m team g k s r len serial mutator head ready is n current cursor page inner says =
+    learnt (enters_next E m team g k s ready.laid_out ready.invariant ready.member is n r len serial mutator head current cursor page inner says)

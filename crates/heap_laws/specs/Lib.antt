@@ -1,7 +1,6 @@
 pub mod Steps
 pub mod Copying
 pub mod Lifting
-pub mod CopyingStands
 pub mod Keeping
 pub mod Scanning
 pub mod ScanningWords
@@ -16,6 +15,5 @@ pub mod MutatorStores
 pub mod MutatorsStand
 pub mod FlippingReset
 pub mod Gating
-pub mod Forgetting
-pub mod ScanningStands
+pub mod Composing
 pub mod Aging

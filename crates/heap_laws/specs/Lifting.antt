@@ -3,16 +3,19 @@ use Rattle.std.specs.Prelude.{◌≡◌, ℕ, ◌<◌, ⊤, List, length, Option
 use Rattle.plain_state.specs.State.{Plain}
 use Rattle.space_map.specs.Table.{place_of}
 use Rattle.space_map.specs.PageWord.{age_of}
+use Rattle.space_map.specs.declared.gate_word.GateWord.{GateWord}
+use Rattle.space_map.specs.GateWord.{GateFits}
 use Rattle.heap_state.specs.Configuration.{Configuration, Stands, table, era, memory, team}
 use Rattle.heap_state.specs.Cycle.{Cycle}
-use Rattle.heap_state.specs.Entries.{Entry, row_of, word_of, EntryFits, with_entry}
+use Rattle.heap_state.specs.Entries.{Entry, row_of, word_of, EntryFits, with_entry, GateIs}
 use Rattle.heap_state.specs.Era.{era_of, memory_of}
 use Rattle.heap_state.specs.Ghost.{Ghost}
 use Rattle.heap_state.specs.Inductive.{Invariant}
 use Rattle.heap_state.specs.Table.{Table, IsFormed}
 use Rattle.heap_state.specs.Values.{Shown}
-use Rattle.heap_state.specs.Worker.{Worker, Team}
+use Rattle.heap_state.specs.Worker.{Worker, Team, Reset}
 use Rattle.heap_laws.specs.Steps.{Ready, with_worker, Preserves, Steps, StepsTo}
+use Rattle.heap_laws.specs.Flipping.{Flips, flipped_gate, after_flip, next_ghost}
 
 -- ---- one step
 
@@ -100,3 +103,15 @@ StepsAreLifted = (c : Configuration) (p : Plain) (s : Stands c p) (e : Option En
 abbrev pub PlainStepsAreLifted : Type 0
 PlainStepsAreLifted = (c : Configuration) (p q : Plain) (s : Stands c p) (e : Option Entry) (k : ℕ) (w : Worker) (h : Ghost) → k < length c.workers
     → StepsTo (era c) (memory c) (team c) s.ghost k e w h q → Leaves c e k w q s.ghost h
+
+-- The flip leaves a configuration that stands for the same plain state, of which a cycle begins. The gate's word fits, and no page
+-- word changed.
+pub record Flipped (c : Configuration) (gate : GateWord) (k : ℕ) (w : Worker) (p : Plain) (h : Ghost) : Type 0 where
+  pub fits : GateFits gate
+  pub standing : StandsWith (stepped c (Some (GateIs gate)) k w) p h
+  pub begins : Cycle (era (stepped c (Some (GateIs gate)) k w)) (memory (stepped c (Some (GateIs gate)) k w)) (team (stepped c (Some (GateIs gate)) k w)) h p
+  pub pages : (table (stepped c (Some (GateIs gate)) k w)).page ≡ (table c).page
+
+abbrev pub FlipsAreLifted : Type 0
+FlipsAreLifted = (c : Configuration) (p : Plain) (s : Stands c p) (k : ℕ) (r : Reset) → k < length c.workers → Flips (era c) (team c) k r
+    → Flipped c (flipped_gate r.read) k (after_flip ((team c).worker k)) p (next_ghost (era c) s.ghost)

@@ -1,7 +1,6 @@
 //! From the laws to configurations. Each function here does nothing: its contract is what is proved.
 
-ghost use Rattle.heap_laws.specs.CopyingStands.{CopiesStand};
-ghost use Rattle.heap_laws.specs.Lifting.{StepsAreSeen, StandingIsReady, StepsStand, LawsAreLifted, CyclesAreLifted, StepsAreLifted, PlainStepsAreLifted};
+ghost use Rattle.heap_laws.specs.Lifting.{StepsAreSeen, StandingIsReady, StepsStand, LawsAreLifted, CyclesAreLifted, StepsAreLifted, PlainStepsAreLifted, FlipsAreLifted};
 
 /// A row that is written and a worker that becomes another are seen in what the configuration says.
 pub fn steps_are_seen()
@@ -23,11 +22,6 @@ pub fn laws_are_lifted()
     ensures { LawsAreLifted }
 {}
 
-/// Each step of a copy leaves a configuration that stands as before, and writes a row that the table has.
-pub fn copies_stand()
-    ensures { CopiesStand }
-{}
-
 /// What a cycle keeps of the table and the team after a step it keeps of the configuration.
 pub fn cycles_are_lifted()
     ensures { CyclesAreLifted }
@@ -37,4 +31,5 @@ pub fn cycles_are_lifted()
 pub fn steps_are_lifted()
     ensures kept { StepsAreLifted }
     ensures plain { PlainStepsAreLifted }
+    ensures flips { FlipsAreLifted }
 {}

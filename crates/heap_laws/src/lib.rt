@@ -5,6 +5,7 @@
 #![tactic(auto)]
 
 mod laws_allocating;
+mod laws_composing;
 mod laws_copying;
 mod laws_fields;
 mod laws_flipping;
@@ -19,6 +20,7 @@ pub use laws_allocating::{
     mutators_place, records_are_placed, stocks_are_claimed, stocks_are_opened, stocks_are_zeroed,
     stocks_stand,
 };
+pub use laws_composing::{steps_follow, steps_forget};
 pub use laws_copying::{
     announces_are_cleared, copies_are_published, copies_have_room, crossings_are_stored,
     forwards_are_found, headers_are_taken, knowledge_changes_alone, nothing_changes,
@@ -32,7 +34,7 @@ pub use laws_fields::{
 pub use laws_flipping::{epochs_are_flipped, flips_are_made_ready, registers_are_forwarded};
 pub use laws_gating::{epochs_are_taken, gates_are_passed, gates_fit, passages_are_made_ready};
 pub use laws_lifting::{
-    copies_stand, cycles_are_lifted, laws_are_lifted, standing_is_ready, steps_are_seen,
+    cycles_are_lifted, laws_are_lifted, standing_is_ready, steps_are_lifted, steps_are_seen,
     steps_stand,
 };
 pub use laws_opening::opening_stands;
@@ -40,7 +42,7 @@ pub use laws_scanning::{
     claims_are_made_ready, fields_are_scanned, pages_are_claimed, pages_are_opened,
     records_are_scanned,
 };
-pub use laws_standing::{page_epochs_never_fall, scans_stand};
+pub use laws_standing::page_epochs_never_fall;
 pub use laws_tracing::{
     epochs_are_traced, rounds_are_begun, the_end_is_looked_at, traced_epochs_are_clean,
 };
