@@ -5,6 +5,7 @@ use Rattle.std.proofs.lemmas.Bool.{cases_eq}
 use Rattle.std.proofs.lemmas.List.{length-replicate, get_or-set_same, get_or-set_other, set-get_or}
 use Rattle.std.proofs.lemmas.List.Elements.{All-nil, All-replicate}
 use Rattle.plain_state.specs.declared.end.End.{End}
+use Rattle.plain_state.specs.declared.sizes.TheConstants.{BOARD_WORDS}
 use Rattle.plain_state.specs.declared.value.Value.TheVariants.{Number}
 use Rattle.plain_state.specs.State.{Record, Mutator, Plain, made_by}
 use Rattle.mutator_asm.specs.declared.instr.Instr.{Instr}
@@ -112,7 +113,7 @@ module _ (code : List (List Instr)) (s : Plain) (apart : IsApart code s) where
 
 module _ (code : List (List Instr)) where
   abbrev begun : Plain
-  begun = record { heap = record { records = replicate (length code) []; board = replicate 16 (Number 0) }; mutators = replicate (length code) fresh }
+  begun = record { heap = record { records = replicate (length code) []; board = replicate BOARD_WORDS (Number 0) }; mutators = replicate (length code) fresh }
 
   begun-own : (m : ℕ) → IsOwn m (made_by begun.heap m) (mutator_of begun m)
   begun-own m =

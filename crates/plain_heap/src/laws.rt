@@ -1,6 +1,6 @@
 //! What holds of all runs. Each function here does nothing: its contract is what is proved.
 
-ghost use Rattle.plain_heap.specs.Order.{StoryIsPlain, StoryHasLastFlip};
+ghost use Rattle.plain_heap.specs.Order.{StoryIsPlain, StoryHasOpening, StoryHasLastFlip};
 ghost use Rattle.plain_heap.specs.Solo.{AlwaysTheSame, EndsAlone};
 
 /// In a program without `get`, `put` and `swap`, whatever the order, each mutator has printed the
@@ -11,8 +11,10 @@ pub fn alone_mutators_are_independent()
     ensures ends { EndsAlone }
 {}
 
-/// A story of a run has beside the state that the run comes to the one in which its last flip came.
+/// A story of a run has beside the state that the run comes to the one in which its last flip came,
+/// or the opening where none came.
 pub fn stories_keep_the_last_flip()
     ensures now { StoryIsPlain }
-    ensures flip { StoryHasLastFlip }
+    ensures no_flip { StoryHasOpening }
+    ensures last_flip { StoryHasLastFlip }
 {}
