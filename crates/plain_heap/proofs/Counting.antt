@@ -31,7 +31,7 @@ pub record Went (k l : Mutator) : Type 0 where
   pub executed : l.executed ≡ k.executed + 1
   pub going : l.end ≡ k.end
 
-if_ok-bind : {A : Type 0} (P : After → Type 0) (o : Result A End) (f : A → Result After End) → ((a : A) → IfOk (f a) P) → IfOk (o >>= f) P
+pub if_ok-bind : {A : Type 0} (P : After → Type 0) (o : Result A End) (f : A → Result After End) → ((a : A) → IfOk (f a) P) → IfOk (o >>= f) P
 if_ok-bind P (Ok a) f next = next a
 if_ok-bind P (Err why) f next = tt
 

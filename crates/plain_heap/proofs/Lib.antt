@@ -9,3 +9,5 @@ pub mod Moving
 pub mod Ordering
 mod Examples
 pub mod Stories
+pub mod Consistency
+pub mod Reached

@@ -5,3 +5,4 @@ pub mod Memory
 pub mod Order
 pub mod Print
 pub mod Solo
+pub mod Consistent

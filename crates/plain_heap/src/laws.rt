@@ -1,5 +1,6 @@
 //! What holds of all runs. Each function here does nothing: its contract is what is proved.
 
+ghost use Rattle.plain_heap.specs.Consistent.{OpensConsistent, MarksKeepConsistent, RunsStayConsistent};
 ghost use Rattle.plain_heap.specs.Order.{StoryIsPlain, StoryHasOpening, StoryHasLastFlip};
 ghost use Rattle.plain_heap.specs.Solo.{AlwaysTheSame, EndsAlone};
 
@@ -17,4 +18,12 @@ pub fn stories_keep_the_last_flip()
     ensures now { StoryIsPlain }
     ensures no_flip { StoryHasOpening }
     ensures last_flip { StoryHasLastFlip }
+{}
+
+/// Whatever the order, in each state that a program comes to the board and the registers are all
+/// there, numbers are numbers of the language, and references lead to records that were allocated.
+pub fn reached_states_are_consistent()
+    ensures opening { OpensConsistent }
+    ensures marks { MarksKeepConsistent }
+    ensures runs { RunsStayConsistent }
 {}
