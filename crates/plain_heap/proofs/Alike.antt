@@ -18,7 +18,7 @@ use Rattle.mutator_asm.specs.declared.instr.Instr.{Instr}
 use Rattle.mutator_asm.specs.declared.instr.Instr.TheVariants as instrs
 use Rattle.mutator_asm.specs.declared.operand.Operand.{Operand}
 use Rattle.plain_heap.specs.Call.{After, ◌>>=◌, register, number_in, reference_in, operand, value_in, values_of, may_hold, store_in, length_of, zeros, next_of, jumped, went_on, set_register, loads, allocated, prints, computes, allocates, call, is_zero, is_reference, are_same}
-use Rattle.plain_heap.specs.Solo.{leaves_board}
+use Rattle.plain_heap.specs.Alone.{leaves_board}
 use Rattle.plain_heap.proofs.Owning.{IsOf, IsOwn, register-own, word-own, held-own, loads-own, jumps-own, stores-own, gains-own}
 
 -- two outcomes with the same end, or both with none

@@ -3,7 +3,7 @@ pub mod Stepping
 pub mod Owning
 pub mod Alike
 pub mod Counting
-pub mod Lone
+pub mod Alone
 pub mod Apart
 pub mod Moving
 pub mod Ordering

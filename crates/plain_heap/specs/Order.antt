@@ -42,7 +42,7 @@ abbrev pub state_after : List (List Instr) → ℕ → Plain → List Mark → P
 state_after code turns s [] = s
 state_after code turns s (mark ∷ marks) = state_after code turns (marked code turns s mark) marks
 
--- the plain machine executing a program in an order, each mutator making at most so many turns
+-- the plain machine executing a program in an order, each mutator at most so many instructions
 abbrev pub plain : List (List Instr) → ℕ → List Mark → Plain
 plain code turns order = state_after code turns (opening code) order
 

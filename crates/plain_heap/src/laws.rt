@@ -2,7 +2,7 @@
 
 ghost use Rattle.plain_heap.specs.Consistent.{OpensConsistent, MarksKeepConsistent, RunsStayConsistent};
 ghost use Rattle.plain_heap.specs.Order.{StoryIsPlain, StoryHasOpening, StoryHasLastFlip};
-ghost use Rattle.plain_heap.specs.Solo.{AlwaysTheSame, EndsAlone};
+ghost use Rattle.plain_heap.specs.Alone.{AlwaysTheSame, EndsAlone};
 
 /// In a program without `get`, `put` and `swap`, whatever the order, each mutator has printed the
 /// first of the numbers that it prints alone, and all of them where it has its end and that isn't

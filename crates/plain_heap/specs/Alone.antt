@@ -19,17 +19,17 @@ leaves_board (instrs.Swap d x) = false
 leaves_board _ = true
 
 -- no instruction of the program names the board, which is all that mutators share
-abbrev pub is_alone : List (List Instr) → Bool
-is_alone code = list_all (list_all leaves_board) code
+abbrev pub shares_nothing : List (List Instr) → Bool
+shares_nothing code = list_all (list_all leaves_board) code
 
--- The plain run of mutator m alone to its end: each step makes an instruction or is the end, and
+-- The plain run of mutator m alone to its end: each step executes an instruction or is the end, and
 -- after so many turns the end is that the turns are out.
-abbrev pub solo : List (List Instr) → ℕ → ℕ → Plain
-solo code turns m = plain code turns (replicate (turns + 1) (Step m))
+abbrev pub run_alone : List (List Instr) → ℕ → ℕ → Plain
+run_alone code turns m = plain code turns (replicate (turns + 1) (Step m))
 
 -- a mutator that is run alone has its end
 abbrev pub EndsAlone : Type 0
-EndsAlone = (code : List (List Instr)) (turns m : ℕ) (alone : Mutator) → slice_get (solo code turns m).mutators m ≡ Some alone → IsTrue (is_some alone.end)
+EndsAlone = (code : List (List Instr)) (turns m : ℕ) (alone : Mutator) → slice_get (run_alone code turns m).mutators m ≡ Some alone → IsTrue (is_some alone.end)
 
 -- the end is that the heap is full
 abbrev pub is_full : End → Bool
@@ -40,11 +40,11 @@ is_full _ = false
 -- those; and where it has an end, and that isn't that the heap is full, the two are the same.
 pub record IsAsAlone (code : List (List Instr)) (turns m : ℕ) (k : Mutator) : Type 0 where
   pub alone : Mutator
-  pub run_alone : slice_get (solo code turns m).mutators m ≡ Some alone
+  pub reached : slice_get (run_alone code turns m).mutators m ≡ Some alone
   pub numbers : StartsWith alone.printed k.printed
   pub whole : (why : End) → k.end ≡ Some why → is_full why ≡ false → k ≡ alone
 
 -- in a program whose mutators share nothing, whatever the order, each of them is as far as it came alone
 abbrev pub AlwaysTheSame : Type 0
-AlwaysTheSame = (code : List (List Instr)) (turns : ℕ) (order : List Mark) (m : ℕ) (k : Mutator) → IsTrue (is_alone code)
+AlwaysTheSame = (code : List (List Instr)) (turns : ℕ) (order : List Mark) (m : ℕ) (k : Mutator) → IsTrue (shares_nothing code)
     → slice_get (plain code turns order).mutators m ≡ Some k → IsAsAlone code turns m k
