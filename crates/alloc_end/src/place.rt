@@ -1,8 +1,9 @@
 ghost use Rattle.std.specs.Prelude.{◌≡◌, ◌+◌, ◌*◌, ◌^◌, ◌<◌, ◌≤◌, Some, IsTrue};
+ghost use Rattle.atom_store.specs.Step.{place_in};
 ghost use Rattle.record_layout.specs.declared.header.Header.{Header};
 ghost use Rattle.space_map.specs.AreaWord.{AreaFits, decode_area};
 ghost use Rattle.space_map.specs.Spaces.{to_space};
-ghost use Rattle.space_map.specs.Table.{Area, place_of};
+ghost use Rattle.space_map.specs.Table.{Area, place_of, table_length};
 ghost use Rattle.alloc_end.specs.Place.{begun, wanted, taken, told, left, advances, size_of, pages_for, words_for, kept_room, looked_at_area, area_after, shortage, cleared, opened, placed, at_stage, first_claimed};
 ghost use Rattle.alloc_end.specs.Soundness.{IsRun, IsSoundPlacing, IsPlacingGoing, FitsPlaceStage, HasRoom};
 
@@ -34,11 +35,11 @@ impl Model for Place {
 
     ghost Value = { Placing };
 
-    ghost view = { λ p. record { layout = p.spaces; run = p.run; header = p.header; epoch = p.epoch; stage = p.stage } };
+    ghost view = { λ p. record { spaces = p.spaces; run = p.run; header = p.header; epoch = p.epoch; stage = p.stage } };
 
-    ghost invariant = { λ p. IsSoundPlacing (record { layout = p.spaces; run = p.run; header = p.header; epoch = p.epoch; stage = p.stage }) };
+    ghost invariant = { λ p. IsSoundPlacing (record { spaces = p.spaces; run = p.run; header = p.header; epoch = p.epoch; stage = p.stage }) };
 
-    ghost inverse = { λ p. record { spaces = p.layout; run = p.run; header = p.header; epoch = p.epoch; stage = p.stage } };
+    ghost inverse = { λ p. record { spaces = p.spaces; run = p.run; header = p.header; epoch = p.epoch; stage = p.stage } };
 }
 
 impl Place {
@@ -72,7 +73,8 @@ impl Place {
     /// The next step.
     pub fn want(&self) -> Step
         requires { IsPlacingGoing self.now.stage }
-        ensures { wanted self.now ≡ Some result }
+        ensures wanted { wanted self.now ≡ Some result }
+        ensures in_table { place_in result < table_length self.now.spaces.pages }
     {
         let spaces = self.spaces;
         match self.stage {
@@ -147,7 +149,7 @@ impl Place {
     }
 
     fn claim(&mut self, fitting: Fitting) -> Turn<Allocated>
-        requires { HasRoom self.old.layout.pages (words_for self.old.header) fitting }
+        requires { HasRoom self.old.spaces.pages (words_for self.old.header) fitting }
         ensures state { self.new ≡ at_stage self.old (PlaceStage.StoresZero (record { first = first_claimed self.old fitting; next = first_claimed self.old fitting })) }
         ensures tells { result ≡ told self.new }
     {
@@ -159,7 +161,7 @@ impl Place {
     }
 
     fn clear(&mut self, new: NewPages) -> Turn<Allocated>
-        requires { FitsPlaceStage self.old.layout.pages (pages_for (size_of self.old.header)) self.old.run self.old.header (PlaceStage.StoresZero new) }
+        requires { FitsPlaceStage self.old.spaces.pages (pages_for (size_of self.old.header)) self.old.run self.old.header (PlaceStage.StoresZero new) }
         ensures state { self.new ≡ at_stage self.old (cleared (words_for self.old.header) new) }
         ensures tells { result ≡ told self.new }
     {
@@ -180,7 +182,7 @@ impl Place {
     }
 
     fn open(&mut self, new: NewPages) -> Turn<Allocated>
-        requires { FitsPlaceStage self.old.layout.pages (pages_for (size_of self.old.header)) self.old.run self.old.header (PlaceStage.OpensPage new) }
+        requires { FitsPlaceStage self.old.spaces.pages (pages_for (size_of self.old.header)) self.old.run self.old.header (PlaceStage.OpensPage new) }
         ensures state { self.new ≡ opened self.old new }
         ensures tells { result ≡ told self.new }
     {
@@ -224,7 +226,8 @@ impl Place {
     }
 
     fn area_place(&self) -> usize
-        ensures { result ≡ place_of self.now.layout.pages (Area (to_space self.now.epoch)) }
+        ensures place { result ≡ place_of self.now.spaces.pages (Area (to_space self.now.epoch)) }
+        ensures in_table { result < table_length self.now.spaces.pages }
     {
         self.spaces.area_place(self.spaces.to_space(self.epoch))
     }

@@ -1,10 +1,11 @@
 ghost use Rattle.std.specs.Prelude.{◌≡◌, ◌≢◌, ℕ, ◌+◌, ◌*◌, ◌^◌, ◌<◌, ◌≤◌, Some, IsTrue};
+ghost use Rattle.atom_store.specs.Step.{place_in};
 ghost use Rattle.atom_store.specs.declared.turn.Turn.TheVariants.{More, Finished};
 ghost use Rattle.space_map.specs.AreaWord.{decode_area};
 ghost use Rattle.space_map.specs.GateWord.{decode_gate};
 ghost use Rattle.space_map.specs.PageWord.{decode_page, PageFits};
 ghost use Rattle.space_map.specs.Spaces.{board_page, to_space};
-ghost use Rattle.space_map.specs.Table.{Area, place_of};
+ghost use Rattle.space_map.specs.Table.{Area, place_of, table_length};
 ghost use Rattle.fault_duty.specs.Duty as round;
 ghost use Rattle.fault_duty.specs.Duty.{begun, caller_for, wanted, taken, told, left, advances, at_stage};
 ghost use Rattle.fault_duty.specs.Soundness.{FitsCaller, IsSoundRound, IsRoundGoing, FitsDutyStage, FitsFront, IsChoice, IsOwnClaim};
@@ -36,11 +37,11 @@ impl Model for Duty {
 
     ghost Value = { Round };
 
-    ghost view = { λ d. record { layout = d.spaces; caller = d.caller; epoch = d.epoch; worker = d.worker; stage = d.stage } };
+    ghost view = { λ d. record { spaces = d.spaces; caller = d.caller; epoch = d.epoch; worker = d.worker; stage = d.stage } };
 
-    ghost invariant = { λ d. IsSoundRound (record { layout = d.spaces; caller = d.caller; epoch = d.epoch; worker = d.worker; stage = d.stage }) };
+    ghost invariant = { λ d. IsSoundRound (record { spaces = d.spaces; caller = d.caller; epoch = d.epoch; worker = d.worker; stage = d.stage }) };
 
-    ghost inverse = { λ d. record { spaces = d.layout; caller = d.caller; epoch = d.epoch; worker = d.worker; stage = d.stage } };
+    ghost inverse = { λ d. record { spaces = d.spaces; caller = d.caller; epoch = d.epoch; worker = d.worker; stage = d.stage } };
 }
 
 impl Duty {
@@ -90,7 +91,8 @@ impl Duty {
     /// The next step.
     pub fn want(&self) -> Step
         requires { IsRoundGoing self.now.stage }
-        ensures { wanted self.now ≡ Some result }
+        ensures wanted { wanted self.now ≡ Some result }
+        ensures in_table { place_in result < table_length self.now.spaces.pages }
     {
         let spaces = self.spaces;
         match self.stage {
@@ -117,7 +119,8 @@ impl Duty {
     }
 
     fn area_place(&self) -> usize
-        ensures { result ≡ place_of self.now.layout.pages (Area (to_space self.now.epoch)) }
+        ensures place { result ≡ place_of self.now.spaces.pages (Area (to_space self.now.epoch)) }
+        ensures in_table { result < table_length self.now.spaces.pages }
     {
         self.spaces.area_place(self.spaces.to_space(self.epoch))
     }
@@ -227,7 +230,7 @@ impl Duty {
 
     /// The page after this one in the order of the choice: the board, then the space's pages upward.
     fn page_after(&self, page: u32) -> u32
-        requires { page ≤ board_page self.now.layout.pages }
+        requires { page ≤ board_page self.now.spaces.pages }
         ensures page { result ≡ round.page_after self.now page }
         ensures in_range { result ≤ 4097 }
     {

@@ -5,7 +5,7 @@ use Rattle.space_map.specs.declared.gate_word.GateWord.{GateWord}
 use Rattle.space_map.specs.GateWord.{GateFits}
 use Rattle.space_map.specs.Spaces.{IsPageCount}
 use Rattle.gate_core.specs.declared.passage.Passage.{Passage}
-use Rattle.gate_core.specs.declared.passage.Passage.TheVariants.{Attach, Park, Request, Resume, Forwarded, Leave}
+use Rattle.gate_core.specs.declared.passage.Passage.TheVariants.{Look, Attach, Park, Request, Resume, Forwarded, Leave}
 use Rattle.gate_core.specs.declared.gate_stage.GateStage.{GateStage}
 use Rattle.gate_core.specs.declared.gate_stage.GateStage.TheVariants as gate_stage
 use Rattle.gate_core.specs.declared.reset.Reset.{Reset}
@@ -16,6 +16,7 @@ use Rattle.gate_core.specs.Flip.{Flipping, is_still}
 
 -- the gate counts those whom the passage takes away, and has room for those whom it brings
 abbrev pub Counts : Passage → GateWord → Type 0
+Counts Look gate = ⊤
 Counts Attach gate = (gate.live + 1 < 2 ^ 8) × (gate.running + 1 < 2 ^ 8)
 Counts Park gate = 0 < gate.running
 Counts Request gate = 0 < gate.running
@@ -35,7 +36,7 @@ FitsGateStage passage (gate_stage.Exchanges gate) = MayPass passage gate
 FitsGateStage passage (gate_stage.Ended result) = ⊤
 
 pub record IsSoundPassing (p : Passing) : Type 0 where
-  pub pages : IsPageCount p.layout.pages
+  pub pages : IsPageCount p.spaces.pages
   pub stage : FitsGateStage p.passage p.stage
 
 -- the passage has a next step
@@ -57,9 +58,9 @@ FitsFlipStage n (flip_stage.Exchanges reset) = MayFlip reset.gate × (reset.used
 FitsFlipStage n (flip_stage.Ended result) = ⊤
 
 pub record IsSoundFlipping (f : Flipping) : Type 0 where
-  pub pages : IsPageCount f.layout.pages
+  pub pages : IsPageCount f.spaces.pages
   pub epoch : f.epoch + 1 < 2 ^ 32
-  pub stage : FitsFlipStage f.layout.pages f.stage
+  pub stage : FitsFlipStage f.spaces.pages f.stage
 
 -- the flip has a next step
 abbrev pub IsFlippingGoing : FlipStage → Type 0

@@ -1,8 +1,10 @@
 ghost use Rattle.std.specs.Prelude.{◌≡◌, ◌+◌, ◌*◌, ◌^◌, ◌<◌, ◌≤◌, Some, IsTrue};
+ghost use Rattle.atom_store.specs.Step.{place_in};
 ghost use Rattle.space_map.specs.AreaWord.{AreaFits, decode_area};
 ghost use Rattle.space_map.specs.GateWord.{decode_gate};
 ghost use Rattle.gate_core.specs.Flip.{begun, wanted, taken, told, left, advances, is_still, gate_flipped, used_in, area_reset, looked, read_area};
 ghost use Rattle.gate_core.specs.Soundness.{IsFlippingGoing, IsSoundFlipping, FitsFlipStage, MayFlip};
+ghost use Rattle.space_map.specs.Table.{table_length};
 
 use crate::flip_stage::FlipStage;
 use crate::flipped::Flipped;
@@ -26,11 +28,11 @@ impl Model for Flip {
 
     ghost Value = { Flipping };
 
-    ghost view = { λ f. record { layout = f.spaces; epoch = f.epoch; asked = f.asked; stage = f.stage } };
+    ghost view = { λ f. record { spaces = f.spaces; epoch = f.epoch; asked = f.asked; stage = f.stage } };
 
-    ghost invariant = { λ f. IsSoundFlipping (record { layout = f.spaces; epoch = f.epoch; asked = f.asked; stage = f.stage }) };
+    ghost invariant = { λ f. IsSoundFlipping (record { spaces = f.spaces; epoch = f.epoch; asked = f.asked; stage = f.stage }) };
 
-    ghost inverse = { λ f. record { spaces = f.layout; epoch = f.epoch; asked = f.asked; stage = f.stage } };
+    ghost inverse = { λ f. record { spaces = f.spaces; epoch = f.epoch; asked = f.asked; stage = f.stage } };
 }
 
 impl Flip {
@@ -51,7 +53,8 @@ impl Flip {
     /// The next step.
     pub fn want(&self) -> Step
         requires { IsFlippingGoing self.now.stage }
-        ensures { wanted self.now ≡ Some result }
+        ensures wanted { wanted self.now ≡ Some result }
+        ensures in_table { place_in result < table_length self.now.spaces.pages }
     {
         let spaces = self.spaces;
         match self.stage {
@@ -79,7 +82,7 @@ impl Flip {
         ensures lowers { IsTrue (advances self.old reply) → left self.new < left self.old }
     {
         match (self.stage, reply) {
-            (FlipStage::LoadsGate, Reply::Value(word)) => self.look(word),
+            (FlipStage::LoadsGate, Reply::Value(word)) => self.read_gate(word),
             (FlipStage::LoadsArea(gate), Reply::Value(word)) => self.read_area(gate, word),
             (FlipStage::StoresArea(reset), Reply::Done) => {
                 self.stage = FlipStage::Exchanges(reset);
@@ -94,8 +97,8 @@ impl Flip {
         }
     }
 
-    fn look(&mut self, word: u64) -> Turn<Flipped>
-        requires { FitsFlipStage self.old.layout.pages (looked word (decode_gate word)) }
+    fn read_gate(&mut self, word: u64) -> Turn<Flipped>
+        requires { FitsFlipStage self.old.spaces.pages (looked word (decode_gate word)) }
         ensures state { self.new ≡ record self.old { stage = looked word (decode_gate word) } }
         ensures tells { result ≡ told self.new }
     {
@@ -113,8 +116,8 @@ impl Flip {
     }
 
     fn read_area(&mut self, gate: GateWord, word: u64) -> Turn<Flipped>
-        requires { FitsFlipStage self.old.layout.pages (read_area self.old.layout.pages gate (decode_area word)) }
-        ensures state { self.new ≡ record self.old { stage = read_area self.old.layout.pages gate (decode_area word) } }
+        requires { FitsFlipStage self.old.spaces.pages (read_area self.old.spaces.pages gate (decode_area word)) }
+        ensures state { self.new ≡ record self.old { stage = read_area self.old.spaces.pages gate (decode_area word) } }
         ensures tells { result ≡ told self.new }
     {
         self.stage = match AreaWord::read(word) {

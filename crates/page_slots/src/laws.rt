@@ -1,6 +1,6 @@
 //! What holds of the machines. Each function here does nothing: its contract is what is proved.
 
-ghost use Rattle.page_slots.specs.Rows.{FullPageIsClaimed, AnnouncedPlaceHinders, LaterGateHinders, LostClaimEnds, PageIsOpened};
+ghost use Rattle.page_slots.specs.Rows.{FullPageIsClaimed, AnnouncedPlaceHinders, LaterGateHinders, LostClaimEnds, PageIsOpened, BoardIsClaimed, FillingPageIsClaimed, LaterEpochWins};
 
 /// A claim and an opening, worked out step by step with all words as numbers.
 pub fn rows_are_worked_out()
@@ -8,5 +8,8 @@ pub fn rows_are_worked_out()
     ensures announced { AnnouncedPlaceHinders }
     ensures later_gate { LaterGateHinders }
     ensures lost { LostClaimEnds }
+    ensures board { BoardIsClaimed }
+    ensures filling_page { FillingPageIsClaimed }
+    ensures later_epoch { LaterEpochWins }
     ensures opened { PageIsOpened }
 {}

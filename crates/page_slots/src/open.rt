@@ -1,7 +1,9 @@
 ghost use Rattle.std.specs.Prelude.{◌≡◌, ◌<◌, ◌≤◌, Some, IsTrue};
+ghost use Rattle.atom_store.specs.Step.{place_in};
 ghost use Rattle.space_map.specs.Spaces.{board_page};
 ghost use Rattle.page_slots.specs.Open.{begun, wanted, taken, told, left, advances};
 ghost use Rattle.page_slots.specs.Soundness.{IsOpeningGoing};
+ghost use Rattle.space_map.specs.Table.{table_length};
 
 use crate::open_stage::OpenStage;
 use crate::opened::Opened;
@@ -25,11 +27,11 @@ impl Model for Open {
 
     ghost Value = { Opening };
 
-    ghost view = { λ o. record { layout = o.spaces; page = o.page; epoch = o.epoch; stage = o.stage } };
+    ghost view = { λ o. record { spaces = o.spaces; page = o.page; epoch = o.epoch; stage = o.stage } };
 
-    ghost invariant = { λ o. IsSoundOpening (record { layout = o.spaces; page = o.page; epoch = o.epoch; stage = o.stage }) };
+    ghost invariant = { λ o. IsSoundOpening (record { spaces = o.spaces; page = o.page; epoch = o.epoch; stage = o.stage }) };
 
-    ghost inverse = { λ o. record { spaces = o.layout; page = o.page; epoch = o.epoch; stage = o.stage } };
+    ghost inverse = { λ o. record { spaces = o.spaces; page = o.page; epoch = o.epoch; stage = o.stage } };
 }
 
 impl Open {
@@ -49,7 +51,8 @@ impl Open {
     /// The next step.
     pub fn want(&self) -> Step
         requires { IsOpeningGoing self.now.stage }
-        ensures { wanted self.now ≡ Some result }
+        ensures wanted { wanted self.now ≡ Some result }
+        ensures in_table { place_in result < table_length self.now.spaces.pages }
     {
         match self.stage {
             OpenStage::StoresOpen => Step::Store(
