@@ -27,7 +27,7 @@ use Rattle.alloc_end.specs.declared.place_stage.PlaceStage.TheVariants.{LoadsTra
 
 -- the allocation of a record with this header, by a mutator of an epoch that has this run
 pub record Placing : Type 0 where
-  pub spaces : Layout
+  pub layout : Layout
   pub run : Run
   pub header : Header
   pub epoch : ℕ
@@ -52,7 +52,7 @@ abbrev pub first_stage : Run → Header → PlaceStage
 first_stage run header = if nat_le (run.at + size_of header) run.end then StoresHeader else LoadsTraced
 
 abbrev pub begun : Layout → Run → Header → (epoch : ℕ) → Placing
-begun spaces run header epoch = record { spaces = spaces; run = run; header = header; epoch = epoch; stage = first_stage run header }
+begun layout run header epoch = record { layout = layout; run = run; header = header; epoch = epoch; stage = first_stage run header }
 
 -- ---- the claim of pages
 
@@ -85,18 +85,18 @@ shortage traced header area = record {
 
 -- the first word of the pages claimed
 abbrev pub first_claimed : Placing → Fitting → ℕ
-first_claimed p f = space_start p.spaces.pages (to_space p.epoch) + (f.area.low - words_for p.header)
+first_claimed p f = space_start p.layout.pages (to_space p.epoch) + (f.area.low - words_for p.header)
 
 -- ---- the next step
 
 abbrev pub wanted_at : Placing → PlaceStage → Option Step
-wanted_at p LoadsTraced = Some (Load (place_of p.spaces.pages Traced))
-wanted_at p (LoadsArea traced) = Some (Load (place_of p.spaces.pages (Area (to_space p.epoch))))
+wanted_at p LoadsTraced = Some (Load (place_of p.layout.pages Traced))
+wanted_at p (LoadsArea traced) = Some (Load (place_of p.layout.pages (Area (to_space p.epoch))))
 wanted_at p (ExchangesArea f) =
-    Some (Exchange (place_of p.spaces.pages (Area (to_space p.epoch))) (encode_area f.area) (encode_area (area_after (words_for p.header) f)))
-wanted_at p (StoresZero new) = Some (Store (place_of p.spaces.pages (HeapWord new.next)) 0)
-wanted_at p (OpensPage new) = Some (Store (place_of p.spaces.pages (Page new.next)) (encode_page (Open p.epoch)))
-wanted_at p StoresHeader = Some (Store (place_of p.spaces.pages (HeapWord p.run.at)) (encode (header_says p.header)))
+    Some (Exchange (place_of p.layout.pages (Area (to_space p.epoch))) (encode_area f.area) (encode_area (area_after (words_for p.header) f)))
+wanted_at p (StoresZero new) = Some (Store (place_of p.layout.pages (HeapWord new.next)) 0)
+wanted_at p (OpensPage new) = Some (Store (place_of p.layout.pages (Page new.next)) (encode_page (Open p.epoch)))
+wanted_at p StoresHeader = Some (Store (place_of p.layout.pages (HeapWord p.run.at)) (encode (header_says p.header)))
 wanted_at p (Ended result) = None
 
 abbrev pub wanted : Placing → Option Step

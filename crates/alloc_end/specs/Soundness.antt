@@ -38,10 +38,10 @@ FitsPlaceStage n asked run header StoresHeader = run.at + size_of header ≤ run
 FitsPlaceStage n asked run header (Ended result) = ⊤
 
 pub record IsSoundPlacing (p : Placing) : Type 0 where
-  pub pages : IsPageCount p.spaces.pages
-  pub run : IsRun p.spaces.pages p.run
+  pub pages : IsPageCount p.layout.pages
+  pub run : IsRun p.layout.pages p.run
   pub epoch : p.epoch < 2 ^ 32
-  pub stage : FitsPlaceStage p.spaces.pages (pages_for (size_of p.header)) p.run p.header p.stage
+  pub stage : FitsPlaceStage p.layout.pages (pages_for (size_of p.header)) p.run p.header p.stage
 
 -- the allocation has a next step
 abbrev pub IsPlacingGoing : PlaceStage → Type 0

@@ -35,11 +35,11 @@ impl Model for Place {
 
     ghost Value = { Placing };
 
-    ghost view = { λ p. record { spaces = p.spaces; run = p.run; header = p.header; epoch = p.epoch; stage = p.stage } };
+    ghost view = { λ p. record { layout = p.spaces; run = p.run; header = p.header; epoch = p.epoch; stage = p.stage } };
 
-    ghost invariant = { λ p. IsSoundPlacing (record { spaces = p.spaces; run = p.run; header = p.header; epoch = p.epoch; stage = p.stage }) };
+    ghost invariant = { λ p. IsSoundPlacing (record { layout = p.spaces; run = p.run; header = p.header; epoch = p.epoch; stage = p.stage }) };
 
-    ghost inverse = { λ p. record { spaces = p.spaces; run = p.run; header = p.header; epoch = p.epoch; stage = p.stage } };
+    ghost inverse = { λ p. record { spaces = p.layout; run = p.run; header = p.header; epoch = p.epoch; stage = p.stage } };
 }
 
 impl Place {
@@ -74,7 +74,7 @@ impl Place {
     pub fn want(&self) -> Step
         requires { IsPlacingGoing self.now.stage }
         ensures wanted { wanted self.now ≡ Some result }
-        ensures in_table { place_in result < table_length self.now.spaces.pages }
+        ensures in_table { place_in result < table_length self.now.layout.pages }
     {
         let spaces = self.spaces;
         match self.stage {
@@ -149,7 +149,7 @@ impl Place {
     }
 
     fn claim(&mut self, fitting: Fitting) -> Turn<Allocated>
-        requires { HasRoom self.old.spaces.pages (words_for self.old.header) fitting }
+        requires { HasRoom self.old.layout.pages (words_for self.old.header) fitting }
         ensures state { self.new ≡ at_stage self.old (PlaceStage.StoresZero (record { first = first_claimed self.old fitting; next = first_claimed self.old fitting })) }
         ensures tells { result ≡ told self.new }
     {
@@ -161,7 +161,7 @@ impl Place {
     }
 
     fn clear(&mut self, new: NewPages) -> Turn<Allocated>
-        requires { FitsPlaceStage self.old.spaces.pages (pages_for (size_of self.old.header)) self.old.run self.old.header (PlaceStage.StoresZero new) }
+        requires { FitsPlaceStage self.old.layout.pages (pages_for (size_of self.old.header)) self.old.run self.old.header (PlaceStage.StoresZero new) }
         ensures state { self.new ≡ at_stage self.old (cleared (words_for self.old.header) new) }
         ensures tells { result ≡ told self.new }
     {
@@ -182,7 +182,7 @@ impl Place {
     }
 
     fn open(&mut self, new: NewPages) -> Turn<Allocated>
-        requires { FitsPlaceStage self.old.spaces.pages (pages_for (size_of self.old.header)) self.old.run self.old.header (PlaceStage.OpensPage new) }
+        requires { FitsPlaceStage self.old.layout.pages (pages_for (size_of self.old.header)) self.old.run self.old.header (PlaceStage.OpensPage new) }
         ensures state { self.new ≡ opened self.old new }
         ensures tells { result ≡ told self.new }
     {
@@ -226,8 +226,8 @@ impl Place {
     }
 
     fn area_place(&self) -> usize
-        ensures place { result ≡ place_of self.now.spaces.pages (Area (to_space self.now.epoch)) }
-        ensures in_table { result < table_length self.now.spaces.pages }
+        ensures place { result ≡ place_of self.now.layout.pages (Area (to_space self.now.epoch)) }
+        ensures in_table { result < table_length self.now.layout.pages }
     {
         self.spaces.area_place(self.spaces.to_space(self.epoch))
     }

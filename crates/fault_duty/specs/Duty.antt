@@ -35,14 +35,14 @@ use Rattle.fault_duty.specs.declared.duty_stage.DutyStage.TheVariants.{LoadsGate
 
 -- a round by a worker in an epoch, for this caller; a scanner's epoch is the gate's, once that is read
 pub record Round : Type 0 where
-  pub spaces : Layout
+  pub layout : Layout
   pub caller : Caller
   pub epoch : ℕ
   pub worker : ℕ
   pub stage : DutyStage
 
 abbrev pub begun : Layout → Caller → (epoch worker : ℕ) → Round
-begun spaces caller epoch worker = record { spaces = spaces; caller = caller; epoch = epoch; worker = worker; stage = LoadsGate }
+begun layout caller epoch worker = record { layout = layout; caller = caller; epoch = epoch; worker = worker; stage = LoadsGate }
 
 -- for whom a mutator's round is made
 abbrev pub caller_for : Option ℕ → Caller
@@ -63,7 +63,7 @@ state_of (page_word.Scanning found worker) epoch = state_by epoch found Scanned
 
 -- the first word and the first page of the space that is copied into
 abbrev pub to_start : Round → ℕ
-to_start d = space_start d.spaces.pages (to_space d.epoch)
+to_start d = space_start d.layout.pages (to_space d.epoch)
 
 abbrev pub to_page : Round → ℕ
 to_page d = page_of (to_start d)
@@ -74,7 +74,7 @@ is_full front page = nat_le (first_word (page + 1)) front
 
 -- the order in which pages are chosen: the board first, then the space's pages upward
 abbrev pub page_after : Round → (page : ℕ) → ℕ
-page_after d page = if page == board_page d.spaces.pages then to_page d else page + 1
+page_after d page = if page == board_page d.layout.pages then to_page d else page + 1
 
 -- the address of FRONT
 abbrev pub front_of : Round → AreaWord → ℕ
@@ -83,19 +83,19 @@ front_of d area = to_start d + area.front
 -- ---- the next step
 
 abbrev pub wanted_at : Round → DutyStage → Option Step
-wanted_at d LoadsGate = Some (Load (place_of d.spaces.pages Gate))
-wanted_at d (LoadsTraced hindrance) = Some (Load (place_of d.spaces.pages Traced))
-wanted_at d (LoadsWanted seen page) = Some (Load (place_of d.spaces.pages (Page page)))
-wanted_at d (LoadsFrontFor seen wanted) = Some (Load (place_of d.spaces.pages (Area (to_space d.epoch))))
-wanted_at d (LoadsFront seen) = Some (Load (place_of d.spaces.pages (Area (to_space d.epoch))))
-wanted_at d (LoadsPage choice page) = Some (Load (place_of d.spaces.pages (Page page)))
+wanted_at d LoadsGate = Some (Load (place_of d.layout.pages Gate))
+wanted_at d (LoadsTraced hindrance) = Some (Load (place_of d.layout.pages Traced))
+wanted_at d (LoadsWanted seen page) = Some (Load (place_of d.layout.pages (Page page)))
+wanted_at d (LoadsFrontFor seen wanted) = Some (Load (place_of d.layout.pages (Area (to_space d.epoch))))
+wanted_at d (LoadsFront seen) = Some (Load (place_of d.layout.pages (Area (to_space d.epoch))))
+wanted_at d (LoadsPage choice page) = Some (Load (place_of d.layout.pages (Page page)))
 wanted_at d (Claims c) = claim.wanted c
-wanted_at d (EndGate traced) = Some (Load (place_of d.spaces.pages Gate))
-wanted_at d (EndArea traced) = Some (Load (place_of d.spaces.pages (Area (to_space d.epoch))))
-wanted_at d (EndPage look page) = Some (Load (place_of d.spaces.pages (Page page)))
-wanted_at d (EndFilling look) = Some (Load (place_of d.spaces.pages (Page (page_of look.front))))
-wanted_at d (EndAreaAgain look filling) = Some (Load (place_of d.spaces.pages (Area (to_space d.epoch))))
-wanted_at d (Traces traced) = Some (Exchange (place_of d.spaces.pages Traced) traced (d.epoch + 1))
+wanted_at d (EndGate traced) = Some (Load (place_of d.layout.pages Gate))
+wanted_at d (EndArea traced) = Some (Load (place_of d.layout.pages (Area (to_space d.epoch))))
+wanted_at d (EndPage look page) = Some (Load (place_of d.layout.pages (Page page)))
+wanted_at d (EndFilling look) = Some (Load (place_of d.layout.pages (Page (page_of look.front))))
+wanted_at d (EndAreaAgain look filling) = Some (Load (place_of d.layout.pages (Area (to_space d.epoch))))
+wanted_at d (Traces traced) = Some (Exchange (place_of d.layout.pages Traced) traced (d.epoch + 1))
 wanted_at d (Ended result) = None
 
 abbrev pub wanted : Round → Option Step
@@ -142,7 +142,7 @@ looked_at_traced d hindrance word =
 
 -- the claim of a page by what its word says
 abbrev pub claim_of : Round → (page : ℕ) → PageWord → (in_place : Bool) → DutyStage
-claim_of d page says in_place = Claims (claim.begun d.spaces page d.epoch d.worker says in_place)
+claim_of d page says in_place = Claims (claim.begun d.layout page d.epoch d.worker says in_place)
 
 -- a page whose word says this is claimed, if that is of an earlier epoch
 abbrev pub claimed_by : Round → (page : ℕ) → PageWord → (in_place : Bool) → PageState → DutyStage
@@ -154,7 +154,7 @@ claimed_by d page says in_place Scanned = Ended (NothingNow (encode_page says))
 -- the page that is wanted, which nobody has opened or scanned: the board is always full
 abbrev pub wanted_one : Round → Findings → WantedPage → DutyStage
 wanted_one d seen w =
-    if w.page == board_page d.spaces.pages then claimed_by d w.page w.says false (state_of w.says d.epoch) else LoadsFrontFor seen w
+    if w.page == board_page d.layout.pages then claimed_by d w.page w.says false (state_of w.says d.epoch) else LoadsFrontFor seen w
 
 abbrev pub wanted_by : Round → Findings → (page word : ℕ) → PageWord → PageState → DutyStage
 wanted_by d seen page word says Opened = Ended (NothingNow word)
@@ -173,7 +173,7 @@ found_front_for d seen w (Some area) =
 found_front_for d seen w None = LoadsFrontFor seen w
 
 abbrev pub found_front : Round → Findings → Option AreaWord → DutyStage
-found_front d seen (Some area) = LoadsPage (record { seen = seen; front = front_of d area }) (board_page d.spaces.pages)
+found_front d seen (Some area) = LoadsPage (record { seen = seen; front = front_of d area }) (board_page d.layout.pages)
 found_front d seen None = LoadsFront seen
 
 -- after the last full page the end of the area is looked at, if nothing forbids it
@@ -214,7 +214,7 @@ ended_gate d traced word (Some gate) = if (gate.epoch == d.epoch) && (gate.behin
 ended_gate d traced word None = EndGate traced
 
 abbrev pub ended_area : Round → (traced : ℕ) → Option AreaWord → DutyStage
-ended_area d traced (Some area) = EndPage (record { traced = traced; front = front_of d area }) (board_page d.spaces.pages)
+ended_area d traced (Some area) = EndPage (record { traced = traced; front = front_of d area }) (board_page d.layout.pages)
 ended_area d traced None = EndArea traced
 
 -- after the last full page the filling page, if there is one
@@ -286,18 +286,18 @@ duty_machine = record { wanted = wanted; taken = taken; told = told }
 
 -- the pages from this one on, in their order: the board, and the space's
 abbrev pub pages_left : Round → (page : ℕ) → ℕ
-pages_left d page = if page == board_page d.spaces.pages then d.spaces.pages + 1 else to_page d + d.spaces.pages - page
+pages_left d page = if page == board_page d.layout.pages then d.layout.pages + 1 else to_page d + d.layout.pages - page
 
 abbrev pub left_at : Round → DutyStage → ℕ
-left_at d LoadsGate = 2 * d.spaces.pages + 32
-left_at d (LoadsTraced hindrance) = 2 * d.spaces.pages + 31
-left_at d (LoadsWanted seen page) = 2 * d.spaces.pages + 30
-left_at d (LoadsFrontFor seen wanted) = 2 * d.spaces.pages + 29
-left_at d (LoadsFront seen) = 2 * d.spaces.pages + 28
-left_at d (LoadsPage choice page) = pages_left d page + d.spaces.pages + 26
+left_at d LoadsGate = 2 * d.layout.pages + 32
+left_at d (LoadsTraced hindrance) = 2 * d.layout.pages + 31
+left_at d (LoadsWanted seen page) = 2 * d.layout.pages + 30
+left_at d (LoadsFrontFor seen wanted) = 2 * d.layout.pages + 29
+left_at d (LoadsFront seen) = 2 * d.layout.pages + 28
+left_at d (LoadsPage choice page) = pages_left d page + d.layout.pages + 26
 left_at d (Claims c) = claim.left c
-left_at d (EndGate traced) = d.spaces.pages + 6
-left_at d (EndArea traced) = d.spaces.pages + 5
+left_at d (EndGate traced) = d.layout.pages + 6
+left_at d (EndArea traced) = d.layout.pages + 5
 left_at d (EndPage look page) = pages_left d page + 3
 left_at d (EndFilling look) = 3
 left_at d (EndAreaAgain look filling) = 2

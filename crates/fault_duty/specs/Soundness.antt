@@ -33,18 +33,18 @@ IsHindrance epoch None = ⊤
 -- FRONT is in the space that is copied into, or at its end
 pub record FitsFront (d : Round) (front : ℕ) : Type 0 where
   pub low : to_start d ≤ front
-  pub high : front ≤ to_start d + 64 * d.spaces.pages
+  pub high : front ≤ to_start d + 64 * d.layout.pages
 
 -- the page is the board, or a full page of the space that is copied into
 pub record IsChoice (d : Round) (front page : ℕ) : Type 0 where
   pub at : FitsFront d front
-  pub in_table : page ≤ board_page d.spaces.pages
-  pub in_space : page ≢ board_page d.spaces.pages → to_page d ≤ page
-  pub full : page ≢ board_page d.spaces.pages → first_word (page + 1) ≤ front
+  pub in_table : page ≤ board_page d.layout.pages
+  pub in_space : page ≢ board_page d.layout.pages → to_page d ≤ page
+  pub full : page ≢ board_page d.layout.pages → first_word (page + 1) ≤ front
 
 -- the claim is this round's
 pub record IsOwnClaim (d : Round) (c : Claiming) : Type 0 where
-  pub spaces : c.spaces ≡ d.spaces
+  pub layout : c.layout ≡ d.layout
   pub epoch : c.epoch ≡ d.epoch
   pub worker : c.worker ≡ d.worker
   pub going : IsClaimGoing c.stage
@@ -58,8 +58,8 @@ pub record Fits (epoch : ℕ) (found : Findings) : Type 0 where
 abbrev pub FitsDutyStage : Round → DutyStage → Type 0
 FitsDutyStage d LoadsGate = ⊤
 FitsDutyStage d (LoadsTraced hindrance) = IsHindrance d.epoch hindrance
-FitsDutyStage d (LoadsWanted seen page) = Fits d.epoch seen × (page ≤ board_page d.spaces.pages)
-FitsDutyStage d (LoadsFrontFor seen w) = Fits d.epoch seen × (w.page ≤ board_page d.spaces.pages) × PageFits w.says
+FitsDutyStage d (LoadsWanted seen page) = Fits d.epoch seen × (page ≤ board_page d.layout.pages)
+FitsDutyStage d (LoadsFrontFor seen w) = Fits d.epoch seen × (w.page ≤ board_page d.layout.pages) × PageFits w.says
 FitsDutyStage d (LoadsFront seen) = Fits d.epoch seen
 FitsDutyStage d (LoadsPage choice page) = Fits d.epoch choice.seen × IsChoice d choice.front page
 FitsDutyStage d (Claims c) = IsOwnClaim d c
@@ -72,8 +72,8 @@ FitsDutyStage d (Traces traced) = traced ≢ d.epoch + 1
 FitsDutyStage d (Ended result) = ⊤
 
 pub record IsSoundRound (d : Round) : Type 0 where
-  pub pages : IsPageCount d.spaces.pages
-  pub caller : FitsCaller d.spaces.pages d.caller
+  pub pages : IsPageCount d.layout.pages
+  pub caller : FitsCaller d.layout.pages d.caller
   pub epoch : d.epoch < 2 ^ 32
   pub worker : d.worker ≤ 23
   pub stage : FitsDutyStage d d.stage

@@ -37,11 +37,11 @@ impl Model for Duty {
 
     ghost Value = { Round };
 
-    ghost view = { λ d. record { spaces = d.spaces; caller = d.caller; epoch = d.epoch; worker = d.worker; stage = d.stage } };
+    ghost view = { λ d. record { layout = d.spaces; caller = d.caller; epoch = d.epoch; worker = d.worker; stage = d.stage } };
 
-    ghost invariant = { λ d. IsSoundRound (record { spaces = d.spaces; caller = d.caller; epoch = d.epoch; worker = d.worker; stage = d.stage }) };
+    ghost invariant = { λ d. IsSoundRound (record { layout = d.spaces; caller = d.caller; epoch = d.epoch; worker = d.worker; stage = d.stage }) };
 
-    ghost inverse = { λ d. record { spaces = d.spaces; caller = d.caller; epoch = d.epoch; worker = d.worker; stage = d.stage } };
+    ghost inverse = { λ d. record { spaces = d.layout; caller = d.caller; epoch = d.epoch; worker = d.worker; stage = d.stage } };
 }
 
 impl Duty {
@@ -92,7 +92,7 @@ impl Duty {
     pub fn want(&self) -> Step
         requires { IsRoundGoing self.now.stage }
         ensures wanted { wanted self.now ≡ Some result }
-        ensures in_table { place_in result < table_length self.now.spaces.pages }
+        ensures in_table { place_in result < table_length self.now.layout.pages }
     {
         let spaces = self.spaces;
         match self.stage {
@@ -119,8 +119,8 @@ impl Duty {
     }
 
     fn area_place(&self) -> usize
-        ensures place { result ≡ place_of self.now.spaces.pages (Area (to_space self.now.epoch)) }
-        ensures in_table { result < table_length self.now.spaces.pages }
+        ensures place { result ≡ place_of self.now.layout.pages (Area (to_space self.now.epoch)) }
+        ensures in_table { result < table_length self.now.layout.pages }
     {
         self.spaces.area_place(self.spaces.to_space(self.epoch))
     }
@@ -230,7 +230,7 @@ impl Duty {
 
     /// The page after this one in the order of the choice: the board, then the space's pages upward.
     fn page_after(&self, page: u32) -> u32
-        requires { page ≤ board_page self.now.spaces.pages }
+        requires { page ≤ board_page self.now.layout.pages }
         ensures page { result ≡ round.page_after self.now page }
         ensures in_range { result ≤ 4097 }
     {

@@ -21,13 +21,13 @@ use Rattle.gate_core.specs.declared.flip_stage.FlipStage.TheVariants.{LoadsGate,
 
 -- the flip out of an epoch, by the mutator that requested it because it asks for so many pages
 pub record Flipping : Type 0 where
-  pub spaces : Layout
+  pub layout : Layout
   pub epoch : ℕ
   pub asked : ℕ
   pub stage : FlipStage
 
 abbrev pub begun : Layout → (epoch asked : ℕ) → Flipping
-begun spaces epoch asked = record { spaces = spaces; epoch = epoch; asked = asked; stage = LoadsGate }
+begun layout epoch asked = record { layout = layout; epoch = epoch; asked = asked; stage = LoadsGate }
 
 -- ---- what changes
 
@@ -50,12 +50,12 @@ area_reset n used = record { front = 0; low = 64 * n; owed = used }
 -- ---- the next step
 
 abbrev pub wanted_at : Flipping → FlipStage → Option Step
-wanted_at f LoadsGate = Some (Load (place_of f.spaces.pages Gate))
-wanted_at f (LoadsArea gate) = Some (Load (place_of f.spaces.pages (Area (to_space f.epoch))))
+wanted_at f LoadsGate = Some (Load (place_of f.layout.pages Gate))
+wanted_at f (LoadsArea gate) = Some (Load (place_of f.layout.pages (Area (to_space f.epoch))))
 wanted_at f (StoresArea reset) =
-    Some (Store (place_of f.spaces.pages (Area (to_space (f.epoch + 1)))) (encode_area (area_reset f.spaces.pages reset.used)))
+    Some (Store (place_of f.layout.pages (Area (to_space (f.epoch + 1)))) (encode_area (area_reset f.layout.pages reset.used)))
 wanted_at f (Exchanges reset) =
-    Some (Exchange (place_of f.spaces.pages Gate) (encode_gate reset.gate) (encode_gate (gate_flipped reset.gate)))
+    Some (Exchange (place_of f.layout.pages Gate) (encode_gate reset.gate) (encode_gate (gate_flipped reset.gate)))
 wanted_at f (Ended result) = None
 
 abbrev pub wanted : Flipping → Option Step
@@ -75,7 +75,7 @@ read_area n gate None = LoadsArea gate
 
 abbrev pub next_stage : Flipping → FlipStage → Reply → FlipStage
 next_stage f LoadsGate (Value word) = looked word (decode_gate word)
-next_stage f (LoadsArea gate) (Value word) = read_area f.spaces.pages gate (decode_area word)
+next_stage f (LoadsArea gate) (Value word) = read_area f.layout.pages gate (decode_area word)
 next_stage f (StoresArea reset) Done = Exchanges reset
 next_stage f (Exchanges reset) Won = Ended (Went f.asked)
 next_stage f (Exchanges reset) (Lost word) = LoadsGate

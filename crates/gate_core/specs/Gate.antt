@@ -21,12 +21,12 @@ use Rattle.gate_core.specs.declared.gate_stage.GateStage.TheVariants.{Loads, Exc
 
 -- a passage of the gate
 pub record Passing : Type 0 where
-  pub spaces : Layout
+  pub layout : Layout
   pub passage : Passage
   pub stage : GateStage
 
 abbrev pub begun : Layout → Passage → Passing
-begun spaces passage = record { spaces = spaces; passage = passage; stage = Loads }
+begun layout passage = record { layout = layout; passage = passage; stage = Loads }
 
 -- ---- the table of passages
 
@@ -57,8 +57,8 @@ gate_after Leave gate = record gate { live = gate.live - 1; running = gate.runni
 -- ---- the next step
 
 abbrev pub wanted_at : Passing → GateStage → Option Step
-wanted_at p Loads = Some (Load (place_of p.spaces.pages row.Gate))
-wanted_at p (Exchanges gate) = Some (Exchange (place_of p.spaces.pages row.Gate) (encode_gate gate) (encode_gate (gate_after p.passage gate)))
+wanted_at p Loads = Some (Load (place_of p.layout.pages row.Gate))
+wanted_at p (Exchanges gate) = Some (Exchange (place_of p.layout.pages row.Gate) (encode_gate gate) (encode_gate (gate_after p.passage gate)))
 wanted_at p (Ended result) = None
 
 abbrev pub wanted : Passing → Option Step

@@ -36,7 +36,7 @@ FitsGateStage passage (gate_stage.Exchanges gate) = MayPass passage gate
 FitsGateStage passage (gate_stage.Ended result) = ⊤
 
 pub record IsSoundPassing (p : Passing) : Type 0 where
-  pub pages : IsPageCount p.spaces.pages
+  pub pages : IsPageCount p.layout.pages
   pub stage : FitsGateStage p.passage p.stage
 
 -- the passage has a next step
@@ -58,9 +58,9 @@ FitsFlipStage n (flip_stage.Exchanges reset) = MayFlip reset.gate × (reset.used
 FitsFlipStage n (flip_stage.Ended result) = ⊤
 
 pub record IsSoundFlipping (f : Flipping) : Type 0 where
-  pub pages : IsPageCount f.spaces.pages
+  pub pages : IsPageCount f.layout.pages
   pub epoch : f.epoch + 1 < 2 ^ 32
-  pub stage : FitsFlipStage f.spaces.pages f.stage
+  pub stage : FitsFlipStage f.layout.pages f.stage
 
 -- the flip has a next step
 abbrev pub IsFlippingGoing : FlipStage → Type 0

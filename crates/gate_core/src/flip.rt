@@ -28,11 +28,11 @@ impl Model for Flip {
 
     ghost Value = { Flipping };
 
-    ghost view = { λ f. record { spaces = f.spaces; epoch = f.epoch; asked = f.asked; stage = f.stage } };
+    ghost view = { λ f. record { layout = f.spaces; epoch = f.epoch; asked = f.asked; stage = f.stage } };
 
-    ghost invariant = { λ f. IsSoundFlipping (record { spaces = f.spaces; epoch = f.epoch; asked = f.asked; stage = f.stage }) };
+    ghost invariant = { λ f. IsSoundFlipping (record { layout = f.spaces; epoch = f.epoch; asked = f.asked; stage = f.stage }) };
 
-    ghost inverse = { λ f. record { spaces = f.spaces; epoch = f.epoch; asked = f.asked; stage = f.stage } };
+    ghost inverse = { λ f. record { spaces = f.layout; epoch = f.epoch; asked = f.asked; stage = f.stage } };
 }
 
 impl Flip {
@@ -54,7 +54,7 @@ impl Flip {
     pub fn want(&self) -> Step
         requires { IsFlippingGoing self.now.stage }
         ensures wanted { wanted self.now ≡ Some result }
-        ensures in_table { place_in result < table_length self.now.spaces.pages }
+        ensures in_table { place_in result < table_length self.now.layout.pages }
     {
         let spaces = self.spaces;
         match self.stage {
@@ -98,7 +98,7 @@ impl Flip {
     }
 
     fn read_gate(&mut self, word: u64) -> Turn<Flipped>
-        requires { FitsFlipStage self.old.spaces.pages (looked word (decode_gate word)) }
+        requires { FitsFlipStage self.old.layout.pages (looked word (decode_gate word)) }
         ensures state { self.new ≡ record self.old { stage = looked word (decode_gate word) } }
         ensures tells { result ≡ told self.new }
     {
@@ -116,8 +116,8 @@ impl Flip {
     }
 
     fn read_area(&mut self, gate: GateWord, word: u64) -> Turn<Flipped>
-        requires { FitsFlipStage self.old.spaces.pages (read_area self.old.spaces.pages gate (decode_area word)) }
-        ensures state { self.new ≡ record self.old { stage = read_area self.old.spaces.pages gate (decode_area word) } }
+        requires { FitsFlipStage self.old.layout.pages (read_area self.old.layout.pages gate (decode_area word)) }
+        ensures state { self.new ≡ record self.old { stage = read_area self.old.layout.pages gate (decode_area word) } }
         ensures tells { result ≡ told self.new }
     {
         self.stage = match AreaWord::read(word) {

@@ -27,11 +27,11 @@ impl Model for Gate {
 
     ghost Value = { Passing };
 
-    ghost view = { λ g. record { spaces = g.spaces; passage = g.passage; stage = g.stage } };
+    ghost view = { λ g. record { layout = g.spaces; passage = g.passage; stage = g.stage } };
 
-    ghost invariant = { λ g. IsSoundPassing (record { spaces = g.spaces; passage = g.passage; stage = g.stage }) };
+    ghost invariant = { λ g. IsSoundPassing (record { layout = g.spaces; passage = g.passage; stage = g.stage }) };
 
-    ghost inverse = { λ g. record { spaces = g.spaces; passage = g.passage; stage = g.stage } };
+    ghost inverse = { λ g. record { spaces = g.layout; passage = g.passage; stage = g.stage } };
 }
 
 impl Gate {
@@ -99,7 +99,7 @@ impl Gate {
     pub fn want(&self) -> Step
         requires { IsPassingGoing self.now.stage }
         ensures wanted { wanted self.now ≡ Some result }
-        ensures in_table { place_in result < table_length self.now.spaces.pages }
+        ensures in_table { place_in result < table_length self.now.layout.pages }
     {
         let place = self.spaces.gate_place();
         match self.stage {

@@ -21,7 +21,7 @@ use Rattle.page_slots.specs.declared.claim_stage.ClaimStage.TheVariants.{LooksAt
 
 -- the claim of a page by a worker in an epoch, by what its word said when it was read, and whether the page is the filling one
 pub record Claiming : Type 0 where
-  pub spaces : Layout
+  pub layout : Layout
   pub page : ℕ
   pub epoch : ℕ
   pub worker : ℕ
@@ -38,22 +38,22 @@ first_stage n page true = Exchanges
 first_stage n page false = if page == board_page n then LooksAtGate else LooksAtPlace 0
 
 abbrev pub begun : Layout → (page epoch worker : ℕ) → PageWord → Bool → Claiming
-begun spaces page epoch worker found in_place = record {
-  spaces = spaces;
+begun layout page epoch worker found in_place = record {
+  layout = layout;
   page = page;
   epoch = epoch;
   worker = worker;
   found = found;
   in_place = in_place;
-  stage = first_stage spaces.pages page in_place;
+  stage = first_stage layout.pages page in_place;
 }
 
 -- ---- the next step
 
 abbrev pub wanted_at : Claiming → ClaimStage → Option Step
-wanted_at c (LooksAtPlace k) = Some (Load (place_of c.spaces.pages (Announce k)))
-wanted_at c LooksAtGate = Some (Load (place_of c.spaces.pages Gate))
-wanted_at c Exchanges = Some (Exchange (place_of c.spaces.pages (Page c.page)) (encode_page c.found) (encode_page (Scanning c.epoch c.worker)))
+wanted_at c (LooksAtPlace k) = Some (Load (place_of c.layout.pages (Announce k)))
+wanted_at c LooksAtGate = Some (Load (place_of c.layout.pages Gate))
+wanted_at c Exchanges = Some (Exchange (place_of c.layout.pages (Page c.page)) (encode_page c.found) (encode_page (Scanning c.epoch c.worker)))
 wanted_at c (Ended result) = None
 
 abbrev pub wanted : Claiming → Option Step

@@ -17,16 +17,16 @@ use Rattle.page_slots.specs.declared.open_stage.OpenStage.TheVariants.{StoresOpe
 
 -- the opening of a page in an epoch
 pub record Opening : Type 0 where
-  pub spaces : Layout
+  pub layout : Layout
   pub page : ℕ
   pub epoch : ℕ
   pub stage : OpenStage
 
 abbrev pub begun : Layout → (page epoch : ℕ) → Opening
-begun spaces page epoch = record { spaces = spaces; page = page; epoch = epoch; stage = StoresOpen }
+begun layout page epoch = record { layout = layout; page = page; epoch = epoch; stage = StoresOpen }
 
 abbrev pub wanted_at : Opening → OpenStage → Option Step
-wanted_at o StoresOpen = Some (Store (place_of o.spaces.pages (Page o.page)) (encode_page (Open o.epoch)))
+wanted_at o StoresOpen = Some (Store (place_of o.layout.pages (Page o.page)) (encode_page (Open o.epoch)))
 wanted_at o (Ended result) = None
 
 -- the next step

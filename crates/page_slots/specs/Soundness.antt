@@ -17,8 +17,8 @@ FitsClaimStage (claim_stage.Ended result) = ⊤
 
 -- the page is a space's or the board, and the word read there is of no epoch, or of one before the claim's
 pub record IsSoundClaim (c : Claiming) : Type 0 where
-  pub pages : IsPageCount c.spaces.pages
-  pub page : c.page ≤ board_page c.spaces.pages
+  pub pages : IsPageCount c.layout.pages
+  pub page : c.page ≤ board_page c.layout.pages
   pub worker : c.worker ≤ 23
   pub epoch : c.epoch < 2 ^ 32
   pub found : PageFits c.found
@@ -32,8 +32,8 @@ IsClaimGoing stage = ⊤
 
 -- the page is a space's or the board
 pub record IsSoundOpening (o : Opening) : Type 0 where
-  pub pages : IsPageCount o.spaces.pages
-  pub page : o.page ≤ board_page o.spaces.pages
+  pub pages : IsPageCount o.layout.pages
+  pub page : o.page ≤ board_page o.layout.pages
   pub epoch : o.epoch < 2 ^ 32
 
 -- the opening has a next step

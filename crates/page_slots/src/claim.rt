@@ -34,11 +34,11 @@ impl Model for Claim {
 
     ghost Value = { Claiming };
 
-    ghost view = { λ c. record { spaces = c.spaces; page = c.page; epoch = c.epoch; worker = c.worker; found = c.found; in_place = c.in_place; stage = c.stage } };
+    ghost view = { λ c. record { layout = c.spaces; page = c.page; epoch = c.epoch; worker = c.worker; found = c.found; in_place = c.in_place; stage = c.stage } };
 
-    ghost invariant = { λ c. IsSoundClaim (record { spaces = c.spaces; page = c.page; epoch = c.epoch; worker = c.worker; found = c.found; in_place = c.in_place; stage = c.stage }) };
+    ghost invariant = { λ c. IsSoundClaim (record { layout = c.spaces; page = c.page; epoch = c.epoch; worker = c.worker; found = c.found; in_place = c.in_place; stage = c.stage }) };
 
-    ghost inverse = { λ c. record { spaces = c.spaces; page = c.page; epoch = c.epoch; worker = c.worker; found = c.found; in_place = c.in_place; stage = c.stage } };
+    ghost inverse = { λ c. record { spaces = c.layout; page = c.page; epoch = c.epoch; worker = c.worker; found = c.found; in_place = c.in_place; stage = c.stage } };
 }
 
 impl Claim {
@@ -92,7 +92,7 @@ impl Claim {
     pub fn want(&self) -> Step
         requires { IsClaimGoing self.now.stage }
         ensures wanted { wanted self.now ≡ Some result }
-        ensures in_table { place_in result < table_length self.now.spaces.pages }
+        ensures in_table { place_in result < table_length self.now.layout.pages }
     {
         let spaces = self.spaces;
         match self.stage {

@@ -27,11 +27,11 @@ impl Model for Open {
 
     ghost Value = { Opening };
 
-    ghost view = { λ o. record { spaces = o.spaces; page = o.page; epoch = o.epoch; stage = o.stage } };
+    ghost view = { λ o. record { layout = o.spaces; page = o.page; epoch = o.epoch; stage = o.stage } };
 
-    ghost invariant = { λ o. IsSoundOpening (record { spaces = o.spaces; page = o.page; epoch = o.epoch; stage = o.stage }) };
+    ghost invariant = { λ o. IsSoundOpening (record { layout = o.spaces; page = o.page; epoch = o.epoch; stage = o.stage }) };
 
-    ghost inverse = { λ o. record { spaces = o.spaces; page = o.page; epoch = o.epoch; stage = o.stage } };
+    ghost inverse = { λ o. record { spaces = o.layout; page = o.page; epoch = o.epoch; stage = o.stage } };
 }
 
 impl Open {
@@ -52,7 +52,7 @@ impl Open {
     pub fn want(&self) -> Step
         requires { IsOpeningGoing self.now.stage }
         ensures wanted { wanted self.now ≡ Some result }
-        ensures in_table { place_in result < table_length self.now.spaces.pages }
+        ensures in_table { place_in result < table_length self.now.layout.pages }
     {
         match self.stage {
             OpenStage::StoresOpen => Step::Store(

@@ -88,7 +88,7 @@ impl Duty {
         wanted: WantedPage,
         word: u64,
     ) -> Turn<RoundEnd>
-        requires page { wanted.page ≤ board_page self.old.spaces.pages }
+        requires page { wanted.page ≤ board_page self.old.layout.pages }
         requires allowed { IsSoundRound (at_stage self.old (round.found_front_for self.old seen wanted (decode_area word))) }
         ensures state { self.new ≡ at_stage self.old (round.found_front_for self.old seen wanted (decode_area word)) }
         ensures tells { result ≡ told self.new }
@@ -117,7 +117,7 @@ impl Duty {
     }
 
     pub(super) fn look_at_page(&mut self, choice: Choice, page: u32, word: u64) -> Turn<RoundEnd>
-        requires page { page ≤ board_page self.old.spaces.pages }
+        requires page { page ≤ board_page self.old.layout.pages }
         requires allowed { IsSoundRound (at_stage self.old (round.looked_at_page self.old choice page word (decode_page word))) }
         ensures state { self.new ≡ at_stage self.old (round.looked_at_page self.old choice page word (decode_page word)) }
         ensures tells { result ≡ told self.new }
@@ -142,7 +142,7 @@ impl Duty {
 
     /// Goes on behind a page that is not to be claimed.
     fn pass(&mut self, choice: Choice, page: u32) -> Turn<RoundEnd>
-        requires page { page ≤ board_page self.old.spaces.pages }
+        requires page { page ≤ board_page self.old.layout.pages }
         requires allowed { IsSoundRound (at_stage self.old (round.passed_by self.old choice page)) }
         ensures state { self.new ≡ at_stage self.old (round.passed_by self.old choice page) }
         ensures tells { result ≡ told self.new }

@@ -47,7 +47,7 @@ impl Duty {
     }
 
     pub(super) fn end_at_page(&mut self, look: EndLook, page: u32, word: u64) -> Turn<RoundEnd>
-        requires page { page ≤ board_page self.old.spaces.pages }
+        requires page { page ≤ board_page self.old.layout.pages }
         requires allowed { IsSoundRound (at_stage self.old (round.ended_page self.old look page word)) }
         ensures state { self.new ≡ at_stage self.old (round.ended_page self.old look page word) }
         ensures tells { result ≡ told self.new }
