@@ -44,6 +44,7 @@ pub mod PlainHeaps
 pub mod FieldShown
 pub mod AllocFree
 pub mod AllocStock
+pub mod AllocRows
 pub mod AllocZero
 pub mod AllocOpen
 pub mod AllocClaim
@@ -56,9 +57,8 @@ pub mod BirthShown
 pub mod BirthCycle
 pub mod MutatorStores
 pub mod MutatorPlaces
-pub mod MutatorsStand
+pub mod Effects
 pub mod ScanningRecords
-pub mod AgingEntries
 pub mod FlippingReset
 pub mod GatingCounts
 pub mod GatingWorker
@@ -67,3 +67,4 @@ pub mod GatingScanner
 pub mod GatingPassages
 pub mod ForgettingLess
 pub mod Composing
+pub mod Composites

@@ -1,7 +1,6 @@
 -- The fields of a page that is scanned: passed where they are clean, and replaced by the copy's address where they are not.
-use Rattle.std.proofs.Common.{◌≡◌, ◌≢◌, ℕ, ◌+◌, ◌-◌, ◌/◌, ◌<◌, true, Some, None, refl, sym, ◌∙◌, arith, ⊎_elim, inl, inr, subst, ap, Option}
+use Rattle.std.proofs.Common.{◌≤◌, ◌≡◌, ◌≢◌, ℕ, ◌+◌, ◌-◌, ◌/◌, ◌<◌, Some, None, refl, sym, ◌∙◌, arith, ⊎_elim, inl, inr, subst, ap, Option}
 use Rattle.std.proofs.lemmas.Bool.{cases_eq}
-use Rattle.plain_state.specs.Layout.{is_field}
 use Rattle.heap_words.specs.Decoded.{PointerWord, decode}
 use Rattle.heap_state.specs.Era.{Era, Memory, IsLaidOut}
 use Rattle.heap_state.specs.Functions.{put}
@@ -14,7 +13,7 @@ use Rattle.heap_state.specs.Worker.{Worker, Team, Origin, Scanned, Quest, Copy, 
 use Rattle.heap_state.proofs.Frames.{counted_put, staffed_put, stocks_put, numbered_put, rooted_put}
 use Rattle.heap_state.proofs.Puts.{put_same, team_put, some_same, none≢some}
 use Rattle.heap_state.specs.FieldSpan.{next_in, next_from}
-use Rattle.heap_state.proofs.FieldSpans.{goes_on_within, passes_no_field}
+use Rattle.heap_state.proofs.FieldSpans.{passes_no_field, next_within, span-within, field-span}
 use Rattle.heap_state.specs.Entries.{WordIs}
 use Rattle.heap_laws.specs.Keeping.{Keeps}
 use Rattle.heap_laws.specs.ScanningWords.{scanning, on_to, AtField, PassingFieldKeeps, asking, AskingKeeps, HasFound, past_word}
@@ -37,22 +36,28 @@ module _ (E : Era) (m : Memory) (team : Team) (g : Ghost) (k : ℕ) (s : Scan) (
 
   pub here : Here E g.size g.writer g.kind s.cursor
   unfolding Here
-  here = ⊎_elim (λ b. inr b.0) (λ y. inl (in_field y.0 y.1 y.2 y.3)) at.place
+  here = ⊎_elim (λ b. inr b.0) (λ y. inl (in_field y.0 y.1 y.2)) at.place
     where
-      in_field : (r : Seen) → s.current ≡ Some r → is_field r.kind (s.cursor - r.at) ≡ true → s.cursor < r.at + r.size → InRecord E g.size g.writer g.kind s.cursor
-      in_field r e f l = let c = steps.current r e in let o = inv.laid.order in record {
-        a = r.at;
-        i = s.cursor - r.at;
-        field = record { stands = omega (arith, c); written = c.3; field = rw c.2 f; first = omega (arith, c); last = omega (arith, c, l) };
-        inside = (c.4, omega (arith, c, o));
-        at = omega (arith, c);
-      }
+      in_field : (r : Seen) → s.current ≡ Some r → s.cursor < r.fields_end → InRecord E g.size g.writer g.kind s.cursor
+      in_field r e l =
+          let c = steps.current r e in
+          let o = inv.laid.order in
+          let w = span-within (g.kind r.at) (g.size r.at) c.stands in
+          let first : 0 < s.cursor - r.at = (let q = c.entered in omega (arith, q, w)) in
+          let last : s.cursor - r.at < g.size r.at = (let q = c.fields in omega (arith, q, w, l, first)) in
+          record {
+            a = r.at;
+            i = s.cursor - r.at;
+            field = record { stands = c.stands; written = c.written; field = (field-span (g.kind r.at) (s.cursor - r.at) (g.size r.at) first last).1 (let q = c.entered in omega (arith, q), let q = c.fields in omega (arith, q, l, first)); first = first; last = last };
+            inside = (c.inside.0, let q = c.inside.1 in let z = c.whole in omega (arith, q, z, o, last));
+            at = let q = c.entered in omega (arith, q);
+          }
 
   -- past the word at the cursor, once it is clean
   next : (heap : ℕ → ℕ) → ¬ (Leads E (heap s.cursor)) → GoesOn E m.front g.size g.writer g.kind heap s (past_word E s)
   next heap fine = ⊎_elim
       (λ b. gone_on None b.1 (on_board b.0 b.1))
-      (λ y. gone_on (Some y.0) y.1 (in_record y.0 y.1 y.3))
+      (λ y. gone_on (Some y.0) y.1 (in_record y.0 y.1 y.2))
       at.place
     where
       gone_on : (o : Option Seen) → s.current ≡ o → GoesOn E m.front g.size g.writer g.kind heap s (on_to E s (next_from o (s.cursor + 1))) → GoesOn E m.front g.size g.writer g.kind heap s (past_word E s)
@@ -66,23 +71,26 @@ module _ (E : Era) (m : Memory) (team : Team) (g : Ghost) (k : ℕ) (s : Scan) (
         stepping = stepping_on E m.front g.size g.writer g.kind s (s.cursor + 1) (omega arith) (λ r e. none≢some (sym none ∙ e)) steps;
       }
 
-      in_record : (r : Seen) → s.current ≡ Some r → s.cursor < r.at + r.size → GoesOn E m.front g.size g.writer g.kind heap s (on_to E s (next_in r (s.cursor + 1)))
+      in_record : (r : Seen) → s.current ≡ Some r → s.cursor < r.fields_end → GoesOn E m.front g.size g.writer g.kind heap s (on_to E s (next_in r (s.cursor + 1)))
       in_record r is l =
           let c = steps.current r is in
-          let w = goes_on_within r (s.cursor + 1) c.0 (omega arith) in
+          let z = span-within (g.kind r.at) (g.size r.at) c.stands in
+          let below : s.cursor + 1 ≤ r.next = (let q = c.fields in let y = c.whole in omega (arith, q, y, z, l)) in
+          let w = next_within r (g.kind r.at) (g.size r.at) c.stands c.fields c.whole (s.cursor + 1) below in
+          let entered = c.entered in
           record {
             page = refl;
             clean = λ x u e f n. ⊎_elim
                 (λ (y : x ≡ s.cursor). rw y fine)
                 (λ (d : x ≢ s.cursor). absurd (
-                let q = here_field out inv.laid g.writer g.kind x u r.at (x - r.at) (omega (arith, c, w, n, f)) (omega (arith, c, f)) in
-                let t : is_field r.kind (x - r.at) ≡ true = rw c.2 at q.1 in
-                passes_no_field r (s.cursor + 1) c.0 x (omega arith) (omega (arith, c, f)) (omega (arith, w, n)) n t))
+                let whole = c.whole in
+                let q = here_field out inv.laid g.writer g.kind x u r.at (x - r.at) (omega (arith, whole, w, n, f, entered)) (omega (arith, entered, f)) in
+                passes_no_field r (g.kind r.at) (g.size r.at) c.stands c.fields c.whole (s.cursor + 1) x (omega arith) (omega (arith, entered, z, f)) (omega (arith, w, n)) n q.1))
                 (cases_eq x s.cursor);
-            top = inr (omega (arith, c, w));
+            top = inr (let q = c.inside.1 in omega (arith, q, w));
             stepping = stepping_on E m.front g.size g.writer g.kind s (next_in r (s.cursor + 1)) (omega (arith, w)) (λ q e.
                 let z : r ≡ q = some_same (sym is ∙ e) in
-                rw (← z) (w.1, w.2)) steps;
+                rw (← z) w.1) steps;
           }
 
 -- the worker asks for the copy

@@ -1,5 +1,5 @@
 -- Steps one after another: what is one atomic step may be several changes of what a worker knows. And a worker may forget.
-use Rattle.std.specs.Prelude.{◌≡◌, ℕ, true, Option, Some, None, is_some, ◌⊎◌}
+use Rattle.std.specs.Prelude.{◌≡◌, ℕ, true, false, Option, Some, None, is_some, ◌⊎◌}
 use Rattle.plain_state.specs.State.{Plain}
 use Rattle.heap_state.specs.Entries.{Entry}
 use Rattle.heap_state.specs.Era.{Era, Memory}
@@ -35,6 +35,20 @@ pub record IsAtMost (w v : Worker) : Type 0 where
   pub reset : IsLess w.reset v.reset
   pub traced_seen : w.traced_seen ≡ true → v.traced_seen ≡ true
   pub asks : (is_flipper w.post ≡ true) ⊎ (is_some w.gate_step ≡ true) → w.traced_seen ≡ v.traced_seen
+
+-- a worker whose round of the duty ends: it forgets the round, its claim and its looks
+abbrev pub ends_round : Worker → Worker
+ends_round w = record w { round = None; claim = None; look = None; last_look = None }
+
+abbrev pub RoundsAreForgotten : Type 0
+RoundsAreForgotten = (w : Worker) → IsAtMost (ends_round w) w
+
+-- a worker that does not flip or pass the gate forgets that the epoch is traced
+abbrev pub unaware : Worker → Worker
+unaware w = record w { traced_seen = false }
+
+abbrev pub TracedIsForgotten : Type 0
+TracedIsForgotten = (w : Worker) → is_flipper w.post ≡ false → w.gate_step ≡ None → IsAtMost (unaware w) w
 
 -- ---- the laws
 

@@ -12,8 +12,8 @@ pub mod Fields
 pub mod Allocating
 pub mod Placing
 pub mod MutatorStores
-pub mod MutatorsStand
+pub mod Effects
 pub mod FlippingReset
 pub mod Gating
 pub mod Composing
-pub mod Aging
+pub mod Composites
