@@ -1,7 +1,7 @@
 -- What a copy's address comes from.
-use Rattle.std.proofs.Common.{◌≡◌, ℕ, ◌+◌, Some, None, refl, sym, ap, ◌∙◌, subst, ◌⊎◌, inl, inr, ◌↔◌}
+use Rattle.std.proofs.Common.{◌≡◌, ℕ, ◌+◌, Some, refl, sym, ap, ◌∙◌, subst, ◌⊎◌, inl, inr}
 use Rattle.atom_store.specs.declared.reply.Reply.{Reply}
-use Rattle.atom_store.specs.declared.reply.Reply.TheVariants.{Value, Done, Won, Lost}
+use Rattle.atom_store.specs.declared.reply.Reply.TheVariants.{Value, Done, Won}
 use Rattle.atom_store.specs.declared.turn.Turn.TheVariants.{More, Finished}
 use Rattle.heap_words.specs.declared.kind.Kind.{Kind}
 use Rattle.heap_words.specs.Decoded.{Decoded, NumberWord, PointerWord, HeaderWord, ForwardWord, BusyWord, Malformed, decode}
@@ -15,9 +15,9 @@ use Rattle.forwarding.specs.declared.evac_stage.EvacStage.{EvacStage}
 use Rattle.forwarding.specs.declared.evac_stage.EvacStage.TheVariants.{LoadsHeader, TakesHeader, LoadsArea, Announces, Reserves, StoresHeader, LoadsWord, StoresWord, StoresCross, StoresForward, Clears, Ended}
 use Rattle.forwarding.specs.declared.kept_header.KeptHeader.{KeptHeader}
 use Rattle.forwarding.specs.declared.to.To.{To}
-use Rattle.forwarding.specs.Evacuation.{Evacuation, IsGoing, area_past, front_of, size_of, wanted_at}
+use Rattle.forwarding.specs.Evacuation.{IsGoing, area_past, front_of, size_of, wanted_at}
 use Rattle.forwarding.specs.Keeping.{address_reserved, header_kept}
-use Rattle.forwarding.specs.Taken.{by_first_word, stage_after, told}
+use Rattle.forwarding.specs.Taken.{by_first_word, told}
 use Rattle.forwarding.specs.Theorems.{FollowsForwards, EndsBehindForwards, ReadsHeaders, TakesByExchange, AnnouncesFirst, ReservesByExchange, place}
 use Rattle.forwarding.specs.declared.reserved.Reserved.{Reserved}
 use Rattle.atom_store.specs.declared.turn.Turn.{Turn}

@@ -4,7 +4,7 @@ use Rattle.heap_words.specs.declared.kind.Kind.{Kind}
 use Rattle.heap_words.specs.Decoded.{HeaderWord, decode}
 use Rattle.space_map.specs.declared.area_word.AreaWord.{AreaWord}
 use Rattle.space_map.specs.AreaWord.{AreaFits}
-use Rattle.space_map.specs.Spaces.{Layout, IsPageCount, first_word}
+use Rattle.space_map.specs.Spaces.{IsPageCount, first_word}
 use Rattle.forwarding.specs.declared.kept_header.KeptHeader.{KeptHeader}
 use Rattle.forwarding.specs.declared.reserved.Reserved.{Reserved}
 use Rattle.forwarding.specs.declared.evac_stage.EvacStage.{EvacStage}

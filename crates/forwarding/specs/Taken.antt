@@ -1,5 +1,5 @@
 -- What a reply makes of the copy of a record, and what the machine then tells.
-use Rattle.std.specs.Prelude.{ℕ, ◌+◌, ◌-◌, ◌*◌, ◌/◌, ◌==◌, Option, Some, None, nat_lt, if◌then◌else◌}
+use Rattle.std.specs.Prelude.{ℕ, ◌+◌, ◌/◌, ◌==◌, Option, Some, None, nat_lt, if◌then◌else◌}
 use Rattle.atom_store.specs.declared.reply.Reply.{Reply}
 use Rattle.atom_store.specs.declared.reply.Reply.TheVariants.{Value, Done, Won, Lost}
 use Rattle.atom_store.specs.declared.turn.Turn.{Turn}

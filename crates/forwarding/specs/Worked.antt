@@ -6,7 +6,6 @@ use Rattle.atom_store.specs.declared.reply.Reply.{Reply}
 use Rattle.atom_store.specs.declared.reply.Reply.TheVariants.{Value, Done, Won, Lost}
 use Rattle.space_map.specs.Spaces.{Layout}
 use Rattle.forwarding.specs.Evacuation.{Evacuation, begun}
-use Rattle.forwarding.specs.Taken.{evac_machine}
 
 -- ---- a copy
 

@@ -1,5 +1,5 @@
 -- A scan that nobody disturbs, and that is answered at once.
-use Rattle.std.specs.Prelude.{◌≡◌, ◌≢◌, ℕ, ◌+◌, ◌*◌, ◌<◌, ◌≤◌, Bool, false, true, List, Option, Some, length, slice_index, IsTrue}
+use Rattle.std.specs.Prelude.{◌≡◌, ◌≢◌, ℕ, ◌+◌, ◌*◌, ◌<◌, ◌≤◌, Bool, false, true, List, Some, length, slice_index}
 use Rattle.atom_store.specs.Machine.{Machine}
 use Rattle.heap_words.specs.Decoded.{PointerWord, decode}
 use Rattle.heap_words.specs.Word.{pointer_word}

@@ -4,7 +4,6 @@ use Rattle.atom_store.specs.declared.reply.Reply.{Reply}
 use Rattle.atom_store.specs.declared.reply.Reply.TheVariants.{Value, Done}
 use Rattle.heap_words.specs.Decoded.{Decoded, HeaderWord, decode}
 use Rattle.space_map.specs.AreaWord.{decode_area}
-use Rattle.space_map.specs.Spaces.{Layout}
 use Rattle.page_scan.specs.declared.scan_stage.ScanStage.{ScanStage}
 use Rattle.page_scan.specs.declared.scan_stage.ScanStage.TheVariants.{LoadsCross, LoadsFirst, LoadsWord, Asks, StoresCopy, LoadsFront, LoadsNext, Ended}
 use Rattle.page_scan.specs.Scanning.{Scanning, address_of}

@@ -1,7 +1,6 @@
 -- What the scan of a page knows of itself: its steps are in the table, and its words are those of its page.
 use Rattle.std.specs.Prelude.{◌≡◌, ℕ, ◌+◌, ◌*◌, ◌^◌, ◌<◌, ◌≤◌}
 use Rattle.space_map.specs.Spaces.{IsPageCount, first_word, board_page}
-use Rattle.page_scan.specs.declared.asked.Asked.{Asked}
 use Rattle.page_scan.specs.declared.scan_stage.ScanStage.{ScanStage}
 use Rattle.page_scan.specs.declared.scan_stage.ScanStage.TheVariants.{LoadsCross, LoadsFirst, LoadsWord, Asks, StoresCopy, LoadsFront, LoadsNext, Ended}
 use Rattle.page_scan.specs.declared.scanned_record.ScannedRecord.{ScannedRecord}
