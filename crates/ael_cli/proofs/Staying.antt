@@ -11,7 +11,7 @@ use Rattle.plain_heap.specs.Call.{After}
 use Rattle.plain_heap.specs.declared.mark.Mark.{Mark}
 use Rattle.plain_heap.specs.declared.mark.Mark.TheVariants.{Step, Flip, Full}
 use Rattle.plain_heap.specs.Order.{opening, marked, state_after, plain, is_asked}
-use Rattle.plain_heap.specs.Step.{asked_by, ended, made, mutator_in, settled, stepped, stepped_as, stepped_if}
+use Rattle.plain_heap.specs.Step.{asked_by, ended, executes, mutator_in, settled, stepped, stepped_as, stepped_if}
 
 module _ (code : List (List Instr)) (turns : ℕ) where
   settled_stay : (s : Plain) (m : ℕ) (k : Mutator) (o : Result After End) → length (settled s m k o).mutators ≡ length s.mutators
@@ -20,7 +20,7 @@ module _ (code : List (List Instr)) (turns : ℕ) where
 
   stepped_if_stay : (s : Plain) (m : ℕ) (k : Mutator) (end : Option End) → length (stepped_if code turns s m k end).mutators ≡ length s.mutators
   stepped_if_stay s m k (Some why) = refl
-  stepped_if_stay s m k None = settled_stay s m k (made code turns m s.heap k)
+  stepped_if_stay s m k None = settled_stay s m k (executes code turns m s.heap k)
 
   stepped_as_stay : (s : Plain) (m : ℕ) (o : Option Mutator) → length (stepped_as code turns s m o).mutators ≡ length s.mutators
   stepped_as_stay s m None = refl

@@ -1,5 +1,6 @@
 //! The program's answers, over sources and sinks in memory and over a file.
 
+mod files;
 mod instructions;
 mod listings;
 mod rows;
@@ -9,13 +10,11 @@ mod words;
 
 use self::rows::{Row, check_long_rows, check_rows};
 use crate::memory::{MemSink, MemSource};
-use crate::standard::{StdSink, StdSource};
 use crate::sure::sure_status;
 use crate::top_call::ael;
 use mutator_asm::{Program, assemble};
 use plain_heap::{Mark, PlainState, plain_run, plain_step, print};
 use std::alloc::Global;
-use std::fs;
 use std::test::Fail;
 
 /// What a call wrote, and its status.
@@ -175,23 +174,6 @@ fn sure_ends_never_fail(rt: HostRuntime) -> Result<(), Fail> {
     let first = Vec::from_slice(rt.alloc(), FIRST.as_bytes())?;
     assert_eq!(rt; sure_status(&rt, rt.alloc(), &words, first), 0);
     Ok(())
-}
-
-#[test]
-fn files_are_read_and_written(rt: HostRuntime) -> Result<(), Fail> {
-    let words = words_of(rt.alloc(), "sim")?;
-    fs::write(&rt, "first.ael", FIRST)?;
-    let mut src = StdSource::new(fs::open(&rt, "first.ael")?);
-    let mut out = StdSink::new(fs::create(&rt, "first.out")?);
-    let mut err = StdSink::new(fs::create(&rt, "first.err")?);
-    let status = ael(&rt, rt.alloc(), &words, &mut src, &mut out, &mut err);
-    assert_eq!(rt; status, 0);
-    let (out, err) = (
-        fs::read_to_string(&rt, "first.out")?,
-        fs::read_to_string(&rt, "first.err")?,
-    );
-    same("files", "out", out.as_bytes(), b"0: 7\n0: halt\n")?;
-    same("files", "err", err.as_bytes(), b"")
 }
 
 /// What the plain machine prints after so many steps of mutator 0.

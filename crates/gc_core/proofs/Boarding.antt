@@ -4,12 +4,12 @@ use Rattle.std.proofs.lemmas.Bool.{cases_eq}
 use Rattle.std.proofs.lemmas.List.{get_or-set_same, get_or-set_other}
 use Rattle.plain_state.specs.declared.value.Value.{Value}
 use Rattle.plain_state.specs.State as plain
-use Rattle.plain_heap.specs.Call.{with_board}
+use Rattle.plain_state.specs.Writing.{with_board}
 use Rattle.gc_core.specs.Configuration.{Space}
 use Rattle.gc_core.specs.Event as event
 use Rattle.gc_core.specs.Represents.{Placement, Denotes, RepresentsBoard}
 use Rattle.gc_core.proofs.Heaps.{record_made}
-use Rattle.gc_core.proofs.Lists.{slice_get-set_other, set-found}
+use Rattle.plain_state.proofs.Lists.{slice_get-set_other, set-found}
 use Rattle.gc_core.proofs.Next.{RepresentsHeap, IsNext, part-below, denotes-next, stands-next}
 
 module _ (p : Placement) (space : Space) (heap : plain.Heap) (x : ℕ) (v : Value) (word m : ℕ) (h : RepresentsHeap p space heap) (inside : x < 16) (denotes : Denotes heap p.place word v) where
@@ -61,9 +61,9 @@ module _ (p : Placement) (space : Space) (heap : plain.Heap) (x : ℕ) (v : Valu
 
   pub heap-boarded : RepresentsHeap p (event.with_word space (length space.words - 16 + x) word) (with_board heap x v)
   heap-boarded = record {
-    records = λ i r first is.
-        stands-next next-boarded space.words new_words i r (record_made heap i r first is) same_length
-        (λ a y own. record { owner = own; word = heap_stays a (part-below p space heap h a i y own) }) (h.records i r first is);
+    records = λ i r is.
+        stands-next next-boarded space.words new_words i r (record_made heap i r is) same_length
+        (λ a y own. record { owner = own; word = heap_stays a (part-below p space heap h a i y own) }) (h.records i r is);
     parts = λ a i y own. let part = h.parts a i y own in record { made = next-boarded.made i part.made; place = part.place; within = λ r is. part.within r is };
     rest = λ a before no_part. let was : a + 16 < length space.words = omega (arith, same_length, before) in heap_stays a was ∙ h.rest a was no_part;
     low = omega (arith, h.low, same_length);

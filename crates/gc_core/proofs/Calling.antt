@@ -1,9 +1,10 @@
 -- One instruction does the same on both heaps, but for an end for want of room.
-use Rattle.std.proofs.Common.{◌≡◌, ℕ, ◌/◌, ◌%◌, ◌==◌, ◌+◌, ◌*◌, ◌^◌, ◌<◌, ◌≤◌, Bool, true, false, ◌&&◌, cond, nat_le, nat_lt, length, Option, Some, None, Result, Ok, slice_index, refl, ap, sym, subst, arith}
+use Rattle.std.proofs.Common.{◌≡◌, ℕ, ◌/◌, ◌%◌, ◌==◌, ◌+◌, ◌*◌, ◌^◌, ◌<◌, ◌≤◌, Bool, true, false, ◌&&◌, cond, nat_le, nat_lt, length, Option, Some, None, Result, Ok, slice_index, refl, ap, sym, ◌∙◌, subst, arith}
 use Rattle.std.specs.Bool.{IsTrue}
 use Rattle.std.specs.Option.{option_map}
 use Rattle.std.proofs.Math.Nat.{div-le_self, mod-le}
 use Rattle.std.proofs.lemmas.Bool.{ltb-true, and_parts, leb-true}
+use Rattle.std.proofs.lemmas.List.{length-replicate}
 use Rattle.heap_words.specs.Word.{number_word}
 use Rattle.plain_state.specs.declared.kind.Kind.{Kind}
 use Rattle.plain_state.specs.declared.kind.Kind.TheVariants.{Fields, Raw}
@@ -15,13 +16,14 @@ use Rattle.plain_state.specs.declared.value.Value.{Value}
 use Rattle.plain_state.specs.declared.value.Value.TheVariants.{Number}
 use Rattle.plain_state.specs.Operation.{one_if, applied, divided_by}
 use Rattle.plain_state.specs.State as plain
+use Rattle.plain_state.specs.Writing.{stored, with_board}
 use Rattle.mutator_asm.specs.declared.instr.Instr.{Instr}
 use Rattle.mutator_asm.specs.declared.instr.Instr.TheVariants as instrs
 use Rattle.mutator_asm.specs.declared.operand.Operand.{Operand}
 use Rattle.mutator_asm.specs.Program.{is_valid, is_register, is_number, is_operand, is_target}
 use Rattle.plain_heap.specs.Call as called
-use Rattle.plain_heap.specs.Call.{◌>>=◌, length_of, call as plain_call}
-use Rattle.plain_heap.specs.Step.{pages_for, length_made, length_named}
+use Rattle.plain_heap.specs.Call.{◌>>=◌, length_of, zeros, call as plain_call}
+use Rattle.plain_heap.specs.Step.{pages_for, pages_of, new_record, length_named}
 use Rattle.gc_core.specs.Configuration.{Space, Mutator}
 use Rattle.gc_core.specs.Event as event
 use Rattle.gc_core.specs.Event.{call, room_for}
@@ -65,8 +67,11 @@ length_of-same n = length_same_as n (nat_le n 4095) refl
 length_named-is : (l : plain.Mutator) (x : Operand) (a n : ℕ) → called.operand l x ≡ Ok a → length_of a ≡ Ok n → length_named l x ≡ Some n
 length_named-is l x a n is_operand is_length = rw (is_operand, is_length) refl
 
+pages_of-zeros : (kind : Kind) (n : ℕ) → pages_of (zeros kind n) ≡ pages_for (n + 1)
+pages_of-zeros kind n = ap (λ len. pages_for (len + 1)) (length-replicate n (Number 0))
+
 stores_in : (heap : plain.Heap) (i : Identity) (o : Option plain.Record) (t : plain.Record) (x : ℕ) (v : Value) → o ≡ Some t
-    → called.store_in heap i o x v ≡ (called.may_hold t.kind v >>= (λ v. Ok (called.stored heap i t x v)))
+    → called.store_in heap i o x v ≡ (called.may_hold t.kind v >>= (λ v. Ok (stored heap i t x v)))
 stores_in heap i o t x v is = rw is refl
 
 jump_as : (b c : Bool) (target next other : ℕ) → b ≡ c → next ≡ other → cond b target next ≡ cond c target other
@@ -84,7 +89,7 @@ module _ (p : Placement) (space : Space) (heap : plain.Heap) (m : ℕ) (k : Muta
   valid_result d a b valid = valid_register d (and_parts (is_register d) (is_register a) (and_parts (is_register d && is_register a) (is_register b) valid).0).0
 
   abbrev IsWantAt : Instr → End → Type 0
-  IsWantAt i = IsWant (option_map pages_for (length_made l i))
+  IsWantAt i = IsWant (option_map pages_of (new_record l i))
 
   abbrev IsDone : event.After → called.After → Type 0
   IsDone = Done p space heap m
@@ -105,15 +110,15 @@ module _ (p : Placement) (space : Space) (heap : plain.Heap) (m : ℕ) (k : Muta
       (λ n n' is_n is_n' en. loads_number d n n' within en.0 en.1))))
 
   new-same : (kind : Kind) (d : ℕ) (x : Operand) (a n : ℕ) → d < 8 → n ≤ 4095 → called.operand l x ≡ Ok a → length_of a ≡ Ok n
-      → Parallel IsDone (IsWant (option_map pages_for (length_named l x))) (room_for space.low k.run n >>= (λ c. Ok (event.makes m space k (spelled kind) d n c))) (Ok (called.makes m heap l kind d n))
+      → Parallel IsDone (IsWant (option_map pages_of (option_map (zeros kind) (length_named l x)))) (room_for space.low k.run n >>= (λ c. Ok (event.makes m space k (spelled kind) d n c))) (Ok (called.allocated m heap l kind d n))
   new-same kind d x a n within short is_operand is_length =
-      subst (λ o. Parallel IsDone (IsWant (option_map pages_for o)) (room_for space.low k.run n >>= (λ c. Ok (event.makes m space k (spelled kind) d n c))) (Ok (called.makes m heap l kind d n)))
-      (sym (length_named-is l x a n is_operand is_length)) (makes-same p space heap m k l h r running in_heap kind d n within short)
+      subst (λ o. Parallel IsDone (IsWant o) (room_for space.low k.run n >>= (λ c. Ok (event.makes m space k (spelled kind) d n c))) (Ok (called.allocated m heap l kind d n)))
+      (sym (ap (λ o. option_map pages_of (option_map (zeros kind) o)) (length_named-is l x a n is_operand is_length) ∙ ap Some (pages_of-zeros kind n))) (makes-same p space heap m k l h r running in_heap kind d n within short)
 
   makes_new-same : (kind : Kind) (d : ℕ) (x : Operand) → d < 8
-      → Parallel IsDone (IsWant (option_map pages_for (length_named l x))) (event.makes_new m space k (spelled kind) d x) (called.makes_new m heap l kind d x)
+      → Parallel IsDone (IsWant (option_map pages_of (option_map (zeros kind) (length_named l x)))) (event.makes_new m space k (spelled kind) d x) (called.allocates m heap l kind d x)
   makes_new-same kind d x within =
-      let F = IsWant (option_map pages_for (length_named l x)) in
+      let F = IsWant (option_map pages_of (option_map (zeros kind) (length_named l x))) in
       parallel-bind (λ a b. a ≡ b) IsDone F _ _ _ _ (operand_read p space heap h size counted m k l r running x)
       (λ a b is_a is_b e. rw e (parallel-bind (λ a b. (a ≡ b) × (a ≤ 4095)) IsDone F _ _ _ _ (length_of-same b)
       (λ n n' is is' short. rw short.0 (new-same kind d x b n' within (subst (λ t. t ≤ 4095) short.0 short.1) is_b is'))))
@@ -125,7 +130,7 @@ module _ (p : Placement) (space : Space) (heap : plain.Heap) (m : ℕ) (k : Muta
   store-same F address i x place b old placed is =
       rw (
         stores_in heap i (plain.record_of heap i) is.of x (called.register l b) is.is_record,
-        bind-bind {C = called.After} (called.may_hold is.of.kind (called.register l b)) (λ v. Ok (called.stored heap i is.of x v)) (λ heap. Ok (record { heap = heap; mutator = called.went_on l })),
+        bind-bind {C = called.After} (called.may_hold is.of.kind (called.register l b)) (λ v. Ok (stored heap i is.of x v)) (λ heap. Ok (record { heap = heap; mutator = called.went_on l })),
       )
       (parallel-bind (DenotesIn is.of.kind heap p.place) IsDone F _ _ _ _ (held-same p space heap h size counted address i x place old (called.register l b) (event.register k b) placed is (denotes b))
       (λ word v is_word is_v held. rw is.place_is (done-stores p space heap m k l h r running in_heap i is.of x old v word placed.made is.is_record is.is_word held)))
@@ -135,7 +140,7 @@ module _ (p : Placement) (space : Space) (heap : plain.Heap) (m : ℕ) (k : Muta
       → ((address : ℕ) (i : Identity) (y place : ℕ) (v : Value) → IsPlaced p heap address i → IsWordAt p heap i y place v → Parallel IsDone F (f address place) (g i y v))
       → Parallel IsDone F
       (event.address_of (event.register k a) >>= (λ address. event.operand k x >>= (λ y. event.place_of space address y >>= (λ place. f address place))))
-      (called.reference_in (called.register l a) >>= (λ i. called.operand l x >>= (λ y. called.word_of heap i y >>= (λ v. g i y v))))
+      (called.reference_in (called.register l a) >>= (λ i. called.operand l x >>= (λ y. called.value_in heap i y >>= (λ v. g i y v))))
   at_word F a x f g next =
       parallel-bind (IsPlaced p heap) IsDone F _ _ _ _ (address_read p space heap h size counted m k l r running a)
       (λ address i is_address is_i placed. parallel-bind (λ a b. a ≡ b) IsDone F _ _ _ _ (operand_read p space heap h size counted m k l r running x)
@@ -205,9 +210,9 @@ module _ (p : Placement) (space : Space) (heap : plain.Heap) (m : ℕ) (k : Muta
       (λ y place v is. swapped y place v is (valid_register d (and_parts (is_register d) (is_operand x) valid).0))
     where
       swapped : (y place : ℕ) (v : Value) → IsOnBoard p space heap y place v → d < 8
-          → IsDone (event.loads (event.with_word space place (event.register k d)) k d (slice_index space.words place)) (called.loads (called.with_board heap y (called.register l d)) l d v)
+          → IsDone (event.loads (event.with_word space place (event.register k d)) k d (slice_index space.words place)) (called.loads (with_board heap y (called.register l d)) l d v)
       swapped y place v is within =
-          subst (λ t. IsDone (event.loads (event.with_word space t (event.register k d)) k d (slice_index space.words place)) (called.loads (called.with_board heap y (called.register l d)) l d v)) (sym is.place_is)
+          subst (λ t. IsDone (event.loads (event.with_word space t (event.register k d)) k d (slice_index space.words place)) (called.loads (with_board heap y (called.register l d)) l d v)) (sym is.place_is)
           (done-swaps p space heap m k l h r running in_heap y (called.register l d) v (event.register k d) d (slice_index space.words place) is.inside (denotes d) within is.denotes)
   call-same (instrs.Out a) valid =
       parallel-bind (λ a b. (a ≡ b) × (b < 2 ^ 62)) IsDone (IsWantAt (instrs.Out a)) _ _ _ _ (number_read p space heap h size counted m k l r running a)

@@ -45,13 +45,13 @@ module _ (p : Placement) (space : Space) (heap : plain.Heap) (h : RepresentsHeap
   pub address_fits : (i : Identity) → plain.IsMade heap i → p.place i < 2 ^ 32
   address_fits i made =
       let found = made_record heap i made in
-      omega (arith, (h.records i found.0 made.first found.1).within)
+      omega (arith, (h.records i found.0 found.1).within)
 
   own-header : (i : Identity) → plain.IsMade heap i → p.owner (p.place i) ≡ Part i 0
   own-header i made =
       let found = made_record heap i made in
       let at : p.place i + 0 ≡ p.place i = omega arith in
-      subst (λ a. p.owner a ≡ Part i 0) at ((h.records i found.0 made.first found.1).own 0 (omega arith))
+      subst (λ a. p.owner a ≡ Part i 0) at ((h.records i found.0 found.1).own 0 (omega arith))
 
   -- no two records stand at one place
   same_place : (i j : Identity) → plain.IsMade heap i → plain.IsMade heap j → p.place i ≡ p.place j → i ≡ j

@@ -1,5 +1,5 @@
 -- What an instruction leaves of both heaps and both mutators.
-use Rattle.std.proofs.Common.{◌≡◌, ℕ, ◌+◌, ◌-◌, ◌%◌, ◌^◌, ◌<◌, ◌≤◌, ◌⊎◌, inl, inr, Bool, true, false, nat_lt, List, [], ◌∷◌, ◌++◌, length, Some, None, slice_get, slice_index, slice_set, replicate, refl, ap, sym, ◌∙◌, subst, arith, length-set}
+use Rattle.std.proofs.Common.{◌≡◌, ℕ, ◌+◌, ◌-◌, ◌%◌, ◌^◌, ◌<◌, ◌≤◌, ◌⊎◌, inl, inr, Bool, true, false, nat_lt, List, [], ◌∷◌, ◌++◌, length, Some, None, slice_get, slice_index, slice_set, refl, ap, sym, ◌∙◌, subst, arith, length-set}
 use Rattle.std.proofs.lemmas.Bool.{cases_eq}
 use Rattle.std.proofs.lemmas.List.{get_or-set_same, get_or-set_other}
 use Rattle.heap_words.specs.Word.{pointer_word, header_word}
@@ -9,12 +9,13 @@ use Rattle.plain_state.specs.declared.value.Identity.{Identity}
 use Rattle.plain_state.specs.declared.value.Value.{Value}
 use Rattle.plain_state.specs.declared.value.Value.TheVariants.{Number, Reference}
 use Rattle.plain_state.specs.State as plain
+use Rattle.plain_state.specs.Writing.{with_word, stored, with_board, gained}
 use Rattle.plain_heap.specs.Call as called
 use Rattle.gc_core.specs.Configuration.{Space, Mutator}
 use Rattle.gc_core.specs.Event as event
 use Rattle.gc_core.specs.Represents.{Placement, spelled, Denotes, DenotesIn, RepresentsMutator}
 use Rattle.gc_core.proofs.Boarding.{heap-boarded, next-boarded}
-use Rattle.gc_core.proofs.Heaps.{newest, added, serial_of-stored, newest-made, serial_of-added_same}
+use Rattle.gc_core.proofs.Heaps.{newest, serial_of-stored, newest-made, serial_of-added_same}
 use Rattle.gc_core.proofs.Making.{IsRoom, placement_with, heap-made, next-made, place-newest, run-made}
 use Rattle.gc_core.proofs.Next.{RepresentsHeap, IsNext, next-same, denotes-next, mutator-next}
 use Rattle.gc_core.proofs.Parallel.{Parallel}
@@ -139,26 +140,26 @@ module _ (p : Placement) (space : Space) (heap : plain.Heap) (m : ℕ) (k : Muta
 
   pub done-stores : (i : Identity) (t : plain.Record) (x : ℕ) (old v : Value) (word : ℕ) → plain.IsMade heap i → plain.record_of heap i ≡ Some t → slice_get t.values x ≡ Some old
       → DenotesIn t.kind heap p.place word v
-      → Done p space heap m (record { space = event.with_word space (p.place i + 1 + x) word; mutator = event.went_on k }) (record { heap = called.stored heap i t x v; mutator = called.went_on l })
+      → Done p space heap m (record { space = event.with_word space (p.place i + 1 + x) word; mutator = event.went_on k }) (record { heap = stored heap i t x v; mutator = called.went_on l })
   done-stores i t x old v word made is_record is_word denotes =
       let next = next-stored p space heap i t x old v word m h made is_record is_word denotes in
       let same_length = length-set space.words (p.place i + 1 + x) word in
-      let stays = subst (λ n. RepresentsMutator (called.stored heap i t x v) p n m k l) (sym same_length)
+      let stays = subst (λ n. RepresentsMutator (stored heap i t x v) p n m k l) (sym same_length)
       (mutator-next next (length space.words) m k l (serial_of-stored heap i t x v made m) (λ a own. own) r) in
       record {
         placement = p;
         represents = heap-stored p space heap i t x old v word m h made is_record is_word denotes;
         next = next;
-        mutator = went_on-same (called.stored heap i t x v) p _ m k l stays;
+        mutator = went_on-same (stored heap i t x v) p _ m k l stays;
         size = same_length;
-        heaps = length-set heap.records i.mutator (slice_set (plain.made_by heap i.mutator) (i.serial - 1) (called.with_word t x v));
+        heaps = length-set heap.records i.mutator (slice_set (plain.made_by heap i.mutator) (i.serial - 1) (with_word t x v));
         goes_on = running;
       }
 
   -- word x of the board is written, and the mutator goes on as it may
   done-boards : (x : ℕ) (v : Value) (word : ℕ) (new_k : Mutator) (new_l : plain.Mutator) → x < 16 → Denotes heap p.place word v → new_l.end ≡ None
       → RepresentsMutator heap p (length space.words) m new_k new_l
-      → Done p space heap m (record { space = event.with_word space (length space.words - 16 + x) word; mutator = new_k }) (record { heap = called.with_board heap x v; mutator = new_l })
+      → Done p space heap m (record { space = event.with_word space (length space.words - 16 + x) word; mutator = new_k }) (record { heap = with_board heap x v; mutator = new_l })
   done-boards x v word new_k new_l inside denotes goes_on new_r =
       let next = next-boarded p space heap x v word m h inside denotes in
       let same_length = length-set space.words (length space.words - 16 + x) word in
@@ -166,7 +167,7 @@ module _ (p : Placement) (space : Space) (heap : plain.Heap) (m : ℕ) (k : Muta
         placement = p;
         represents = heap-boarded p space heap x v word m h inside denotes;
         next = next;
-        mutator = subst (λ n. RepresentsMutator (called.with_board heap x v) p n m new_k new_l) (sym same_length)
+        mutator = subst (λ n. RepresentsMutator (with_board heap x v) p n m new_k new_l) (sym same_length)
             (mutator-next next (length space.words) m new_k new_l refl (λ a own. own) new_r);
         size = same_length;
         heaps = refl;
@@ -174,24 +175,24 @@ module _ (p : Placement) (space : Space) (heap : plain.Heap) (m : ℕ) (k : Muta
       }
 
   pub done-puts : (x : ℕ) (v : Value) (word : ℕ) → x < 16 → Denotes heap p.place word v
-      → Done p space heap m (record { space = event.with_word space (length space.words - 16 + x) word; mutator = event.went_on k }) (record { heap = called.with_board heap x v; mutator = called.went_on l })
+      → Done p space heap m (record { space = event.with_word space (length space.words - 16 + x) word; mutator = event.went_on k }) (record { heap = with_board heap x v; mutator = called.went_on l })
   done-puts x v word inside denotes =
       done-boards x v word (event.went_on k) (called.went_on l) inside denotes running (went_on-same heap p (length space.words) m k l r)
 
   pub done-swaps : (x : ℕ) (v old : Value) (word d old_word : ℕ) → x < 16 → Denotes heap p.place word v → d < 8 → Denotes heap p.place old_word old
-      → Done p space heap m (event.loads (event.with_word space (length space.words - 16 + x) word) k d old_word) (called.loads (called.with_board heap x v) l d old)
+      → Done p space heap m (event.loads (event.with_word space (length space.words - 16 + x) word) k d old_word) (called.loads (with_board heap x v) l d old)
   done-swaps x v old word d old_word inside denotes within is =
       done-boards x v word (event.went_on (event.set_register k d old_word)) (called.went_on (called.set_register l d old)) inside denotes running
       (loaded-same heap p (length space.words) m k l d old_word old within is r)
 
   pub done-makes : (kind : Kind) (d n at end low : ℕ) → d < 8 → n ≤ 4095 → IsRoom p space m n at end low
-      → Done p space heap m (event.makes m space k (spelled kind) d n (record { low = low; run = record { at = at; end = end } })) (called.makes m heap l kind d n)
+      → Done p space heap m (event.makes m space k (spelled kind) d n (record { low = low; run = record { at = at; end = end } })) (called.allocated m heap l kind d n)
   done-makes kind d n at end low within short room =
-      let zeros : plain.Record = record { kind = kind; values = replicate n (Number 0) } in
+      let zeros : plain.Record = called.zeros kind n in
       let q = placement_with p (newest heap m) m n at end in
       let next = next-made p space heap m kind n at end low k.serial h in_heap room short r.serial in
       let same_length = length-set space.words at (header_word (spelled kind) n (k.serial + 1) m) in
-      let pointer : Denotes (added heap m zeros) q.place (pointer_word at) (Reference (newest heap m)) =
+      let pointer : Denotes (gained heap m zeros) q.place (pointer_word at) (Reference (newest heap m)) =
       record { word_is = ap pointer_word (sym (place-newest p space heap m kind n at end low k.serial h in_heap room short r.serial)); value = newest-made heap m zeros in_heap } in
       record {
         placement = q;
@@ -205,7 +206,7 @@ module _ (p : Placement) (space : Space) (heap : plain.Heap) (m : ℕ) (k : Muta
           serial = ap (λ n. n + 1) r.serial ∙ sym (serial_of-added_same heap m zeros in_heap);
           eight = length-set k.registers d (pointer_word at) ∙ r.eight;
           eight_values = length-set l.registers d (Reference (newest heap m)) ∙ r.eight_values;
-          registers = λ no_end x lt. set_as (added heap m zeros) q k.registers l.registers d (pointer_word at) x (Reference (newest heap m)) (omega (arith, r.eight, within)) (r.eight ∙ sym r.eight_values)
+          registers = λ no_end x lt. set_as (gained heap m zeros) q k.registers l.registers d (pointer_word at) x (Reference (newest heap m)) (omega (arith, r.eight, within)) (r.eight ∙ sym r.eight_values)
               pointer (denotes-next next _ _ (r.registers no_end x lt)) (cases_eq x d);
           run_from = room.fits;
           run_to = omega (arith, room.within, same_length);

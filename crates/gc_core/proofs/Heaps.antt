@@ -1,13 +1,13 @@
 -- The plain heap's records after a change of one mutator's list.
-use Rattle.std.proofs.Common.{◌≡◌, ℕ, ◌+◌, ◌-◌, ◌<◌, ◌≤◌, ◌⊎◌, inl, inr, List, [], ◌∷◌, ◌++◌, length, Some, slice_get, slice_set, get_or, ap, sym, ◌∙◌, subst, arith, length-set, length-append}
+use Rattle.std.proofs.Common.{◌≡◌, ℕ, ◌+◌, ◌-◌, ◌<◌, ◌≤◌, ◌⊎◌, inl, inr, List, [], ◌∷◌, ◌++◌, length, Some, slice_set, get_or, refl, ap, sym, ◌∙◌, subst, arith, length-set, length-append}
 use Rattle.std.proofs.lemmas.Bool.{cases_eq, cases_lt}
 use Rattle.std.proofs.lemmas.List.{get_or-set_same, get_or-set_other, get_or_past}
-use Rattle.std.proofs.lemmas.Option.{slice_get-get_or, slice_get_within}
+use Rattle.std.proofs.lemmas.Option.{slice_get-get_or}
 use Rattle.plain_state.specs.declared.value.Identity.{Identity}
 use Rattle.plain_state.specs.declared.value.Value.{Value}
-use Rattle.plain_state.specs.State.{Record, Heap, made_by, record_of, serial_of, IsMade}
-use Rattle.plain_heap.specs.Call.{with_word, with_records, stored}
-use Rattle.gc_core.proofs.Lists.{slice_get-set_same, slice_get-set_other, slice_get-append_end, slice_get-append_front}
+use Rattle.plain_state.specs.State.{Record, Heap, made_by, at_serial, record_of, serial_of, IsMade}
+use Rattle.plain_state.specs.Writing.{with_word, with_records, stored, gained}
+use Rattle.plain_state.proofs.Lists.{at_serial_within, at_serial_first, at_serial-set_same, at_serial-set_other, at_serial-append_end, at_serial-append_front}
 
 pub same_identity : (i j : Identity) → i.mutator ≡ j.mutator → i.serial ≡ j.serial → i ≡ j
 same_identity i j em es = λ t. record { mutator = em t; serial = es t }
@@ -37,14 +37,16 @@ made_within heap i made = made_within_as heap i made (cases_lt i.mutator (length
 pub made_record : (heap : Heap) (i : Identity) → IsMade heap i → (r : Record) × (record_of heap i ≡ Some r)
 made_record heap i made =
     let none : Record = record { kind = Rattle.plain_state.specs.declared.kind.Kind.TheVariants.Fields; values = [] } in
-    let within : i.serial - 1 < length (made_by heap i.mutator) = omega (arith, made.first, made.last) in
-    (get_or (made_by heap i.mutator) (i.serial - 1) none, slice_get-get_or (made_by heap i.mutator) (i.serial - 1) none within)
+    let within : i.serial - 1 < length (made_by heap i.mutator) = omega (arith, made.first, made.last) in (
+      get_or (made_by heap i.mutator) (i.serial - 1) none,
+      at_serial_first (made_by heap i.mutator) i.serial made.first ∙ slice_get-get_or (made_by heap i.mutator) (i.serial - 1) none within,
+    )
 
 -- a record that is there was made
-pub record_made : (heap : Heap) (i : Identity) (r : Record) → 1 ≤ i.serial → record_of heap i ≡ Some r → IsMade heap i
-record_made heap i r first is =
-    let within : i.serial - 1 < length (made_by heap i.mutator) = slice_get_within (made_by heap i.mutator) (i.serial - 1) r is in
-    record { first = first; last = omega arith }
+pub record_made : (heap : Heap) (i : Identity) (r : Record) → record_of heap i ≡ Some r → IsMade heap i
+record_made heap i r is =
+    let within = at_serial_within (made_by heap i.mutator) i.serial r is in
+    record { first = omega (arith, within.0); last = omega (arith, within.0, within.1) }
 
 pub made_by-same : (heap : Heap) (m : ℕ) (records : List Record) → m < length heap.records → made_by (with_records heap m records) m ≡ records
 made_by-same heap m records within = get_or-set_same heap.records m records [] within
@@ -71,20 +73,19 @@ module _ (heap : Heap) (i : Identity) (r : Record) (x : ℕ) (v : Value) (made :
   pub record_of-stored_same : record_of (stored heap i r x v) i ≡ Some (with_word r x v)
   record_of-stored_same =
       let within : i.serial - 1 < length (made_by heap i.mutator) = omega (arith, made.first, made.last) in
-      ap (λ records. slice_get records (i.serial - 1)) made_by-stored ∙ slice_get-set_same (made_by heap i.mutator) (i.serial - 1) (with_word r x v) within
+      ap (λ records. at_serial records i.serial) made_by-stored ∙ at_serial-set_same (made_by heap i.mutator) i.serial (with_word r x v) made.first within
 
-  record_of-stored_as : (j : Identity) → 1 ≤ j.serial → (j ≡ i → ⊥) → (j.mutator ≡ i.mutator) ⊎ (j.mutator ≡ i.mutator → ⊥) → record_of (stored heap i r x v) j ≡ record_of heap j
-  record_of-stored_as j first other (inl e) =
-      let apart : j.serial - 1 ≡ i.serial - 1 → ⊥ = λ same. other (same_identity j i e (omega (arith, made.first))) in
-      ap (λ m. slice_get (made_by (stored heap i r x v) m) (j.serial - 1)) e
-      ∙ ap (λ records. slice_get records (j.serial - 1)) made_by-stored
-      ∙ slice_get-set_other (made_by heap i.mutator) (i.serial - 1) (j.serial - 1) (with_word r x v) apart
-      ∙ ap (λ m. slice_get (made_by heap m) (j.serial - 1)) (sym e)
-  record_of-stored_as j first other (inr apart) =
-      ap (λ records. slice_get records (j.serial - 1)) (made_by-other heap i.mutator (slice_set (made_by heap i.mutator) (i.serial - 1) (with_word r x v)) j.mutator apart)
+  record_of-stored_as : (j : Identity) → (j ≡ i → ⊥) → (j.mutator ≡ i.mutator) ⊎ (j.mutator ≡ i.mutator → ⊥) → record_of (stored heap i r x v) j ≡ record_of heap j
+  record_of-stored_as j other (inl e) =
+      ap (λ m. at_serial (made_by (stored heap i r x v) m) j.serial) e
+      ∙ ap (λ records. at_serial records j.serial) made_by-stored
+      ∙ at_serial-set_other (made_by heap i.mutator) i.serial j.serial (with_word r x v) (λ same. other (same_identity j i e same)) made.first
+      ∙ ap (λ m. at_serial (made_by heap m) j.serial) (sym e)
+  record_of-stored_as j other (inr apart) =
+      ap (λ records. at_serial records j.serial) (made_by-other heap i.mutator (slice_set (made_by heap i.mutator) (i.serial - 1) (with_word r x v)) j.mutator apart)
 
-  pub record_of-stored_other : (j : Identity) → 1 ≤ j.serial → (j ≡ i → ⊥) → record_of (stored heap i r x v) j ≡ record_of heap j
-  record_of-stored_other j first other = record_of-stored_as j first other (cases_eq j.mutator i.mutator)
+  pub record_of-stored_other : (j : Identity) → (j ≡ i → ⊥) → record_of (stored heap i r x v) j ≡ record_of heap j
+  record_of-stored_other j other = record_of-stored_as j other (cases_eq j.mutator i.mutator)
 
 -- ---- a record is added
 
@@ -92,53 +93,46 @@ module _ (heap : Heap) (i : Identity) (r : Record) (x : ℕ) (v : Value) (made :
 abbrev pub newest : Heap → ℕ → Identity
 newest heap m = record { mutator = m; serial = serial_of heap m + 1 }
 
--- the heap with one more record of mutator m
-abbrev pub added : Heap → ℕ → Record → Heap
-added heap m r = with_records heap m (made_by heap m ++ r ∷ [])
-
 module _ (heap : Heap) (m : ℕ) (r : Record) (within : m < length heap.records) where
-  made_by-added : made_by (added heap m r) m ≡ made_by heap m ++ r ∷ []
+  made_by-added : made_by (gained heap m r) m ≡ made_by heap m ++ r ∷ []
   made_by-added = made_by-same heap m (made_by heap m ++ r ∷ []) within
 
-  pub serial_of-added_same : serial_of (added heap m r) m ≡ serial_of heap m + 1
+  pub serial_of-added_same : serial_of (gained heap m r) m ≡ serial_of heap m + 1
   serial_of-added_same = ap length made_by-added ∙ length-append (made_by heap m) (r ∷ [])
 
-  pub serial_of-added_other : (j : ℕ) → (j ≡ m → ⊥) → serial_of (added heap m r) j ≡ serial_of heap j
+  pub serial_of-added_other : (j : ℕ) → (j ≡ m → ⊥) → serial_of (gained heap m r) j ≡ serial_of heap j
   serial_of-added_other j other = ap length (made_by-other heap m (made_by heap m ++ r ∷ []) j other)
 
-  serial_of-added_as : (j : ℕ) → (j ≡ m) ⊎ (j ≡ m → ⊥) → serial_of heap j ≤ serial_of (added heap m r) j
+  serial_of-added_as : (j : ℕ) → (j ≡ m) ⊎ (j ≡ m → ⊥) → serial_of heap j ≤ serial_of (gained heap m r) j
   serial_of-added_as j (inl e) = rw e (omega (arith, serial_of-added_same))
   serial_of-added_as j (inr other) = omega (arith, serial_of-added_other j other)
 
-  pub made-added : (i : Identity) → IsMade heap i → IsMade (added heap m r) i
+  pub made-added : (i : Identity) → IsMade heap i → IsMade (gained heap m r) i
   made-added i made = record { first = made.first; last = omega (arith, made.last, serial_of-added_as i.mutator (cases_eq i.mutator m)) }
 
-  pub newest-made : IsMade (added heap m r) (newest heap m)
+  pub newest-made : IsMade (gained heap m r) (newest heap m)
   newest-made = record { first = omega arith; last = omega (arith, serial_of-added_same) }
 
   pub newest-new : IsMade heap (newest heap m) → ⊥
   newest-new made = omega (arith, made.last)
 
-  pub record_of-newest : record_of (added heap m r) (newest heap m) ≡ Some r
-  record_of-newest =
-      let place : serial_of heap m + 1 - 1 ≡ length (made_by heap m) = omega arith in
-      ap (λ records. slice_get records (serial_of heap m + 1 - 1)) made_by-added
-      ∙ ap (λ n. slice_get (made_by heap m ++ r ∷ []) n) place
-      ∙ slice_get-append_end (made_by heap m) r
+  pub record_of-newest : record_of (gained heap m r) (newest heap m) ≡ Some r
+  record_of-newest = ap (λ records. at_serial records (serial_of heap m + 1)) made_by-added ∙ at_serial-append_end (made_by heap m) (serial_of heap m + 1) r refl
 
-  pub record_of-added : (i : Identity) → IsMade heap i → (i.mutator ≡ m) ⊎ (i.mutator ≡ m → ⊥) → record_of (added heap m r) i ≡ record_of heap i
+  pub record_of-added : (i : Identity) → IsMade heap i → (i.mutator ≡ m) ⊎ (i.mutator ≡ m → ⊥) → record_of (gained heap m r) i ≡ record_of heap i
   record_of-added i made (inl e) =
-      let front : i.serial - 1 < length (made_by heap m) = omega (arith, made.first, subst (λ n. i.serial ≤ serial_of heap n) e made.last) in
-      ap (λ n. slice_get (made_by (added heap m r) n) (i.serial - 1)) e
-      ∙ ap (λ records. slice_get records (i.serial - 1)) made_by-added
-      ∙ slice_get-append_front (made_by heap m) (i.serial - 1) r front
-      ∙ ap (λ n. slice_get (made_by heap n) (i.serial - 1)) (sym e)
+      let found = made_record heap i made in
+      let here : at_serial (made_by heap m) i.serial ≡ Some found.0 = ap (λ n. at_serial (made_by heap n) i.serial) (sym e) ∙ found.1 in
+      ap (λ n. at_serial (made_by (gained heap m r) n) i.serial) e
+      ∙ ap (λ records. at_serial records i.serial) made_by-added
+      ∙ at_serial-append_front (made_by heap m) i.serial r found.0 here
+      ∙ sym found.1
   record_of-added i made (inr other) =
-      ap (λ records. slice_get records (i.serial - 1)) (made_by-other heap m (made_by heap m ++ r ∷ []) i.mutator other)
+      ap (λ records. at_serial records i.serial) (made_by-other heap m (made_by heap m ++ r ∷ []) i.mutator other)
 
-  older_as : (i : Identity) → IsMade (added heap m r) i → (i ≡ newest heap m → ⊥) → (i.mutator ≡ m) ⊎ (i.mutator ≡ m → ⊥) → IsMade heap i
+  older_as : (i : Identity) → IsMade (gained heap m r) i → (i ≡ newest heap m → ⊥) → (i.mutator ≡ m) ⊎ (i.mutator ≡ m → ⊥) → IsMade heap i
   older_as i made other (inl e) =
-      let last : i.serial ≤ serial_of heap m + 1 = omega (arith, serial_of-added_same, subst (λ n. i.serial ≤ serial_of (added heap m r) n) e made.last) in
+      let last : i.serial ≤ serial_of heap m + 1 = omega (arith, serial_of-added_same, subst (λ n. i.serial ≤ serial_of (gained heap m r) n) e made.last) in
       let apart : i.serial ≡ serial_of heap m + 1 → ⊥ = λ same. other (same_identity i (newest heap m) e same) in
       record { first = made.first; last = subst (λ n. i.serial ≤ serial_of heap n) (sym e) (below i.serial (serial_of heap m) last apart) }
     where
@@ -147,5 +141,5 @@ module _ (heap : Heap) (m : ℕ) (r : Record) (within : m < length heap.records)
   older_as i made other (inr apart) = record { first = made.first; last = omega (arith, made.last, serial_of-added_other i.mutator apart) }
 
   -- each record but the new one was there before
-  pub older : (i : Identity) → IsMade (added heap m r) i → (i ≡ newest heap m → ⊥) → IsMade heap i
+  pub older : (i : Identity) → IsMade (gained heap m r) i → (i ≡ newest heap m → ⊥) → IsMade heap i
   older i made other = older_as i made other (cases_eq i.mutator m)

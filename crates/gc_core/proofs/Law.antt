@@ -13,7 +13,7 @@ use Rattle.mutator_asm.specs.Program.{instr_at, is_valid}
 use Rattle.mutator_asm.proofs.Programs.{valid_at}
 use Rattle.plain_heap.specs.Call.{After, call as plain_call}
 use Rattle.plain_heap.specs.Step as step
-use Rattle.plain_heap.specs.Step.{stepped, asked_by, pages_for, length_made}
+use Rattle.plain_heap.specs.Step.{stepped, asked_by, pages_of, new_record}
 use Rattle.plain_heap.specs.Order.{marked, fresh as plain_fresh}
 use Rattle.gc_core.specs.declared.stepped.Stepped.TheVariants.{Effect, Ended}
 use Rattle.gc_core.specs.Configuration.{Space, Mutator, Configuration, fresh}
@@ -23,7 +23,7 @@ use Rattle.gc_core.specs.Represents.{Placement, RepresentsMutator, RepresentsBy,
 use Rattle.gc_core.specs.Steady.{IsSteady}
 use Rattle.gc_core.specs.Law.{plain_after, end_of, IsForWant, Meets}
 use Rattle.gc_core.proofs.Events.{event-scanner, event-ended, event-turn}
-use Rattle.gc_core.proofs.Lists.{slice_get-set_same}
+use Rattle.plain_state.proofs.Lists.{slice_get-set_same}
 use Rattle.gc_core.proofs.Heaps.{made_by-past}
 use Rattle.gc_core.proofs.Next.{RepresentsHeap, heap_of, next-same, represents-next}
 use Rattle.gc_core.proofs.Parallel.{IsPlain, IsWant, Parallel, Same, parallel-bind}
@@ -54,37 +54,37 @@ module _ (code : List (List Instr)) (turns : ℕ) (p : Placement) (space : Space
   fetch-same : Same (λ i j. i ≡ j) (event.fetch code turns m k) (step.fetch code turns m l)
   fetch-same = rw (r.executed, r.counter) (fetch_ends (nat_le turns l.executed) (instr_at code m l.counter))
 
-  made-same : Parallel (Done p space heap m) (IsWant (step.asked_if code turns m l None)) (event.made code turns m space k) (step.made code turns m heap l)
-  made-same =
+  executes-same : Parallel (Done p space heap m) (IsWant (step.asked_if code turns m l None)) (event.made code turns m space k) (step.executes code turns m heap l)
+  executes-same =
       parallel-bind (λ i j. i ≡ j) (Done p space heap m) (IsWant (step.asked_if code turns m l None)) (call m space k) (plain_call m heap l) _ _ fetch-same
       (λ i j is_i is_j e. rw (e, is_j) (call-same p space heap m k l h r running in_heap size counted j (valid_fetched code turns m l j valid is_j)))
 
 -- ---- the plain step
 
 module _ (code : List (List Instr)) (turns : ℕ) (s : plain.Plain) (m : ℕ) (l : plain.Mutator) (has : m < length code) (is_l : slice_get s.mutators m ≡ Some l) (running : l.end ≡ None) where
-  stepped-made : stepped code turns s m ≡ step.settled s m l (step.made code turns m s.heap l)
+  stepped-executed : stepped code turns s m ≡ step.settled s m l (step.executes code turns m s.heap l)
   unfolding stepped
-  stepped-made = rw (lt-ltb m (length code) has, is_l, running) refl
+  stepped-executed = rw (lt-ltb m (length code) has, is_l, running) refl
 
   asked_by-is : asked_by code turns s m ≡ step.asked_if code turns m l None
   unfolding asked_by
   asked_by-is = rw (is_l, running) refl
 
-  after-step : plain_after code turns s (Effect m) ≡ step.settled s m l (step.made code turns m s.heap l)
+  after-step : plain_after code turns s (Effect m) ≡ step.settled s m l (step.executes code turns m s.heap l)
   unfolding marked
-  after-step = stepped-made
+  after-step = stepped-executed
 
-  after-end : (why : End) → IsPlain why → plain_after code turns s (Ended m why) ≡ step.settled s m l (step.made code turns m s.heap l)
+  after-end : (why : End) → IsPlain why → plain_after code turns s (Ended m why) ≡ step.settled s m l (step.executes code turns m s.heap l)
   unfolding marked
-  after-end ends.Halt own = stepped-made
-  after-end ends.NotPointer own = stepped-made
-  after-end ends.NotNumber own = stepped-made
-  after-end ends.OutOfRange own = stepped-made
-  after-end ends.IntoRaw own = stepped-made
-  after-end ends.ZeroDivisor own = stepped-made
-  after-end ends.JumpOut own = stepped-made
-  after-end ends.TurnsOut own = stepped-made
-  after-end ends.OutputFull own = stepped-made
+  after-end ends.Halt own = stepped-executed
+  after-end ends.NotPointer own = stepped-executed
+  after-end ends.NotNumber own = stepped-executed
+  after-end ends.OutOfRange own = stepped-executed
+  after-end ends.IntoRaw own = stepped-executed
+  after-end ends.ZeroDivisor own = stepped-executed
+  after-end ends.JumpOut own = stepped-executed
+  after-end ends.TurnsOut own = stepped-executed
+  after-end ends.OutputFull own = stepped-executed
   after-end (ends.HeapFull asked room live) own = absurd own
 
   after-full : (asked room live : ℕ) → step.asked_if code turns m l None ≡ Some asked → plain_after code turns s (Ended m (ends.HeapFull asked room live)) ≡ step.ended s m l (ends.HeapFull asked room live)
@@ -139,7 +139,7 @@ module _ (code : List (List Instr)) (turns : ℕ) (p : Placement) (c : Configura
         run_own = r_w.run_own;
       })
 
-  effect-meets : (a : event.After) (b : After) → step.made code turns w s.heap l ≡ Ok b → Done p c.space s.heap w a b → Meets code turns c w s (event.settled c w (Ok a) a)
+  effect-meets : (a : event.After) (b : After) → step.executes code turns w s.heap l ≡ Ok b → Done p c.space s.heap w a b → Meets code turns c w s (event.settled c w (Ok a) a)
   effect-meets a b is d =
       let after : plain_after code turns s (Effect w) ≡ record { heap = b.heap; mutators = slice_set s.mutators w b.mutator } =
       after-step code turns s w l has is_l running ∙ ap (step.settled s w l) is in
@@ -154,7 +154,7 @@ module _ (code : List (List Instr)) (turns : ℕ) (p : Placement) (c : Configura
     told = (refl, no_end-before code turns s w l has is_l running, rw after (end_of-set s.heap s.mutators w (record l { end = Some why }) in_plain), for);
   }
 
-  end-meets : (why plain_why : End) → step.made code turns w s.heap l ≡ Err plain_why → why ≡ plain_why → IsPlain why → Meets code turns c w s (event.settled c w (Err why) (event.left_by c.space k (Err why)))
+  end-meets : (why plain_why : End) → step.executes code turns w s.heap l ≡ Err plain_why → why ≡ plain_why → IsPlain why → Meets code turns c w s (event.settled c w (Err why) (event.left_by c.space k (Err why)))
   end-meets why plain_why is e own =
       end-meets_as why (after-end code turns s w l has is_l running why own ∙ ap (step.settled s w l) is ∙ ap (step.ended s w l) (sym e)) (for_want code turns s w why own)
 
@@ -171,7 +171,7 @@ module _ (code : List (List Instr)) (turns : ℕ) (p : Placement) (c : Configura
   full-meets ends.TurnsOut want = absurd want
   full-meets ends.OutputFull want = absurd want
 
-  turn-meets : (o : Result event.After End) (q : Result After End) → step.made code turns w s.heap l ≡ q → Parallel (Done p c.space s.heap w) (IsWant (step.asked_if code turns w l None)) o q
+  turn-meets : (o : Result event.After End) (q : Result After End) → step.executes code turns w s.heap l ≡ q → Parallel (Done p c.space s.heap w) (IsWant (step.asked_if code turns w l None)) o q
       → Meets code turns c w s (event.settled c w o (event.left_by c.space k o))
   turn-meets (Ok a) (Ok b) is d = effect-meets a b is d
   turn-meets (Ok a) (Err why) is d = absurd d
@@ -208,8 +208,8 @@ meets_ended code turns p c s w k l steady r is_k is_l None running =
     let l_running : l.end ≡ None = sym r_w.end ∙ running in
     let within = slice_get_within c.mutators w k is_k in
     rw (event-turn code turns c w k is_k running)
-    (turn-meets code turns p c s w k l r is_k is_l l_running (omega (arith, steady.sections, within)) (event.made code turns w c.space k) (step.made code turns w s.heap l) refl
-    (made-same code turns p c.space s.heap w k l (heap_of p c s r) r_w l_running (omega (arith, r.heaps, r.as_many, within)) steady.size
+    (turn-meets code turns p c s w k l r is_k is_l l_running (omega (arith, steady.sections, within)) (event.made code turns w c.space k) (step.executes code turns w s.heap l) refl
+    (executes-same code turns p c.space s.heap w k l (heap_of p c s r) r_w l_running (omega (arith, r.heaps, r.as_many, within)) steady.size
     (λ m. counted_as code turns p c s steady r m (cases_lt m (length c.mutators))) steady.valid))
 
 meets_as : (code : List (List Instr)) (turns : ℕ) (p : Placement) (c : Configuration) (s : plain.Plain) (w : ℕ) → IsSteady code turns c → RepresentsBy p c s

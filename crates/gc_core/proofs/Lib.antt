@@ -1,6 +1,5 @@
 pub mod Events
 pub mod Parallel
-pub mod Lists
 pub mod Heaps
 pub mod Next
 pub mod Storing

@@ -10,10 +10,11 @@ use Rattle.plain_state.specs.declared.value.Identity.{Identity}
 use Rattle.plain_state.specs.declared.value.Value.{Value}
 use Rattle.plain_state.specs.declared.value.Value.TheVariants.{Number}
 use Rattle.plain_state.specs.State as plain
+use Rattle.plain_state.specs.Writing.{gained}
 use Rattle.gc_core.specs.Configuration.{Space}
 use Rattle.gc_core.specs.Represents.{Owner, InRun, Part, Placement, is_part, spelled, DenotesIn, StandsAt, IsOfRecord}
-use Rattle.gc_core.proofs.Lists.{slice_get-replicate}
-use Rattle.gc_core.proofs.Heaps.{same_identity, cases_identity, record_made, newest, added, newest-made, newest-new, made-added, older, record_of-newest, record_of-added, serial_of-added_other}
+use Rattle.plain_state.proofs.Lists.{slice_get-replicate}
+use Rattle.gc_core.proofs.Heaps.{same_identity, cases_identity, record_made, newest, newest-made, newest-new, made-added, older, record_of-newest, record_of-added, serial_of-added_other}
 use Rattle.gc_core.proofs.Next.{identity_in, word_in, RepresentsHeap, IsNext, IsKept, board-next, stands-next}
 
 -- the words from low up to high have room for a record of n words of mutator m
@@ -96,7 +97,7 @@ module _ (p : Placement) (space : Space) (heap : plain.Heap) (m : ℕ) (kind : K
   zeros = record { kind = kind; values = replicate n (Number 0) }
 
   abbrev next : plain.Heap
-  next = added heap m zeros
+  next = gained heap m zeros
 
   abbrev q : Placement
   q = placement_with p (newest heap m) m n at end
@@ -174,14 +175,14 @@ module _ (p : Placement) (space : Space) (heap : plain.Heap) (m : ℕ) (kind : K
 
   -- ---- the whole
 
-  records_as : (i : Identity) (r : plain.Record) → 1 ≤ i.serial → plain.record_of next i ≡ Some r → (i ≡ newest heap m) ⊎ (i ≡ newest heap m → ⊥) → StandsAt next q new_words i r
-  records_as i r first is (inl e) =
+  records_as : (i : Identity) (r : plain.Record) → plain.record_of next i ≡ Some r → (i ≡ newest heap m) ⊎ (i ≡ newest heap m → ⊥) → StandsAt next q new_words i r
+  records_as i r is (inl e) =
       let same : zeros ≡ r = same_Some zeros r (sym (record_of-newest heap m zeros in_heap) ∙ ap (plain.record_of next) (sym e) ∙ is) in
       subst (λ t. StandsAt next q new_words t r) (sym e) (subst (λ t. StandsAt next q new_words (newest heap m) t) same stands-new)
-  records_as i r first is (inr other) =
-      let made = older heap m zeros in_heap i (record_made next i r first is) other in
+  records_as i r is (inr other) =
+      let made = older heap m zeros in_heap i (record_made next i r is) other in
       let was : plain.record_of heap i ≡ Some r = sym (record_of-added heap m zeros in_heap i made (cases_eq i.mutator m)) ∙ is in
-      stands-next next-made space.words new_words i r made (sym (length-set space.words at (header_word (spelled kind) n (serial + 1) m))) (λ a x own. kept a i x own) (h.records i r first was)
+      stands-next next-made space.words new_words i r made (sym (length-set space.words at (header_word (spelled kind) n (serial + 1) m))) (λ a x own. kept a i x own) (h.records i r was)
 
   part-older : (a : ℕ) (i : Identity) (x : ℕ) → p.owner a ≡ Part i x → IsOfRecord next q a i x
   part-older a i x own =
@@ -226,7 +227,7 @@ module _ (p : Placement) (space : Space) (heap : plain.Heap) (m : ℕ) (kind : K
   heap-made =
       let same_length : length new_words ≡ length space.words = length-set space.words at (header_word (spelled kind) n (serial + 1) m) in
       record {
-        records = λ i r first is. records_as i r first is (cases_identity i (newest heap m));
+        records = λ i r is. records_as i r is (cases_identity i (newest heap m));
         parts = λ a i x own. parts_as a i x own (region n at end a);
         rest = λ a inside no_part. rest_as a (omega (arith, inside, same_length)) no_part (region n at end a);
         low = omega (arith, h.low, room.low_sinks, same_length);

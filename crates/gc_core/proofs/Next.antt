@@ -12,7 +12,7 @@ use Rattle.plain_state.specs.State as plain
 use Rattle.gc_core.specs.Configuration.{Space, Mutator, Configuration}
 use Rattle.gc_core.specs.Represents.{Owner, Free, InRun, Part, Placement, is_part, Denotes, DenotesIn, StandsAt, IsOfRecord, RepresentsBoard, RepresentsMutator, RepresentsBy}
 use Rattle.gc_core.proofs.Heaps.{made_record}
-use Rattle.gc_core.proofs.Lists.{slice_get-set_other, set-found}
+use Rattle.plain_state.proofs.Lists.{slice_get-set_other, set-found}
 
 -- ---- what an owner is made of, or else a default
 
@@ -35,7 +35,7 @@ mutator_in (Part i x) = 0
 
 -- a space represents a plain heap
 pub record RepresentsHeap (p : Placement) (space : Space) (heap : plain.Heap) : Type 0 where
-  pub records : (i : Identity) (r : plain.Record) → 1 ≤ i.serial → plain.record_of heap i ≡ Some r → StandsAt heap p space.words i r
+  pub records : (i : Identity) (r : plain.Record) → plain.record_of heap i ≡ Some r → StandsAt heap p space.words i r
   pub parts : (a : ℕ) (i : Identity) (x : ℕ) → p.owner a ≡ Part i x → IsOfRecord heap p a i x
   pub rest : (a : ℕ) → a + 16 < length space.words → is_part (p.owner a) ≡ false → slice_index space.words a ≡ 0
   pub low : space.low + 16 ≤ length space.words
@@ -50,7 +50,7 @@ pub part-below : (p : Placement) (space : Space) (heap : plain.Heap) → Represe
 part-below p space heap h a i x own =
     let part = h.parts a i x own in
     let found = made_record heap i part.made in
-    omega (arith, part.place, part.within found.0 found.1, (h.records i found.0 part.made.first found.1).within)
+    omega (arith, part.place, part.within found.0 found.1, (h.records i found.0 found.1).within)
 
 -- what an instruction of mutator m leaves of a placement and of a plain heap
 pub record IsNext (p q : Placement) (heap next : plain.Heap) (m : ℕ) : Type 0 where

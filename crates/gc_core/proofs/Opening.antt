@@ -1,5 +1,5 @@
 -- The opening configuration represents the plain state in which a program begins.
-use Rattle.std.proofs.Common.{◌≡◌, ℕ, ◌+◌, zero, suc, ◌-◌, ◌*◌, ◌<◌, ◌≤◌, ◌⊎◌, inl, inr, List, [], ◌∷◌, length, map, replicate, Some, None, slice_get, slice_index_or, get_or, refl, ap, sym, ◌∙◌, subst, arith}
+use Rattle.std.proofs.Common.{◌≡◌, ℕ, ◌+◌, zero, suc, ◌-◌, ◌*◌, ◌<◌, ◌≤◌, ◌⊎◌, inl, inr, List, [], ◌∷◌, length, map, replicate, Some, slice_index_or, get_or, refl, ap, sym, ◌∙◌, subst, arith}
 use Rattle.std.specs.Bool.{IsTrue}
 use Rattle.std.specs.List.{list_all}
 use Rattle.std.proofs.lemmas.Bool.{cases_lt}
@@ -15,7 +15,7 @@ use Rattle.plain_heap.specs.Order.{opening as plain_opening, fresh as plain_fres
 use Rattle.gc_core.specs.Configuration.{opening, fresh}
 use Rattle.gc_core.specs.Represents.{Free, Placement, Denotes, RepresentsBoard, RepresentsMutator, Represents}
 use Rattle.gc_core.specs.Steady.{IsCounted, IsSteady}
-use Rattle.gc_core.proofs.Lists.{slice_get-map_const, slice_get-replicate}
+use Rattle.plain_state.proofs.Lists.{slice_get-map_const, slice_get-replicate}
 
 pub opening_steady : (code : List (List Instr)) (pages turns : ℕ) → IsTrue (list_all (list_all is_valid) code) → pages ≤ 2048 → turns ≤ 10000000 → IsSteady code turns (opening code pages)
 opening_steady code pages turns valid small few = record {
@@ -47,7 +47,11 @@ module _ (code : List (List Instr)) (pages : ℕ) where
   start = plain_opening code
 
   no_record : (i : Identity) (r : plain.Record) → plain.record_of start.heap i ≡ Some r → ⊥
-  no_record i r is = let e : None ≡ Some r = sym (ap (λ rs. slice_get rs (i.serial - 1)) (none_made code i.mutator)) ∙ is in cc
+  no_record i r is = absurd (none_at i.serial (sym (ap (λ rs. plain.at_serial rs i.serial) (none_made code i.mutator)) ∙ is))
+    where
+      none_at : (n : ℕ) → plain.at_serial [] n ≡ Some r → ⊥
+      none_at zero e = cc
+      none_at (suc n) e = cc
 
   fresh_represents : (m : ℕ) → RepresentsMutator start.heap nowhere (length {A = ℕ} (replicate (64 * pages + 16) 0)) m fresh plain_fresh
   unfolding number_word
@@ -77,7 +81,7 @@ module _ (code : List (List Instr)) (pages : ℕ) where
   opening_represents = record {
     placement = nowhere;
     by = record {
-      records = λ i r first is. absurd (no_record i r is);
+      records = λ i r is. absurd (no_record i r is);
       parts = λ a i x own. cc;
       rest = λ a inside no_part. element {A = ℕ} (64 * pages + 16) a 0;
       low = omega (arith, length-replicate {A = ℕ} (64 * pages + 16) 0);

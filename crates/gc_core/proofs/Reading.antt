@@ -84,7 +84,7 @@ module _ (p : Placement) (space : Space) (heap : plain.Heap) (h : RepresentsHeap
   address-same word (Reference i) d = rw (d.word_is, address_of-pointer (p.place i) (address_fits p space heap h size i d.value)) (record { made = d.value; place = refl })
 
   place-same_as : (i : Identity) (x : ℕ) (r : plain.Record) → plain.record_of heap i ≡ Some r → length_told (slice_index space.words (p.place i)) ≡ length r.values
-      → (x < length r.values) ⊎ (length r.values ≤ x) → Same (IsWordAt p heap i x) (place_of space (p.place i) x) (called.word_of heap i x)
+      → (x < length r.values) ⊎ (length r.values ≤ x) → Same (IsWordAt p heap i x) (place_of space (p.place i) x) (called.value_in heap i x)
   place-same_as i x r is_record told (inl short) =
       let is_word = slice_get-get_or r.values x (Number 0) short in
       rw (told, lt-ltb x (length r.values) short, is_record, is_word) (record { of = r; is_record = is_record; is_word = is_word; place_is = refl })
@@ -95,13 +95,13 @@ module _ (p : Placement) (space : Space) (heap : plain.Heap) (h : RepresentsHeap
   header-told : (i : Identity) (r : plain.Record) → plain.IsMade heap i → plain.record_of heap i ≡ Some r
       → (length_told (slice_index space.words (p.place i)) ≡ length r.values) × (kind_told (slice_index space.words (p.place i)) ≡ spelled r.kind)
   header-told i r made is =
-      let stands = h.records i r made.first is in
+      let stands = h.records i r is in
       let fits : i.serial < 2 ^ 40 = omega (arith, made.last, counted i.mutator) in (
         ap length_told stands.header ∙ length_told-header (spelled r.kind) (length r.values) i.serial i.mutator stands.short fits,
         ap kind_told stands.header ∙ kind_told-header (spelled r.kind) (length r.values) i.serial i.mutator stands.short fits,
       )
 
-  place-same : (a : ℕ) (i : Identity) (x : ℕ) → IsPlaced p heap a i → Same (IsWordAt p heap i x) (place_of space a x) (called.word_of heap i x)
+  place-same : (a : ℕ) (i : Identity) (x : ℕ) → IsPlaced p heap a i → Same (IsWordAt p heap i x) (place_of space a x) (called.value_in heap i x)
   place-same a i x is =
       let found = made_record heap i is.made in
       rw is.place (place-same_as i x found.0 found.1 (header-told i found.0 is.made found.1).0 (cases_lt x (length found.0.values)))
@@ -109,7 +109,7 @@ module _ (p : Placement) (space : Space) (heap : plain.Heap) (h : RepresentsHeap
   pub length-same : (a : ℕ) (i : Identity) → IsPlaced p heap a i → IsNumber (length_told (slice_index space.words a)) (length (called.values_of heap i))
   length-same a i is =
       let found = made_record heap i is.made in
-      rw (is.place, found.1) ((header-told i found.0 is.made found.1).0, omega (arith, (h.records i found.0 is.made.first found.1).short))
+      rw (is.place, found.1) ((header-told i found.0 is.made found.1).0, omega (arith, (h.records i found.0 found.1).short))
 
   -- ---- words of records
 
@@ -123,7 +123,7 @@ module _ (p : Placement) (space : Space) (heap : plain.Heap) (h : RepresentsHeap
       → Denotes heap p.place (as_read (kind_told (slice_index space.words a)) (slice_index space.words place)) v
   read-denotes a i x place v placed is =
       rw (placed.place, (header-told i is.of placed.made is.is_record).1, is.place_is)
-      (as_read-denotes is.of.kind (slice_index space.words (p.place i + 1 + x)) v ((h.records i is.of placed.made.first is.is_record).fields x v is.is_word))
+      (as_read-denotes is.of.kind (slice_index space.words (p.place i + 1 + x)) v ((h.records i is.of is.is_record).fields x v is.is_word))
 
   held_as : (kind : Kind) (word : ℕ) (v : Value) → Denotes heap p.place word v → Same (DenotesIn kind heap p.place) (as_held (spelled kind) word) (called.may_hold kind v)
   held_as Fields word v d = d
@@ -170,5 +170,5 @@ module _ (p : Placement) (space : Space) (heap : plain.Heap) (h : RepresentsHeap
     operand_read (operands.Reg x) = same-weak IsNumber (λ a b. a ≡ b) (number_of (register k x)) (called.number_in (called.register l x)) (λ a b is. is.0) (number_read x)
     operand_read (operands.Number n) = refl
 
-    pub place_read : (a : ℕ) (i : Identity) (x y : ℕ) → IsPlaced p heap a i → x ≡ y → Same (IsWordAt p heap i y) (place_of space a x) (called.word_of heap i y)
+    pub place_read : (a : ℕ) (i : Identity) (x y : ℕ) → IsPlaced p heap a i → x ≡ y → Same (IsWordAt p heap i y) (place_of space a x) (called.value_in heap i y)
     place_read a i x y is e = rw e (place-same a i y is)

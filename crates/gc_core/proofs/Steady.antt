@@ -19,7 +19,7 @@ use Rattle.gc_core.specs.Configuration.{Space, Mutator, Configuration, fresh}
 use Rattle.gc_core.specs.Event.{After, Claim, call, fetch, made, event, settled, left_by, register, number_of, address_of, operand, place_of, board_place, kind_told, as_held, room_for, prints, loads, jumped, makes, computes, makes_new, with_word, went_on}
 use Rattle.gc_core.specs.Steady.{IsCounted, IsSteady}
 use Rattle.gc_core.proofs.Events.{event-scanner, event-ended, event-turn}
-use Rattle.gc_core.proofs.Lists.{slice_get-set_other, set-found}
+use Rattle.plain_state.proofs.Lists.{slice_get-set_other, set-found}
 use Rattle.gc_core.proofs.Law.{fetched}
 
 -- the space keeps its size, and the mutator executed one instruction, which made a record at most

@@ -6,11 +6,11 @@ use Rattle.std.proofs.lemmas.Option.{same_Some, slice_get_within}
 use Rattle.plain_state.specs.declared.value.Identity.{Identity}
 use Rattle.plain_state.specs.declared.value.Value.{Value}
 use Rattle.plain_state.specs.State as plain
-use Rattle.plain_heap.specs.Call.{with_word, stored}
+use Rattle.plain_state.specs.Writing.{with_word, stored}
 use Rattle.gc_core.specs.Configuration.{Space}
 use Rattle.gc_core.specs.Event as event
 use Rattle.gc_core.specs.Represents.{Part, Placement, is_part, DenotesIn, StandsAt, IsOfRecord}
-use Rattle.gc_core.proofs.Lists.{slice_get-set_other, set-found}
+use Rattle.plain_state.proofs.Lists.{slice_get-set_other, set-found}
 use Rattle.gc_core.proofs.Heaps.{cases_identity, record_made, record_of-stored_same, record_of-stored_other, serial_of-stored}
 use Rattle.gc_core.proofs.Next.{identity_in, RepresentsHeap, IsNext, IsKept, denotes_in-next, board-next, stands-next}
 
@@ -33,7 +33,7 @@ module _ (p : Placement) (space : Space) (heap : plain.Heap) (i : Identity) (r :
   }
 
   stands : StandsAt heap p space.words i r
-  stands = h.records i r made.first is_record
+  stands = h.records i r is_record
 
   short : x < length r.values
   short = slice_get_within r.values x old is_word
@@ -78,15 +78,15 @@ module _ (p : Placement) (space : Space) (heap : plain.Heap) (i : Identity) (r :
         fields = λ y u is. field_as y u (cases_eq y x) is;
       }
 
-  records_as : (j : Identity) (t : plain.Record) → 1 ≤ j.serial → (j ≡ i) ⊎ (j ≡ i → ⊥) → plain.record_of next j ≡ Some t
+  records_as : (j : Identity) (t : plain.Record) → (j ≡ i) ⊎ (j ≡ i → ⊥) → plain.record_of next j ≡ Some t
       → StandsAt next p new_words j t
-  records_as j t first (inl e) is =
+  records_as j t (inl e) is =
       let same : with_word r x v ≡ t = same_Some (with_word r x v) t (sym (record_of-stored_same heap i r x v made) ∙ ap (plain.record_of next) (sym e) ∙ is) in
       subst (λ n. StandsAt next p new_words n t) (sym e)
       (subst (λ n. StandsAt next p new_words i n) same stands_written)
-  records_as j t first (inr other) is =
-      let was : plain.record_of heap j ≡ Some t = sym (record_of-stored_other heap i r x v made j first other) ∙ is in
-      stands-next next-stored space.words new_words j t (record_made heap j t first was) same_length (kept j other) (h.records j t first was)
+  records_as j t (inr other) is =
+      let was : plain.record_of heap j ≡ Some t = sym (record_of-stored_other heap i r x v made j other) ∙ is in
+      stands-next next-stored space.words new_words j t (record_made heap j t was) same_length (kept j other) (h.records j t was)
 
   within_as : (a : ℕ) (j : Identity) (y : ℕ) → IsOfRecord heap p a j y → (t : plain.Record) → (j ≡ i) ⊎ (j ≡ i → ⊥) → plain.record_of next j ≡ Some t → y ≤ length t.values
   within_as a j y part t (inl e) is =
@@ -94,11 +94,11 @@ module _ (p : Placement) (space : Space) (heap : plain.Heap) (i : Identity) (r :
       let lengths : length r.values ≡ length t.values = sym (length-set r.values x v) ∙ ap (λ n. length n.values) same in
       omega (arith, lengths, part.within r (ap (plain.record_of heap) e ∙ is_record))
   within_as a j y part t (inr other) is =
-      part.within t (sym (record_of-stored_other heap i r x v made j part.made.first other) ∙ is)
+      part.within t (sym (record_of-stored_other heap i r x v made j other) ∙ is)
 
   pub heap-stored : RepresentsHeap p (event.with_word space (p.place i + 1 + x) word) (stored heap i r x v)
   heap-stored = record {
-    records = λ j t first is. records_as j t first (cases_identity j i) is;
+    records = λ j t is. records_as j t (cases_identity j i) is;
     parts = λ a j y own. let part = h.parts a j y own in record {
       made = next-stored.made j part.made;
       place = part.place;

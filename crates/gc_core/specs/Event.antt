@@ -113,7 +113,7 @@ pub record Claim : Type 0 where
 -- pages for a record of n words are claimed below low, where they fit
 abbrev pub claim : ℕ → ℕ → Result Claim End
 claim low n =
-    let pages = pages_for n in
+    let pages = pages_for (n + 1) in
     if nat_le (64 * pages) low
     then Ok (record { low = low - 64 * pages; run = record { at = low - 64 * pages; end = low } })
     else Err (HeapFull pages low 0)

@@ -102,7 +102,7 @@ pub record RepresentsMutator (heap : plain.Heap) (p : Placement) (size m : ℕ) 
 -- is 0: so the heap has these records and no others. The board has what the plain board has, and
 -- each mutator has in its registers what its plain mutator has. There are no pages to be walked yet.
 pub record RepresentsBy (p : Placement) (c : Configuration) (s : plain.Plain) : Type 0 where
-  pub records : (i : Identity) (r : plain.Record) → 1 ≤ i.serial → plain.record_of s.heap i ≡ Some r → StandsAt s.heap p c.space.words i r
+  pub records : (i : Identity) (r : plain.Record) → plain.record_of s.heap i ≡ Some r → StandsAt s.heap p c.space.words i r
   pub parts : (a : ℕ) (i : Identity) (x : ℕ) → p.owner a ≡ Part i x → IsOfRecord s.heap p a i x
   pub rest : (a : ℕ) → a + 16 < length c.space.words → is_part (p.owner a) ≡ false → slice_index c.space.words a ≡ 0
   pub low : c.space.low + 16 ≤ length c.space.words

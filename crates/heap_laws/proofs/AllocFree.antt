@@ -1,9 +1,10 @@
 -- The parts that read heap words, where a word below the board is stored that belongs to no record.
 use Rattle.std.proofs.Common.{◌≡◌, ℕ, ◌+◌, ◌<◌, ◌≤◌, Bool, Option, arith, ⊎_elim, ◌⊎◌, inl, inr, Some}
-use Rattle.heap_words.specs.declared.kind.Kind.{Kind}
+use Rattle.plain_state.specs.declared.kind.Kind.{Kind}
 use Rattle.plain_state.specs.State as plain
 use Rattle.plain_state.specs.declared.value.Identity.{Identity}
 use Rattle.plain_state.specs.declared.value.Value.{Value}
+use Rattle.plain_state.specs.declared.value.Value.TheVariants.{Reference}
 use Rattle.space_map.specs.declared.page_word.PageWord.{PageWord}
 use Rattle.heap_state.specs.Cycle.{Copying, Rooted, RootLeads, ByBoard, ByRegister}
 use Rattle.heap_state.specs.Era.{Era, IsLaidOut, Memory}
@@ -19,6 +20,7 @@ use Rattle.heap_state.specs.Values.{value_of, Shows, ShowsAll, BoardShows}
 use Rattle.heap_state.specs.Worker.{Worker, Copy, Scan, Origin, Register, Scanned, is_late, Quest}
 use Rattle.heap_state.proofs.Puts.{put_other}
 use Rattle.heap_laws.proofs.OtherWords.{has_place, headed_same, old_space_same, scans_same, copies_same, shows_same}
+use Rattle.heap_laws.proofs.Words.{copied_within}
 
 -- the address is a word of no record and not on the board
 pub record IsFree (E : Era) (size : ℕ → ℕ) (x : ℕ) : Type 0 where
@@ -100,7 +102,7 @@ module _ {E : Era} {size : ℕ → ℕ} {x : ℕ} (fr : IsFree E size x) (writer
     sound = λ y i u s. c.sound y i u (rw (here_same y u) at s);
     reached = c.reached;
     sizes = c.sizes;
-    complete = λ b n r i st w l u f z e o. ⊎_elim (λ t. inl t) (λ t. inr (rw (word_same b n z) t)) (c.complete b n r i st w l u f z e o);
+    complete = λ b y r i st w l u e f o. ⊎_elim (λ t. inl t) (λ t. inr (rw (word_same b (y + 1) (copied_within c b y r (Reference i) st l u e o)) t)) (c.complete b y r i st w l u e f o);
     from = c.from;
   }
 

@@ -1,7 +1,7 @@
 -- The header of a new record is stored at the run's place.
 use Rattle.std.proofs.Common.{◌≡◌, ◌≢◌, ℕ, ◌+◌, ◌/◌, ◌<◌, ◌≤◌, refl, sym, ap, ◌∙◌, arith, ⊎_elim, ◌⊎◌, inl, inr, Some}
 use Rattle.std.proofs.lemmas.Bool.{cases_eq, ltb-true}
-use Rattle.heap_words.specs.declared.kind.Kind.{Kind}
+use Rattle.plain_state.specs.declared.kind.Kind.{Kind}
 use Rattle.heap_words.specs.Decoded.{PointerWord, decode}
 use Rattle.plain_state.specs.declared.value.Identity.{Identity}
 use Rattle.space_map.specs.declared.page_word.PageWord.TheVariants.{Open}
@@ -145,10 +145,6 @@ module _ (E : Era) (m : Memory) (team : Team) (g : Ghost) (k : ℕ) (q : Stock) 
         (λ (e : b ≡ q.at). rw (put_at g.identity q.at i b e) mutator)
         (λ (d : b ≢ q.at). rw (put_other g.identity q.at i b d) (inv.numbered.maker b (was cradle b d st)))
         (cases_eq b q.at);
-    first = λ b st. ⊎_elim
-        (λ (e : b ≡ q.at). rw (put_at g.identity q.at i b e) (omega arith))
-        (λ (d : b ≢ q.at). rw (put_other g.identity q.at i b d) (inv.numbered.first b (was cradle b d st)))
-        (cases_eq b q.at);
     last = λ b st. ⊎_elim
         (λ (e : b ≡ q.at). rw (put_at g.identity q.at i b e) (rw (put_same team.worker k w) (omega arith)))
         (λ (d : b ≢ q.at). rw (put_other g.identity q.at i b d) (let y = inv.numbered.last b (was cradle b d st) in let o = more (g.identity b).mutator in omega (arith, y, o)))
@@ -197,6 +193,7 @@ module _ (E : Era) (m : Memory) (team : Team) (g : Ghost) (k : ℕ) (q : Stock) 
     new = area_born cradle E.epoch m.heap heap m.page (λ x d. put_other m.heap q.at v x d) opens ok.after inv.new;
     new_written = new_written_born cradle g.writer inv.new_written;
     old_space = old_space_born cradle m.traced m.old_front m.old_low heap m.page (old_space_free free g.writer g.kind m.heap v m.traced m.old_front m.old_low m.page lay inside.0 inside.1 inv.old_space);
+    old_area = inv.old_area;
     old_pages = inv.old_pages;
     crossing = crossing_born cradle g.writer m.cross inv.crossing;
     stocks = stocks;

@@ -1,8 +1,9 @@
 -- What a cycle keeps is kept where a new record begins to stand.
-use Rattle.std.proofs.Common.{◌≡◌, ℕ, ◌+◌, ◌<◌, refl, sym, ◌∙◌, ⊎_elim, inl, inr}
-use Rattle.heap_words.specs.declared.kind.Kind.{Kind}
+use Rattle.std.proofs.Common.{arith, ◌≡◌, ℕ, ◌+◌, ◌<◌, refl, sym, ◌∙◌, ⊎_elim, inl, inr}
+use Rattle.plain_state.specs.declared.kind.Kind.{Kind}
 use Rattle.plain_state.specs.State as plain
 use Rattle.plain_state.specs.declared.value.Identity.{Identity}
+use Rattle.plain_state.specs.Layout.{word_of}
 use Rattle.heap_state.specs.Cycle.{Cycle, Copying, Rooted, RootLeads, ByBoard, ByRegister, StillLeads, IsCopied}
 use Rattle.heap_state.specs.Era.{Era, IsLaidOut, Memory}
 use Rattle.heap_state.specs.Functions.{put}
@@ -59,8 +60,11 @@ module _ (E : Era) (m : Memory) (team : Team) (g : Ghost) (p : plain.Plain) (k :
   shows_on a r st u s = record {
     kind = s.kind;
     size = s.size;
-    fields = λ n l t f. value_born g.size g.writer g.identity q.at j (heap (a + n)) (unused is_cradle) (rw (word_same is_free g.writer g.kind m.heap v a n t) (field_lands E m team g a n inv st u f l t)) ∙ s.fields n l t f;
-    words = s.words;
+    fields = λ x l f.
+        let e = s.size in
+        let t : x + 1 < g.size a = omega (arith, l, e) in
+        value_born g.size g.writer g.identity q.at j (heap (a + (x + 1))) (unused is_cradle) (rw (word_same is_free g.writer g.kind m.heap v a (x + 1) t) (field_lands E m team g a (x + 1) inv st u f (omega arith) t)) ∙ s.fields x l f;
+    numbers = s.numbers;
   }
 
   -- ---- the parts
@@ -78,10 +82,10 @@ module _ (E : Era) (m : Memory) (team : Team) (g : Ghost) (p : plain.Plain) (k :
         (here_was is_cradle g.writer g.kind c heap (zeros E m team g k q c z v lay inv places) x h);
     reached = λ a st l u o. let d = old_other is_cradle a l u in rw (put_other g.identity q.at j a d) (y.reached a (was is_cradle a d st) l u o);
     sizes = λ b st l u. let d = below_other is_cradle b u in rw (same_size is_cradle b d, put_other g.kind q.at c b d, put_other g.identity q.at j b d) (y.sizes b (was is_cradle b d st) l u);
-    complete = λ b n r i st u l f o t e a.
-        let d = below_other is_cradle b f in
-        ⊎_elim (λ x. inl (copied_on i x)) (λ x. inr (still_on (heap (b + n)) i x))
-        (y.complete b n r i (was is_cradle b d st) (rw (same_writer is_cradle g.writer b d) at u) l f o (rw (same_size is_cradle b d) at t) (rw (put_other g.identity q.at j b d) at e) a);
+    complete = λ b x r i st u l n e f a.
+        let d = below_other is_cradle b n in
+        ⊎_elim (λ t. inl (copied_on i t)) (λ t. inr (still_on (heap (b + word_of (g.kind b) x)) i t))
+        (y.complete b x r i (was is_cradle b d st) (rw (same_writer is_cradle g.writer b d) at u) l n (rw (put_other g.identity q.at j b d) at e) (rw (put_other g.kind q.at c b d) at f) a);
     from = λ b st l u. let t = y.from b (was is_cradle b (below_other is_cradle b u) st) l u in (t.0, is is_cradle t.0 t.1, t.2);
   }
 

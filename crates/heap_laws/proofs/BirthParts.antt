@@ -1,14 +1,14 @@
 -- The parts of the invariant where a record begins to stand in the new area.
 use Rattle.std.proofs.Common.{◌≡◌, ◌≢◌, ℕ, ◌+◌, ◌-◌, ◌/◌, ◌%◌, ◌<◌, ◌≤◌, refl, sym, ap, ◌∙◌, arith, ⊎_elim, ◌⊎◌, inl, inr}
 use Rattle.std.proofs.lemmas.Bool.{cases_eq, cases_lt}
-use Rattle.heap_words.specs.declared.kind.Kind.{Kind}
+use Rattle.plain_state.specs.declared.kind.Kind.{Kind}
 use Rattle.heap_words.specs.Decoded.{HeaderWord, decode}
 use Rattle.plain_state.specs.declared.value.Identity.{Identity}
 use Rattle.space_map.specs.declared.page_word.PageWord.{PageWord}
 use Rattle.space_map.specs.declared.page_word.PageWord.TheVariants.{Open}
 use Rattle.heap_state.specs.Era.{Era, IsLaidOut}
 use Rattle.heap_state.specs.Functions.{put, sum_below}
-use Rattle.heap_state.specs.Ghost.{Lands, IsField, Here}
+use Rattle.heap_state.specs.Ghost.{Lands, IsField, Here, header_kind}
 use Rattle.heap_state.specs.Parts.Copies.{Copied, Once, Kept, Room, owing}
 use Rattle.heap_state.specs.Parts.Crossing.{Crossing}
 use Rattle.heap_state.specs.Parts.Leading.{Opened, Landing, Older}
@@ -213,7 +213,7 @@ module _ {E : Era} {front low : ℕ} {size copy keeper : ℕ → ℕ} {a z : ℕ
         pub same_identity : (b : ℕ) → b ≢ a → identity' b ≡ identity b
         same_identity b d = put_other identity a i b d
 
-        pub headed_born : (heap : ℕ → ℕ) → decode (heap a) ≡ HeaderWord c (z - 1) i.serial i.mutator → Headed size writer copy keeper kind identity heap → Headed (put size a z) writer' copy keeper kind' identity' heap
+        pub headed_born : (heap : ℕ → ℕ) → decode (heap a) ≡ HeaderWord (header_kind c) (z - 1) i.serial i.mutator → Headed size writer copy keeper kind identity heap → Headed (put size a z) writer' copy keeper kind' identity' heap
         headed_born heap head p = record {
           own = λ b st w y u. ⊎_elim
               (λ (e : b ≡ a). rw (put_at size a z b e, put_at kind a c b e, put_at identity a i b e, e) head)

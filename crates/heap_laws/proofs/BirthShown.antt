@@ -3,10 +3,11 @@ use Rattle.std.proofs.Common.{◌≡◌, ◌≢◌, ℕ, ◌+◌, ◌-◌, ◌<�
 use Rattle.std.proofs.lemmas.Bool.{cases_eq}
 use Rattle.std.proofs.lemmas.List.{length-replicate}
 use Rattle.std.proofs.lemmas.Option.{slice_get-get_or, slice_get_within}
-use Rattle.heap_words.specs.declared.kind.Kind.{Kind}
+use Rattle.plain_state.specs.declared.kind.Kind.{Kind}
 use Rattle.plain_state.specs.State as plain
 use Rattle.plain_state.specs.declared.value.Identity.{Identity}
 use Rattle.plain_state.specs.declared.value.Value.TheVariants.{Number}
+use Rattle.plain_state.specs.Writing.{with_heap, gained}
 use Rattle.heap_state.specs.Era.{Era, IsLaidOut, Memory}
 use Rattle.heap_state.specs.Functions.{put}
 use Rattle.heap_state.specs.Ghost.{Ghost, Lands}
@@ -14,19 +15,18 @@ use Rattle.heap_state.specs.Inductive.{Invariant}
 use Rattle.heap_state.specs.Values.{value_of, Shows, ShowsAll, Accounts, RegistersShow, BoardShows, Shown}
 use Rattle.heap_state.specs.Worker.{Worker, Team, Stock}
 use Rattle.heap_state.proofs.Puts.{put_at, put_other, put_same, proj_put}
-use Rattle.heap_laws.specs.Fields.{with_heap}
 use Rattle.heap_laws.specs.Opening.{opening_mutator}
-use Rattle.heap_laws.specs.Placing.{next_identity, born, placed, gained, PlacesNext, PlacingShows}
+use Rattle.heap_laws.specs.Placing.{next_identity, born, placed, PlacesNext, PlacingShows, ZerosShow, zeros_of}
 use Rattle.heap_laws.specs.Steps.{with_word, with_worker}
 use Rattle.heap_laws.proofs.AllocFree.{IsFree, word_same, board_same}
 use Rattle.heap_laws.proofs.AllocHeader.{cradle, free, mutator, zeros}
 use Rattle.heap_laws.proofs.BirthParts.{Cradle, unused as unused_place, was, same_size, same_writer}
 use Rattle.heap_laws.proofs.BirthValues.{field_lands, value_born}
-use Rattle.heap_laws.proofs.PlainGains.{fresh_record, gained_there, gained_elsewhere, gained_serial, gained_serial_other, gained_makers}
-use Rattle.heap_laws.proofs.PlainLists.{slice_get-of_replicate}
+use Rattle.heap_laws.proofs.PlainGains.{gained_there, gained_elsewhere, gained_serial, gained_serial_other, gained_makers}
+use Rattle.plain_state.proofs.Lists.{slice_get-of_replicate}
 use Rattle.heap_laws.proofs.Words.{board_here, zero_value}
 
-module _ (E : Era) (m : Memory) (team : Team) (g : Ghost) (p : plain.Plain) (k : ℕ) (q : Stock) (c : Kind) (z v : ℕ) (lay : IsLaidOut E) (inv : Invariant E m team g) (places : PlacesNext E team k q c z v) (s : Shown E m team g p) where
+module _ (E : Era) (m : Memory) (team : Team) (g : Ghost) (p : plain.Plain) (k : ℕ) (q : Stock) (c : Kind) (z v : ℕ) (new : plain.Record) (lay : IsLaidOut E) (inv : Invariant E m team g) (places : PlacesNext E team k q c z v) (behind : Shows (value_of g.identity) m.heap q.at c z new) (s : Shown E m team g p) where
   abbrev i : Identity
   i = next_identity team k
 
@@ -40,7 +40,7 @@ module _ (E : Era) (m : Memory) (team : Team) (g : Ghost) (p : plain.Plain) (k :
   w = placed team k q z
 
   abbrev after : plain.Heap
-  after = gained p.heap k c (z - 1)
+  after = gained p.heap k new
 
   is_free : IsFree E g.size q.at
   is_free = free E m team g k q c z v lay inv places
@@ -48,7 +48,7 @@ module _ (E : Era) (m : Memory) (team : Team) (g : Ghost) (p : plain.Plain) (k :
   is_cradle : Cradle E m.front m.low g.size g.copy g.keeper q.at z
   is_cradle = cradle E m team g k q c z v lay inv places
 
-  within : k < length p.heap.records
+  pub within : k < length p.heap.records
   within = let u = mutator E m team g k q c z v lay inv places in let n = s.makers in omega arith
 
   -- its serial is the next one
@@ -64,12 +64,21 @@ module _ (E : Era) (m : Memory) (team : Team) (g : Ghost) (p : plain.Plain) (k :
 
   -- ---- values
 
-  shows_new : Shows (value_of g'.identity) heap q.at c z (fresh_record p.heap k c (z - 1) within)
+  -- the words behind the header are 0, and denote the same as before
+  zero_behind : (x : ℕ) → x < length new.values → heap (q.at + (x + 1)) ≡ 0
+  zero_behind x l = let n = behind.size in zeros E m team g k q c z v lay inv places (x + 1) (omega arith) (omega arith)
+
+  same_behind : (x : ℕ) → heap (q.at + (x + 1)) ≡ m.heap (q.at + (x + 1))
+  same_behind x = put_other m.heap q.at v (q.at + (x + 1)) (λ e. omega (arith, e))
+
+  shows_new : Shows (value_of g'.identity) heap q.at c z new
   shows_new = record {
-    kind = refl;
-    size = let n = length-replicate (z - 1) (Number 0) in let l = places.some in omega arith;
-    fields = λ j l u t. zero_value g'.identity (heap (q.at + j)) (zeros E m team g k q c z v lay inv places j l u) ∙ sym (slice_get-of_replicate (z - 1) (j - 1) (Number 0) (omega arith));
-    words = λ j l u t. ap (λ x. Some (Number x)) (zeros E m team g k q c z v lay inv places j l u) ∙ sym (slice_get-of_replicate (z - 1) (j - 1) (Number 0) (omega arith));
+    kind = behind.kind;
+    size = behind.size;
+    fields = λ x l t.
+        let zero : m.heap (q.at + (x + 1)) ≡ 0 = sym (same_behind x) ∙ zero_behind x l in
+        zero_value g'.identity (heap (q.at + (x + 1))) (zero_behind x l) ∙ (sym (zero_value g.identity (m.heap (q.at + (x + 1))) zero) ∙ behind.fields x l t);
+    numbers = λ x l t. ap (λ y. Some (Number y)) (same_behind x) ∙ behind.numbers x l t;
   }
 
   shows_old : (b : ℕ) → 0 < g.size b → g.writer b ≡ 0 → (g.copy b ≡ 0) ⊎ (0 < g.keeper b)
@@ -78,12 +87,17 @@ module _ (E : Era) (m : Memory) (team : Team) (g : Ghost) (p : plain.Plain) (k :
       let a = s.objects.shows b st w o in
       let t : Shows (value_of g.identity) m.heap b (g.kind b) (g.size b) a.0 = a.2 in (
         a.0,
-        gained_elsewhere p.heap k c (z - 1) within (g.identity b) a.0 a.1,
+        gained_elsewhere p.heap k new within (g.identity b) a.0 a.1,
         record {
           kind = t.kind;
           size = t.size;
-          fields = λ j l u f. rw (word_same is_free g.writer g.kind m.heap v b j u) (value_on (m.heap (b + j)) (field_lands E m team g b j inv st w f l u) ∙ t.fields j l u f);
-          words = λ j l u f. rw (word_same is_free g.writer g.kind m.heap v b j u) (t.words j l u f);
+          fields = λ x l f.
+              let u = t.size in
+              let n : x + 1 < g.size b = omega (arith, l, u) in
+              rw (word_same is_free g.writer g.kind m.heap v b (x + 1) n) (value_on (m.heap (b + (x + 1))) (field_lands E m team g b (x + 1) inv st w f (omega arith) n) ∙ t.fields x l f);
+          numbers = λ x l f.
+              let u = t.size in
+              rw (word_same is_free g.writer g.kind m.heap v b (x + 1) (omega (arith, l, u))) (t.numbers x l f);
         },
       )
 
@@ -91,7 +105,7 @@ module _ (E : Era) (m : Memory) (team : Team) (g : Ghost) (p : plain.Plain) (k :
   objects = record {
     shows = λ b st w o. ⊎_elim
         (λ (e : b ≡ q.at). rw (put_at g.size q.at z b e, put_at g.kind q.at c b e, put_at g.identity q.at i b e, e)
-        (fresh_record p.heap k c (z - 1) within, gained_there p.heap k c (z - 1) within i refl (let n = serial in omega arith), shows_new))
+        (new, gained_there p.heap k new within i refl (let n = serial in omega arith), shows_new))
         (λ (d : b ≢ q.at). rw (same_size is_cradle b d, put_other g.kind q.at c b d, put_other g.identity q.at i b d)
         (shows_old b (was is_cradle b d st) (rw (same_writer is_cradle g.writer b d) at w) o))
         (cases_eq b q.at);
@@ -111,14 +125,14 @@ module _ (E : Era) (m : Memory) (team : Team) (g : Ghost) (p : plain.Plain) (k :
         printed = a.printed;
         executed = a.executed;
         end = a.end;
-        serial = let n = a.serial in let t = gained_serial p.heap k c (z - 1) within in omega arith;
+        serial = let n = a.serial in let t = gained_serial p.heap k new within in omega arith;
       }))
       (λ (d : j ≢ k). let a = s.accounts j r e in rw (put_other team.worker k w j d) (record {
         counter = a.counter;
         printed = a.printed;
         executed = a.executed;
         end = a.end;
-        serial = a.serial ∙ sym (gained_serial_other p.heap k c (z - 1) within j d);
+        serial = a.serial ∙ sym (gained_serial_other p.heap k new within j d);
       }))
       (cases_eq j k)
 
@@ -145,10 +159,25 @@ module _ (E : Era) (m : Memory) (team : Team) (g : Ghost) (p : plain.Plain) (k :
     objects = objects;
     board = board;
     as_many = s.as_many;
-    makers = gained_makers p.heap k c (z - 1) within ∙ s.makers;
+    makers = gained_makers p.heap k new within ∙ s.makers;
     accounts = accounts;
     registers = registers;
   }
 
 pub placing_shows : PlacingShows
-placing_shows = shows_placed
+placing_shows E m team g p k q c z v r = shows_placed E m team g p k q c z v r
+
+pub zeros_show : ZerosShow
+zeros_show E m team g k q c z v lay inv places = record {
+  kind = refl;
+  size = let n = length-replicate (z - 1) (Number 0) in let l = places.some in omega arith;
+  fields = λ x l t. zero_value g.identity (m.heap (q.at + (x + 1))) (zero x l) ∙ sym (slice_get-of_replicate (z - 1) x (Number 0) (within x l));
+  numbers = λ x l t. ap (λ y. Some (Number y)) (zero x l) ∙ sym (slice_get-of_replicate (z - 1) x (Number 0) (within x l));
+}
+  where
+    within : (x : ℕ) → x < length (zeros_of c (z - 1)).values → x < z - 1
+    within x l = rw (length-replicate (z - 1) (Number 0)) at l
+
+    zero : (x : ℕ) → x < length (zeros_of c (z - 1)).values → m.heap (q.at + (x + 1)) ≡ 0
+    zero x l = let u = within x l in
+        sym (put_other m.heap q.at v (q.at + (x + 1)) (λ e. omega (arith, e))) ∙ zeros E m team g k q c z v lay inv places (x + 1) (omega arith) (omega (arith, u))

@@ -1,6 +1,6 @@
 -- What a worker knows where a record begins to stand in the new area.
 use Rattle.std.proofs.Common.{◌≡◌, ℕ, ◌+◌, ◌<◌, Bool, Option, refl, arith, ⊎_elim, true, None, Some}
-use Rattle.heap_words.specs.declared.kind.Kind.{Kind}
+use Rattle.plain_state.specs.declared.kind.Kind.{Kind}
 use Rattle.plain_state.specs.declared.value.Identity.{Identity}
 use Rattle.space_map.specs.declared.page_word.PageWord.{PageWord}
 use Rattle.heap_state.specs.Era.{Era, Memory}
@@ -24,7 +24,7 @@ module _ {E : Era} {front low : ℕ} {size copy keeper : ℕ → ℕ} {a z : ℕ
   writer' = put writer a 0
 
   pub clean_born : (late : Bool) (done : ℕ) (registers : ℕ → ℕ) → Clean E size writer late done registers → Clean E size' writer' late done registers
-  clean_born late done registers p = record { clean = p.clean; lands = λ j l. lands_on cr writer (registers j) (p.lands j l) }
+  clean_born late done registers p = record { clean = p.clean; lands = λ j l. lands_on cr writer (registers j) (p.lands j l); old = p.old }
 
   pub seeks_born : (q : Quest) → Seeks E size writer copy q → Seeks E size' writer' copy q
   seeks_born q p = record {
@@ -59,16 +59,14 @@ module _ {E : Era} {front low : ℕ} {size copy keeper : ℕ → ℕ} {a z : ℕ
     abbrev kind' : ℕ → Kind
     kind' = put kind a c
 
-    pub accesses_born : (page : ℕ → PageWord) (f : Access) → Accesses E size writer kind page f → Accesses E size' writer' kind' page f
-    accesses_born page f p =
-        let s = p.of.stands in
-        let d = not_new cr f.of.at (let q = p.of.sized in omega arith) in
-        record {
-          of = record { stands = p.of.stands; sized = rw (same_size cr f.of.at d) p.of.sized; of_kind = rw (same_kind cr writer kind c f.of.at d) p.of.of_kind; written = rw (same_writer cr writer f.of.at d) p.of.written };
-          inside = p.inside;
-          word = p.word;
-          allowed = p.allowed;
-        }
+    pub accesses_born : (f : Access) → Accesses E size writer kind f → Accesses E size' writer' kind' f
+    accesses_born f p = let d = not_new cr f.at p.stands in record {
+      stands = rw (same_size cr f.at d) p.stands;
+      written = rw (same_writer cr writer f.at d) p.written;
+      inside = p.inside;
+      word = rw (same_size cr f.at d) p.word;
+      role = rw (same_kind cr writer kind c f.at d) p.role;
+    }
 
     pub origin_born : (heap : ℕ → ℕ) (late : Bool) (done : ℕ) (registers : ℕ → ℕ) (scan : Option Scan) (old : ℕ) (o : Origin) → IsOrigin E size writer kind heap late done registers scan old o → IsOrigin E size' writer' kind' heap late done registers scan old o
     origin_born heap late done registers scan old (Register r) p = p
@@ -105,7 +103,7 @@ pub worker_born : (E : Era) (m : Memory) (g : Ghost) (a z : ℕ) (c : Kind) (i :
     → Knows E m.gate m.traced m.front m.low m.old_front m.old_low m.old_owed (born g a z c i) m.page m.cross m.announced heap k w
 worker_born E m g a z c i heap k w cr zeros p =
     let o1 = λ (u : is_mutator w.post ≡ true) (n : w.account.end ≡ None). clean_born cr g.writer (is_late E.epoch w) w.done w.registers (p.registers u n) in
-    let o2 = λ (f : Access) (e : w.access ≡ Some f). accesses_born cr g.writer g.kind c m.page f (p.access f e) in
+    let o2 = λ (f : Access) (e : w.access ≡ Some f). accesses_born cr g.writer g.kind c f (p.access f e) in
     let o3 = λ (q : Quest) (e : w.quest ≡ Some q). origin_born cr g.writer g.kind c heap (is_late E.epoch w) w.done w.registers w.scan q.old q.origin (p.origin q e) in
     let o4 = λ (q : Quest) (e : w.quest ≡ Some q). seeks_born cr g.writer q (p.quest q e) in
     let o5 = λ (y : Copy) (e : w.copy ≡ Some y). copies_born cr g.writer g.kept m.announced m.cross heap k y (p.copy y e) in

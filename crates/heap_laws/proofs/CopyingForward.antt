@@ -2,10 +2,11 @@
 use Rattle.std.proofs.Common.{◌≡◌, ◌≢◌, ℕ, ◌+◌, ◌-◌, ◌*◌, ◌/◌, ◌^◌, ◌<◌, ◌≤◌, Bool, true, false, refl, sym, ap, ◌∙◌, arith, Option, Some, None, ⊎_elim, ◌⊎◌, inl, inr}
 use Rattle.std.proofs.lemmas.Bool.{cases_eq}
 use Rattle.heap_words.specs.Decoded.{HeaderWord, ForwardWord, PointerWord, decode}
+use Rattle.plain_state.specs.Layout.{is_field}
 use Rattle.space_map.specs.declared.page_word.PageWord.TheVariants.{Scanning}
 use Rattle.heap_state.specs.Era.{Era, Memory}
 use Rattle.heap_state.specs.Functions.{put}
-use Rattle.heap_state.specs.Ghost.{Ghost, IsField, Here, Lands, is_field}
+use Rattle.heap_state.specs.Ghost.{Ghost, IsField, Here, Lands, header_kind}
 use Rattle.heap_state.specs.Inductive.{Invariant, Knows}
 use Rattle.heap_state.specs.Parts.Copies.{Copied, Kept}
 use Rattle.heap_state.specs.Parts.Copying.{IsOrigin, Seeks, Copies, Licensed, Keeps}
@@ -77,7 +78,7 @@ module _ {E : Era} {m : Memory} {team : Team} {g : Ghost} {k : ℕ} {c : Copy} {
   pub copied_word : (i : ℕ) → 0 < i → i < c.size → heap' (c.to + i) ≡ m.heap (c.from + i)
   copied_word i p l = let n : c.to + i ≢ c.from + 0 = omega (arith, ready.laid_out.apart, placed.4, placed.5, mine.old, inv.laid.order, l) in rw (put_other m.heap (c.from + 0) v (c.to + i) n) (mine.same i p (omega (arith, full)))
 
-  copied_head : decode (heap' c.to) ≡ HeaderWord (g.kind c.to) (g.size c.to - 1) (g.identity c.to).serial (g.identity c.to).mutator
+  copied_head : decode (heap' c.to) ≡ HeaderWord (header_kind (g.kind c.to)) (g.size c.to - 1) (g.identity c.to).serial (g.identity c.to).mutator
   copied_head = rw (put_other m.heap (c.from + 0) v c.to (λ e. apart (omega arith)), twin.5, twin.6, placed.3) ((me.keeps c has).head (omega (arith, full, mine.old)))
 
   heap_other : (b : ℕ) → b ≢ c.from → heap' b ≡ m.heap b
@@ -242,11 +243,11 @@ module _ {E : Era} {m : Memory} {team : Team} {g : Ghost} {k : ℕ} {c : Copy} {
   claims : (d : ℕ) (x : Claim) → Claims E m.front m.gate.behind g.size g.writer m.page d x → Claims E m.front m.gate.behind g'.size g'.writer m.page d x
   claims d x p = record { earlier = p.earlier; full = p.full; last = p.last; late = p.late; in_place = p.in_place; clear = λ e i b j st w l. p.clear e i b j st (writes b j w).1 l }
 
-  accesses : (f : Access) → Accesses E g.size g.writer g.kind m.page f → Accesses E g'.size g'.writer g'.kind m.page f
-  accesses f p = record { of = record { stands = p.of.stands; sized = p.of.sized; of_kind = p.of.of_kind; written = written_on f.of.at p.of.written }; inside = p.inside; word = p.word; allowed = p.allowed }
+  accesses : (f : Access) → Accesses E g.size g.writer g.kind f → Accesses E g'.size g'.writer g'.kind f
+  accesses f p = record { stands = p.stands; written = written_on f.at p.written; inside = p.inside; word = p.word; role = p.role }
 
   registers : (late : Bool) (done : ℕ) (r : ℕ → ℕ) → Clean E g.size g.writer late done r → Clean E g'.size g'.writer late done r
-  registers late done r p = record { clean = p.clean; lands = λ j l. lands_on (r j) (p.lands j l) }
+  registers late done r p = record { clean = p.clean; lands = λ j l. lands_on (r j) (p.lands j l); old = p.old }
 
   origin : (late : Bool) (done : ℕ) (r : ℕ → ℕ) (scan : Option Scan) (old : ℕ) (o : Origin) → IsOrigin E g.size g.writer g.kind heap' late done r scan old o → IsOrigin E g'.size g'.writer g'.kind heap' late done r scan old o
   origin late done r scan old (Register x) p = p
@@ -332,6 +333,7 @@ module _ {E : Era} {m : Memory} {team : Team} {g : Ghost} {k : ℕ} {c : Copy} {
     new = new_spot spot m.heap v m.low (E.start + E.span) E.epoch m.page inv.new;
     new_written = record { written = λ b st l n. written_on b (inv.new_written.written b st l n) };
     old_space = record { walks = λ t d e. space_spot spot m.heap v E.old_start m.old_front m.old_low (E.old_start + E.old_span) d m.page (inv.old_space.walks t d e) };
+    old_area = inv.old_area;
     old_pages = inv.old_pages;
     crossing = crossing;
     stocks = stocks_put team.worker k w' (λ _ e. e) (stocks_spot spot m.heap v team.count m.page team.worker inv.stocks);

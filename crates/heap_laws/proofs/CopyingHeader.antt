@@ -1,13 +1,13 @@
 -- The header of an old record is taken by the worker that is to copy it.
 use Rattle.std.proofs.Common.{◌≡◌, ◌≢◌, ℕ, ◌+◌, ◌-◌, ◌<◌, ◌≤◌, true, refl, sym, ap, ◌∙◌, arith, Some, None, ⊎_elim, ◌⊎◌, inl, inr, add-zero}
 use Rattle.std.proofs.lemmas.Bool.{cases_eq}
-use Rattle.heap_words.specs.declared.kind.Kind.{Kind}
 use Rattle.heap_words.specs.Decoded.{HeaderWord, BusyWord, ForwardWord, decode}
+use Rattle.heap_words.specs.declared.kind.Kind.{Kind as HeaderKind}
 use Rattle.plain_state.specs.State as plain
 use Rattle.heap_state.specs.Cycle.{Copying}
 use Rattle.heap_state.specs.Era.{Era, Memory}
 use Rattle.heap_state.specs.Functions.{put}
-use Rattle.heap_state.specs.Ghost.{Ghost}
+use Rattle.heap_state.specs.Ghost.{Ghost, header_kind}
 use Rattle.heap_state.specs.Inductive.{Invariant, Knows}
 use Rattle.heap_state.specs.Parts.Copies.{Copied, Kept}
 use Rattle.heap_state.specs.Parts.Copying.{IsOrigin, Copies, Licensed, Keeps}
@@ -30,16 +30,16 @@ record Untaken (g : Ghost) (a len : ℕ) : Type 0 where
   keeper : g.keeper a ≡ 0
   sized : g.size a ≡ len + 1
 
-untaken : (E : Era) (m : Memory) (team : Team) (g : Ghost) (inv : Invariant E m team g) (a : ℕ) (kind : Kind) (len serial mutator : ℕ) → 0 < g.size a → g.writer a ≡ 0
+untaken : (E : Era) (m : Memory) (team : Team) (g : Ghost) (inv : Invariant E m team g) (a : ℕ) (kind : HeaderKind) (len serial mutator : ℕ) → 0 < g.size a → g.writer a ≡ 0
     → decode (m.heap a) ≡ HeaderWord kind len serial mutator → Untaken g a len
 untaken E m team g inv a kind len serial mutator st w e = by_first (first E m team g inv a st w)
   where
     by_first : First E m team g inv a → Untaken g a len
-    by_first (OwnHeader n y h) = record { copy = n; keeper = y; sized = let q : HeaderWord kind len serial mutator ≡ HeaderWord (g.kind a) (g.size a - 1) (g.identity a).serial (g.identity a).mutator = sym e ∙ h in let z : len ≡ g.size a - 1 = cc in omega (arith, z, st) }
+    by_first (OwnHeader n y h) = record { copy = n; keeper = y; sized = let q : HeaderWord kind len serial mutator ≡ HeaderWord (header_kind (g.kind a)) (g.size a - 1) (g.identity a).serial (g.identity a).mutator = sym e ∙ h in let z : len ≡ g.size a - 1 = cc in omega (arith, z, st) }
     by_first (KeptBy k y h) = absurd (let q : HeaderWord kind len serial mutator ≡ BusyWord (g.size a - 1) k = sym e ∙ h in cc)
     by_first (GoneTo b y c h) = absurd (let q : HeaderWord kind len serial mutator ≡ ForwardWord (g.size a - 1) b = sym e ∙ h in cc)
 
-module _ (E : Era) (m : Memory) (team : Team) (g : Ghost) (k : ℕ) (q : Quest) (kind : Kind) (len serial mutator v : ℕ) (ready : Ready E m team g k)
+module _ (E : Era) (m : Memory) (team : Team) (g : Ghost) (k : ℕ) (q : Quest) (kind : HeaderKind) (len serial mutator v : ℕ) (ready : Ready E m team g k)
     (idle : (team.worker k).copy ≡ None) (asks : (team.worker k).quest ≡ Some q) (seeks : q.found ≡ None)
     (header : decode (m.heap q.old) ≡ HeaderWord kind len serial mutator) (word : decode v ≡ BusyWord len k) where
   abbrev inv : Invariant E m team g
@@ -81,7 +81,7 @@ module _ (E : Era) (m : Memory) (team : Team) (g : Ghost) (k : ℕ) (q : Quest) 
   unkept : g.kept k ≡ 0
   unkept = me.licensed.idle idle
 
-  is : decode (m.heap a) ≡ HeaderWord (g.kind a) (g.size a - 1) (g.identity a).serial (g.identity a).mutator
+  is : decode (m.heap a) ≡ HeaderWord (header_kind (g.kind a)) (g.size a - 1) (g.identity a).serial (g.identity a).mutator
   is = inv.headed.own a old.0 walked found.copy found.keeper
 
   headed : Headed g.size g.writer g.copy g'.keeper g.kind g.identity heap'

@@ -4,7 +4,7 @@ use Rattle.std.proofs.lemmas.Bool.{cases_eq}
 use Rattle.heap_words.specs.Decoded.{HeaderWord, BusyWord, ForwardWord, decode}
 use Rattle.heap_state.specs.Era.{Era, Memory}
 use Rattle.heap_state.specs.Functions.{put}
-use Rattle.heap_state.specs.Ghost.{Ghost}
+use Rattle.heap_state.specs.Ghost.{Ghost, header_kind}
 use Rattle.heap_state.specs.Inductive.{Invariant, Knows}
 use Rattle.heap_state.specs.Parts.Copying.{Copies, IsOrigin, Seeks, Licensed}
 use Rattle.heap_state.specs.Parts.Crossing.{Crossing}
@@ -153,7 +153,7 @@ module _ (E : Era) (m : Memory) (team : Team) (g : Ghost) (k : ℕ) (ready : Rea
       at_copy = by_first (first E m team g inv q.old old.0 (inv.older.written q.old old.1 old.2))
         where
           by_first : First E m team g inv q.old → (g.copy q.old ≡ b + 1) × (g.writer b ≡ 0)
-          by_first (OwnHeader n y h) = absurd (let z : ForwardWord len b ≡ HeaderWord (g.kind q.old) (g.size q.old - 1) (g.identity q.old).serial (g.identity q.old).mutator = sym word ∙ h in cc)
+          by_first (OwnHeader n y h) = absurd (let z : ForwardWord len b ≡ HeaderWord (header_kind (g.kind q.old)) (g.size q.old - 1) (g.identity q.old).serial (g.identity q.old).mutator = sym word ∙ h in cc)
           by_first (KeptBy j y h) = absurd (let z : ForwardWord len b ≡ BusyWord (g.size q.old - 1) j = sym word ∙ h in cc)
           by_first (GoneTo x y n h) =
               let z : ForwardWord len b ≡ ForwardWord (g.size q.old - 1) x = sym word ∙ h in

@@ -1,17 +1,19 @@
 -- What a forward to a whole copy leaves shown, and what the cycle keeps of it.
-use Rattle.std.proofs.Common.{◌≡◌, ◌≢◌, ℕ, ◌+◌, ◌-◌, ◌<◌, ◌≤◌, true, false, refl, sym, ap, ◌∙◌, arith, Some, None, ⊎_elim, ◌⊎◌, inl, inr, add-zero}
-use Rattle.std.proofs.lemmas.Bool.{cases_eq, cases_Bool}
+use Rattle.std.proofs.Common.{◌≡◌, ◌≢◌, ℕ, ◌+◌, ◌-◌, ◌<◌, ◌≤◌, true, refl, sym, ap, ◌∙◌, arith, Some, None, ⊎_elim, ◌⊎◌, inl, inr, add-zero, slice_get, length}
+use Rattle.std.proofs.lemmas.Bool.{cases_eq}
+use Rattle.std.proofs.lemmas.Option.{slice_get_within}
 use Rattle.heap_words.specs.Decoded.{PointerWord, decode}
 use Rattle.plain_state.specs.State as plain
 use Rattle.plain_state.specs.declared.value.Identity.{Identity}
 use Rattle.plain_state.specs.declared.value.Value.TheVariants.{Reference}
+use Rattle.plain_state.specs.Layout.{is_field, word_of}
 use Rattle.heap_state.specs.Cycle.{Copying, Rooted, IsCopied, StillLeads}
 use Rattle.heap_state.specs.Era.{Era, Memory}
 use Rattle.heap_state.specs.Functions.{put}
-use Rattle.heap_state.specs.Ghost.{Ghost, Here, is_field}
+use Rattle.heap_state.specs.Ghost.{Ghost, Here}
 use Rattle.heap_state.specs.Inductive.{Invariant}
 use Rattle.heap_state.specs.Reachable.{Reachable, FromRecord}
-use Rattle.heap_state.specs.Values.{ShowsAll, Shows, value_at, value_of}
+use Rattle.heap_state.specs.Values.{ShowsAll, Shows, value_of}
 use Rattle.heap_state.specs.Worker.{Worker, Team, Quest, Copy}
 use Rattle.heap_state.proofs.Frames.{accounts_put, registers_put, rooted_put}
 use Rattle.heap_state.proofs.Puts.{put_at, put_other, some_same}
@@ -20,7 +22,7 @@ use Rattle.heap_laws.specs.Steps.{with_worker, with_word, Preserves}
 use Rattle.heap_laws.proofs.CopyingForward.{Publishing, mine, placed, from_written, spot, twin, copied_word, was_written, written_on, here_cases, old_target, invariant}
 use Rattle.heap_laws.proofs.CopyingSpot.{here_same, inner_same, shows_spot, objects_spot, board_spot}
 use Rattle.heap_laws.proofs.CopyingWord.{rooted_spot}
-use Rattle.heap_laws.proofs.Words.{number_reference, pointer_from_value, value_from_pointer}
+use Rattle.heap_laws.proofs.Words.{pointer_from_value, value_from_pointer, copied_within}
 
 module _ {E : Era} {m : Memory} {team : Team} {g : Ghost} {k : ℕ} {c : Copy} {q : Quest} {v : ℕ} (publishing : Publishing E m team g k c q v) where
   abbrev inv : Invariant E m team g
@@ -49,8 +51,8 @@ module _ {E : Era} {m : Memory} {team : Team} {g : Ghost} {k : ℕ} {c : Copy} {
   moved r p = let t = twin publishing in rw (t.6) (record {
     kind = p.kind;
     size = p.size ∙ sym t.4;
-    fields = λ i f l y. rw (copied_word publishing i f (omega (arith, l, old.6))) (p.fields i f (omega (arith, t.4, l)) y);
-    words = λ i f l y. rw (copied_word publishing i f (omega (arith, l, old.6))) (p.words i f (omega (arith, t.4, l)) y);
+    fields = λ x l y. let z = p.size in rw (copied_word publishing (x + 1) (omega arith) (omega (arith, l, z, old.3))) (p.fields x l y);
+    numbers = λ x l y. let z = p.size in rw (copied_word publishing (x + 1) (omega arith) (omega (arith, l, z, old.3))) (p.numbers x l y);
   })
 
   objects : (records : plain.Heap) → ShowsAll g.size g.writer g.copy g.keeper g.kind g.identity m.heap records → ShowsAll g'.size g'.writer g'.copy g'.keeper g'.kind g'.identity heap' records
@@ -79,7 +81,11 @@ module _ {E : Era} {m : Memory} {team : Team} {g : Ghost} {k : ℕ} {c : Copy} {
     led : (i b : ℕ) → 0 < i → i < c.size → is_field (g.kind c.from) i ≡ true → decode (m.heap (c.from + i)) ≡ PointerWord b → Reachable p (g.identity b)
     led i b f l y d =
         let s : Shows (value_of g.identity) m.heap c.from (g.kind c.from) (g.size c.from) (source.0) = source.2 in
-        FromRecord (g.identity c.from) source.0 (i - 1) (g.identity b) reached source.1 (sym (s.fields i f (omega (arith, l, old.3)) y) ∙ value_from_pointer g.identity (m.heap (c.from + i)) b d)
+        let z = s.size in
+        let e : i - 1 + 1 ≡ i = omega arith in
+        let y' : is_field (g.kind c.from) (word_of (g.kind c.from) (i - 1)) ≡ true = rw e y in
+        let u : value_of g.identity (m.heap (c.from + i)) ≡ slice_get source.0.values (i - 1) = rw e at (s.fields (i - 1) (omega (arith, f, l, z, old.3)) y') in
+        FromRecord (g.identity c.from) source.0 (i - 1) (g.identity b) reached source.1 (rw s.kind y') (sym u ∙ value_from_pointer g.identity (m.heap (c.from + i)) b d)
 
     sound : (x : ℕ) (i : Identity) → Here E g'.size g'.writer g'.kind x → StillLeads E g'.identity (heap' x) i → Reachable p i
     sound x i u t = ⊎_elim
@@ -94,26 +100,30 @@ module _ {E : Era} {m : Memory} {team : Team} {g : Ghost} {k : ℕ} {c : Copy} {
     copied_on i y = record { at = y.at; stands = (y.stands.0, written_on publishing y.at y.stands.1); below = y.below; named = y.named }
 
     -- a field of the copy still leads to what the old record referred to
-    still : (n : ℕ) (r : plain.Record) (i : Identity) → 0 < n → n < g.size c.to → plain.record_of p.heap (g.identity c.to) ≡ Some r → value_at r n ≡ Some (Reference i) → StillLeads E g'.identity (heap' (c.to + n)) i
-    still n r i f l of refers = ⊎_elim
-        (λ (y : is_field (g.kind c.from) n ≡ true).
-        let w : value_of g.identity (m.heap (c.from + n)) ≡ Some (Reference i) = shown.fields n f below y ∙ refers' in
+    still : (x : ℕ) (r : plain.Record) (i : Identity) → plain.record_of p.heap (g.identity c.to) ≡ Some r → is_field (g.kind c.from) (word_of (g.kind c.from) x) ≡ true → slice_get r.values x ≡ Some (Reference i)
+        → StillLeads E g'.identity (heap' (c.to + word_of (g.kind c.from) x)) i
+    still x r i of y refers =
+        let w : value_of g.identity (m.heap (c.from + n)) ≡ Some (Reference i) = shown.fields x within y ∙ refers' in
         let a = pointer_from_value g.identity (m.heap (c.from + n)) i w in
-        let z = old_target publishing n a.0 f (omega (arith, below, old.3)) y a.1 in
-        record { at = a.0; points = ap decode (copied_word publishing n f (omega (arith, below, old.3))) ∙ a.1; old = (z.1, z.2); named = a.2 })
-        (λ (y : is_field (g.kind c.from) n ≡ false). number_reference (shown.words n f below y ∙ refers'))
-        (cases_Bool (is_field (g.kind c.from) n))
+        let z = old_target publishing n a.0 (omega arith) below y a.1 in
+        record { at = a.0; points = ap decode (copied_word publishing n (omega arith) below) ∙ a.1; old = (z.1, z.2); named = a.2 }
       where
+        n : ℕ
+        n = word_of (g.kind c.from) x
+
         shown : Shows (value_of g.identity) m.heap c.from (g.kind c.from) (g.size c.from) (source.0)
         shown = source.2
 
-        below : n < g.size c.from
-        below = let t = (twin publishing).4 in omega (arith, l, t)
-
-        refers' : value_at source.0 n ≡ Some (Reference i)
+        refers' : slice_get source.0.values x ≡ Some (Reference i)
         refers' =
             let same : source.0 ≡ r = some_same (sym source.1 ∙ (ap (plain.record_of p.heap) (sym (twin publishing).5) ∙ of)) in
-            ap (λ (x : plain.Record). value_at x n) same ∙ refers
+            ap (λ (o : plain.Record). slice_get o.values x) same ∙ refers
+
+        within : x < length source.0.values
+        within = slice_get_within source.0.values x (Reference i) refers'
+
+        below : word_of (g.kind c.from) x < c.size
+        below = let z = shown.size in omega (arith, within, z, old.3)
 
     pub copying : Copying E m.front g'.size g'.writer g'.copy g'.keeper g'.kind g'.identity heap' p
     copying = record {
@@ -121,9 +131,11 @@ module _ {E : Era} {m : Memory} {team : Team} {g : Ghost} {k : ℕ} {c : Copy} {
       sound = sound;
       reached = λ b st l n y. cy.reached b st l n (⊎_elim (λ z. inl z) (λ z. inr (let d : b ≢ c.from = (λ e. let u = put_at g.keeper c.from 0 b e in omega arith) in rw (put_other g.keeper c.from 0 b d) at z)) y);
       sizes = cy.sizes;
-      complete = λ b n r i st w l x f e of refers. ⊎_elim
-          (λ (y : b ≡ c.to). inr (rw y (still n r i f (let z : n < g.size c.to = rw y at e in z) (ap (λ z. plain.record_of p.heap (g.identity z)) (sym y) ∙ of) refers)))
-          (λ (d : b ≢ c.to). ⊎_elim (λ y. inl (copied_on i y)) (λ y. inr (rw (inner_same (spot publishing) m.heap v b n (was_written publishing b w d) f e) y)) (cy.complete b n r i st (was_written publishing b w d) l x f e of refers))
+      complete = λ b x r i st w l u of f refers. ⊎_elim
+          (λ (y : b ≡ c.to). inr (rw y (still x r i (ap (λ z. plain.record_of p.heap (g.identity z)) (sym y) ∙ of) (rw (y, (twin publishing).6) at f) refers)))
+          (λ (d : b ≢ c.to). ⊎_elim (λ y. inl (copied_on i y))
+          (λ y. inr (rw (inner_same (spot publishing) m.heap v b (x + 1) (was_written publishing b w d) (omega arith) (copied_within cy b x r (Reference i) st l u of refers)) y))
+          (cy.complete b x r i st (was_written publishing b w d) l u of f refers))
           (cases_eq b c.to);
       from = cy.from;
     }

@@ -169,16 +169,17 @@ module _ {E : Era} {m : Memory} {team : Team} {g : Ghost} {k : ℕ} {c : Copy} (
   rounds : (d : ℕ) (r : Round) → Rounds E m.traced m.front d r → Rounds E m.traced (c.to + c.size) d r
   rounds d r p = record { traced_then = p.traced_then; front_then = λ f e n. let y = p.front_then f e n in omega (arith, y, at_front) }
 
-  accesses : (f : Access) → Accesses E g.size g.writer g.kind m.page f → Accesses E g'.size g'.writer g'.kind m.page f
-  accesses f p = let st : 0 < g.size f.of.at = omega (arith, p.of.stands, p.of.sized) in let n = not_new growth f.of.at st in record {
-    of = record { stands = p.of.stands; sized = rw (put_other g.size c.to c.size (f.of.at) n) (p.of.sized); of_kind = rw (put_other g.kind c.to (g.kind c.from) (f.of.at) n) (p.of.of_kind); written = written_on growth f.of.at st p.of.written };
+  accesses : (f : Access) → Accesses E g.size g.writer g.kind f → Accesses E g'.size g'.writer g'.kind f
+  accesses f p = let n = not_new growth f.at p.stands in record {
+    stands = is growth f.at p.stands;
+    written = written_on growth f.at p.stands p.written;
     inside = p.inside;
-    word = p.word;
-    allowed = p.allowed;
+    word = rw (put_other g.size c.to c.size (f.at) n) (p.word);
+    role = rw (put_other g.kind c.to (g.kind c.from) (f.at) n) (p.role);
   }
 
   registers : (late : Bool) (done : ℕ) (r : ℕ → ℕ) → Clean E g.size g.writer late done r → Clean E g'.size g'.writer late done r
-  registers late done r p = record { clean = p.clean; lands = λ j l. lands_grown growth (r j) (p.lands j l) }
+  registers late done r p = record { clean = p.clean; lands = λ j l. lands_grown growth (r j) (p.lands j l); old = p.old }
 
   origin : (late : Bool) (done : ℕ) (r : ℕ → ℕ) (scan : Option Scan) (old : ℕ) (o : Origin) → IsOrigin E g.size g.writer g.kind m.heap late done r scan old o → IsOrigin E g'.size g'.writer g'.kind m.heap late done r scan old o
   origin late done r scan old (Register x) p = p
@@ -327,7 +328,7 @@ module _ {E : Era} {m : Memory} {team : Team} {g : Ghost} {k : ℕ} {c : Copy} (
   kept : Kept g'.size g'.keeper team.count
   kept = record { kept = λ b j st y. inv.kept.kept b j (was growth b (λ e. let q : g.keeper b ≡ g.keeper c.to = ap g.keeper e in let z = (inv.copied.blank c.to (empty growth)).1 in omega (arith, q, z, y)) st) y }
 
-  pub invariant : Invariant E (with_area m (c.to + c.size) (m.owed - c.size)) (with_worker team k w') g'
+  pub invariant : Invariant E (with_area m (c.to + c.size) m.low (m.owed - c.size)) (with_worker team k w') g'
   invariant = record {
     counted = counted_put team.worker k w' refl refl inv.counted;
     staffed = staffed_put team.worker k w' refl inv.staffed;
@@ -349,6 +350,7 @@ module _ {E : Era} {m : Memory} {team : Team} {g : Ghost} {k : ℕ} {c : Copy} (
     new = new_grown growth m.low (E.start + E.span) E.epoch m.heap m.page (λ b l n e. omega (arith, l, e, growth.room, growth.some)) inv.new;
     new_written = written_grown growth inv.new_written;
     old_space = record { walks = λ t d e. space_grown growth m.old_front m.old_low d m.heap m.page (inv.old_space.walks t d e) };
+    old_area = inv.old_area;
     old_pages = inv.old_pages;
     crossing = crossing_grown growth m.cross inv.crossing;
     stocks = stocks_put team.worker k w' (λ _ e. e) (stocks_grown growth team.count m.heap m.page team.worker inv.stocks);

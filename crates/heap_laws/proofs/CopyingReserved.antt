@@ -1,21 +1,21 @@
 -- What a reserved place leaves shown, and what the cycle keeps of it.
-use Rattle.std.proofs.Common.{◌≡◌, ◌≢◌, ℕ, ◌+◌, ◌-◌, ◌<◌, ◌≤◌, true, refl, ap, ◌∙◌, arith, Some, None, ⊎_elim, ◌⊎◌, inl, inr}
-use Rattle.std.specs.Prelude.{slice_get, length}
+use Rattle.std.proofs.Common.{◌≡◌, ◌≢◌, ℕ, ◌+◌, ◌-◌, ◌<◌, ◌≤◌, true, refl, ap, ◌∙◌, arith, Some, None, ⊎_elim, ◌⊎◌, inl, inr, slice_get}
+use Rattle.std.specs.Prelude.{slice_get}
 use Rattle.std.proofs.lemmas.Bool.{cases_eq, lt-ltb}
 use Rattle.std.proofs.lemmas.Option.{slice_get_within}
 use Rattle.plain_state.specs.State as plain
 use Rattle.plain_state.specs.declared.value.Identity.{Identity}
 use Rattle.plain_state.specs.declared.value.Value.TheVariants.{Reference}
-use Rattle.heap_state.specs.Cycle.{Copying, Rooted, IsCopied, StillLeads, RootLeads, ByBoard, ByRegister, RefersInFields}
+use Rattle.plain_state.specs.Layout.{is_field, word_of, size_of}
+use Rattle.heap_state.specs.Cycle.{Copying, Rooted, IsCopied, StillLeads, RootLeads, ByBoard, ByRegister}
 use Rattle.heap_state.specs.Era.{Era, Memory}
 use Rattle.heap_state.specs.Functions.{put}
 use Rattle.heap_state.specs.Ghost.{Ghost, Here, IsField, Lands}
 use Rattle.heap_state.specs.Inductive.{Invariant, Knows}
-use Rattle.heap_state.specs.Values.{Shown, ShowsAll, Shows, RegistersShow, kind_of, value_at, value_of}
+use Rattle.heap_state.specs.Values.{Shown, ShowsAll, Shows, RegistersShow, value_of}
 use Rattle.heap_state.specs.Worker.{Team, Copy, is_mutator}
 use Rattle.heap_state.proofs.Frames.{accounts_put, registers_put, rooted_put}
 use Rattle.heap_state.proofs.Puts.{put_at, put_other, put_same}
-use Rattle.heap_state.proofs.Referring.{shows-refers}
 use Rattle.heap_laws.specs.Copying.{PlacesAreReserved}
 use Rattle.heap_laws.specs.Steps.{with_worker, with_area, Preserves}
 use Rattle.heap_laws.proofs.CopyingGrowth.{not_new, was, is, was_written, written_on, here_back, old_side, value_grown}
@@ -61,8 +61,10 @@ module _ {E : Era} {m : Memory} {team : Team} {g : Ghost} {k : ℕ} {c : Copy} (
   shows_on b r st w p = record {
     kind = p.kind;
     size = p.size;
-    words = p.words;
-    fields = λ i f l y. value_grown (growth reserving) (m.heap (b + i)) (field_lands b i (record { stands = st; written = w; field = y; first = f; last = l })) ∙ p.fields i f l y;
+    numbers = p.numbers;
+    fields = λ x l y.
+        let z = p.size in
+        value_grown (growth reserving) (m.heap (b + (x + 1))) (field_lands b (x + 1) (record { stands = st; written = w; field = y; first = omega arith; last = omega (arith, l, z) })) ∙ p.fields x l y;
   }
 
   -- it has the identity, kind and size that it had
@@ -81,7 +83,7 @@ module _ {E : Era} {m : Memory} {team : Team} {g : Ghost} {k : ℕ} {c : Copy} (
         same_record records b d st' w' (p.shows b st' w' (uncopied b y));
   }
 
-  shown : (p : plain.Plain) → Shown E m team g p → Shown E (with_area m (c.to + c.size) (m.owed - c.size)) (with_worker team k (w' reserving)) after p
+  shown : (p : plain.Plain) → Shown E m team g p → Shown E (with_area m (c.to + c.size) m.low (m.owed - c.size)) (with_worker team k (w' reserving)) after p
   shown p s = record {
     objects = objects p.heap s.objects;
     board = record { sixteen = s.board.sixteen; board = λ x l. value_grown (growth reserving) (m.heap (E.board + x)) (board_lands x l) ∙ s.board.board x l };
@@ -129,21 +131,21 @@ module _ {E : Era} {m : Memory} {team : Team} {g : Ghost} {k : ℕ} {c : Copy} (
     from_old : (0 < g.size c.from) × (E.old_start ≤ c.from) × (c.from < E.old_start + E.old_span) × (0 < g.keeper c.from)
     from_old = let o = (mine reserving).old in (omega (arith, o), omega (arith, o), omega (arith, o), omega (arith, o))
 
-    new_size : (r : plain.Record) × (plain.record_of p.heap (g.identity c.from) ≡ Some r) × (length r.values + 1 ≡ c.size) × (r.kind ≡ kind_of (g.kind c.from)) × RefersInFields (g.kind c.from) c.size r
+    new_size : (r : plain.Record) × (plain.record_of p.heap (g.identity c.from) ≡ Some r) × (size_of r ≡ c.size) × (r.kind ≡ g.kind c.from)
     new_size =
         let o = cy.old c.from from_old.0 from_old.1 from_old.2 (inr from_old.3) in
         let s : Shows (value_of g.identity) m.heap c.from (g.kind c.from) (g.size c.from) (o.0) = o.2 in
-        (o.0, o.1, s.size ∙ (mine reserving).old.1, s.kind, rw ((mine reserving).old.1) at (shows-refers (value_of g.identity) m.heap c.from (g.kind c.from) (g.size c.from) o.0 s))
+        (o.0, o.1, s.size ∙ (mine reserving).old.1, s.kind)
 
     no_copy : g.copy c.from ≡ 0
     no_copy = (growth reserving).uncopied
 
-    complete : (b n : ℕ) (r : plain.Record) (i : Identity) → b ≢ c.to → 0 < g.size b → g.writer b ≡ 0 → E.start ≤ b → b < c.to + c.size → 0 < n → n < g.size b
-        → plain.record_of p.heap (g.identity b) ≡ Some r → value_at r n ≡ Some (Reference i)
-        → IsCopied E (c.to + c.size) after.size after.writer after.identity i ⊎ StillLeads E after.identity (m.heap (b + n)) i
-    complete b n r i d st w s l f e of refers = ⊎_elim (λ y. inl (copied_on i y))
-        (λ (y : StillLeads E g.identity (m.heap (b + n)) i). inr (leads_on (m.heap (b + n)) i y))
-        (cy.complete b n r i st w s (below_front b d st s l) f e of refers)
+    complete : (b x : ℕ) (r : plain.Record) (i : Identity) → b ≢ c.to → 0 < g.size b → g.writer b ≡ 0 → E.start ≤ b → b < c.to + c.size
+        → plain.record_of p.heap (g.identity b) ≡ Some r → is_field (g.kind b) (word_of (g.kind b) x) ≡ true → slice_get r.values x ≡ Some (Reference i)
+        → IsCopied E (c.to + c.size) after.size after.writer after.identity i ⊎ StillLeads E after.identity (m.heap (b + word_of (g.kind b) x)) i
+    complete b x r i d st w s l of f refers = ⊎_elim (λ y. inl (copied_on i y))
+        (λ (y : StillLeads E g.identity (m.heap (b + word_of (g.kind b) x)) i). inr (leads_on (m.heap (b + word_of (g.kind b) x)) i y))
+        (cy.complete b x r i st w s (below_front b d st s l) of f refers)
 
     copying : Copying E (c.to + c.size) after.size after.writer after.copy after.keeper after.kind after.identity m.heap p
     copying = record {
@@ -159,9 +161,9 @@ module _ {E : Era} {m : Memory} {team : Team} {g : Ghost} {k : ℕ} {c : Copy} (
           (λ (d : b ≢ c.to). let st' = was (growth reserving) b d st in
           rw (put_other g.identity c.to (g.identity c.from) b d, put_other g.kind c.to (g.kind c.from) b d, put_other g.size c.to c.size b d) (cy.sizes b st' l (below_front b d st' l n)))
           (cases_eq b c.to);
-      complete = λ b n r i st w s l f e of refers.
+      complete = λ b x r i st w s l of f refers.
           let d : b ≢ c.to = (λ e. let z = put_at g.writer c.to (k + 1) b e in omega (arith, z, w)) in
-          complete b n r i d (was (growth reserving) b d st) (was_written (growth reserving) b w) s l f (rw (put_other g.size c.to c.size b d) at e) (rw (put_other g.identity c.to (g.identity c.from) b d) at of) refers;
+          complete b x r i d (was (growth reserving) b d st) (was_written (growth reserving) b w) s l (rw (put_other g.identity c.to (g.identity c.from) b d) at of) (rw (put_other g.kind c.to (g.kind c.from) b d) at f) refers;
       from = λ b st l n. ⊎_elim
           (λ (e : b ≡ c.to). (c.from, is (growth reserving) c.from from_old.0, (let q : after.copy c.from ≡ c.to + 1 = put_same g.copy c.from (c.to + 1) in let z : c.to + 1 ≡ b + 1 = omega (arith, e) in q ∙ z)))
           (λ (d : b ≢ c.to). let st' = was (growth reserving) b d st in let o = cy.from b st' l (below_front b d st' l n) in
@@ -180,7 +182,7 @@ module _ {E : Era} {m : Memory} {team : Team} {g : Ghost} {k : ℕ} {c : Copy} (
       leads i (ByBoard x l s) = ByBoard x l (leads_on (m.heap (E.board + x)) i s)
       leads i (ByRegister j x l n d e s) = ByRegister j x l n d e (leads_on ((team.worker j).registers x) i s)
 
-  pub preserves : Preserves E m (with_area m (c.to + c.size) (m.owed - c.size)) team (with_worker team k (w' reserving)) g after
+  pub preserves : Preserves E m (with_area m (c.to + c.size) m.low (m.owed - c.size)) team (with_worker team k (w' reserving)) g after
   preserves = record { invariant = invariant reserving; ages = λ page. omega arith; shown = shown; cycle = λ p cy. record { copying = copying p cy.copying; rooted = rooted p cy.rooted } }
 
 pub places_reserved : PlacesAreReserved

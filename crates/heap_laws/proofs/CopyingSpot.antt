@@ -1,7 +1,7 @@
 -- A write of a heap word that is no field and no board word: what reads only fields, board words and the places of others
 -- stays as it is.
 use Rattle.std.proofs.Common.{◌≡◌, ◌≢◌, ℕ, refl, ◌+◌, ◌<◌, ◌≤◌, Bool, true, sym, ap, ◌∙◌, arith, Option, ◌⊎◌, inl, inr}
-use Rattle.heap_words.specs.declared.kind.Kind.{Kind}
+use Rattle.plain_state.specs.declared.kind.Kind.{Kind}
 use Rattle.heap_words.specs.Decoded.{decode}
 use Rattle.plain_state.specs.State as plain
 use Rattle.plain_state.specs.declared.value.Identity.{Identity}

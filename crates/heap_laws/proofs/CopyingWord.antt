@@ -4,12 +4,13 @@ use Rattle.std.proofs.lemmas.Bool.{cases_eq}
 use Rattle.heap_words.specs.Decoded.{HeaderWord, decode}
 use Rattle.plain_state.specs.State as plain
 use Rattle.plain_state.specs.declared.value.Identity.{Identity}
+use Rattle.plain_state.specs.declared.value.Value.TheVariants.{Reference}
 use Rattle.space_map.specs.declared.gate_word.GateWord.{GateWord}
 use Rattle.space_map.specs.declared.page_word.PageWord.{PageWord}
 use Rattle.heap_state.specs.Cycle.{Copying, Rooted, RootLeads, ByBoard, ByRegister}
 use Rattle.heap_state.specs.Era.{Era, Memory}
 use Rattle.heap_state.specs.Functions.{put}
-use Rattle.heap_state.specs.Ghost.{Ghost}
+use Rattle.heap_state.specs.Ghost.{Ghost, header_kind}
 use Rattle.heap_state.specs.Inductive.{Invariant, Knows}
 use Rattle.heap_state.specs.Parts.Copies.{Copied}
 use Rattle.heap_state.specs.Parts.Copying.{Copies, Keeps}
@@ -23,7 +24,7 @@ use Rattle.heap_laws.specs.Copying.{copying, IsNextWord}
 use Rattle.heap_laws.specs.Steps.{Ready, with_worker, with_word, Preserves}
 use Rattle.heap_laws.proofs.CopyingOn.{knows_copying}
 use Rattle.heap_laws.proofs.CopyingSpot.{Spot, opened_spot, landing_spot, older_spot, new_spot, space_spot, raw_spot, stocks_spot, origin_spot, scans_spot, copies_spot, keeps_spot, shows_spot, objects_spot, board_spot, here_same, inner_same, board_same}
-use Rattle.heap_laws.proofs.Words.{one_place}
+use Rattle.heap_laws.proofs.Words.{one_place, copied_within}
 
 -- ---- any write at a spot
 
@@ -45,7 +46,7 @@ module _ (E : Era) (gate : GateWord) (traced front low old_front old_low old_owe
     sound = λ x i u t. cy.sound x i u (rw (here_same sp heap v g.kind x u) at t);
     reached = cy.reached;
     sizes = cy.sizes;
-    complete = λ b n r i st w l m f e q y. ⊎_elim (λ z. inl z) (λ z. inr (rw (inner_same sp heap v b n w f e) z)) (cy.complete b n r i st w l m f e q y);
+    complete = λ b x r i st w l m e f y. ⊎_elim (λ z. inl z) (λ z. inr (rw (inner_same sp heap v b (x + 1) w (omega arith) (copied_within cy b x r (Reference i) st l m e y)) z)) (cy.complete b x r i st w l m e f y);
     from = cy.from;
   }
 
@@ -124,7 +125,7 @@ module _ (E : Era) (m : Memory) (team : Team) (g : Ghost) (k : ℕ) (c : Copy) (
   head : Keeps g.kind g.identity heap' further
   head = record { keeps = (me.keeps c has).keeps; head = λ _. by_word next }
     where
-      by_word : IsNextWord c v → decode (heap' c.to) ≡ HeaderWord (g.kind c.from) (c.size - 1) (g.identity c.from).serial (g.identity c.from).mutator
+      by_word : IsNextWord c v → decode (heap' c.to) ≡ HeaderWord (header_kind (g.kind c.from)) (c.size - 1) (g.identity c.from).serial (g.identity c.from).mutator
       by_word (inl q) = let y : c.to ≡ c.to + c.done = omega (arith, q.0) in rw (put_at m.heap (c.to + c.done) v c.to y, q.1) ((me.keeps c has).keeps)
       by_word (inr q) = let p = (mine.loaded v q).0 in let y : c.to ≢ c.to + c.done = omega (arith, p) in rw (put_other m.heap (c.to + c.done) v c.to y) ((me.keeps c has).head p)
 

@@ -1,24 +1,25 @@
 -- What a cycle keeps stays where a word is stored, if what the word before led to of the old space is copied.
-use Rattle.std.proofs.Common.{◌≡◌, ◌≢◌, ℕ, ◌+◌, ◌<◌, ◌≤◌, true, Some, refl, sym, ◌∙◌, arith, ⊎_elim, ◌⊎◌, inl, inr}
+use Rattle.std.proofs.Common.{◌≡◌, ◌≢◌, ℕ, ◌+◌, ◌<◌, ◌≤◌, refl, arith, ⊎_elim, ◌⊎◌, inl, inr}
 use Rattle.std.proofs.lemmas.Bool.{cases_eq}
 use Rattle.plain_state.specs.State as plain
 use Rattle.plain_state.specs.declared.value.Value.TheVariants.{Reference}
 use Rattle.plain_state.specs.declared.value.Identity.{Identity}
-use Rattle.heap_state.specs.Cycle.{Cycle, Copying, Rooted, RootLeads, ByBoard, ByRegister, StillLeads, IsCopied, RefersInFields}
+use Rattle.plain_state.specs.Layout.{word_of}
+use Rattle.heap_state.specs.Cycle.{Cycle, Copying, Rooted, RootLeads, ByBoard, ByRegister, StillLeads, IsCopied}
 use Rattle.heap_state.specs.Era.{Era, Memory}
 use Rattle.heap_state.specs.Functions.{put}
-use Rattle.heap_state.specs.Ghost.{Ghost, is_field, Here}
+use Rattle.heap_state.specs.Ghost.{Ghost, Here}
 use Rattle.heap_state.specs.Inductive.{Invariant}
 use Rattle.heap_state.specs.Reachable.{Reachable}
-use Rattle.heap_state.specs.Values.{value_at, value_of, Shows}
+use Rattle.heap_state.specs.Values.{value_of, Shows}
 use Rattle.heap_state.specs.Worker.{Team}
-use Rattle.heap_state.proofs.Puts.{put_other, each_put, some_same}
+use Rattle.heap_state.proofs.Puts.{put_other, each_put}
 use Rattle.heap_laws.specs.Fields.{StoresKeepCycle, BoardStoresKeepCycle}
 use Rattle.heap_laws.specs.Steps.{with_word}
 use Rattle.heap_laws.proofs.FieldSlot.{Slot, within, old_same}
 use Rattle.heap_laws.proofs.FieldStore.{Stores, in_word, on_board}
 use Rattle.heap_laws.proofs.OtherWords.{shows_same}
-use Rattle.heap_laws.proofs.Words.{board_here, field_here, still_leads}
+use Rattle.heap_laws.proofs.Words.{board_here, field_here, still_leads, copied_within}
 
 module _ (E : Era) (m : Memory) (team : Team) (g : Ghost) (p : plain.Plain) (x v : ℕ) (sl : Slot E m.front m.low g.size g.writer g.kind x v)
     (seen : Here E g.size g.writer g.kind x → (i : Identity) → StillLeads E g.identity (m.heap x) i → IsCopied E m.front g.size g.writer g.identity i) (cy : Cycle E m team g p) where
@@ -33,14 +34,6 @@ module _ (E : Era) (m : Memory) (team : Team) (g : Ghost) (p : plain.Plain) (x v
       same : (i : ℕ) → i < g.size a → put m.heap x v (a + i) ≡ m.heap (a + i)
       same i z = let q = within sl.lay sl.laid a st in old_same sl m.heap (a + i) (omega (arith, l)) (omega (arith, q, l, u, z, sl.lay.apart))
 
-  -- what a copied record referred to at the flip it referred to in a field
-  refers : (b n : ℕ) (r : plain.Record) (i : Identity) → 0 < g.size b → E.start ≤ b → b < m.front → 0 < n → n < g.size b → plain.record_of p.heap (g.identity b) ≡ Some r → value_at r n ≡ Some (Reference i) → is_field (g.kind b) n ≡ true
-  unfolding RefersInFields
-  refers b n r i st l u f z e o =
-      let q = cy.copying.sizes b st l u in
-      let s : q.0 ≡ r = some_same (sym q.1 ∙ e) in
-      q.4 n i f z (rw s o)
-
   copying : Copying E m.front g.size g.writer g.copy g.keeper g.kind g.identity (put m.heap x v) p
   copying = record {
     old = λ a st l u o. let q = cy.copying.old a st l u o in (q.0, q.1, old_shows a q.0 st l u q.2);
@@ -50,7 +43,9 @@ module _ (E : Era) (m : Memory) (team : Team) (g : Ghost) (p : plain.Plain) (x v
         refl s;
     reached = cy.copying.reached;
     sizes = cy.copying.sizes;
-    complete = λ b n r i st w l u f z e o. ⊎_elim (λ c. inl c) (λ t. leads (b + n) i (field_here E g.size g.writer g.kind b n (record { stands = st; written = w; field = refers b n r i st l u f z e o; first = f; last = z }) (l, omega (arith, u, sl.laid.order))) t) (cy.copying.complete b n r i st w l u f z e o);
+    complete = λ b y r i st w l u e f o. ⊎_elim (λ c. inl c)
+        (λ t. leads (b + word_of (g.kind b) y) i (field_here E g.size g.writer g.kind b (word_of (g.kind b) y) (record { stands = st; written = w; field = f; first = omega arith; last = copied_within cy.copying b y r (Reference i) st l u e o }) (l, omega (arith, u, sl.laid.order))) t)
+        (cy.copying.complete b y r i st w l u e f o);
     from = cy.copying.from;
   }
 
@@ -69,7 +64,7 @@ store_keeps_cycle : (E : Era) (m : Memory) (team : Team) (g : Ghost) (p : plain.
 store_keeps_cycle E m team g p x v st inv cy = slot_keeps_cycle E m team g p x v st.slot (λ h i s. absurd (inv.opened.opened x h st.opens (still_leads E g.identity (m.heap x) i s))) cy
 
 pub stores_keep_cycle : StoresKeepCycle
-stores_keep_cycle E m team g p a i v lay inv f o may cy = store_keeps_cycle E m team g p (a + i) v (in_word E m team g a i v lay inv f o may) inv cy
+stores_keep_cycle E m team g p a x v lay inv f o may cy = store_keeps_cycle E m team g p (a + word_of (g.kind a) x) v (in_word E m team g a x v lay inv f o may) inv cy
 
 pub board_stores_keep_cycle : BoardStoresKeepCycle
 board_stores_keep_cycle E m team g p x v lay inv l o may cy = store_keeps_cycle E m team g p (E.board + x) v (on_board E m team g x v lay inv l o may) inv cy

@@ -1,22 +1,24 @@
 -- A mutator's store changes the plain heap at one word, and a load gives what stands there.
-use Rattle.std.proofs.Common.{◌≡◌, ◌≢◌, ℕ, zero, suc, ◌+◌, ◌-◌, ◌<◌, ◌≤◌, slice_set, Some, refl, sym, ap, ◌∙◌, arith, ⊎_elim, ◌⊎◌, inl}
+use Rattle.std.proofs.Common.{◌≡◌, ◌≢◌, ℕ, zero, suc, ◌+◌, ◌<◌, ◌≤◌, Some, refl, sym, ap, ◌∙◌, arith, ⊎_elim, ◌⊎◌, inl, length, slice_get}
 use Rattle.std.proofs.Math.ListN.{length-set}
 use Rattle.std.proofs.lemmas.Bool.{cases_eq}
 use Rattle.plain_state.specs.State as plain
 use Rattle.plain_state.specs.declared.value.Identity.{Identity}
 use Rattle.plain_state.specs.declared.value.Value.{Value}
+use Rattle.plain_state.specs.Writing.{stored, with_heap, with_word as with_value}
+use Rattle.plain_state.specs.Layout.{word_of}
 use Rattle.heap_state.specs.Era.{Era, IsLaidOut, Memory}
 use Rattle.heap_state.specs.Functions.{put}
-use Rattle.heap_state.specs.Ghost.{Ghost, is_field, Leads, Lands}
+use Rattle.heap_state.specs.Ghost.{Ghost, Leads, Lands}
 use Rattle.heap_state.specs.Inductive.{Invariant}
-use Rattle.heap_state.specs.Values.{value_at, value_of, Shows, Shown}
+use Rattle.heap_state.specs.Values.{value_of, Shows, Shown}
 use Rattle.heap_state.specs.Worker.{Team}
 use Rattle.heap_state.proofs.Puts.{put_at, put_other, some_same}
-use Rattle.heap_laws.specs.Fields.{IsWordOf, StandsFor, stored, with_heap, StoresShow, BoardStoresShow, HeadersAreRead, RegistersAreHeld, NumbersAreHeld}
+use Rattle.heap_laws.specs.Fields.{IsWordOf, StandsFor, StoresShow, BoardStoresShow, HeadersAreRead, RegistersAreHeld, NumbersAreHeld}
 use Rattle.heap_laws.specs.Steps.{with_word}
 use Rattle.heap_laws.proofs.OtherWords.{shows_same}
 use Rattle.heap_laws.proofs.PlainHeaps.{stored_there, stored_elsewhere, stored_serial, stored_makers}
-use Rattle.heap_laws.proofs.PlainLists.{slice_get-set_same, slice_get-set_other}
+use Rattle.plain_state.proofs.Lists.{slice_get-set_same, slice_get-set_other}
 use Rattle.heap_laws.proofs.Words.{one_place}
 
 -- ---- records of the epoch's space
@@ -43,12 +45,8 @@ module _ (E : Era) (m : Memory) (team : Team) (g : Ghost) (lay : IsLaidOut E) (i
       (inv.once.once b a sb st e)
 
   -- two places of which nobody else shows the identity have identities apart
-  pub apart : (a b : ℕ) → 0 < g.size a → 0 < g.size b → (b ≢ a) → (g.identity b ≡ g.identity a → b ≡ a) → (g.identity b).mutator ≡ (g.identity a).mutator → (g.identity b).serial - 1 ≢ (g.identity a).serial - 1
-  apart a b sa sb d alone e f =
-      let x = inv.numbered.first a sa in
-      let y = inv.numbered.first b sb in
-      let s : (g.identity b).serial ≡ (g.identity a).serial = omega arith in
-      d (alone (same_identity (g.identity b) (g.identity a) e s))
+  pub apart : (a b : ℕ) → 0 < g.size a → 0 < g.size b → (b ≢ a) → (g.identity b ≡ g.identity a → b ≡ a) → (g.identity b).mutator ≡ (g.identity a).mutator → (g.identity b).serial ≢ (g.identity a).serial
+  apart a b sa sb d alone e f = d (alone (same_identity (g.identity b) (g.identity a) e f))
     where
       same_parts : (a b c d : ℕ) → a ≡ c → b ≡ d → of_parts a b ≡ of_parts c d
       same_parts a b c d e f = rw (e, f) refl
@@ -59,16 +57,19 @@ module _ (E : Era) (m : Memory) (team : Team) (g : Ghost) (lay : IsLaidOut E) (i
 -- ---- stores
 
 -- the store in a word of a record
-module _ (E : Era) (m : Memory) (team : Team) (g : Ghost) (p : plain.Plain) (a i v : ℕ) (r : plain.Record) (y : Value) (lay : IsLaidOut E) (inv : Invariant E m team g)
-    (f : IsWordOf E g.size g.writer a i) (is : plain.record_of p.heap (g.identity a) ≡ Some r) (may : StandsFor g (is_field (g.kind a) i) v y) (s : Shown E m team g p) where
+module _ (E : Era) (m : Memory) (team : Team) (g : Ghost) (p : plain.Plain) (a x v : ℕ) (r : plain.Record) (y : Value) (lay : IsLaidOut E) (inv : Invariant E m team g)
+    (f : IsWordOf E g.size g.writer g.kind a x) (is : plain.record_of p.heap (g.identity a) ≡ Some r) (may : StandsFor g (g.kind a) x v y) (s : Shown E m team g p) where
+  abbrev i : ℕ
+  i = word_of (g.kind a) x
+
   abbrev h : ℕ → ℕ
   h = put m.heap (a + i) v
 
   abbrev changed : plain.Record
-  changed = record r { values = slice_set r.values (i - 1) y }
+  changed = with_value r x y
 
   abbrev after : plain.Heap
-  after = stored p.heap (g.identity a) r (i - 1) y
+  after = stored p.heap (g.identity a) r x y
 
   was : Shows (value_of g.identity) m.heap a (g.kind a) (g.size a) r
   was =
@@ -76,24 +77,27 @@ module _ (E : Era) (m : Memory) (team : Team) (g : Ghost) (p : plain.Plain) (a i
       let e : q.0 ≡ r = some_same (sym q.1 ∙ is) in
       rw (← e) q.2
 
-  value_there : (j : ℕ) → j ≡ i → value_at changed j ≡ Some y
-  value_there j e = rw e (slice_get-set_same r.values (i - 1) y (let z = was.size in omega (arith, z, f.first, f.last)))
+  value_there : (j : ℕ) → j ≡ x → slice_get changed.values j ≡ Some y
+  value_there j e = rw e (slice_get-set_same r.values x y (let z = was.size in omega (arith, z, f.last)))
 
-  value_elsewhere : (j : ℕ) → 0 < j → j ≢ i → value_at changed j ≡ value_at r j
-  value_elsewhere j l d = slice_get-set_other r.values (i - 1) (j - 1) y (λ e. d (omega (arith, e, l, f.first)))
+  value_elsewhere : (j : ℕ) → j ≢ x → slice_get changed.values j ≡ slice_get r.values j
+  value_elsewhere j d = slice_get-set_other r.values x j y d
+
+  as_many : length changed.values ≡ length r.values
+  as_many = length-set r.values x y
 
   shows_there : Shows (value_of g.identity) h a (g.kind a) (g.size a) changed
   shows_there = record {
     kind = was.kind;
-    size = let e = length-set r.values (i - 1) y in let z = was.size in omega arith;
-    fields = λ j l u t. ⊎_elim
-        (λ (e : j ≡ i). rw (put_at m.heap (a + i) v (a + j) (omega (arith, e)), value_there j e) (may.denotes (rw e at t)))
-        (λ (d : j ≢ i). rw (put_other m.heap (a + i) v (a + j) (λ e. d (omega (arith, e))), value_elsewhere j l d) (was.fields j l u t))
-        (cases_eq j i);
-    words = λ j l u t. ⊎_elim
-        (λ (e : j ≡ i). rw (put_at m.heap (a + i) v (a + j) (omega (arith, e)), value_there j e) (ap Some (may.number (rw e at t))))
-        (λ (d : j ≢ i). rw (put_other m.heap (a + i) v (a + j) (λ e. d (omega (arith, e))), value_elsewhere j l d) (was.words j l u t))
-        (cases_eq j i);
+    size = let z = was.size in omega (arith, as_many);
+    fields = λ j l t. ⊎_elim
+        (λ (e : j ≡ x). rw (put_at m.heap (a + i) v (a + (j + 1)) (omega (arith, e)), value_there j e) (may.denotes (rw e at t)))
+        (λ (d : j ≢ x). rw (put_other m.heap (a + i) v (a + (j + 1)) (λ e. d (omega (arith, e))), value_elsewhere j d) (was.fields j (rw as_many at l) t))
+        (cases_eq j x);
+    numbers = λ j l t. ⊎_elim
+        (λ (e : j ≡ x). rw (put_at m.heap (a + i) v (a + (j + 1)) (omega (arith, e)), value_there j e) (ap Some (may.number (rw e at t))))
+        (λ (d : j ≢ x). rw (put_other m.heap (a + i) v (a + (j + 1)) (λ e. d (omega (arith, e))), value_elsewhere j d) (was.numbers j (rw as_many at l) t))
+        (cases_eq j x);
   }
 
   elsewhere : (b : ℕ) → 0 < g.size b → g.writer b ≡ 0 → (g.copy b ≡ 0) ⊎ (0 < g.keeper b) → b ≢ a
@@ -103,7 +107,7 @@ module _ (E : Era) (m : Memory) (team : Team) (g : Ghost) (p : plain.Plain) (a i
       let t : Shows (value_of g.identity) m.heap b (g.kind b) (g.size b) q.0 = q.2 in
       let n = apart E m team g lay inv a b f.stands st d (alone E m team g lay inv a f.stands f.written f.inside.0 f.inside.1 b st o) in (
         q.0,
-        stored_elsewhere p.heap (g.identity a) r (i - 1) y is (g.identity b) n ∙ q.1,
+        stored_elsewhere p.heap (g.identity a) r x y is (g.identity b) n ∙ q.1,
         shows_same q.0 (λ j l u. off j u) t,
       )
     where
@@ -117,14 +121,14 @@ module _ (E : Era) (m : Memory) (team : Team) (g : Ghost) (p : plain.Plain) (a i
   shows_store = record {
     objects = record {
       shows = λ b st w o. ⊎_elim
-          (λ (e : b ≡ a). rw e (changed, stored_there p.heap (g.identity a) r (i - 1) y is, shows_there))
+          (λ (e : b ≡ a). rw e (changed, stored_there p.heap (g.identity a) r x y is, shows_there))
           (λ (d : b ≢ a). elsewhere b st w o d)
           (cases_eq b a);
     };
     board = record { sixteen = s.board.sixteen; board = λ x l. rw (board_stays x l) (s.board.board x l) };
     as_many = s.as_many;
-    makers = stored_makers p.heap (g.identity a) r (i - 1) y is ∙ s.makers;
-    accounts = λ k q e. let c = s.accounts k q e in record { counter = c.counter; printed = c.printed; executed = c.executed; end = c.end; serial = c.serial ∙ sym (stored_serial p.heap (g.identity a) r (i - 1) y is k) };
+    makers = stored_makers p.heap (g.identity a) r x y is ∙ s.makers;
+    accounts = λ k q e. let c = s.accounts k q e in record { counter = c.counter; printed = c.printed; executed = c.executed; end = c.end; serial = c.serial ∙ sym (stored_serial p.heap (g.identity a) r x y is k) };
     registers = s.registers;
   }
 

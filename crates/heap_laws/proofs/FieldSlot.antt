@@ -1,12 +1,13 @@
 -- A word is stored in a word of a record that nobody writes, or on the board: what reads heap words stays.
 use Rattle.std.proofs.Common.{◌≡◌, ◌≢◌, ℕ, ◌+◌, ◌/◌, ◌^◌, ◌<◌, ◌≤◌, Bool, true, false, Option, Some, refl, sym, ap, ◌∙◌, arith, ⊎_elim, ◌⊎◌, inl, inr}
-use Rattle.heap_words.specs.declared.kind.Kind.{Kind}
+use Rattle.plain_state.specs.declared.kind.Kind.{Kind}
 use Rattle.plain_state.specs.State as plain
 use Rattle.plain_state.specs.declared.value.Identity.{Identity}
+use Rattle.plain_state.specs.Layout.{is_field}
 use Rattle.space_map.specs.declared.page_word.PageWord.{PageWord}
 use Rattle.heap_state.specs.Era.{Era, IsLaidOut}
 use Rattle.heap_state.specs.Functions.{put}
-use Rattle.heap_state.specs.Ghost.{is_field, IsField, Leads, Lands, OnBoard, Here}
+use Rattle.heap_state.specs.Ghost.{IsField, Leads, Lands, OnBoard, Here}
 use Rattle.heap_state.specs.Parts.Copying.{Copies, Keeps, IsOrigin}
 use Rattle.heap_state.specs.Parts.Leading.{Opened, Landing, Older}
 use Rattle.heap_state.specs.Parts.OldSpace.{OldSpace}
@@ -16,16 +17,24 @@ use Rattle.heap_state.specs.Parts.Stocks.{Stocks, Stocked}
 use Rattle.heap_state.specs.Values.{Shows, ShowsAll, BoardShows, value_of}
 use Rattle.heap_state.specs.Worker.{Worker, Copy, Scan, Stock, Origin, Register, Scanned}
 use Rattle.heap_state.proofs.Puts.{put_other, each_put}
-use Rattle.heap_laws.specs.Fields.{IsWordOf}
+use Rattle.heap_state.proofs.Layouts.{raw_is_no_field}
 use Rattle.heap_laws.specs.MutatorSteps.{MayHold}
 use Rattle.heap_laws.proofs.OtherWords.{has_place, headed_same, area_same, old_space_same, stocked_same, copies_same}
 use Rattle.heap_laws.proofs.Words.{one_place}
 
--- the address is a word of a record of the epoch's space that nobody writes
+-- word i of the record at a: the record stands in the epoch's space, and nobody writes it
+pub record IsWord (E : Era) (size writer : ℕ → ℕ) (a i : ℕ) : Type 0 where
+  pub stands : 0 < size a
+  pub written : writer a ≡ 0
+  pub inside : (E.start ≤ a) × (a < E.start + E.span)
+  pub first : 0 < i
+  pub last : i < size a
+
+-- the address is such a word
 pub record InWord (E : Era) (size writer : ℕ → ℕ) (x : ℕ) : Type 0 where
   pub a : ℕ
   pub i : ℕ
-  pub word : IsWordOf E size writer a i
+  pub word : IsWord E size writer a i
   pub at : x ≡ a + i
 
 -- A store of v at x, which is such a word or on the board. In a field or on the board it is what a mutator may hold,
@@ -87,7 +96,7 @@ module _ {E : Era} {front low : ℕ} {size writer : ℕ → ℕ} {kind : ℕ →
       by_place : InWord E size writer x ⊎ OnBoard E x → SlotWord E writer a i
       by_place (inr b) = absurd (let q = within lay laid a (omega (arith, l)) in omega (arith, q, l, e, b, lay.below, lay.old_below))
       by_place (inl u) =
-          let f : IsWordOf E size writer u.a u.i = u.word in
+          let f : IsWord E size writer u.a u.i = u.word in
           let q : a ≡ u.a = one_place size a u.a i u.i laid.apart l f.last (e ∙ u.at) in
           let y : writer a ≡ writer u.a = ap writer q in
           record { first = omega (arith, q, e, u.at, f.first); written = omega (arith, y, f.written); inside = (omega (arith, q, f.inside), omega (arith, q, f.inside)) }
@@ -98,7 +107,7 @@ module _ {E : Era} {front low : ℕ} {size writer : ℕ → ℕ} {kind : ℕ →
     where
       by_place : InWord E size writer x ⊎ OnBoard E x → ((E.start ≤ x) × (x < E.start + E.span)) ⊎ (E.board ≤ x)
       by_place (inr b) = inr b.0
-      by_place (inl u) = let f : IsWordOf E size writer u.a u.i = u.word in let q = within lay laid u.a f.stands in
+      by_place (inl u) = let f : IsWord E size writer u.a u.i = u.word in let q = within lay laid u.a f.stands in
           inl (omega (arith, u.at, f.inside), omega (arith, q, u.at, f.inside, f.last, lay.apart))
 
   -- ---- words that stay
@@ -117,7 +126,7 @@ module _ {E : Era} {front low : ℕ} {size writer : ℕ → ℕ} {kind : ℕ →
     where
       by_place : InWord E size writer x ⊎ OnBoard E x → y ≡ x → ⊥
       by_place (inr b) e = omega (arith, b, e, l)
-      by_place (inl u) e = let f : IsWordOf E size writer u.a u.i = u.word in let q = free u.a f.stands in omega (arith, q, e, u.at, f.last)
+      by_place (inl u) e = let f : IsWord E size writer u.a u.i = u.word in let q = free u.a f.stands in omega (arith, q, e, u.at, f.last)
 
   -- ---- parts
 
@@ -192,8 +201,8 @@ module _ {E : Era} {front low : ℕ} {size writer : ℕ → ℕ} {kind : ℕ →
       shown a r s = record {
         kind = s.kind;
         size = s.size;
-        fields = λ i g l f. each_put (λ y w. y ≡ a + i → value_of identity w ≡ value_of identity (h (a + i))) h x v (a + i) (λ _ _. refl) (λ e _. rw e d) refl ∙ s.fields i g l f;
-        words = λ i g l f. rw (raw_same a i l f) (s.words i g l f);
+        fields = λ y l f. each_put (λ z w. z ≡ a + (y + 1) → value_of identity w ≡ value_of identity (h (a + (y + 1)))) h x v (a + (y + 1)) (λ _ _. refl) (λ e _. rw e d) refl ∙ s.fields y l f;
+        numbers = λ y l f. let z = s.size in rw (raw_same a (y + 1) (omega (arith, l, z)) (raw_is_no_field (kind a) (y + 1) f)) (s.numbers y l f);
       }
 
   pub board_slot : (identity : ℕ → Identity) {records : plain.Heap} → value_of identity v ≡ value_of identity (h x) → BoardShows E (value_of identity) h records → BoardShows E (value_of identity) (put h x v) records

@@ -1,9 +1,10 @@
 -- A mutator's store in a word of a record or on the board keeps the invariant and the cycle.
 use Rattle.std.proofs.Common.{◌≡◌, ◌≢◌, ℕ, ◌+◌, ◌/◌, ◌<◌, true, false, Some, refl, sym, ap, ◌∙◌, arith, ◌⊎◌, inl, inr}
+use Rattle.plain_state.specs.Layout.{is_field, word_of}
 use Rattle.space_map.specs.declared.page_word.PageWord.TheVariants.{Open, Scanning}
 use Rattle.heap_state.specs.Era.{Era, IsLaidOut, Memory}
 use Rattle.heap_state.specs.Functions.{put}
-use Rattle.heap_state.specs.Ghost.{Ghost, is_field, InRecord, OnBoard, Here}
+use Rattle.heap_state.specs.Ghost.{Ghost, InRecord, OnBoard, Here}
 use Rattle.heap_state.specs.Inductive.{Invariant, Knows}
 use Rattle.heap_state.specs.Worker.{Worker, Team, Quest, Copy, Scan, is_late}
 use Rattle.heap_laws.specs.Fields.{IsWordOf, MayStore, WordsAreStored, BoardIsStored, WordsAreLoaded, BoardIsLoaded, AccessesAreAllowed}
@@ -54,11 +55,14 @@ slot_keeps E m team g x v st inv =
 -- ---- the two places
 
 -- a word of a record
-pub in_word : (E : Era) (m : Memory) (team : Team) (g : Ghost) (a i v : ℕ) → IsLaidOut E → Invariant E m team g → IsWordOf E g.size g.writer a i
-    → m.page ((a + i) / 64) ≡ Open E.epoch → MayStore E g.size g.writer (is_field (g.kind a) i) v → Stores E m g (a + i) v
+pub in_word : (E : Era) (m : Memory) (team : Team) (g : Ghost) (a x v : ℕ) → IsLaidOut E → Invariant E m team g → IsWordOf E g.size g.writer g.kind a x
+    → m.page ((a + word_of (g.kind a) x) / 64) ≡ Open E.epoch → MayStore E g.size g.writer (g.kind a) x v → Stores E m g (a + word_of (g.kind a) x) v
 unfolding Here
-in_word E m team g a i v lay inv f open_page may = record { slot = slot; opens = open_page }
+in_word E m team g a x v lay inv f open_page may = record { slot = slot; opens = open_page }
   where
+    i : ℕ
+    i = word_of (g.kind a) x
+
     by_place : InRecord E g.size g.writer g.kind (a + i) ⊎ OnBoard E (a + i) → MayHold E g.size g.writer v
     by_place (inl u) =
         let q : u.a ≡ a = one_place g.size u.a a u.i i inv.laid.apart u.field.last f.last (sym u.at) in
@@ -70,7 +74,7 @@ in_word E m team g a i v lay inv f open_page may = record { slot = slot; opens =
     slot = record {
       lay = lay;
       laid = inv.laid;
-      place = inl (record { a = a; i = i; word = f; at = refl });
+      place = inl (record { a = a; i = i; word = record { stands = f.stands; written = f.written; inside = f.inside; first = omega arith; last = f.last }; at = refl });
       held = by_place;
       number = λ b j l e n. let q = one_place g.size b a j i inv.laid.apart l f.last e in let s : j ≡ i = omega (arith, q, e) in may.number (let t : is_field (g.kind a) i ≡ false = rw (q, s) at n in t);
     }
@@ -84,7 +88,7 @@ on_board E m team g x v lay inv l open_page may = record {
 }
 
 pub words_are_stored : WordsAreStored
-words_are_stored E m team g a i v lay inv f o may = slot_keeps E m team g (a + i) v (in_word E m team g a i v lay inv f o may) inv
+words_are_stored E m team g a x v lay inv f o may = slot_keeps E m team g (a + word_of (g.kind a) x) v (in_word E m team g a x v lay inv f o may) inv
 
 pub board_is_stored : BoardIsStored
 board_is_stored E m team g x v lay inv l o may = slot_keeps E m team g (E.board + x) v (on_board E m team g x v lay inv l o may) inv
@@ -92,10 +96,10 @@ board_is_stored E m team g x v lay inv l o may = slot_keeps E m team g (E.board 
 -- ---- loads
 
 pub words_are_loaded : WordsAreLoaded
-words_are_loaded E m team g a i inv f o = record {
-  held = λ t. let h = field_here E g.size g.writer g.kind a i (record { stands = f.stands; written = f.written; field = t; first = f.first; last = f.last }) f.inside in
-      record { clean = inv.opened.opened (a + i) h o; lands = inv.landing.lands (a + i) h };
-  number = λ t. inv.raw_words.raw a i f.stands f.written f.first f.last t;
+words_are_loaded E m team g a x inv f o = record {
+  held = λ t. let h = field_here E g.size g.writer g.kind a (word_of (g.kind a) x) (record { stands = f.stands; written = f.written; field = t; first = omega arith; last = f.last }) f.inside in
+      record { clean = inv.opened.opened (a + word_of (g.kind a) x) h o; lands = inv.landing.lands (a + word_of (g.kind a) x) h };
+  number = λ t. inv.raw_words.raw a (word_of (g.kind a) x) f.stands f.written (omega arith) f.last t;
 }
 
 pub board_is_loaded : BoardIsLoaded
@@ -105,11 +109,10 @@ board_is_loaded E m team g x lay inv l o = record {
 }
 
 pub accesses_are_allowed : AccessesAreAllowed
-accesses_are_allowed E m team g k f inv l has allowed =
+accesses_are_allowed E m team g k f inv l has opened =
     let a = (inv.workers k l).access f has in
-    let s = a.of.sized in
     record {
-      word = record { stands = let z = a.of.stands in omega arith; written = a.of.written; inside = a.inside; first = a.word.0; last = let z = a.word.1 in omega arith };
-      opens = a.allowed allowed;
-      kind = a.of.of_kind;
+      word = λ x e. record { stands = a.stands; written = a.written; inside = a.inside; last = let z = a.word.1 in omega (arith, e) };
+      opens = ((inv.workers k l).opened ((f.at + f.word) / 64) opened).1;
+      role = a.role;
     }

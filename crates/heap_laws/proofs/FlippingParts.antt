@@ -9,7 +9,7 @@ use Rattle.heap_state.specs.Inductive.{Invariant}
 use Rattle.heap_state.specs.Parts.Copies.{Copied, Once, Kept, Room}
 use Rattle.heap_state.specs.Parts.Crossing.{Crossing}
 use Rattle.heap_state.specs.Parts.Leading.{Opened, Landing, Older}
-use Rattle.heap_state.specs.Parts.OldSpace.{OldSpace}
+use Rattle.heap_state.specs.Parts.OldSpace.{OldSpace, OldArea}
 use Rattle.heap_state.specs.Parts.Pages.{Shut, Filling, Tracing, Aged, OldPages, ScannedBy}
 use Rattle.heap_state.specs.Parts.Records.{Laid, Headed, NewArea, NewWritten, RawWords, SpaceOf}
 use Rattle.heap_state.specs.Worker.{Team, Worker}
@@ -125,6 +125,9 @@ module _ {E : Era} {m : Memory} {team : Team} {g : Ghost} (ready : Ready E m tea
   pub scanned : {count : ℕ} (worker : ℕ → Worker) → ScannedBy E1 count m.page worker
   scanned worker = record { scanned = λ p k o. absurd (let y = scan_age (m.page p) (E.epoch + 1) k o in let z = ready.inv.aged.young p in omega (arith, y, z)) }
 
+  pub old_area : OldArea E1 m.front m.low
+  old_area = record { order = ready.inv.laid.order }
+
   pub old_pages : OldPages E1 m.front m.page
   old_pages = record { old = λ p l n. let a = page_age p l n in omega (arith, a) }
 
@@ -163,6 +166,10 @@ module _ {E : Era} {m : Memory} {team : Team} {g : Ghost} (ready : Ready E m tea
     where
       leads_back : (w b : ℕ) → decode w ≡ PointerWord b → Lands size' zeros w → (0 < size' b) × (E.start ≤ b) × (b < E.start + E.span)
       leads_back w b d y = let s = pointer_lands size' zeros w b y d in let q = was b s in (s, q.1, q.2)
+
+  -- what leads somewhere, and not into the old space, leads into the space that becomes the old one
+  pub leads_inside : (w b : ℕ) → Lands g.size g.writer w → ¬ (Leads E w) → decode w ≡ PointerWord b → (E.start ≤ b) × (b < E.start + E.span)
+  leads_inside w b q c d = let s = was b (pointer_lands size' zeros w b (lands_on w q c) d) in (s.1, s.2)
 
   -- ---- spaces
 

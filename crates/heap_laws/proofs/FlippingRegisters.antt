@@ -67,6 +67,7 @@ module _ (E : Era) (m : Memory) (team : Team) (g : Ghost) (k : ℕ) (inv : Invar
     clean' = record {
       clean = λ j l f. each_put (λ i u. i ≡ j → ¬ (Leads E u)) (team.worker k).registers (team.worker k).done v j (λ d _. clean.clean j l (λ t. let q = f t in omega (arith, q, d))) (λ _ _. fine) refl;
       lands = λ j l. each_put (λ i u. Lands g.size g.writer u) (team.worker k).registers (team.worker k).done v j (λ _. clean.lands j l) (λ _. lands);
+      old = λ t j b d l. rw (put_other (team.worker k).registers (team.worker k).done v j (λ e. omega (arith, d, e))) (clean.old t j b (omega (arith, d)) l);
     }
 
     own : Knows E m.gate m.traced m.front m.low m.old_front m.old_low m.old_owed g m.page m.cross m.announced m.heap k w'
@@ -153,13 +154,14 @@ passes_register E m team g k inv has idle fine =
     (λ i t. absurd (fine (still_leads E g.identity w i t)))
 
 pub asks_for_register : AskingForRegisterKeeps
-asks_for_register E m team g k a inv has idle leads low high =
+asks_for_register E m team g k a inv has idle leads =
     let me = inv.workers k has.below in
+    let old = (clean E m team g k inv has).old has.late (team.worker k).done a (omega arith) has.left leads in
     let q : Quest = record { old = a; origin = Register (team.worker k).done; found = None } in
     let st : 0 < g.size a = pointer_lands g.size g.writer ((team.worker k).registers (team.worker k).done) a ((clean E m team g k inv has).lands (team.worker k).done has.left) leads in
     learns E m team g k (asking_for (team.worker k) a) inv (assumption) (λ t e. (t, e, refl))
     (let origin : (r : Quest) → Some q ≡ Some r → IsOrigin E g.size g.writer g.kind m.heap (is_late E.epoch (team.worker k)) (team.worker k).done (team.worker k).registers (team.worker k).scan r.old r.origin = λ r e. rw (← some_same e) (has.late, refl, has.left, leads) in
-    let seeks : (r : Quest) → Some q ≡ Some r → Seeks E g.size g.writer g.copy r = λ r e. rw (← some_same e) (record { old = (st, low, high); found = λ b f. none≢some f }) in
+    let seeks : (r : Quest) → Some q ≡ Some r → Seeks E g.size g.writer g.copy r = λ r e. rw (← some_same e) (record { old = (st, old.0, old.1); found = λ b f. none≢some f }) in
     let licence : Licensed m.gate.behind g.kept k (is_late E.epoch (team.worker k)) (team.worker k).copy (Some q) (team.worker k).scan = record { licensed = me.licensed.licensed; asked = λ c e. absurd (no_copy E m team g k inv has.below idle c e); counted = me.licensed.counted; idle = me.licensed.idle } in
     assumption)
 

@@ -6,7 +6,7 @@ use Rattle.heap_state.specs.Functions.{one_if}
 use Rattle.heap_state.specs.Ghost.{Ghost}
 use Rattle.heap_state.specs.Inductive.{Invariant, Knows}
 use Rattle.heap_state.specs.Parts.Knowledge.{Resets}
-use Rattle.heap_state.specs.Parts.OldSpace.{OldSpace}
+use Rattle.heap_state.specs.Parts.OldSpace.{OldSpace, OldArea}
 use Rattle.heap_state.specs.Parts.Pages.{OldPages}
 use Rattle.heap_state.specs.Worker.{Worker, Team, Reset, is_flipper}
 use Rattle.heap_state.proofs.Frames.{counted_put, staffed_put, scanned_put, stocks_put, numbered_put, rooted_put}
@@ -86,6 +86,7 @@ module _ (E : Era) (m : Memory) (team : Team) (g : Ghost) (k : ℕ) (r : Reset) 
       let p2 = staffed_put team.worker k w' refl inv.staffed in
       let p3 = scanned_put team.worker k w' refl inv.scanned in
       let p4 : OldSpace E m.traced front low g.size m.heap m.page = record { walks = λ y. absurd (omega (arith, y, traced)) } in
+      let p9 : OldArea E front low = record { order = (omega (arith, at_start), omega (arith, at_start, at_end), omega (arith, at_end)) } in
       let p5 : OldPages E front m.page = record { old = λ p l n. absurd (omega (arith, at_start, l, n)) } in
       let p6 = stocks_put team.worker k w' (λ _ e. e) inv.stocks in
       let p7 = numbered_put team.worker k w' refl inv.numbered in

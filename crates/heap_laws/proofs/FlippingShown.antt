@@ -24,7 +24,7 @@ use Rattle.heap_state.proofs.Holding.{uncopied_here}
 use Rattle.heap_state.proofs.Puts.{each_put, proj_put, team_put, sum_below-same}
 use Rattle.heap_laws.specs.Flipping.{next_era, next_memory, next_ghost, flipped_gate, after_flip, Flips, FlipKeeps, TableFlips}
 use Rattle.heap_laws.specs.Steps.{with_worker}
-use Rattle.heap_laws.proofs.FlippingParts.{Ready, nothing, was, laid, headed, copied, once, kept, room, raw_words, shut, filling, tracing, aged, scanned, old_pages, lands_on, here_board, board_here, opened, landing, older, new, new_written, crossing, old_space}
+use Rattle.heap_laws.proofs.FlippingParts.{Ready, nothing, was, laid, headed, copied, once, kept, room, raw_words, shut, filling, tracing, aged, scanned, old_area, old_pages, lands_on, here_board, board_here, opened, landing, older, new, new_written, crossing, old_space}
 use Rattle.heap_laws.proofs.FlippingReset.{one_flipper}
 use Rattle.heap_laws.proofs.FlippingSums.{sum_below-none}
 use Rattle.heap_laws.proofs.FlippingWorkers.{late_is, done_none, other, flipper, none_true, not_live}
@@ -109,7 +109,6 @@ module _ (E : Era) (m : Memory) (team : Team) (g : Ghost) (k : ℕ) (r : Reset) 
   numbered : Numbered team.mutators (next_ghost E g).size g.identity (put team.worker k w')
   numbered = record {
     maker = λ a st. inv.numbered.maker a (was ready a st).0;
-    first = λ a st. inv.numbered.first a (was ready a st).0;
     last = λ a st. rw (proj_put (λ u. u.account) team.worker k w' (g.identity a).mutator refl) (inv.numbered.last a (was ready a st).0);
   }
 
@@ -135,6 +134,7 @@ module _ (E : Era) (m : Memory) (team : Team) (g : Ghost) (k : ℕ) (r : Reset) 
     new = new ready;
     new_written = new_written ready;
     old_space = old_space ready;
+    old_area = old_area ready;
     old_pages = old_pages ready;
     crossing = crossing ready;
     stocks = stocks;
@@ -193,7 +193,7 @@ module _ (E : Era) (m : Memory) (team : Team) (g : Ghost) (k : ℕ) (r : Reset) 
       sound = λ x i u t. board_reached x i (here_board ready x u) t;
       reached = λ a st l n y. absurd (omega (arith, y));
       sizes = λ b st l n. absurd (let f = ready.front in omega (arith, f, l, n));
-      complete = λ b n r i st w l f. absurd (let z = ready.front in omega (arith, z, l, f));
+      complete = λ b x r i st w l n. absurd (let f = ready.front in omega (arith, f, l, n));
       from = λ b st l n. absurd (let f = ready.front in omega (arith, f, l, n));
     }
 

@@ -13,7 +13,7 @@ use Rattle.heap_state.specs.Parts.Scanning.{Rounds, Claims, Looks, LastLooks}
 use Rattle.heap_state.specs.Worker.{Worker, Team, Post, Scanner, Outside, Running, Stopped, Flipping, Gone, Passage, Enter, Park, Request, Forwarded, Resume, Leave, Origin, Register, Scanned, Quest, Round, Claim, Look, LastLook, GateStep, is_mutator, is_live, is_running, is_flipper, is_gone, is_behind, is_late}
 use Rattle.heap_state.proofs.Puts.{none≢some, true_false}
 use Rattle.heap_laws.specs.Flipping.{next_era, next_ghost, flipped_gate, after_flip}
-use Rattle.heap_laws.proofs.FlippingParts.{Ready, nothing, lands_on, page_age, board_age}
+use Rattle.heap_laws.proofs.FlippingParts.{Ready, nothing, lands_on, leads_inside, page_age, board_age}
 use Rattle.heap_laws.proofs.FlippingSums.{sum_below-term, one_of}
 use Rattle.heap_laws.proofs.ScanningWho.{open_age}
 use Rattle.heap_laws.proofs.Words.{zero_clean, zero_lands}
@@ -149,6 +149,7 @@ module _ {E : Era} {m : Memory} {team : Team} {g : Ghost} (ready : Ready E m tea
         (λ (live : is_live u.post ≡ true). record {
           clean = λ r s h. absurd (let y = h (late_is j l ∙ live) in let d = done_none j l in omega (arith, y, d));
           lands = λ r s. lands_on ready (u.registers r) (((knows j l).registers mu end).lands r s) ((nothing ready).registers j r l s mu end);
+          old = λ t r b d s e. leads_inside ready (u.registers r) b (((knows j l).registers mu end).lands r s) ((nothing ready).registers j r l s mu end) e;
         })
         (λ (dead : is_live u.post ≡ false).
         let out : u.post ≡ Outside = not_live u.post mu dead (none_true (is_gone u.post) (λ e. let q = (knows j l).ends.gone e in true_false (ended end) q)) in
@@ -156,6 +157,7 @@ module _ {E : Era} {m : Memory} {team : Team} {g : Ghost} (ready : Ready E m tea
         record {
           clean = λ r s h. rw (zero r s) (zero_clean E1 0 refl);
           lands = λ r s. rw (zero r s) (zero_lands g1.size g1.writer 0 refl);
+          old = λ t. true_false (late_is j l ∙ dead) t;
         })
         (cases_Bool (is_live u.post))
       where
@@ -192,7 +194,7 @@ module _ {E : Era} {m : Memory} {team : Team} {g : Ghost} (ready : Ready E m tea
       registers = registers;
       active = k.active;
       access = λ f e. absurd (idle j l (k.active f e));
-      board = λ e. absurd (idle j l (k.board e).0);
+      opened = λ p e. absurd (idle j l (k.opened p e).0);
       origin = λ q e. absurd (no_quest q e);
       quest = λ q e. absurd (no_quest q e);
       licensed = licensed u.post refl;
@@ -222,7 +224,7 @@ module _ {E : Era} {m : Memory} {team : Team} {g : Ghost} (ready : Ready E m tea
       registers = λ mu end. let c = registers (ap is_mutator at) end in let late : is_late (E.epoch + 1) u ≡ is_behind (E.epoch + 1) Stopped u.epoch = ap (λ p. is_behind (E.epoch + 1) p u.epoch) at in rw late at c;
       active = λ f e. absurd (idle j l (k.active f e));
       access = λ f e. absurd (idle j l (k.active f e));
-      board = λ e. absurd (idle j l (k.board e).0);
+      opened = λ p e. absurd (idle j l (k.opened p e).0);
       origin = λ q e. absurd (no_quest q e);
       quest = λ q e. absurd (no_quest q e);
       licensed = licensed Stopped same;

@@ -1,5 +1,5 @@
 -- The passages of the gate.
-use Rattle.std.proofs.Common.{◌≡◌, ◌≢◌, ℕ, ◌+◌, ◌-◌, ◌/◌, ◌<◌, Bool, true, false, Option, Some, None, is_some, refl, sym, ap, ◌∙◌, arith, ⊎_elim, ◌⊎◌, inl, inr}
+use Rattle.std.proofs.Common.{◌≡◌, ◌≢◌, ℕ, ◌+◌, ◌-◌, ◌<◌, Bool, true, false, Option, Some, None, is_some, refl, sym, ap, ◌∙◌, arith, ⊎_elim, ◌⊎◌, inl, inr}
 use Rattle.std.proofs.lemmas.Bool.{eq-eqb}
 use Rattle.space_map.specs.declared.gate_word.GateWord.{GateWord}
 use Rattle.space_map.specs.declared.page_word.PageWord.TheVariants.{Open}
@@ -62,7 +62,7 @@ module _ (E : Era) (m : Memory) (team : Team) (g : Ghost) (k : ℕ) (s : GateSte
 
   -- its registers lead nowhere old
   clean_now : w.epoch ≡ E.epoch → is_mutator w.post ≡ true → w.account.end ≡ None → Clean E g.size g.writer false 0 w.registers
-  clean_now now mu end = let c = me.registers mu end in record { clean = λ j l f. c.clean j l (λ t. not_late now t); lands = c.lands }
+  clean_now now mu end = let c = me.registers mu end in record { clean = λ j l f. c.clean j l (λ t. not_late now t); lands = c.lands; old = λ t. true_false refl t }
 
   -- ---- in
 
@@ -85,17 +85,17 @@ module _ (E : Era) (m : Memory) (team : Team) (g : Ghost) (k : ℕ) (s : GateSte
       (inl q)
       (counted_moves team.worker team.count k (worker_after m.gate.epoch Enter w) Outside Running m.gate (gate_after Enter m.gate) false false wins.below at refl (late m.gate.epoch) (now_not_late m.gate.epoch m.gate.epoch Running refl)
       refl (omega arith) (omega arith) refl refl refl (λ y. absurd (omega (arith, y, b))) inv.counted)
-      (knows_then E m team g k (gate_after Enter m.gate) inv wins.below (no_flip (inl q)) Running m.gate.epoch 0 None w.access w.board_open None None None None w.traced_seen
+      (knows_then E m team g k (gate_after Enter m.gate) inv wins.below (no_flip (inl q)) Running m.gate.epoch 0 None w.access w.opened None None None None w.traced_seen
       (record {
         now = wins.at_gate;
         done_none = refl;
         inside = λ e. absurd (cc);
         ends = record { stays = λ e. inl refl; gone = λ e. absurd (cc) };
         not_asked = λ y l e. true_false (late E.epoch) l;
-        clean = λ mu end. let c = me.registers (ap is_mutator at) end in record { clean = λ j l f. c.clean j l (λ t. true_false (late E.epoch) t); lands = c.lands };
+        clean = λ mu end. let c = me.registers (ap is_mutator at) end in record { clean = λ j l f. c.clean j l (λ t. true_false (late E.epoch) t); lands = c.lands; old = λ t. true_false refl t };
         stocks = λ y e. none≢some e;
         accesses = λ f e. (refl, me.access f e);
-        board = λ e. (refl, (me.board e).1);
+        opens = λ x e. (refl, (me.opened x e).1);
         rounds = λ y e. none≢some e;
         claims = λ y e. none≢some e;
         looks = λ y e. none≢some e;
@@ -107,18 +107,18 @@ module _ (E : Era) (m : Memory) (team : Team) (g : Ghost) (k : ℕ) (s : GateSte
   -- ---- within the epoch
 
   -- a mutator goes from post p to post q: what the gate counts, and what the worker still knows
-  stays : (p q : Post) (access : Option Access) (board_open seen : Bool) (live running left : ℕ) (request : Bool) → w.epoch ≡ E.epoch → w.post ≡ p → is_mutator p ≡ true → is_mutator q ≡ true
+  stays : (p q : Post) (access : Option Access) (opened : Option ℕ) (seen : Bool) (live running left : ℕ) (request : Bool) → w.epoch ≡ E.epoch → w.post ≡ p → is_mutator p ≡ true → is_mutator q ≡ true
       → (m.gate.request ≡ false) ⊎ ((0 < m.gate.running) ⊎ (0 < m.gate.behind))
       → live + one_if (is_live p) ≡ m.gate.live + one_if (is_live q) → running + one_if (is_running p) ≡ m.gate.running + one_if (is_running q)
       → left + one_if (is_gone p) ≡ m.gate.left + one_if (is_gone q) → one_if request + one_if (is_flipper p) ≡ one_if m.gate.request + one_if (is_flipper q)
       → (0 < m.gate.behind → (running ≡ 0) × (request ≡ false)) → q ≢ Outside → Ends q (is_some w.account.end)
-      → ((f : Access) → access ≡ Some f → (is_running q ≡ true) × Accesses E g.size g.writer g.kind m.page f)
-      → (board_open ≡ true → (is_running q ≡ true) × (m.page (E.board / 64) ≡ Open E.epoch))
+      → ((f : Access) → access ≡ Some f → (is_running q ≡ true) × Accesses E g.size g.writer g.kind f)
+      → ((x : ℕ) → opened ≡ Some x → (is_running q ≡ true) × (m.page x ≡ Open E.epoch))
       → (seen ≡ true → ((is_running q ≡ true) ⊎ (is_flipper q ≡ true)) × (m.traced ≡ E.epoch + 1)) → (is_flipper q ≡ true → seen ≡ true)
       → Keeps E m (with_gate m (record m.gate { live = live; running = running; left = left; request = request })) team
-      (with_worker team k (record w { post = q; access = access; board_open = board_open; traced_seen = seen; gate_step = None })) g
-  stays p q access board_open seen live running left request now at mutator mutates busy lives runs leaves asks still inside ends accesses board sees flips =
-      let w' : Worker = record w { post = q; access = access; board_open = board_open; traced_seen = seen; gate_step = None } in
+      (with_worker team k (record w { post = q; access = access; opened = opened; traced_seen = seen; gate_step = None })) g
+  stays p q access opened seen live running left request now at mutator mutates busy lives runs leaves asks still inside ends accesses opens sees flips =
+      let w' : Worker = record w { post = q; access = access; opened = opened; traced_seen = seen; gate_step = None } in
       let gate' : GateWord = record m.gate { live = live; running = running; left = left; request = request } in
       let gate_now : w.epoch ≡ m.gate.epoch = now ∙ sym wins.at_gate in
       let was : is_mutator w.post ≡ true = rw at mutator in
@@ -136,7 +136,7 @@ module _ (E : Era) (m : Memory) (team : Team) (g : Ghost) (k : ℕ) (s : GateSte
       busy
       (counted_moves team.worker team.count k w' p q m.gate gate' false false wins.below at refl (now_not_late m.gate.epoch w.epoch w.post gate_now) (now_not_late m.gate.epoch w.epoch q gate_now)
       refl lives runs refl leaves asks still inv.counted)
-      (knows_then E m team g k gate' inv wins.below (no_flip busy) q w.epoch w.done w.stock access board_open w.round w.claim w.look w.last_look seen
+      (knows_then E m team g k gate' inv wins.below (no_flip busy) q w.epoch w.done w.stock access opened w.round w.claim w.look w.last_look seen
       (record {
         now = now;
         done_none = done_none now;
@@ -146,7 +146,7 @@ module _ (E : Era) (m : Memory) (team : Team) (g : Ghost) (k : ℕ) (s : GateSte
         clean = λ mu end. clean_now now was end;
         stocks = me.stock;
         accesses = accesses;
-        board = board;
+        opens = opens;
         rounds = me.round;
         claims = me.claim;
         looks = me.look;
@@ -160,9 +160,9 @@ module _ (E : Era) (m : Memory) (team : Team) (g : Ghost) (k : ℕ) (s : GateSte
       let q = request_read false request in
       let b = behind_read behind in
       let same : m.gate.epoch ≡ s.read.epoch = ap (λ (x : GateWord). x.epoch) wins.unchanged in
-      stays Stopped Running w.access w.board_open w.traced_seen m.gate.live (m.gate.running + 1) m.gate.left m.gate.request (sym (same ∙ epoch) ∙ wins.at_gate) at refl refl (inl q)
+      stays Stopped Running w.access w.opened w.traced_seen m.gate.live (m.gate.running + 1) m.gate.left m.gate.request (sym (same ∙ epoch) ∙ wins.at_gate) at refl refl (inl q)
       refl (omega arith) refl refl (λ y. absurd (omega (arith, y, b))) (λ e. absurd (cc)) (record { stays = λ e. inl refl; gone = λ e. absurd (cc) })
-      (λ f e. (refl, me.access f e)) (λ e. (refl, (me.board e).1)) (λ e. (inl refl, (me.seen_traced e).1)) (λ e. absurd (cc))
+      (λ f e. (refl, me.access f e)) (λ x e. (refl, (me.opened x e).1)) (λ e. (inl refl, (me.seen_traced e).1)) (λ e. absurd (cc))
 
   -- who runs no more has left one running worker less
   module _ (running : is_running w.post ≡ true) where
@@ -173,23 +173,23 @@ module _ (E : Era) (m : Memory) (team : Team) (g : Ghost) (k : ℕ) (s : GateSte
     none_behind y = absurd (let c = inv.counted.still y in let z = some in omega (arith, c.0, z))
 
     parks : is_some w.account.end ≡ false → Keeps E m (with_gate m (gate_after Park m.gate)) team (with_worker team k (worker_after m.gate.epoch Park w)) g
-    parks ended = stays Running Stopped None false false m.gate.live (m.gate.running - 1) m.gate.left m.gate.request (me.timely.running running) (runs w.post running) refl refl (inr (inl some))
+    parks ended = stays Running Stopped None None false m.gate.live (m.gate.running - 1) m.gate.left m.gate.request (me.timely.running running) (runs w.post running) refl refl (inr (inl some))
         refl (let z = some in omega (arith, z)) refl refl (λ y. none_behind y) (λ e. absurd (cc)) (record { stays = λ e. true_false ended e; gone = λ e. absurd (cc) })
-        (λ f e. none≢some e) (λ e. absurd (cc)) (λ e. absurd (cc)) (λ e. absurd (cc))
+        (λ f e. none≢some e) (λ x e. none≢some e) (λ e. absurd (cc)) (λ e. absurd (cc))
 
     requests : (asked : ℕ) → is_some w.account.end ≡ false → s.read.request ≡ false → w.traced_seen ≡ true → Keeps E m (with_gate m (gate_after (Request asked) m.gate)) team (with_worker team k (worker_after m.gate.epoch (Request asked) w)) g
     requests asked ended request seen =
         let q : one_if m.gate.request ≡ 0 = ap one_if (request_read false request) in
-        stays Running (Flipping asked) None false w.traced_seen m.gate.live (m.gate.running - 1) m.gate.left true (me.timely.running running) (runs w.post running) refl refl (inr (inl some))
+        stays Running (Flipping asked) None None w.traced_seen m.gate.live (m.gate.running - 1) m.gate.left true (me.timely.running running) (runs w.post running) refl refl (inr (inl some))
         refl (let z = some in omega (arith, z)) refl (omega (arith, q)) (λ y. none_behind y) (λ e. absurd (cc)) (record { stays = λ e. true_false ended e; gone = λ e. absurd (cc) })
-        (λ f e. none≢some e) (λ e. absurd (cc)) (λ e. (inr refl, (me.seen_traced e).1)) (λ e. seen)
+        (λ f e. none≢some e) (λ x e. none≢some e) (λ e. (inr refl, (me.seen_traced e).1)) (λ e. seen)
 
     leaves : is_some w.account.end ≡ true → Keeps E m (with_gate m (gate_after Leave m.gate)) team (with_worker team k (worker_after m.gate.epoch Leave w)) g
     leaves ended =
         let alive = live_some (ap is_live (runs w.post running)) in
-        stays Running Gone None false false (m.gate.live - 1) (m.gate.running - 1) (m.gate.left + 1) m.gate.request (me.timely.running running) (runs w.post running) refl refl (inr (inl some))
+        stays Running Gone None None false (m.gate.live - 1) (m.gate.running - 1) (m.gate.left + 1) m.gate.request (me.timely.running running) (runs w.post running) refl refl (inr (inl some))
         (omega (arith, alive)) (let z = some in omega (arith, z)) (omega arith) refl (λ y. none_behind y) (λ e. absurd (cc)) (record { stays = λ e. inr refl; gone = λ e. ended })
-        (λ f e. none≢some e) (λ e. absurd (cc)) (λ e. absurd (cc)) (λ e. absurd (cc))
+        (λ f e. none≢some e) (λ x e. none≢some e) (λ e. absurd (cc)) (λ e. absurd (cc))
 
   -- ---- registers forwarded
 
@@ -266,17 +266,17 @@ module _ (E : Era) (m : Memory) (team : Team) (g : Ghost) (k : ℕ) (s : GateSte
         (record { filling = λ p l n a. unquiet (inv.filling.filling p l n a) })
         (record { begun = inv.tracing.begun; bottom = inv.tracing.bottom; top = inv.tracing.top; quiet = λ e. unquiet (inv.tracing.quiet e); last = inv.tracing.last })
         others
-        (knows_then E m team g k (gate_after Forwarded m.gate) inv wins.below (no_flip busy) w.post m.gate.epoch 0 None w.access w.board_open None None None None w.traced_seen
+        (knows_then E m team g k (gate_after Forwarded m.gate) inv wins.below (no_flip busy) w.post m.gate.epoch 0 None w.access w.opened None None None None w.traced_seen
         (record {
           now = wins.at_gate;
           done_none = refl;
           inside = λ e. absurd (let q = sym at ∙ e in cc);
           ends = me.ends;
           not_asked = λ y l e. not_asked y e;
-          clean = λ mu end. let c = me.registers mu end in record { clean = λ j l f. c.clean j l (λ t. omega (arith, l, all)); lands = c.lands };
+          clean = λ mu end. let c = me.registers mu end in record { clean = λ j l f. c.clean j l (λ t. omega (arith, l, all)); lands = c.lands; old = λ t. true_false refl t };
           stocks = λ y e. none≢some e;
           accesses = λ f e. (me.active f e, me.access f e);
-          board = me.board;
+          opens = me.opened;
           rounds = λ y e. none≢some e;
           claims = λ y e. none≢some e;
           looks = λ y e. none≢some e;

@@ -1,5 +1,5 @@
 -- What a worker knows once it has passed the gate into or within the current epoch.
-use Rattle.std.proofs.Common.{◌≡◌, ℕ, ◌+◌, ◌/◌, ◌<◌, Bool, true, false, Option, Some, None, is_some, refl, ap, arith, ⊎_elim, ◌⊎◌, inl, inr}
+use Rattle.std.proofs.Common.{◌≡◌, ℕ, ◌+◌, ◌<◌, Bool, true, false, Option, Some, None, is_some, refl, ap, arith, ⊎_elim, ◌⊎◌, inl, inr}
 use Rattle.space_map.specs.declared.gate_word.GateWord.{GateWord}
 use Rattle.space_map.specs.declared.page_word.PageWord.TheVariants.{Open}
 use Rattle.heap_state.specs.Era.{Era, Memory}
@@ -34,7 +34,7 @@ module _ (E : Era) (m : Memory) (team : Team) (g : Ghost) (inv : Invariant E m t
       by_gate (inr (inr q)) = let o = u.reset r e in let z = ap (λ (w : GateWord). w.behind) o.unmoved in omega (arith, o.stopped, z, q)
 
 -- what it brings with it
-pub record Brings (E : Era) (m : Memory) (g : Ghost) (behind : ℕ) (w : Worker) (post : Post) (epoch done : ℕ) (stock : Option Stock) (access : Option Access) (board_open : Bool) (round : Option Round) (claim : Option Claim) (look : Option Look) (last_look : Option LastLook) (traced_seen : Bool) : Type 0 where
+pub record Brings (E : Era) (m : Memory) (g : Ghost) (behind : ℕ) (w : Worker) (post : Post) (epoch done : ℕ) (stock : Option Stock) (access : Option Access) (opened : Option ℕ) (round : Option Round) (claim : Option Claim) (look : Option Look) (last_look : Option LastLook) (traced_seen : Bool) : Type 0 where
   pub now : epoch ≡ E.epoch
   pub done_none : done ≡ 0
   pub inside : post ≡ Outside → ⊥
@@ -42,8 +42,8 @@ pub record Brings (E : Era) (m : Memory) (g : Ghost) (behind : ℕ) (w : Worker)
   pub not_asked : (q : Quest) → is_late E.epoch w ≡ true → w.quest ≡ Some q → ⊥
   pub clean : is_mutator post ≡ true → w.account.end ≡ None → Clean E g.size g.writer false 0 w.registers
   pub stocks : (q : Stock) → stock ≡ Some q → q.epoch ≡ epoch
-  pub accesses : (f : Access) → access ≡ Some f → (is_running post ≡ true) × Accesses E g.size g.writer g.kind m.page f
-  pub board : board_open ≡ true → (is_running post ≡ true) × (m.page (E.board / 64) ≡ Open E.epoch)
+  pub accesses : (f : Access) → access ≡ Some f → (is_running post ≡ true) × Accesses E g.size g.writer g.kind f
+  pub opens : (p : ℕ) → opened ≡ Some p → (is_running post ≡ true) × (m.page p ≡ Open E.epoch)
   pub rounds : (r : Round) → round ≡ Some r → Rounds E m.traced m.front epoch r
   pub claims : (c : Claim) → claim ≡ Some c → Claims E m.front behind g.size g.writer m.page epoch c
   pub looks : (l : Look) → look ≡ Some l → Looks E behind m.front m.page epoch l
@@ -52,8 +52,8 @@ pub record Brings (E : Era) (m : Memory) (g : Ghost) (behind : ℕ) (w : Worker)
   pub flips : is_flipper post ≡ true → traced_seen ≡ true
 
 module _ (E : Era) (m : Memory) (team : Team) (g : Ghost) (k : ℕ) (gate' : GateWord) (inv : Invariant E m team g) (below : k < team.count) (no_flip : (r : Reset) → (team.worker k).reset ≡ Some r → ⊥)
-    (post : Post) (epoch done : ℕ) (stock : Option Stock) (access : Option Access) (board_open : Bool) (round : Option Round) (claim : Option Claim) (look : Option Look) (last_look : Option LastLook) (traced_seen : Bool)
-    (brings : Brings E m g gate'.behind (team.worker k) post epoch done stock access board_open round claim look last_look traced_seen) where
+    (post : Post) (epoch done : ℕ) (stock : Option Stock) (access : Option Access) (opened : Option ℕ) (round : Option Round) (claim : Option Claim) (look : Option Look) (last_look : Option LastLook) (traced_seen : Bool)
+    (brings : Brings E m g gate'.behind (team.worker k) post epoch done stock access opened round claim look last_look traced_seen) where
   abbrev w : Worker
   w = team.worker k
 
@@ -64,7 +64,7 @@ module _ (E : Era) (m : Memory) (team : Team) (g : Ghost) (k : ℕ) (gate' : Gat
     done = done;
     stock = stock;
     access = access;
-    board_open = board_open;
+    opened = opened;
     round = round;
     claim = claim;
     look = look;
@@ -90,10 +90,10 @@ module _ (E : Era) (m : Memory) (team : Team) (g : Ghost) (k : ℕ) (gate' : Gat
     ends = brings.ends;
     outside = λ e. absurd (brings.inside e);
     stock = brings.stocks;
-    registers = λ mu e. let c = brings.clean mu e in record { clean = λ j l f. c.clean j l (λ t. absurd (let q : false ≡ true = t in cc)); lands = c.lands };
+    registers = λ mu e. let c = brings.clean mu e in record { clean = λ j l f. c.clean j l (λ t. absurd (let q : false ≡ true = t in cc)); lands = c.lands; old = λ t. true_false late t };
     active = λ f e. (brings.accesses f e).0;
     access = λ f e. (brings.accesses f e).1;
-    board = brings.board;
+    opened = brings.opens;
     origin = λ q e. origin q e q.origin (me.origin q e);
     quest = me.quest;
     licensed = record {

@@ -19,7 +19,7 @@ use Rattle.heap_state.proofs.Frames.{counted_put, staffed_put, scanned_put, stoc
 use Rattle.heap_state.proofs.Puts.{put_at, put_other, each_put, team_put, none≢some, true_false}
 use Rattle.heap_laws.specs.MutatorSteps.{GoesOn, MutatorsGoOn, GoingOnShows, GoingOnKeepsCycle}
 use Rattle.heap_laws.specs.Steps.{with_worker}
-use Rattle.heap_laws.proofs.PlainLists.{slice_get-set_other, set-found}
+use Rattle.plain_state.proofs.Lists.{slice_get-set_other, set-found}
 use Rattle.heap_laws.proofs.ScanningWho.{now_not_late}
 use Rattle.heap_laws.proofs.Words.{still_leads}
 
@@ -77,10 +77,10 @@ module _ (E : Era) (m : Memory) (team : Team) (g : Ghost) (k : ℕ) (next : Work
     ends = record { stays = λ e. inl still_runs; gone = λ e. true_false (runs next.post still_runs).gone e };
     outside = λ e. absurd ((runs next.post still_runs).outside e);
     stock = λ q e. rw goes.epoch (me.stock q (goes.stock q e));
-    registers = λ u n. record { clean = λ j s t. (goes.registers n j s).clean; lands = λ j s. (goes.registers n j s).lands };
+    registers = λ u n. record { clean = λ j s t. (goes.registers n j s).clean; lands = λ j s. (goes.registers n j s).lands; old = λ t. true_false still_late t };
     active = λ f e. still_runs;
     access = goes.access;
-    board = λ e. (still_runs, goes.board_open e);
+    opened = λ p e. (still_runs, goes.opened p e);
     origin = origin;
     quest = λ q e. me.quest q (sym goes.quest ∙ e);
     licensed = record {

@@ -1,6 +1,7 @@
 -- The steps of a mutator leave a configuration that stands: the rows that they write are rows of the table.
 use Rattle.std.proofs.Common.{◌≡◌, ℕ, ◌+◌, ◌-◌, ◌*◌, ◌<◌, ◌≤◌, true, length, Option, Some, None, refl, ap, ◌∙◌, arith}
 use Rattle.plain_state.specs.State as plain
+use Rattle.plain_state.specs.Layout.{word_of}
 use Rattle.space_map.specs.AreaWord.{AreaFits}
 use Rattle.space_map.specs.Spaces.{to_space}
 use Rattle.space_map.specs.declared.page_word.PageWord.TheVariants.{Open}
@@ -16,14 +17,15 @@ use Rattle.heap_state.proofs.Spelled.{spelled}
 use Rattle.heap_laws.specs.Allocating.{HasStock, HasRoom, OpensNext, with_low}
 use Rattle.heap_laws.specs.Fields.{IsWordOf}
 use Rattle.heap_laws.specs.Lifting.{stepped, table_after, RowFits}
-use Rattle.heap_laws.specs.MutatorStores.{Makes}
+use Rattle.heap_laws.specs.MutatorStores.{with_record}
 use Rattle.heap_laws.specs.MutatorsStand.{StandsAfter, lowered, StockStands, MutatorStands, StocksStand, MutatorsStand}
-use Rattle.heap_laws.specs.Steps.{Ready, with_worker}
+use Rattle.heap_laws.specs.Steps.{Ready, with_worker, Makes}
 use Rattle.heap_laws.proofs.AllocClaim.{stocks_are_claimed}
 use Rattle.heap_laws.proofs.AllocOpen.{stocks_are_opened}
 use Rattle.heap_laws.proofs.AllocZero.{stocks_are_zeroed}
 use Rattle.heap_laws.proofs.LiftingSteps.{ready, lifted, seen, stand, board_at, below_board}
-use Rattle.heap_laws.proofs.MutatorStores.{mutators_step, mutators_store, mutators_store_on_board, mutators_place}
+use Rattle.heap_laws.proofs.MutatorStores.{mutators_step, mutators_store, mutators_store_on_board}
+use Rattle.heap_laws.proofs.MutatorPlaces.{mutators_place}
 
 -- what a step makes of a memory and its team it makes of the configuration
 made : (c : Configuration) (p q : plain.Plain) (s : Stands c p) (e : Option Entry) (k : ℕ) (w : Worker) (h : Ghost) → k < length c.workers → RowFits c.pages e
@@ -55,8 +57,8 @@ module _ (c : Configuration) (p : plain.Plain) (s : Stands c p) (k : ℕ) (l : k
   stock : (q : Stock) → HasStock (era c) (team c) k q → Stocked (era c) (memory c).low g.size (memory c).heap (memory c).page q
   stock q own = inv.stocks.stocked k own.worker q own.has own.epoch
 
-  word_fits : (a i v : ℕ) → IsWordOf (era c) g.size g.writer a i → RowFits c.pages (Some (WordIs (a + i) v))
-  word_fits a i v f = let b = below_board c p s a f.stands in let z = f.last in omega (arith, b, z)
+  word_fits : (a x v : ℕ) → IsWordOf (era c) g.size g.writer g.kind a x → RowFits c.pages (Some (WordIs (a + word_of (g.kind a) x) v))
+  word_fits a x v f = let b = below_board c p s a f.stands in let z = f.last in omega (arith, b, z)
 
   board_fits : (x v : ℕ) → x < 16 → RowFits c.pages (Some (WordIs ((era c).board + x) v))
   board_fits x v b = omega (arith, b, board_at c)
@@ -105,12 +107,12 @@ module _ (c : Configuration) (p : plain.Plain) (s : Stands c p) (k : ℕ) (l : k
   mutator_stands : MutatorStands c p s k
   mutator_stands = record {
     nothing_stored = λ next q goes same. made c p _ s None k next _ l tt refl (mutators_step (era c) (memory c) (team c) g p k next q is_ready runs s.shown goes same);
-    word_stored = λ next q a i v r y word opens may is stands goes same. made c p _ s (Some (WordIs (a + i) v)) k next _ l (word_fits a i v word) refl
-        (mutators_store (era c) (memory c) (team c) g p k next q a i v r y is_ready runs s.shown word opens may is stands goes same);
+    word_stored = λ next q a x v r y word opens may is stands goes same. made c p _ s (Some (WordIs (a + word_of (g.kind a) x) v)) k next _ l (word_fits a x v word) refl
+        (mutators_store (era c) (memory c) (team c) g p k next q a x v r y is_ready runs s.shown word opens may is stands goes same);
     board_stored = λ next q x v y b opens may denotes goes same. made c p _ s (Some (WordIs ((era c).board + x) v)) k next _ l (board_fits x v b) refl
         (mutators_store_on_board (era c) (memory c) (team c) g p k next q x v y is_ready runs s.shown b opens may denotes goes same);
-    record_placed = λ next q t o z v places goes same. made c p _ s (Some (WordIs t.at v)) k next _ l (space_fits t.at v (let y = (stock t places.own).lies in let f = places.fits in let n = places.some in omega (arith, y, f, n))) refl
-        (mutators_place (era c) (memory c) (team c) g p k next q t o z v is_ready s.shown places goes same);
+    record_placed = λ next q t o z v d pointer r places behind small points goes same. made c p _ s (Some (WordIs t.at v)) k (with_record next t z d pointer) _ l (space_fits t.at v (let y = (stock t places.own).lies in let f = places.fits in let n = places.some in omega (arith, y, f, n))) refl
+        (mutators_place (era c) (memory c) (team c) g p k next q t o z v d pointer r is_ready s.shown places behind small points goes same);
   }
 
 pub stocks_stand : StocksStand

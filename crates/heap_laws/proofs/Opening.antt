@@ -2,7 +2,7 @@
 use Rattle.std.proofs.Common.{◌≡◌, ◌≢◌, ℕ, ◌+◌, ◌*◌, ◌/◌, ◌<◌, ◌≤◌, [], length, replicate, List, None, refl, sym, ap, ◌∙◌, arith, ⊎_elim, inl}
 use Rattle.std.proofs.lemmas.Bool.{cases_eq, cases_lt}
 use Rattle.std.proofs.lemmas.List.{get_or-replicate, length-replicate, get_or_past}
-use Rattle.heap_words.specs.declared.kind.Kind.TheVariants.{Fields}
+use Rattle.plain_state.specs.declared.kind.Kind.TheVariants.{Fields}
 use Rattle.plain_state.specs.declared.value.Value.TheVariants.{Number, Reference}
 use Rattle.plain_state.specs.declared.value.Identity.{Identity}
 use Rattle.plain_state.specs.State as plain
@@ -24,7 +24,7 @@ use Rattle.heap_state.proofs.Puts.{put_at, put_other, none≢some, true_false}
 use Rattle.heap_state.proofs.Writing.{writes_tables}
 use Rattle.heap_laws.specs.Opening.{opening_entries, opening_plain, opening_mutator, OpeningStands}
 use Rattle.heap_laws.proofs.OpeningWorkers.{opening_team, each_fresh, counted, staffed}
-use Rattle.heap_laws.proofs.PlainLists.{slice_get-replicate, slice_get-of_replicate}
+use Rattle.plain_state.proofs.Lists.{slice_get-replicate, slice_get-of_replicate}
 use Rattle.heap_laws.proofs.Words.{zero_word, zero_clean, zero_lands, zero_value}
 
 -- ---- nothing stands
@@ -55,6 +55,10 @@ module _ (n : ℕ) where
   old_front : m.old_front ≡ E.old_start
   unfolding put
   old_front = omega arith
+
+  old_order : (E.old_start ≤ m.old_front) × (m.old_front ≤ m.old_low) × (m.old_low ≤ E.old_start + E.old_span)
+  unfolding put
+  old_order = (omega arith, omega arith, omega arith)
 
   owes_nothing : m.owed ≤ E.span
   unfolding put
@@ -95,7 +99,7 @@ module _ (n : ℕ) where
       (record { stays = λ e. true_false refl e; gone = λ e. true_false refl e })
       (λ e j l. refl)
       (λ q e. none≢some e)
-      (λ u n. record { clean = λ j l t. zero_clean E 0 refl; lands = λ j l. zero_lands (λ a. 0) (λ a. 0) 0 refl })
+      (λ u n. record { clean = λ j l t. zero_clean E 0 refl; lands = λ j l. zero_lands (λ a. 0) (λ a. 0) 0 refl; old = λ t. true_false refl t })
       (λ e. true_false refl e)
       refl
 
@@ -140,10 +144,11 @@ module _ (n : ℕ) where
           new = record { opened = λ a x st. absurd (omega (arith, st)); prior = λ b st. absurd (omega (arith, st)); blank = λ x a b o none. refl };
           new_written = record { written = λ a st. absurd (omega (arith, st)) };
           old_space = record { walks = λ t. absurd (omega (arith, t)) };
+          old_area = record { order = old_order };
           old_pages = record { old = λ p a b. absurd (let o = old_front in omega (arith, a, b, o)) };
           crossing = record { crossing = λ p a s u st. absurd (omega (arith, st)) };
           stocks = record { stocked = λ k u q e. absurd (let z = no_stock k in none≢some (sym z ∙ e)); apart = λ i k u v d p q e. absurd (let z = no_stock i in none≢some (sym z ∙ e)) };
-          numbered = record { maker = λ a st. absurd (omega (arith, st)); first = λ a st. absurd (omega (arith, st)); last = λ a st. absurd (omega (arith, st)) };
+          numbered = record { maker = λ a st. absurd (omega (arith, st)); last = λ a st. absurd (omega (arith, st)) };
           workers = λ k u. each_fresh mutators scanners k (λ w. Known k w) (outside k) (scanner k);
         }
 

@@ -1,7 +1,7 @@
 -- Two heaps that agree on some words: what reads those words alone stays.
 use Rattle.std.proofs.Common.{◌≡◌, ℕ, ◌+◌, ◌/◌, ◌<◌, ◌≤◌, true, false, Option, Some, ◌∙◌, arith, ⊎_elim, ◌⊎◌}
 use Rattle.std.proofs.lemmas.Bool.{cases_Bool}
-use Rattle.heap_words.specs.declared.kind.Kind.{Kind}
+use Rattle.plain_state.specs.declared.kind.Kind.{Kind}
 use Rattle.plain_state.specs.State as plain
 use Rattle.plain_state.specs.declared.value.Identity.{Identity}
 use Rattle.plain_state.specs.declared.value.Value.{Value}
@@ -66,6 +66,6 @@ module _ {h other : ℕ → ℕ} where
   shows_same r same s = record {
     kind = s.kind;
     size = s.size;
-    fields = λ i f l t. rw (same i f l) (s.fields i f l t);
-    words = λ i f l t. rw (same i f l) (s.words i f l t);
+    fields = λ x l t. let w = s.size in rw (same (x + 1) (omega arith) (omega (arith, w, l))) (s.fields x l t);
+    numbers = λ x l t. let w = s.size in rw (same (x + 1) (omega arith) (omega (arith, w, l))) (s.numbers x l t);
   }

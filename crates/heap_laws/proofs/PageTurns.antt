@@ -1,6 +1,6 @@
 -- A page's word becomes one of this epoch, and open where it was open: what speaks of page words stays.
 use Rattle.std.proofs.Common.{◌≡◌, ◌≢◌, ℕ, ◌+◌, ◌/◌, ◌<◌, ◌≤◌, true, Some, refl, ap, arith, ⊎_elim, inl, inr}
-use Rattle.heap_words.specs.declared.kind.Kind.{Kind}
+use Rattle.plain_state.specs.declared.kind.Kind.{Kind}
 use Rattle.space_map.specs.declared.gate_word.GateWord.{GateWord}
 use Rattle.space_map.specs.declared.page_word.PageWord.{PageWord}
 use Rattle.space_map.specs.declared.page_word.PageWord.TheVariants.{Open, Scanning}
@@ -9,12 +9,11 @@ use Rattle.heap_state.specs.Era.{Era}
 use Rattle.heap_state.specs.Functions.{put}
 use Rattle.heap_state.specs.Ghost.{Ghost}
 use Rattle.heap_state.specs.Inductive.{Knows}
-use Rattle.heap_state.specs.Parts.Knowledge.{Accesses}
 use Rattle.heap_state.specs.Parts.OldSpace.{OldSpace}
 use Rattle.heap_state.specs.Parts.Pages.{Quiet, Tracing, Aged, OldPages}
 use Rattle.heap_state.specs.Parts.Records.{SpaceOf}
 use Rattle.heap_state.specs.Parts.Scanning.{Scans, Claims, Looks, LastLooks}
-use Rattle.heap_state.specs.Worker.{Worker, Access, Scan, Claim, Look, LastLook, is_running}
+use Rattle.heap_state.specs.Worker.{Worker, Scan, Claim, Look, LastLook, is_running}
 use Rattle.heap_state.proofs.Puts.{put_other, each_put}
 
 pub record Turns (E : Era) (page : ℕ → PageWord) (p : ℕ) (v : PageWord) : Type 0 where
@@ -69,9 +68,6 @@ module _ {E : Era} {page : ℕ → PageWord} {p : ℕ} {v : PageWord} (t : Turns
 
   -- ---- what workers know
 
-  accesses_turn : {size writer : ℕ → ℕ} {kind : ℕ → Kind} (f : Access) → Accesses E size writer kind page f → Accesses E size writer kind page' f
-  accesses_turn f a = record { of = a.of; inside = a.inside; word = a.word; allowed = λ e. stays ((f.of.at + f.word) / 64) (a.allowed e) }
-
   claims_turn : {front behind : ℕ} {size writer : ℕ → ℕ} (d : ℕ) (q : Claim) → Claims E front behind size writer page d q → Claims E front behind size writer page' d q
   claims_turn d q c = record {
     earlier = c.earlier;
@@ -111,8 +107,7 @@ module _ {E : Era} {page : ℕ → PageWord} {p : ℕ} {v : PageWord} (t : Turns
       → ((s : Scan) → w.scan ≡ Some s → Scans E front g.size g.writer g.kind heap page k s → Scans E front g.size g.writer g.kind heap page' k s)
       → Knows E gate traced front low old_front old_low old_owed g page cross announced heap k w → Knows E gate traced front low old_front old_low old_owed g page' cross announced heap k w
   knows_turns {k = k} {w = w} scans u =
-      let a = λ (f : Access) (e : w.access ≡ Some f). accesses_turn f (u.access f e) in
-      let b : w.board_open ≡ true → (is_running w.post ≡ true) × (page' (E.board / 64) ≡ Open E.epoch) = λ e. ((u.board e).0, stays (E.board / 64) (u.board e).1) in
+      let b : (x : ℕ) → w.opened ≡ Some x → (is_running w.post ≡ true) × (page' x ≡ Open E.epoch) = λ x e. ((u.opened x e).0, stays x (u.opened x e).1) in
       let s = λ (s : Scan) (e : w.scan ≡ Some s). scans s e (u.scan s e) in
       let c = λ (c : Claim) (e : w.claim ≡ Some c). claims_turn w.epoch c (u.claim c e) in
       let o = λ (c : Look) (e : w.look ≡ Some c). looks_turn w.epoch c (u.look c e) in

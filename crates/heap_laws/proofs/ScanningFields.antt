@@ -1,11 +1,11 @@
 -- The fields of a page that is scanned: passed where they are clean, and replaced by the copy's address where they are not.
-use Rattle.std.proofs.Common.{◌≡◌, ◌≢◌, ℕ, ◌+◌, ◌-◌, ◌/◌, ◌<◌, ◌≤◌, true, Some, None, refl, sym, ◌∙◌, arith, ⊎_elim, inl, inr}
-use Rattle.heap_words.specs.declared.kind.Kind.{Kind}
-use Rattle.heap_words.specs.declared.kind.Kind.TheVariants.{Fields}
+use Rattle.std.proofs.Common.{◌≡◌, ◌≢◌, ℕ, ◌+◌, ◌-◌, ◌/◌, ◌<◌, true, Some, None, refl, sym, ◌∙◌, arith, ⊎_elim, inl, inr, subst, ap, Option}
+use Rattle.std.proofs.lemmas.Bool.{cases_eq}
+use Rattle.plain_state.specs.Layout.{is_field}
 use Rattle.heap_words.specs.Decoded.{PointerWord, decode}
 use Rattle.heap_state.specs.Era.{Era, Memory, IsLaidOut}
 use Rattle.heap_state.specs.Functions.{put}
-use Rattle.heap_state.specs.Ghost.{Ghost, is_field, InRecord, Here, Leads}
+use Rattle.heap_state.specs.Ghost.{Ghost, InRecord, Here, Leads, OnBoard}
 use Rattle.heap_state.specs.Inductive.{Invariant, Knows}
 use Rattle.heap_state.specs.Parts.Copying.{IsOrigin, Seeks, Licensed}
 use Rattle.heap_state.specs.Parts.Pages.{ScannedBy}
@@ -13,11 +13,13 @@ use Rattle.heap_state.specs.Parts.Scanning.{Stepping}
 use Rattle.heap_state.specs.Worker.{Worker, Team, Origin, Scanned, Quest, Copy, Scan, Seen, is_late}
 use Rattle.heap_state.proofs.Frames.{counted_put, staffed_put, stocks_put, numbered_put, rooted_put}
 use Rattle.heap_state.proofs.Puts.{put_same, team_put, some_same, none≢some}
+use Rattle.heap_state.specs.FieldSpan.{next_in, next_from}
+use Rattle.heap_state.proofs.FieldSpans.{goes_on_within, passes_no_field}
 use Rattle.heap_laws.specs.Keeping.{Keeps}
-use Rattle.heap_laws.specs.ScanningWords.{scanning, on_to, AtField, PassingFieldKeeps, asking, AskingKeeps, HasFound}
+use Rattle.heap_laws.specs.ScanningWords.{scanning, on_to, AtField, PassingFieldKeeps, asking, AskingKeeps, HasFound, past_word}
 use Rattle.heap_laws.specs.Steps.{with_worker, with_word}
 use Rattle.heap_laws.proofs.FieldCycle.{slot_keeps_cycle}
-use Rattle.heap_laws.proofs.FieldSlot.{Slot, here_slot, headed_slot, raw_slot, opened_slot, landing_slot, older_slot, new_slot, old_space_slot, stocks_slot, scans_slot, copies_slot, keeps_slot, origin_slot, objects_slot, board_slot}
+use Rattle.heap_laws.proofs.FieldSlot.{Slot, here_slot, headed_slot, raw_slot, opened_slot, landing_slot, older_slot, new_slot, old_space_slot, stocks_slot, scans_slot, copies_slot, keeps_slot, origin_slot, objects_slot, board_slot, here_field}
 use Rattle.heap_laws.proofs.FoundCopy.{FoundCopy, found_copy}
 use Rattle.heap_laws.proofs.Learning.{shown_put, scanned_on, learns}
 use Rattle.heap_laws.proofs.ScanningOn.{GoesOn, stepping_on, knows_on, goes_on, same_page, no_copy}
@@ -35,33 +37,51 @@ module _ (E : Era) (m : Memory) (team : Team) (g : Ghost) (k : ℕ) (s : Scan) (
   unfolding Here
   here = ⊎_elim (λ b. inr b.0) (λ y. inl (in_field y.0 y.1 y.2 y.3)) at.place
     where
-      all_fields : (k : Kind) (i : ℕ) → k ≡ Fields → is_field k i ≡ true
-      all_fields k i e = rw e refl
-
-      in_field : (r : Seen) → s.current ≡ Some r → r.kind ≡ Fields → s.cursor < r.at + r.size → InRecord E g.size g.writer g.kind s.cursor
+      in_field : (r : Seen) → s.current ≡ Some r → is_field r.kind (s.cursor - r.at) ≡ true → s.cursor < r.at + r.size → InRecord E g.size g.writer g.kind s.cursor
       in_field r e f l = let c = steps.current r e in let o = inv.laid.order in record {
         a = r.at;
         i = s.cursor - r.at;
-        field = record { stands = omega (arith, c); written = c.3; field = all_fields (g.kind r.at) (s.cursor - r.at) (c.2 ∙ f); first = omega (arith, c); last = omega (arith, c, l) };
+        field = record { stands = omega (arith, c); written = c.3; field = rw c.2 f; first = omega (arith, c); last = omega (arith, c, l) };
         inside = (c.4, omega (arith, c, o));
         at = omega (arith, c);
       }
 
   -- past the word at the cursor, once it is clean
-  next : (heap : ℕ → ℕ) → ¬ (Leads E (heap s.cursor)) → GoesOn E m.front g.size g.writer g.kind heap s (on_to E s (s.cursor + 1))
-  next heap fine = record {
-    page = refl;
-    clean = λ x u e l n. let y : x ≡ s.cursor = omega arith in rw y fine;
-    top = ⊎_elim (λ b. inl (let p = at.on_page in let a = out.board in omega (arith, p, b.0, a))) (λ y. inr (let c = steps.current y.0 y.1 in omega (arith, c, y.3))) at.place;
-    stepping = stepping_on E m.front g.size g.writer g.kind s (s.cursor + 1) (omega arith) (λ r e. ⊎_elim
-        (λ b. none≢some (sym b.1 ∙ e))
-        (λ y. within r y.0 (some_same (sym y.1 ∙ e)) y.3 (steps.current r e)) at.place) steps;
-  }
+  next : (heap : ℕ → ℕ) → ¬ (Leads E (heap s.cursor)) → GoesOn E m.front g.size g.writer g.kind heap s (past_word E s)
+  next heap fine = ⊎_elim
+      (λ b. gone_on None b.1 (on_board b.0 b.1))
+      (λ y. gone_on (Some y.0) y.1 (in_record y.0 y.1 y.3))
+      at.place
     where
-      within : (r q : Seen) → q ≡ r → s.cursor < q.at + q.size
-          → (0 < r.size) × (g.size r.at ≡ r.size) × (g.kind r.at ≡ r.kind) × (g.writer r.at ≡ 0) × (E.start ≤ r.at) × (r.at + r.size ≤ m.front) × (r.at < s.cursor) × (s.cursor ≤ r.at + r.size)
-          → (r.at < s.cursor + 1) × (s.cursor + 1 ≤ r.at + r.size)
-      within r q e l c = let z : s.cursor < r.at + r.size = rw e at l in (omega (arith, c), omega arith)
+      gone_on : (o : Option Seen) → s.current ≡ o → GoesOn E m.front g.size g.writer g.kind heap s (on_to E s (next_from o (s.cursor + 1))) → GoesOn E m.front g.size g.writer g.kind heap s (past_word E s)
+      gone_on o e goes = subst (λ (y : ℕ). GoesOn E m.front g.size g.writer g.kind heap s (on_to E s y)) (ap (λ (c : Option Seen). next_from c (s.cursor + 1)) (sym e)) goes
+
+      on_board : OnBoard E s.cursor → s.current ≡ None → GoesOn E m.front g.size g.writer g.kind heap s (on_to E s (s.cursor + 1))
+      on_board b none = record {
+        page = refl;
+        clean = λ x u e l n. let y : x ≡ s.cursor = omega arith in rw y fine;
+        top = inl (let p = at.on_page in let a = out.board in omega (arith, p, b, a));
+        stepping = stepping_on E m.front g.size g.writer g.kind s (s.cursor + 1) (omega arith) (λ r e. none≢some (sym none ∙ e)) steps;
+      }
+
+      in_record : (r : Seen) → s.current ≡ Some r → s.cursor < r.at + r.size → GoesOn E m.front g.size g.writer g.kind heap s (on_to E s (next_in r (s.cursor + 1)))
+      in_record r is l =
+          let c = steps.current r is in
+          let w = goes_on_within r (s.cursor + 1) c.0 (omega arith) in
+          record {
+            page = refl;
+            clean = λ x u e f n. ⊎_elim
+                (λ (y : x ≡ s.cursor). rw y fine)
+                (λ (d : x ≢ s.cursor). absurd (
+                let q = here_field out inv.laid g.writer g.kind x u r.at (x - r.at) (omega (arith, c, w, n, f)) (omega (arith, c, f)) in
+                let t : is_field r.kind (x - r.at) ≡ true = rw c.2 at q.1 in
+                passes_no_field r (s.cursor + 1) c.0 x (omega arith) (omega (arith, c, f)) (omega (arith, w, n)) n t))
+                (cases_eq x s.cursor);
+            top = inr (omega (arith, c, w));
+            stepping = stepping_on E m.front g.size g.writer g.kind s (next_in r (s.cursor + 1)) (omega (arith, w)) (λ q e.
+                let z : r ≡ q = some_same (sym is ∙ e) in
+                rw (← z) (w.1, w.2)) steps;
+          }
 
 -- the worker asks for the copy
 pub asks : AskingKeeps
@@ -78,7 +98,7 @@ asks E m team g k s a out inv is at going leads low high =
 
 -- a clean field is passed
 pub passes : PassingFieldKeeps
-passes E m team g k s out inv is at fine = goes_on E m team g k s inv is.below is.scans (no_copy E m team g k inv is.below is.asks_nothing) (on_to E s (s.cursor + 1))
+passes E m team g k s out inv is at fine = goes_on E m team g k s inv is.below is.scans (no_copy E m team g k inv is.below is.asks_nothing) (past_word E s)
     (next E m team g k s out inv is.below is.scans at m.heap fine)
 
 -- the copy's address is stored
@@ -90,10 +110,10 @@ module _ (E : Era) (m : Memory) (team : Team) (g : Ghost) (k : ℕ) (s : Scan) (
   heap' = put m.heap s.cursor v
 
   abbrev t : Scan
-  t = on_to E s (s.cursor + 1)
+  t = past_word E s
 
   abbrev w' : Worker
-  w' = scanning (team.worker k) (on_to E s (s.cursor + 1))
+  w' = scanning (team.worker k) (past_word E s)
 
   known : Knows E m.gate m.traced m.front m.low m.old_front m.old_low m.old_owed g m.page m.cross m.announced m.heap k (team.worker k)
   known = inv.workers k has.below

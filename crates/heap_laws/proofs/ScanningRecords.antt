@@ -1,41 +1,29 @@
 -- The records on a page that is scanned: the crossing, the headers, and FRONT.
-use Rattle.std.proofs.Common.{◌≡◌, ◌≢◌, ℕ, zero, suc, ◌+◌, ◌-◌, ◌*◌, ◌/◌, ◌<◌, ◌≤◌, eqb, true, false, cond, Some, refl, sym, ◌∙◌, arith, ⊎_elim, ◌⊎◌, inl, inr}
-use Rattle.std.proofs.lemmas.Bool.{cases_eq, cases_lt, lt-ltb, le-ltb, eq-eqb, ne_eqb}
-use Rattle.heap_words.specs.declared.kind.Kind.{Kind}
-use Rattle.heap_words.specs.declared.kind.Kind.TheVariants.{Fields, Raw}
+use Rattle.std.proofs.Common.{◌≡◌, ◌≢◌, ℕ, zero, suc, ◌+◌, ◌-◌, ◌*◌, ◌/◌, ◌<◌, ◌≤◌, eqb, true, false, cond, Some, refl, sym, ◌∙◌, arith, ⊎_elim, ◌⊎◌, inl, inr, ap}
+use Rattle.std.proofs.lemmas.Bool.{cases_eq, cases_lt, eq-eqb, ne_eqb}
+use Rattle.plain_state.specs.declared.kind.Kind.{Kind}
+use Rattle.plain_state.specs.Layout.{is_field}
+use Rattle.heap_words.specs.declared.kind.Kind.{Kind as HeaderKind}
 use Rattle.heap_words.specs.Decoded.{HeaderWord, decode}
 use Rattle.heap_state.specs.Era.{Era, Memory, IsLaidOut}
-use Rattle.heap_state.specs.Ghost.{Ghost, is_field, Here}
+use Rattle.heap_state.specs.Ghost.{Ghost, Here, said_kind}
 use Rattle.heap_state.specs.Inductive.{Invariant, Knows}
 use Rattle.heap_state.specs.Parts.Scanning.{Scans, Stepping}
 use Rattle.heap_state.specs.Worker.{Team, Copy, Scan, Seen}
 use Rattle.heap_state.proofs.Holding.{writer, uncopied_here}
 use Rattle.heap_state.proofs.Puts.{some_same}
+use Rattle.heap_state.proofs.Headers.{said_kind-header_kind}
+use Rattle.heap_state.specs.FieldSpan.{next_in}
+use Rattle.heap_state.proofs.FieldSpans.{goes_on_within, passes_no_field}
 use Rattle.heap_laws.specs.Keeping.{Keeps}
-use Rattle.heap_laws.specs.ScanningWords.{scanning, first_to_load, in_record, IsScanning, ReadingCrossingKeeps, ReadingFirstHeaderKeeps, ReadingFrontKeeps, ReadingNextHeaderKeeps}
+use Rattle.heap_laws.specs.ScanningWords.{scanning, in_record, IsScanning, ReadingCrossingKeeps, ReadingFirstHeaderKeeps, ReadingFrontKeeps, ReadingNextHeaderKeeps}
 use Rattle.heap_laws.specs.Steps.{with_worker}
 use Rattle.heap_laws.proofs.FieldSlot.{here_field}
 use Rattle.heap_laws.proofs.ScanningOn.{past, goes_on, no_copy}
 
 -- two headers that a word decodes to are one
-header_same : {k l : Kind} {a b s t i j : ℕ} (w : ℕ) → decode w ≡ HeaderWord k a s i → decode w ≡ HeaderWord l b t j → (k ≡ l) × (a ≡ b)
+header_same : {k l : HeaderKind} {a b s t i j : ℕ} (w : ℕ) → decode w ≡ HeaderWord k a s i → decode w ≡ HeaderWord l b t j → (k ≡ l) × (a ≡ b)
 header_same w e f = let q = sym e ∙ f in (cc, cc)
-
--- where a scan goes on within a record
-entered : (k : Kind) (a size cursor : ℕ) → a ≤ cursor → cursor < a + size → (cursor ≤ first_to_load k a size cursor) × (a < first_to_load k a size cursor) × (first_to_load k a size cursor ≤ a + size)
-entered Raw a size cursor l n = (omega arith, omega arith, omega arith)
-entered Fields a size cursor l n = ⊎_elim
-    (λ (p : a < cursor). rw (lt-ltb a cursor p) (omega arith, p, omega arith))
-    (λ (p : cursor ≤ a). rw (le-ltb a cursor p) (omega arith, omega arith, omega arith))
-    (cases_lt a cursor)
-
--- the words that it passes over there are no fields
-passed_over : (k : Kind) (a size cursor x : ℕ) → a ≤ cursor → cursor ≤ x → x < first_to_load k a size cursor → (x ≡ a) ⊎ ((k ≡ Raw) × (x < a + size))
-passed_over Raw a size cursor x l n m = inr (refl, m)
-passed_over Fields a size cursor x l n m = ⊎_elim
-    (λ (p : a < cursor). absurd (let z : x < cursor = rw (lt-ltb a cursor p) at m in omega (arith, z, n)))
-    (λ (p : cursor ≤ a). inl (let z : x < a + 1 = rw (le-ltb a cursor p) at m in omega (arith, z, n, l)))
-    (cases_lt a cursor)
 
 module _ (E : Era) (m : Memory) (team : Team) (g : Ghost) (k : ℕ) (s : Scan) (out : IsLaidOut E) (inv : Invariant E m team g) (is : IsScanning team k s) (no_board : s.page ≢ E.board / 64) where
   me : Knows E m.gate m.traced m.front m.low m.old_front m.old_low m.old_owed g m.page m.cross m.announced m.heap k (team.worker k)
@@ -103,55 +91,60 @@ module _ (E : Era) (m : Memory) (team : Team) (g : Ghost) (k : ℕ) (s : Scan) (
 
   -- ---- a header
 
+  -- the kind of a record at a whose header has this kind
+  abbrev kind_at : HeaderKind → ℕ → Kind
+  kind_at head a = said_kind head (m.heap (a + 1))
+
   -- a record below FRONT has its own header
-  header : (a len serial mutator : ℕ) (kind : Kind) → 0 < g.size a → g.writer a ≡ 0 → E.start ≤ a → a + g.size a ≤ m.front → decode (m.heap a) ≡ HeaderWord kind len serial mutator → (g.kind a ≡ kind) × (g.size a ≡ len + 1)
-  header a len serial mutator kind st w l n e =
+  header : (a len serial mutator : ℕ) (head : HeaderKind) → 0 < g.size a → g.writer a ≡ 0 → E.start ≤ a → a + g.size a ≤ m.front → decode (m.heap a) ≡ HeaderWord head len serial mutator
+      → (g.kind a ≡ said_kind head (m.heap (a + 1))) × (g.size a ≡ len + 1)
+  header a len serial mutator head st w l n e =
       let o = inv.laid.order in
       let c = uncopied_here E m team g inv out a st l (omega (arith, n, o, st)) in
       let q = header_same (m.heap a) (inv.headed.own a st w c.0 c.1) e in
-      (q.0, omega (arith, q.1, st))
+      (sym (said_kind-header_kind (g.kind a) (m.heap (a + 1))) ∙ ap (λ y. said_kind y (m.heap (a + 1))) q.0, omega (arith, q.1, st))
 
   -- the scan enters the record at a
-  enters : (a len serial mutator : ℕ) (kind : Kind) → 0 < g.size a → g.writer a ≡ 0 → E.start ≤ a → a + g.size a ≤ m.front → a ≤ s.cursor → s.cursor < a + g.size a
-      → decode (m.heap a) ≡ HeaderWord kind len serial mutator → Keeps E m m team (with_worker team k (scanning (team.worker k) (in_record E s (record { at = a; size = len + 1; kind = kind })))) g
-  enters a len serial mutator kind st w l n c d e =
-      let h = header a len serial mutator kind st w l n e in
-      let within : s.cursor < a + (len + 1) = omega (arith, h.1, d) in
-      let y = entered kind a (len + 1) s.cursor c within in
-      goes_on E m team g k s inv is.below is.scans idle (in_record E s (record { at = a; size = len + 1; kind = kind })) (record {
+  enters : (a len serial mutator : ℕ) (head : HeaderKind) → 0 < g.size a → g.writer a ≡ 0 → E.start ≤ a → a + g.size a ≤ m.front → a ≤ s.cursor → s.cursor < a + g.size a
+      → decode (m.heap a) ≡ HeaderWord head len serial mutator → Keeps E m m team (with_worker team k (scanning (team.worker k) (in_record E s (record { at = a; size = len + 1; kind = said_kind head (m.heap (a + 1)) })))) g
+  enters a len serial mutator head st w l n c d e =
+      let h = header a len serial mutator head st w l n e in
+      let seen : Seen = record { at = a; size = len + 1; kind = kind_at head a } in
+      let y = goes_on_within seen s.cursor (omega arith) (omega (arith, h.1, d)) in
+      goes_on E m team g k s inv is.below is.scans idle (in_record E s seen) (record {
         page = refl;
-        clean = λ x u p f o. absurd (no_field x u (omega (arith, c, f)) h.0 h.1 (passed_over kind a (len + 1) s.cursor x c f o));
+        clean = λ x u p f o. absurd (no_field x u (omega (arith, c, f)) f (omega (arith, y.2, o)) o h.0 h.1);
         top = inr (omega (arith, y.2, h.1, n));
         stepping = record {
           over = steps.over;
-          current = λ r i. let z : record { at = a; size = len + 1; kind = kind } ≡ r = some_same i in
+          current = λ r i. let z : record { at = a; size = len + 1; kind = kind_at head a } ≡ r = some_same i in
               rw (← z) (omega arith, h.1, h.0, w, l, omega (arith, h.1, n), y.1, y.2);
           inner = λ i. absurd (cc);
           begun = let b = steps.begun in omega (arith, b, y.0);
           full = steps.full;
-          ended = λ i. ⊎_elim (λ z. inl z) (λ z. inr (inl z)) (past E s.page (first_to_load kind a (len + 1) s.cursor) i);
+          ended = λ i. ⊎_elim (λ z. inl z) (λ z. inr (inl z)) (past E s.page (next_in seen s.cursor) i);
         };
       })
     where
-      raw_field : (k : Kind) (i : ℕ) → k ≡ Raw → is_field k i ≡ true → ⊥
-      raw_field k i r f = let q : is_field k i ≡ false = rw r refl in let z = sym q ∙ f in absurd (cc)
-
-      no_field : (x : ℕ) → Here E g.size g.writer g.kind x → a ≤ x → g.kind a ≡ kind → g.size a ≡ len + 1 → (x ≡ a) ⊎ ((kind ≡ Raw) × (x < a + (len + 1))) → ⊥
-      no_field x u f kd sz (inl z) = let q = here_field out inv.laid g.writer g.kind x u a 0 st (omega arith) in omega (arith, q.0)
-      no_field x u f kd sz (inr z) = let q = here_field out inv.laid g.writer g.kind x u a (x - a) (omega (arith, sz, z.1, f, st)) (omega arith) in raw_field (g.kind a) (x - a) (kd ∙ z.0) q.1
+      no_field : (x : ℕ) → Here E g.size g.writer g.kind x → a ≤ x → s.cursor ≤ x → x < a + (len + 1) → x < next_in (record { at = a; size = len + 1; kind = kind_at head a }) s.cursor
+          → g.kind a ≡ kind_at head a → g.size a ≡ len + 1 → ⊥
+      no_field x u f c b o kd sz =
+          let q = here_field out inv.laid g.writer g.kind x u a (x - a) (omega (arith, sz, b, f, st)) (omega arith) in
+          let e : is_field (kind_at head a) (x - a) ≡ true = rw kd at q.1 in
+          passes_no_field (record { at = a; size = len + 1; kind = kind_at head a }) s.cursor (omega arith) x c (omega (arith, q.0)) b o e
 
   -- the header of the record over the page's first word
-  pub enters_first : (a len serial mutator : ℕ) (kind : Kind) → s.over ≡ Some a → s.cursor ≡ 64 * s.page → decode (m.heap a) ≡ HeaderWord kind len serial mutator
-      → Keeps E m m team (with_worker team k (scanning (team.worker k) (in_record E s (record { at = a; size = len + 1; kind = kind })))) g
-  enters_first a len serial mutator kind e c d =
+  pub enters_first : (a len serial mutator : ℕ) (head : HeaderKind) → s.over ≡ Some a → s.cursor ≡ 64 * s.page → decode (m.heap a) ≡ HeaderWord head len serial mutator
+      → Keeps E m m team (with_worker team k (scanning (team.worker k) (in_record E s (record { at = a; size = len + 1; kind = said_kind head (m.heap (a + 1)) })))) g
+  enters_first a len serial mutator head e c d =
       let o = steps.over a e in
       let w : (E.start ≤ a) × (a + g.size a ≤ m.front) = (let q = inv.laid.lies a o.0 in let r = out.apart in let y = inv.laid.order in (omega (arith, q, r, y, o, place), omega (arith, q, r, y, o, place))) in
-      enters a len serial mutator kind o.0 o.1 w.0 w.1 (omega (arith, o.2, c)) (omega (arith, o.3, c)) d
+      enters a len serial mutator head o.0 o.1 w.0 w.1 (omega (arith, o.2, c)) (omega (arith, o.3, c)) d
 
   -- the header of the next record
-  pub enters_next : (r : Seen) (len serial mutator : ℕ) (kind : Kind) → s.current ≡ Some r → s.cursor ≡ r.at + r.size → s.cursor < 64 * s.page + 64 → (s.inner ≡ true) ⊎ (s.in_place ≡ false)
-      → decode (m.heap s.cursor) ≡ HeaderWord kind len serial mutator → Keeps E m m team (with_worker team k (scanning (team.worker k) (in_record E s (record { at = s.cursor; size = len + 1; kind = kind })))) g
-  enters_next r len serial mutator kind e c p i d =
+  pub enters_next : (r : Seen) (len serial mutator : ℕ) (head : HeaderKind) → s.current ≡ Some r → s.cursor ≡ r.at + r.size → s.cursor < 64 * s.page + 64 → (s.inner ≡ true) ⊎ (s.in_place ≡ false)
+      → decode (m.heap s.cursor) ≡ HeaderWord head len serial mutator → Keeps E m m team (with_worker team k (scanning (team.worker k) (in_record E s (record { at = s.cursor; size = len + 1; kind = said_kind head (m.heap (s.cursor + 1)) })))) g
+  enters_next r len serial mutator head e c p i d =
       let t = steps.current r e in
       let f : s.cursor < m.front = ⊎_elim (λ y. steps.inner y) (λ y. ⊎_elim (λ b. absurd (no_board b)) (λ q. omega (arith, q, p)) (steps.full y)) i in
       let st : 0 < g.size s.cursor = follows r t.0 t.1 t.4 t.6 t.7 c f in
@@ -160,7 +153,7 @@ module _ (E : Era) (m : Memory) (team : Team) (g : Ghost) (k : ℕ) (s : Scan) (
       let y = inv.laid.lies s.cursor st in
       let o = inv.laid.order in
       let q = out.apart in
-      enters s.cursor len serial mutator kind st w (omega (arith, place, b)) (omega (arith, y, f, o, q, place, b, st)) (omega arith) (omega (arith, st)) d
+      enters s.cursor len serial mutator head st w (omega (arith, place, b)) (omega (arith, y, f, o, q, place, b, st)) (omega arith) (omega (arith, st)) d
     where
       follows : (r : Seen) → 0 < r.size → g.size r.at ≡ r.size → E.start ≤ r.at → r.at < s.cursor → s.cursor ≤ r.at + r.size → s.cursor ≡ r.at + r.size → s.cursor < m.front → 0 < g.size s.cursor
       follows r z sz l n h c f = ⊎_elim

@@ -1,16 +1,16 @@
 -- At the end of a cycle what was copied is what was reachable at the flip.
-use Rattle.std.proofs.Common.{◌≡◌, ℕ, ◌+◌, ◌-◌, ◌<◌, true, length, Some, sym, ◌∙◌, arith, ⊎_elim, inl}
+use Rattle.std.proofs.Common.{◌≡◌, ℕ, ◌+◌, ◌<◌, true, Some, sym, ◌∙◌, arith, ⊎_elim, inl}
 use Rattle.std.specs.Prelude.{slice_get}
 use Rattle.std.proofs.lemmas.Option.{slice_get_within}
 use Rattle.plain_state.specs.declared.value.Identity.{Identity}
 use Rattle.plain_state.specs.declared.value.Value.TheVariants.{Reference}
 use Rattle.plain_state.specs.State as plain
-use Rattle.heap_state.specs.Cycle.{Cycle, RootLeads, ByBoard, ByRegister, IsRoot, InRegister, OnTheBoard, IsCopied, RefersInFields}
+use Rattle.plain_state.specs.Layout.{is_field, word_of, size_of}
+use Rattle.heap_state.specs.Cycle.{Cycle, RootLeads, ByBoard, ByRegister, IsRoot, InRegister, OnTheBoard, IsCopied}
 use Rattle.heap_state.specs.Era.{Era, Memory, IsLaidOut}
-use Rattle.heap_state.specs.Ghost.{Ghost, is_field}
+use Rattle.heap_state.specs.Ghost.{Ghost}
 use Rattle.heap_state.specs.Inductive.{Invariant}
 use Rattle.heap_state.specs.Reachable.{Reachable, FromRegister, FromBoard, FromRecord}
-use Rattle.heap_state.specs.Values.{value_at}
 use Rattle.heap_state.specs.Worker.{Team}
 use Rattle.heap_state.proofs.Puts.{some_same}
 use Rattle.heap_laws.specs.Tracing.{NothingLeads, CopiesReachable}
@@ -31,32 +31,27 @@ module _ (E : Era) (m : Memory) (team : Team) (g : Ghost) (p : plain.Plain) (out
       by_root (ByBoard x l t) = absurd (nothing.clean (E.board + x) (board_here E g.size g.writer g.kind x l) (still_leads E g.identity (m.heap (E.board + x)) i t))
       by_root (ByRegister k r l s late d t) = absurd (let q = (inv.workers k l).licensed.counted late in let z = (inv.tracing.quiet traced).none in omega (arith, q, z))
 
-  refers_in_field : (k : _) (z : ℕ) (r : plain.Record) → RefersInFields k z r → (n : ℕ) (i : Identity) → 0 < n → n < z → value_at r n ≡ Some (Reference i) → is_field k n ≡ true
-  unfolding RefersInFields
-  refers_in_field k z r f = f
-
   -- what a copied record referred to is copied
-  closed : (i j : Identity) (r : plain.Record) (n : ℕ) → Copied i → plain.record_of p.heap i ≡ Some r → slice_get r.values n ≡ Some (Reference j) → Copied j
-  closed i j r n c of refers =
+  closed : (i j : Identity) (r : plain.Record) (n : ℕ) → Copied i → plain.record_of p.heap i ≡ Some r → is_field r.kind (word_of r.kind n) ≡ true → slice_get r.values n ≡ Some (Reference j) → Copied j
+  closed i j r n c of f refers =
       let s = cy.copying.sizes c.at c.stands.0 c.below.0 c.below.1 in
       let of' : plain.record_of p.heap (g.identity c.at) ≡ Some r = rw c.named of in
       let same : s.0 ≡ r = some_same (sym s.1 ∙ of') in
-      let len : length r.values + 1 ≡ g.size c.at = rw same at s.2 in
-      let shape : RefersInFields (g.kind c.at) (g.size c.at) r = rw same at s.4 in
+      let len : size_of r ≡ g.size c.at = rw same at s.2 in
+      let kinds : r.kind ≡ g.kind c.at = rw same at s.3 in
+      let field : is_field (g.kind c.at) (word_of (g.kind c.at) n) ≡ true = rw kinds at f in
       let within = slice_get_within r.values n (Reference j) refers in
-      let small : n + 1 < g.size c.at = omega (arith, within, len) in
-      let back : n + 1 - 1 ≡ n = omega arith in
-      let value : value_at r (n + 1) ≡ Some (Reference j) = rw back refers in
+      let small : word_of (g.kind c.at) n < g.size c.at = omega (arith, within, len) in
       ⊎_elim (λ y. y)
-      (λ t. absurd (nothing.clean (c.at + (n + 1))
-      (field_here E g.size g.writer g.kind c.at (n + 1) (record { stands = c.stands.0; written = c.stands.1; field = refers_in_field (g.kind c.at) (g.size c.at) r shape (n + 1) j (omega arith) small value; first = omega arith; last = small }) (c.below.0, let o = inv.laid.order in omega (arith, c.below.1, o)))
-      (still_leads E g.identity (m.heap (c.at + (n + 1))) j t)))
-      (cy.copying.complete c.at (n + 1) r j c.stands.0 c.stands.1 c.below.0 c.below.1 (omega arith) small of' value)
+      (λ t. absurd (nothing.clean (c.at + word_of (g.kind c.at) n)
+      (field_here E g.size g.writer g.kind c.at (word_of (g.kind c.at) n) (record { stands = c.stands.0; written = c.stands.1; field = field; first = omega arith; last = small }) (c.below.0, let o = inv.laid.order in omega (arith, c.below.1, o)))
+      (still_leads E g.identity (m.heap (c.at + word_of (g.kind c.at) n)) j t)))
+      (cy.copying.complete c.at n r j c.stands.0 c.stands.1 c.below.0 c.below.1 of' field refers)
 
   all_copied : (i : Identity) → Reachable p i → Copied i
   all_copied i (FromRegister k q j _ e n f) = rooted i (InRegister k j q e n f)
   all_copied i (FromBoard x _ e) = rooted i (OnTheBoard x e)
-  all_copied j (FromRecord i r n _ before of refers) = closed i j r n (all_copied i before) of refers
+  all_copied j (FromRecord i r n _ before of f refers) = closed i j r n (all_copied i before) of f refers
 
   copied_reached : (i : Identity) → Copied i → Reachable p i
   copied_reached i c =

@@ -1,16 +1,21 @@
 -- What a word is part of, where it leads, and what it denotes.
-use Rattle.std.proofs.Common.{◌≡◌, ℕ, ◌+◌, ◌<◌, ◌≤◌, Some, refl, sym, ◌∙◌, arith, ⊎_elim, inl, inr}
+use Rattle.std.proofs.Common.{◌≡◌, ℕ, ◌+◌, ◌<◌, ◌≤◌, Some, refl, sym, ◌∙◌, arith, ⊎_elim, inl, inr, slice_get}
 use Rattle.std.proofs.lemmas.Bool.{cases_lt}
-use Rattle.heap_words.specs.declared.kind.Kind.{Kind}
+use Rattle.std.proofs.lemmas.Option.{slice_get_within}
+use Rattle.plain_state.specs.declared.kind.Kind.{Kind}
 use Rattle.heap_words.specs.Decoded.{Decoded, NumberWord, PointerWord, HeaderWord, ForwardWord, BusyWord, Malformed, decode}
 use Rattle.heap_words.specs.Word.{number_word}
 use Rattle.heap_words.proofs.Decoding.{decode-number_word}
+use Rattle.plain_state.specs.State as plain
 use Rattle.plain_state.specs.declared.value.Identity.{Identity}
 use Rattle.plain_state.specs.declared.value.Value.TheVariants.{Number, Reference}
-use Rattle.heap_state.specs.Cycle.{StillLeads}
+use Rattle.plain_state.specs.Layout.{word_of, size_of}
+use Rattle.plain_state.specs.declared.value.Value.{Value}
+use Rattle.heap_state.specs.Cycle.{StillLeads, Copying}
 use Rattle.heap_state.specs.Era.{Era}
 use Rattle.heap_state.specs.Ghost.{IsField, Here, Leads, Lands}
 use Rattle.heap_state.specs.Values.{value_said, value_of}
+use Rattle.heap_state.proofs.Puts.{some_same}
 
 -- two records that share a word are one
 pub one_place : (size : ℕ → ℕ) (a b i j : ℕ) → ((a b : ℕ) → 0 < size a → 0 < size b → a < b → a + size a ≤ b) → i < size a → j < size b → a + i ≡ b + j → a ≡ b
@@ -98,3 +103,15 @@ value_agrees identity other w f = by_word (decode w) f
     by_word (ForwardWord len b) f = refl
     by_word (BusyWord len k) f = refl
     by_word Malformed f = refl
+
+-- ---- values of copies
+
+-- a value of a copied record stands in one of its words
+pub copied_within : {E : Era} {front : ℕ} {size writer copy keeper : ℕ → ℕ} {kind : ℕ → Kind} {identity : ℕ → Identity} {heap : ℕ → ℕ} {p : plain.Plain} → Copying E front size writer copy keeper kind identity heap p
+    → (b x : ℕ) (r : plain.Record) (y : Value) → 0 < size b → E.start ≤ b → b < front → plain.record_of p.heap (identity b) ≡ Some r → slice_get r.values x ≡ Some y → word_of (kind b) x < size b
+copied_within {size = size} c b x r y st l u e o =
+    let q = c.sizes b st l u in
+    let same : q.0 ≡ r = some_same (sym q.1 ∙ e) in
+    let z : size_of r ≡ size b = rw same at q.2 in
+    let w = slice_get_within r.values x y o in
+    omega (arith, w, z)

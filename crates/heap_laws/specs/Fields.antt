@@ -1,15 +1,18 @@
 -- Stores and loads of a mutator in records of the epoch's space and on the board.
-use Rattle.std.specs.Prelude.{◌≡◌, ℕ, ◌+◌, ◌-◌, ◌/◌, ◌^◌, ◌<◌, ◌≤◌, Bool, true, false, Some, None, slice_set}
+use Rattle.std.specs.Prelude.{◌≡◌, ℕ, ◌+◌, ◌-◌, ◌/◌, ◌^◌, ◌<◌, ◌≤◌, true, false, Some, None}
 use Rattle.heap_words.specs.Decoded.{NumberWord, PointerWord, HeaderWord, decode}
-use Rattle.plain_state.specs.declared.value.Identity.{Identity}
 use Rattle.plain_state.specs.declared.value.Value.{Value}
 use Rattle.plain_state.specs.declared.value.Value.TheVariants.{Number}
 use Rattle.plain_state.specs.State as plain
+use Rattle.plain_state.specs.Writing.{with_heap, stored, with_board}
+use Rattle.plain_state.specs.Layout.{is_field, is_raw, word_of}
+use Rattle.plain_state.specs.declared.kind.Kind.{Kind}
 use Rattle.space_map.specs.declared.page_word.PageWord.TheVariants.{Open}
 use Rattle.heap_state.specs.Cycle.{Cycle}
 use Rattle.heap_state.specs.Era.{Era, IsLaidOut, Memory}
-use Rattle.heap_state.specs.Ghost.{Ghost, is_field}
+use Rattle.heap_state.specs.Ghost.{Ghost, header_kind}
 use Rattle.heap_state.specs.Inductive.{Invariant}
+use Rattle.heap_state.specs.Parts.Knowledge.{HasRole}
 use Rattle.heap_state.specs.Values.{Shown, Shows, value_of}
 use Rattle.heap_state.specs.Worker.{Team, Access, is_mutator, is_late}
 use Rattle.heap_laws.specs.MutatorSteps.{MayHold}
@@ -17,55 +20,39 @@ use Rattle.heap_laws.specs.Steps.{with_word}
 
 -- ---- what is written
 
--- word i of the record at a, counted from its header: the record stands in the epoch's space, and nobody writes it any more
-pub record IsWordOf (E : Era) (size writer : ℕ → ℕ) (a i : ℕ) : Type 0 where
+-- value x of the record at a: the record stands in the epoch's space, and nobody writes it any more
+pub record IsWordOf (E : Era) (size writer : ℕ → ℕ) (kind : ℕ → Kind) (a x : ℕ) : Type 0 where
   pub stands : 0 < size a
   pub written : writer a ≡ 0
   pub inside : (E.start ≤ a) × (a < E.start + E.span)
-  pub first : 0 < i
-  pub last : i < size a
+  pub last : word_of (kind a) x < size a
 
--- a word may be stored: in a field, what a mutator may hold; elsewhere a number below 2^62
-pub record MayStore (E : Era) (size writer : ℕ → ℕ) (field : Bool) (v : ℕ) : Type 0 where
-  pub held : field ≡ true → MayHold E size writer v
-  pub number : field ≡ false → v < 2 ^ 62
+-- a word may stand at value x of a record of this kind: in a field, what a mutator may hold; elsewhere a number below 2^62
+pub record MayStore (E : Era) (size writer : ℕ → ℕ) (k : Kind) (x v : ℕ) : Type 0 where
+  pub held : is_field k (word_of k x) ≡ true → MayHold E size writer v
+  pub number : is_field k (word_of k x) ≡ false → v < 2 ^ 62
 
--- what a word of a record shows: in a field, the value that it denotes; elsewhere its number
-pub record StandsFor (g : Ghost) (field : Bool) (v : ℕ) (y : Value) : Type 0 where
-  pub denotes : field ≡ true → value_of g.identity v ≡ Some y
-  pub number : field ≡ false → Number v ≡ y
-
--- ---- the plain heap
-
--- word x of the record r with identity i takes a value
-abbrev pub stored : plain.Heap → Identity → plain.Record → ℕ → Value → plain.Heap
-stored heap i r x y = record heap {
-  records = slice_set heap.records i.mutator (slice_set (plain.made_by heap i.mutator) (i.serial - 1) (record r { values = slice_set r.values x y }));
-}
-
--- word x of the board takes a value
-abbrev pub put_on_board : plain.Heap → ℕ → Value → plain.Heap
-put_on_board heap x y = record heap { board = slice_set heap.board x y }
-
-abbrev pub with_heap : plain.Plain → plain.Heap → plain.Plain
-with_heap p heap = record p { heap = heap }
+-- what a word at value x of a record of this kind shows: in a field, the value that it denotes; else its number
+pub record StandsFor (g : Ghost) (k : Kind) (x v : ℕ) (y : Value) : Type 0 where
+  pub denotes : is_field k (word_of k x) ≡ true → value_of g.identity v ≡ Some y
+  pub number : is_raw k (word_of k x) ≡ true → Number v ≡ y
 
 -- ---- stores
 
 -- a store in a word of a record, whose page is open
 abbrev pub WordsAreStored : Type 0
-WordsAreStored = (E : Era) (m : Memory) (team : Team) (g : Ghost) (a i v : ℕ) → IsLaidOut E → Invariant E m team g → IsWordOf E g.size g.writer a i
-    → m.page ((a + i) / 64) ≡ Open E.epoch → MayStore E g.size g.writer (is_field (g.kind a) i) v → Invariant E (with_word m (a + i) v) team g
+WordsAreStored = (E : Era) (m : Memory) (team : Team) (g : Ghost) (a x v : ℕ) → IsLaidOut E → Invariant E m team g → IsWordOf E g.size g.writer g.kind a x
+    → m.page ((a + word_of (g.kind a) x) / 64) ≡ Open E.epoch → MayStore E g.size g.writer (g.kind a) x v → Invariant E (with_word m (a + word_of (g.kind a) x) v) team g
 
 -- the plain heap changes at that word alone
 abbrev pub StoresShow : Type 0
-StoresShow = (E : Era) (m : Memory) (team : Team) (g : Ghost) (p : plain.Plain) (a i v : ℕ) (r : plain.Record) (y : Value) → IsLaidOut E → Invariant E m team g
-    → IsWordOf E g.size g.writer a i → plain.record_of p.heap (g.identity a) ≡ Some r → StandsFor g (is_field (g.kind a) i) v y
-    → Shown E m team g p → Shown E (with_word m (a + i) v) team g (with_heap p (stored p.heap (g.identity a) r (i - 1) y))
+StoresShow = (E : Era) (m : Memory) (team : Team) (g : Ghost) (p : plain.Plain) (a x v : ℕ) (r : plain.Record) (y : Value) → IsLaidOut E → Invariant E m team g
+    → IsWordOf E g.size g.writer g.kind a x → plain.record_of p.heap (g.identity a) ≡ Some r → StandsFor g (g.kind a) x v y
+    → Shown E m team g p → Shown E (with_word m (a + word_of (g.kind a) x) v) team g (with_heap p (stored p.heap (g.identity a) r x y))
 
 abbrev pub StoresKeepCycle : Type 0
-StoresKeepCycle = (E : Era) (m : Memory) (team : Team) (g : Ghost) (p : plain.Plain) (a i v : ℕ) → IsLaidOut E → Invariant E m team g → IsWordOf E g.size g.writer a i
-    → m.page ((a + i) / 64) ≡ Open E.epoch → MayStore E g.size g.writer (is_field (g.kind a) i) v → Cycle E m team g p → Cycle E (with_word m (a + i) v) team g p
+StoresKeepCycle = (E : Era) (m : Memory) (team : Team) (g : Ghost) (p : plain.Plain) (a x v : ℕ) → IsLaidOut E → Invariant E m team g → IsWordOf E g.size g.writer g.kind a x
+    → m.page ((a + word_of (g.kind a) x) / 64) ≡ Open E.epoch → MayStore E g.size g.writer (g.kind a) x v → Cycle E m team g p → Cycle E (with_word m (a + word_of (g.kind a) x) v) team g p
 
 -- a store on the board, which is open
 abbrev pub BoardIsStored : Type 0
@@ -74,7 +61,7 @@ BoardIsStored = (E : Era) (m : Memory) (team : Team) (g : Ghost) (x v : ℕ) →
 
 abbrev pub BoardStoresShow : Type 0
 BoardStoresShow = (E : Era) (m : Memory) (team : Team) (g : Ghost) (p : plain.Plain) (x v : ℕ) (y : Value) → IsLaidOut E → Invariant E m team g → x < 16
-    → value_of g.identity v ≡ Some y → Shown E m team g p → Shown E (with_word m (E.board + x) v) team g (with_heap p (put_on_board p.heap x y))
+    → value_of g.identity v ≡ Some y → Shown E m team g p → Shown E (with_word m (E.board + x) v) team g (with_heap p (with_board p.heap x y))
 
 abbrev pub BoardStoresKeepCycle : Type 0
 BoardStoresKeepCycle = (E : Era) (m : Memory) (team : Team) (g : Ghost) (p : plain.Plain) (x v : ℕ) → IsLaidOut E → Invariant E m team g → x < 16
@@ -87,29 +74,29 @@ BoardStoresKeepCycle = (E : Era) (m : Memory) (team : Team) (g : Ghost) (p : pla
 pub record IsLedTo (E : Era) (m : Memory) (g : Ghost) (p : plain.Plain) (a : ℕ) : Type 0 where
   pub stands : (0 < g.size a) × (g.writer a ≡ 0)
   pub inside : (E.start ≤ a) × (a < E.start + E.span)
-  pub header : decode (m.heap a) ≡ HeaderWord (g.kind a) (g.size a - 1) (g.identity a).serial (g.identity a).mutator
+  pub header : decode (m.heap a) ≡ HeaderWord (header_kind (g.kind a)) (g.size a - 1) (g.identity a).serial (g.identity a).mutator
   pub shows : (r : plain.Record) × (plain.record_of p.heap (g.identity a) ≡ Some r) × Shows (value_of g.identity) m.heap a (g.kind a) (g.size a) r
 
 abbrev pub HeadersAreRead : Type 0
 HeadersAreRead = (E : Era) (m : Memory) (team : Team) (g : Ghost) (p : plain.Plain) (w a : ℕ) → IsLaidOut E → Invariant E m team g → Shown E m team g p
     → MayHold E g.size g.writer w → decode w ≡ PointerWord a → IsLedTo E m g p a
 
--- A word that a mutator has access to is one that it may load and store: of a record of the epoch's space that nobody writes, on
--- an open page, and of the kind that was read.
+-- A word that a mutator has access to, and whose page it has found open, is one that it may load and store: of a record of the
+-- epoch's space that nobody writes, on an open page, and with the role that was read.
 pub record IsAccessed (E : Era) (m : Memory) (g : Ghost) (f : Access) : Type 0 where
-  pub word : IsWordOf E g.size g.writer f.of.at f.word
-  pub opens : m.page ((f.of.at + f.word) / 64) ≡ Open E.epoch
-  pub kind : g.kind f.of.at ≡ f.of.kind
+  pub word : (x : ℕ) → f.word ≡ word_of (g.kind f.at) x → IsWordOf E g.size g.writer g.kind f.at x
+  pub opens : m.page ((f.at + f.word) / 64) ≡ Open E.epoch
+  pub role : HasRole (g.kind f.at) f.word f.role
 
 abbrev pub AccessesAreAllowed : Type 0
 AccessesAreAllowed = (E : Era) (m : Memory) (team : Team) (g : Ghost) (k : ℕ) (f : Access) → Invariant E m team g → k < team.count
-    → (team.worker k).access ≡ Some f → f.allowed ≡ true → IsAccessed E m g f
+    → (team.worker k).access ≡ Some f → (team.worker k).opened ≡ Some ((f.at + f.word) / 64) → IsAccessed E m g f
 
 -- what is loaded from a field on an open page, or from the open board, a mutator may hold; what is loaded from elsewhere in a
 -- record is a number below 2^62
 abbrev pub WordsAreLoaded : Type 0
-WordsAreLoaded = (E : Era) (m : Memory) (team : Team) (g : Ghost) (a i : ℕ) → Invariant E m team g → IsWordOf E g.size g.writer a i
-    → m.page ((a + i) / 64) ≡ Open E.epoch → MayStore E g.size g.writer (is_field (g.kind a) i) (m.heap (a + i))
+WordsAreLoaded = (E : Era) (m : Memory) (team : Team) (g : Ghost) (a x : ℕ) → Invariant E m team g → IsWordOf E g.size g.writer g.kind a x
+    → m.page ((a + word_of (g.kind a) x) / 64) ≡ Open E.epoch → MayStore E g.size g.writer (g.kind a) x (m.heap (a + word_of (g.kind a) x))
 
 abbrev pub BoardIsLoaded : Type 0
 BoardIsLoaded = (E : Era) (m : Memory) (team : Team) (g : Ghost) (x : ℕ) → IsLaidOut E → Invariant E m team g → x < 16

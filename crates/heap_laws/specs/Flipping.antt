@@ -97,19 +97,19 @@ pub record HasRegister (E : Era) (team : Team) (k : ℕ) : Type 0 where
   pub late : is_late E.epoch (team.worker k) ≡ true
   pub left : (team.worker k).done < 8
 
--- a register that does not lead into the old space stays
+-- a register that leads nowhere, or at least not into the old space, stays
 abbrev pub PassingRegisterKeeps : Type 0
 PassingRegisterKeeps = (E : Era) (m : Memory) (team : Team) (g : Ghost) (k : ℕ) → Invariant E m team g → HasRegister E team k
     → (team.worker k).quest ≡ None → ¬ (Leads E ((team.worker k).registers (team.worker k).done))
     → Keeps E m m team (with_worker team k (forwarded (team.worker k) ((team.worker k).registers (team.worker k).done))) g
 
--- for one that does, the worker asks for the copy
+-- for one that is a pointer, and so leads into the old space, the worker asks for the copy
 abbrev pub asking_for : Worker → ℕ → Worker
 asking_for w a = record w { quest = Some (record { old = a; origin = Register w.done; found = None }) }
 
 abbrev pub AskingForRegisterKeeps : Type 0
 AskingForRegisterKeeps = (E : Era) (m : Memory) (team : Team) (g : Ghost) (k a : ℕ) → Invariant E m team g → HasRegister E team k
-    → (team.worker k).quest ≡ None → decode ((team.worker k).registers (team.worker k).done) ≡ PointerWord a → E.old_start ≤ a → a < E.old_start + E.old_span
+    → (team.worker k).quest ≡ None → decode ((team.worker k).registers (team.worker k).done) ≡ PointerWord a
     → Keeps E m m team (with_worker team k (asking_for (team.worker k) a)) g
 
 -- worker k has found the copy that its register asked for

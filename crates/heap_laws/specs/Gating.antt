@@ -6,7 +6,7 @@ use Rattle.space_map.specs.GateWord.{GateFits}
 use Rattle.heap_state.specs.Era.{Era, Memory}
 use Rattle.heap_state.specs.Ghost.{Ghost}
 use Rattle.heap_state.specs.Inductive.{Invariant}
-use Rattle.heap_state.specs.Worker.{Worker, Team, Running, Stopped, Flipping, Gone, Passage, Enter, Park, Request, Forwarded, Resume, Leave, GateStep}
+use Rattle.heap_state.specs.Worker.{Worker, Team, Scanner, Running, Stopped, Flipping, Gone, Passage, Enter, Park, Request, Forwarded, Resume, Leave, GateStep}
 use Rattle.heap_laws.specs.Keeping.{Keeps}
 use Rattle.heap_laws.specs.Steps.{with_worker}
 
@@ -29,7 +29,7 @@ into_epoch w epoch = record w { epoch = epoch; done = 0; stock = None; round = N
 
 -- the worker that runs no more: it knows of no page any more that it is open
 abbrev pub out_of_run : Worker → Worker
-out_of_run w = record w { access = None; board_open = false; gate_step = None }
+out_of_run w = record w { access = None; opened = None; gate_step = None }
 
 -- the worker after a passage, in an epoch
 abbrev pub worker_after : ℕ → Passage → Worker → Worker
@@ -50,6 +50,11 @@ pub record WinsGate (E : Era) (m : Memory) (team : Team) (k : ℕ) (s : GateStep
 abbrev pub PassingGateKeeps : Type 0
 PassingGateKeeps = (E : Era) (m : Memory) (team : Team) (g : Ghost) (k : ℕ) (s : GateStep) → Invariant E m team g → WinsGate E m team k s
     → Keeps E m (with_gate m (gate_after s.passage m.gate)) team (with_worker team k (worker_after m.gate.epoch s.passage (team.worker k))) g
+
+-- a scanner that scans nothing takes the epoch of the gate that it reads
+abbrev pub TakingEpochKeeps : Type 0
+TakingEpochKeeps = (E : Era) (m : Memory) (team : Team) (g : Ghost) (k : ℕ) → Invariant E m team g → k < team.count → m.gate.epoch ≡ E.epoch
+    → (team.worker k).post ≡ Scanner → (team.worker k).scan ≡ None → Keeps E m m team (with_worker team k (into_epoch (team.worker k) m.gate.epoch)) g
 
 -- what the gate counts fits its word
 abbrev pub GatesFit : Type 0

@@ -1,5 +1,5 @@
 -- A step of a running mutator that stores nothing: it goes on, with other registers, another account, or another access.
-use Rattle.std.specs.Prelude.{◌≡◌, ℕ, ◌+◌, ◌/◌, ◌<◌, true, Some, None, slice_set}
+use Rattle.std.specs.Prelude.{◌≡◌, ℕ, ◌+◌, ◌<◌, true, Some, None, slice_set}
 use Rattle.plain_state.specs.State as plain
 use Rattle.space_map.specs.declared.page_word.PageWord.TheVariants.{Open}
 use Rattle.heap_state.specs.Cycle.{Cycle}
@@ -17,7 +17,7 @@ pub record MayHold (E : Era) (size writer : ℕ → ℕ) (w : ℕ) : Type 0 wher
   pub lands : Lands size writer w
 
 -- Mutator w goes on as `next`. It stands where it stood, and copies and scans what it did. What it knows it knew before, but
--- for its access, the board and whether the epoch is traced, of which what it says is so. Its registers hold what a mutator may
+-- for its access, a page found open and whether the epoch is traced, of which what it says is so. Its registers hold what a mutator may
 -- hold, as long as it has no end.
 pub record GoesOn (E : Era) (m : Memory) (g : Ghost) (w next : Worker) : Type 0 where
   pub post : next.post ≡ w.post
@@ -35,8 +35,8 @@ pub record GoesOn (E : Era) (m : Memory) (g : Ghost) (w next : Worker) : Type 0 
   pub last_look : (l : LastLook) → next.last_look ≡ Some l → w.last_look ≡ Some l
   pub traced_seen : next.traced_seen ≡ true → m.traced ≡ E.epoch + 1
   pub reset : (r : Reset) → next.reset ≡ Some r → w.reset ≡ Some r
-  pub access : (f : Access) → next.access ≡ Some f → Accesses E g.size g.writer g.kind m.page f
-  pub board_open : next.board_open ≡ true → m.page (E.board / 64) ≡ Open E.epoch
+  pub access : (f : Access) → next.access ≡ Some f → Accesses E g.size g.writer g.kind f
+  pub opened : (p : ℕ) → next.opened ≡ Some p → m.page p ≡ Open E.epoch
   pub registers : next.account.end ≡ None → (j : ℕ) → j < 8 → MayHold E g.size g.writer (next.registers j)
 
 -- a running mutator goes on: the invariant is kept

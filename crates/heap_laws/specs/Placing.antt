@@ -1,20 +1,20 @@
 -- A mutator places a new record in its run: its header is stored, and the words behind it are 0 already.
-use Rattle.std.specs.Prelude.{◌≡◌, ℕ, ◌+◌, ◌-◌, ◌<◌, ◌≤◌, true, [], ◌∷◌, ◌++◌, Some, replicate, slice_set}
-use Rattle.heap_words.specs.declared.kind.Kind.{Kind}
+use Rattle.std.specs.Prelude.{◌≡◌, ℕ, ◌+◌, ◌-◌, ◌<◌, ◌≤◌, true, Some, replicate}
+use Rattle.plain_state.specs.declared.kind.Kind.{Kind}
 use Rattle.heap_words.specs.Decoded.{HeaderWord, PointerWord, decode}
 use Rattle.plain_state.specs.declared.value.Identity.{Identity}
 use Rattle.plain_state.specs.declared.value.Value.TheVariants.{Number, Reference}
 use Rattle.plain_state.specs.State as plain
+use Rattle.plain_state.specs.Writing.{with_heap, gained}
 use Rattle.heap_state.specs.Cycle.{Cycle}
 use Rattle.heap_state.specs.Era.{Era, IsLaidOut, Memory}
 use Rattle.heap_state.specs.Functions.{put}
-use Rattle.heap_state.specs.Ghost.{Ghost}
+use Rattle.heap_state.specs.Ghost.{Ghost, header_kind}
 use Rattle.heap_state.specs.Inductive.{Invariant}
-use Rattle.heap_state.specs.Values.{Shown, kind_of, value_of}
+use Rattle.heap_state.specs.Values.{Shown, Shows, value_of}
 use Rattle.heap_state.specs.Worker.{Worker, Team, Stock, is_running}
 use Rattle.heap_laws.specs.Steps.{with_word, with_worker}
 use Rattle.heap_laws.specs.Allocating.{HasStock}
-use Rattle.heap_laws.specs.Fields.{with_heap}
 use Rattle.heap_laws.specs.MutatorSteps.{MayHold}
 
 -- ---- what is placed
@@ -34,11 +34,9 @@ placed team k q z = record (team.worker k) {
   account = record (team.worker k).account { serial = (team.worker k).account.serial + 1 };
 }
 
--- the plain heap in which mutator k has made one more record, of n words, all 0
-abbrev pub gained : plain.Heap → ℕ → Kind → ℕ → plain.Heap
-gained heap k c n = record heap {
-  records = slice_set heap.records k (plain.made_by heap k ++ record { kind = kind_of c; values = replicate n (Number 0) } ∷ []);
-}
+-- a record of this kind of n words, all 0
+abbrev pub zeros_of : Kind → ℕ → plain.Record
+zeros_of c n = record { kind = c; values = replicate n (Number 0) }
 
 -- ---- the law
 
@@ -49,18 +47,23 @@ pub record PlacesNext (E : Era) (team : Team) (k : ℕ) (q : Stock) (c : Kind) (
   pub run : (q.zeroed ≡ q.end) × (q.opened ≡ q.end)
   pub some : 0 < z
   pub fits : q.at + z ≤ q.end
-  pub header : decode v ≡ HeaderWord c (z - 1) ((team.worker k).account.serial + 1) k
+  pub header : decode v ≡ HeaderWord (header_kind c) (z - 1) ((team.worker k).account.serial + 1) k
 
 -- the header is stored
 abbrev pub RecordsArePlaced : Type 0
 RecordsArePlaced = (E : Era) (m : Memory) (team : Team) (g : Ghost) (k : ℕ) (q : Stock) (c : Kind) (z v : ℕ) → IsLaidOut E → Invariant E m team g
     → PlacesNext E team k q c z v → Invariant E (with_word m q.at v) (with_worker team k (placed team k q z)) (born g q.at z c (next_identity team k))
 
--- the plain heap gains the record
+-- the plain heap gains the record that the words behind the header show
 abbrev pub PlacingShows : Type 0
-PlacingShows = (E : Era) (m : Memory) (team : Team) (g : Ghost) (p : plain.Plain) (k : ℕ) (q : Stock) (c : Kind) (z v : ℕ) → IsLaidOut E → Invariant E m team g
-    → PlacesNext E team k q c z v → Shown E m team g p
-    → Shown E (with_word m q.at v) (with_worker team k (placed team k q z)) (born g q.at z c (next_identity team k)) (with_heap p (gained p.heap k c (z - 1)))
+PlacingShows = (E : Era) (m : Memory) (team : Team) (g : Ghost) (p : plain.Plain) (k : ℕ) (q : Stock) (c : Kind) (z v : ℕ) (r : plain.Record) → IsLaidOut E → Invariant E m team g
+    → PlacesNext E team k q c z v → Shows (value_of g.identity) m.heap q.at c z r → Shown E m team g p
+    → Shown E (with_word m q.at v) (with_worker team k (placed team k q z)) (born g q.at z c (next_identity team k)) (with_heap p (gained p.heap k r))
+
+-- the words of a run, which are 0, show a record whose values all are 0
+abbrev pub ZerosShow : Type 0
+ZerosShow = (E : Era) (m : Memory) (team : Team) (g : Ghost) (k : ℕ) (q : Stock) (c : Kind) (z v : ℕ) → IsLaidOut E → Invariant E m team g
+    → PlacesNext E team k q c z v → Shows (value_of g.identity) m.heap q.at c z (zeros_of c (z - 1))
 
 abbrev pub PlacingKeepsCycle : Type 0
 PlacingKeepsCycle = (E : Era) (m : Memory) (team : Team) (g : Ghost) (p : plain.Plain) (k : ℕ) (q : Stock) (c : Kind) (z v : ℕ) → IsLaidOut E → Invariant E m team g

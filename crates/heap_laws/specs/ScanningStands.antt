@@ -15,7 +15,7 @@ use Rattle.heap_laws.specs.FlippingReset.{resetting}
 use Rattle.heap_laws.specs.Gating.{gate_after, worker_after}
 use Rattle.heap_laws.specs.Lifting.{stepped, StandsWith, StandsAsBefore}
 use Rattle.heap_laws.specs.Scanning.{WinsPage, begins_scan, HasScanned, ends_scan}
-use Rattle.heap_laws.specs.ScanningWords.{HasFound, scanning, on_to}
+use Rattle.heap_laws.specs.ScanningWords.{HasFound, scanning, past_word}
 use Rattle.heap_laws.specs.Tracing.{WinsTraced, has_traced}
 
 -- a configuration stands, and a cycle has begun of the plain state that it shows
@@ -31,7 +31,7 @@ pub record ScanStands (c : Configuration) (p : Plain) (s : Stands c p) (k : ℕ)
   pub page_opened : (d : Scan) → HasScanned (team c) k d
       → StandsAsBefore c (stepped c (Some (PageIs d.page (Open (era c).epoch))) k (ends_scan (worker_at c k))) p s.ghost s.ghost
   pub copy_stored : (d : Scan) (q : Quest) (b v : ℕ) → HasFound (era c) (team c) k d q b → decode v ≡ PointerWord b
-      → StandsAsBefore c (stepped c (Some (WordIs d.cursor v)) k (scanning (worker_at c k) (on_to (era c) d (d.cursor + 1)))) p s.ghost s.ghost
+      → StandsAsBefore c (stepped c (Some (WordIs d.cursor v)) k (scanning (worker_at c k) (past_word (era c) d))) p s.ghost s.ghost
   pub traced : (l : LastLook) → WinsTraced (memory c) (team c) k l
       → StandsAsBefore c (stepped c (Some (TracedIs ((era c).epoch + 1))) k (has_traced (worker_at c k))) p s.ghost s.ghost
   pub area_stored : (r : Reset) (u : ℕ) → (worker_at c k).reset ≡ Some r → r.used ≡ Some u

@@ -1,12 +1,13 @@
 -- The words of a page that is scanned: which are read, and what becomes of those that lead into the old space.
-use Rattle.std.specs.Prelude.{◌≡◌, ◌≢◌, ℕ, ◌+◌, ◌*◌, ◌/◌, ◌<◌, ◌≤◌, ◌==◌, ◌⊎◌, Bool, true, false, Some, None, nat_le, nat_lt, if◌then◌else◌}
-use Rattle.heap_words.specs.declared.kind.Kind.{Kind}
-use Rattle.heap_words.specs.declared.kind.Kind.TheVariants.{Fields, Raw}
+use Rattle.std.specs.Prelude.{◌≡◌, ◌≢◌, ℕ, ◌+◌, ◌*◌, ◌/◌, ◌<◌, ◌≤◌, ◌==◌, ◌⊎◌, Bool, true, false, Some, None, nat_le, if◌then◌else◌, ◌-◌}
+use Rattle.heap_words.specs.declared.kind.Kind.{Kind as HeaderKind}
+use Rattle.plain_state.specs.Layout.{is_field}
 use Rattle.heap_words.specs.Decoded.{PointerWord, HeaderWord, decode}
 use Rattle.heap_state.specs.Era.{Era, Memory, IsLaidOut}
-use Rattle.heap_state.specs.Ghost.{Ghost, OnBoard, Leads}
+use Rattle.heap_state.specs.Ghost.{Ghost, OnBoard, Leads, said_kind}
 use Rattle.heap_state.specs.Inductive.{Invariant}
 use Rattle.heap_state.specs.Worker.{Worker, Team, Seen, Scanned, Quest, Scan}
+use Rattle.heap_state.specs.FieldSpan.{next_in, next_from}
 use Rattle.heap_laws.specs.Keeping.{Keeps}
 use Rattle.heap_laws.specs.Steps.{with_worker, with_word}
 
@@ -24,14 +25,13 @@ is_past E page y = if page == E.board / 64 then nat_le (E.board + 16) y else nat
 abbrev pub on_to : Era → Scan → ℕ → Scan
 on_to E s y = record s { cursor = y; inner = false; ended = is_past E s.page y }
 
--- where the scan of a record of this kind and size at a goes on: at its first field from the cursor on, or past a raw record
-abbrev pub first_to_load : Kind → (a size cursor : ℕ) → ℕ
-first_to_load Fields a size cursor = if nat_lt a cursor then cursor else a + 1
-first_to_load Raw a size cursor = a + size
-
--- the scan in a record whose header was read
+-- the scan in a record whose header was read, at its first field from the cursor on
 abbrev pub in_record : Era → Scan → Seen → Scan
-in_record E s r = record (on_to E s (first_to_load r.kind r.at r.size s.cursor)) { current = Some r }
+in_record E s r = record (on_to E s (next_in r s.cursor)) { current = Some r }
+
+-- the scan past the word at the cursor
+abbrev pub past_word : Era → Scan → Scan
+past_word E s = on_to E s (next_from s.current (s.cursor + 1))
 
 -- worker k scans, and asks for no copy
 pub record IsScanning (team : Team) (k : ℕ) (s : Scan) : Type 0 where
@@ -39,10 +39,10 @@ pub record IsScanning (team : Team) (k : ℕ) (s : Scan) : Type 0 where
   pub scans : (team.worker k).scan ≡ Some s
   pub asks_nothing : (team.worker k).quest ≡ None
 
--- the cursor stands on a field: a board word, or a word of a record of fields
+-- the cursor stands on a board word, or on a field of a record
 pub record AtField (E : Era) (s : Scan) : Type 0 where
   pub on_page : s.cursor / 64 ≡ s.page
-  pub place : (OnBoard E s.cursor × (s.current ≡ None)) ⊎ ((r : Seen) × (s.current ≡ Some r) × (r.kind ≡ Fields) × (s.cursor < r.at + r.size))
+  pub place : (OnBoard E s.cursor × (s.current ≡ None)) ⊎ ((r : Seen) × (s.current ≡ Some r) × (is_field r.kind (s.cursor - r.at) ≡ true) × (s.cursor < r.at + r.size))
 
 -- ---- the records on the page
 
@@ -53,9 +53,9 @@ ReadingCrossingKeeps = (E : Era) (m : Memory) (team : Team) (g : Ghost) (k : ℕ
 
 -- the header of the record over the page's first word is read
 abbrev pub ReadingFirstHeaderKeeps : Type 0
-ReadingFirstHeaderKeeps = (E : Era) (m : Memory) (team : Team) (g : Ghost) (k : ℕ) (s : Scan) (a len serial mutator : ℕ) (kind : Kind) → IsLaidOut E → Invariant E m team g → IsScanning team k s
-    → s.page ≢ E.board / 64 → s.over ≡ Some a → s.cursor ≡ 64 * s.page → decode (m.heap a) ≡ HeaderWord kind len serial mutator
-    → Keeps E m m team (with_worker team k (scanning (team.worker k) (in_record E s (record { at = a; size = len + 1; kind = kind })))) g
+ReadingFirstHeaderKeeps = (E : Era) (m : Memory) (team : Team) (g : Ghost) (k : ℕ) (s : Scan) (a len serial mutator : ℕ) (head : HeaderKind) → IsLaidOut E → Invariant E m team g → IsScanning team k s
+    → s.page ≢ E.board / 64 → s.over ≡ Some a → s.cursor ≡ 64 * s.page → decode (m.heap a) ≡ HeaderWord head len serial mutator
+    → Keeps E m m team (with_worker team k (scanning (team.worker k) (in_record E s (record { at = a; size = len + 1; kind = said_kind head (m.heap (a + 1)) })))) g
 
 -- at a record's end on the page being filled, FRONT is read: the scan is at it, or another record begins
 abbrev pub ReadingFrontKeeps : Type 0
@@ -64,17 +64,17 @@ ReadingFrontKeeps = (E : Era) (m : Memory) (team : Team) (g : Ghost) (k : ℕ) (
 
 -- the header of the next record is read, on a full page or where FRONT was seen past it
 abbrev pub ReadingNextHeaderKeeps : Type 0
-ReadingNextHeaderKeeps = (E : Era) (m : Memory) (team : Team) (g : Ghost) (k : ℕ) (s : Scan) (r : Seen) (len serial mutator : ℕ) (kind : Kind) → IsLaidOut E → Invariant E m team g → IsScanning team k s
+ReadingNextHeaderKeeps = (E : Era) (m : Memory) (team : Team) (g : Ghost) (k : ℕ) (s : Scan) (r : Seen) (len serial mutator : ℕ) (head : HeaderKind) → IsLaidOut E → Invariant E m team g → IsScanning team k s
     → s.page ≢ E.board / 64 → s.current ≡ Some r → s.cursor ≡ r.at + r.size → s.cursor < 64 * s.page + 64 → (s.inner ≡ true) ⊎ (s.in_place ≡ false)
-    → decode (m.heap s.cursor) ≡ HeaderWord kind len serial mutator
-    → Keeps E m m team (with_worker team k (scanning (team.worker k) (in_record E s (record { at = s.cursor; size = len + 1; kind = kind })))) g
+    → decode (m.heap s.cursor) ≡ HeaderWord head len serial mutator
+    → Keeps E m m team (with_worker team k (scanning (team.worker k) (in_record E s (record { at = s.cursor; size = len + 1; kind = said_kind head (m.heap (s.cursor + 1)) })))) g
 
 -- ---- the fields
 
 -- a field that does not lead into the old space is passed
 abbrev pub PassingFieldKeeps : Type 0
 PassingFieldKeeps = (E : Era) (m : Memory) (team : Team) (g : Ghost) (k : ℕ) (s : Scan) → IsLaidOut E → Invariant E m team g → IsScanning team k s
-    → AtField E s → ¬ (Leads E (m.heap s.cursor)) → Keeps E m m team (with_worker team k (scanning (team.worker k) (on_to E s (s.cursor + 1)))) g
+    → AtField E s → ¬ (Leads E (m.heap s.cursor)) → Keeps E m m team (with_worker team k (scanning (team.worker k) (past_word E s))) g
 
 -- for one that does, the worker asks for the copy
 abbrev pub asking : Worker → Quest → Worker
@@ -97,4 +97,4 @@ pub record HasFound (E : Era) (team : Team) (k : ℕ) (s : Scan) (q : Quest) (b 
 -- a pointer to the copy is stored, and the word is passed
 abbrev pub StoringCopyKeeps : Type 0
 StoringCopyKeeps = (E : Era) (m : Memory) (team : Team) (g : Ghost) (k : ℕ) (s : Scan) (q : Quest) (b v : ℕ) → IsLaidOut E → Invariant E m team g → HasFound E team k s q b
-    → decode v ≡ PointerWord b → Keeps E m (with_word m s.cursor v) team (with_worker team k (scanning (team.worker k) (on_to E s (s.cursor + 1)))) g
+    → decode v ≡ PointerWord b → Keeps E m (with_word m s.cursor v) team (with_worker team k (scanning (team.worker k) (past_word E s))) g

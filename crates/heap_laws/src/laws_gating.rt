@@ -1,7 +1,7 @@
 //! The gate's other steps: a mutator attaches, parks, asks for a flip, has forwarded its registers, goes on, or leaves.
 
 ghost use Rattle.heap_laws.specs.Forgetting.{ReadingGateKeeps, SeeingTracedKeeps, ForgettingKeeps};
-ghost use Rattle.heap_laws.specs.Gating.{PassingGateKeeps, GatesFit};
+ghost use Rattle.heap_laws.specs.Gating.{PassingGateKeeps, TakingEpochKeeps, GatesFit};
 
 /// What a worker reads of the gate and of TRACED, and what it may forget.
 pub fn passages_are_made_ready()
@@ -13,6 +13,11 @@ pub fn passages_are_made_ready()
 /// The exchange of the gate, whichever passage it is for.
 pub fn gates_are_passed()
     ensures { PassingGateKeeps }
+{}
+
+/// A scanner takes the epoch of the gate that it reads.
+pub fn epochs_are_taken()
+    ensures { TakingEpochKeeps }
 {}
 
 /// What the gate counts fits its word.

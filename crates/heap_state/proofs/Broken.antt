@@ -2,22 +2,23 @@
 use Rattle.std.proofs.Common.{◌≡◌, ◌+◌, ◌/◌, ◌≤◌, [], ◌∷◌, Some, None, refl, sym, ◌∙◌, arith, inl, inr, subst}
 use Rattle.std.specs.Prelude.{List, length, slice_get}
 use Rattle.std.specs.List.{Contains}
-use Rattle.heap_words.specs.declared.kind.Kind.TheVariants.{Fields}
+use Rattle.plain_state.specs.declared.kind.Kind.TheVariants.{Fields}
 use Rattle.heap_words.specs.Decoded.{decode}
 use Rattle.heap_words.specs.Word.{header_word, pointer_word, forward_word, busy_word, number_word, tag_of}
 use Rattle.heap_words.proofs.Decoding.{decode-pointer_word, decode-header_word}
 use Rattle.space_map.specs.declared.page_word.PageWord.TheVariants.{Open}
 use Rattle.heap_state.specs.Configuration.{table, era, memory}
-use Rattle.heap_state.specs.Denotes.{denoted}
+use Rattle.heap_state.specs.Denotes.{denoted, denoted_in}
+use Rattle.heap_state.specs.Dump.{dump_of}
 use Rattle.heap_state.specs.Entries.{PageIs, AreaIs, WordIs}
-use Rattle.heap_state.specs.Era.{era_of, memory_of}
+use Rattle.heap_state.specs.Era.{memory_of}
 use Rattle.heap_state.specs.Functions.{put}
-use Rattle.heap_state.specs.Ghost.{Leads}
+use Rattle.heap_state.specs.Ghost.{Leads, header_kind}
 use Rattle.heap_state.specs.Holds.{AccessHolds, RoomHolds, IsWalkedField}
-use Rattle.heap_state.specs.Represents.{IsOwn, Represents}
+use Rattle.heap_state.specs.Represents.{IsCopying, IsOwn, Represents}
 use Rattle.heap_state.specs.Table.{Table}
 use Rattle.heap_state.specs.Theorems.Rows.{Written}
-use Rattle.heap_state.specs.Walk.{walk, walk_of}
+use Rattle.heap_state.specs.Walk.{walk, walk_of, old_walk_of}
 use Rattle.plain_state.specs.declared.kind.Kind.TheVariants as plain_kind
 use Rattle.plain_state.specs.declared.value.Value.{Value}
 use Rattle.plain_state.specs.declared.value.Value.TheVariants.{Reference}
@@ -35,8 +36,8 @@ area_60 = writes_tables 4 (AreaIs 1 (record { front = 5; low = 64; owed = 60 }) 
 pub short : ¬ (RoomHolds short_of_room)
 unfolding put
 short room =
-    let fits = subst (λ (t : Table). (memory_of t).traced ≤ (era_of t).epoch → (memory_of t).front + (memory_of t).owed ≤ (memory_of t).low) area_60.says room.fits in
-    let broken : 321 ≤ 320 = fits (omega arith) in
+    let fits = subst (λ (t : Table). IsCopying t → (memory_of t).front + (memory_of t).owed ≤ (memory_of t).low) area_60.says room.fits in
+    let broken : 321 ≤ 320 = fits (λ e. omega (arith, e)) in
     omega arith
 
 -- ---- an open page with a field that leads to an old record
@@ -44,15 +45,17 @@ short room =
 page_open : Written 4 (PageIs 4 (Open 1) ∷ worked_entries)
 page_open = writes_tables 4 (PageIs 4 (Open 1) ∷ worked_entries) ((omega arith, omega arith), entries_fit)
 
-the_copy : Contains (walk_of opened_early (era opened_early).epoch) (record { at = 256; size = 3 })
+the_copy : Contains (walk_of opened_early) (record { at = 256; size = 3 })
 unfolding put walk decode tag_of header_word
 the_copy = rw page_open.says (0, omega arith, refl)
 
-own_copy : IsOwn opened_early (record { at = 256; size = 3 }) Fields 2 1 0
+own_copy : IsOwn (dump_of opened_early) (record { at = 256; size = 3 }) Fields 2 1 0
 unfolding put
 own_copy = record {
   walked = inl the_copy;
-  header = rw page_open.says (rw (decode-header_word Fields 2 1 0 (omega arith) (omega arith)) refl);
+  head = header_kind Fields;
+  said = refl;
+  header = rw page_open.says (rw (decode-header_word (header_kind Fields) 2 1 0 (omega arith) (omega arith)) refl);
 }
 
 the_field : IsWalkedField opened_early 258
@@ -74,21 +77,26 @@ early access = access.opened 258 (inl the_field) is_open leads_back
 forward_257 : Written 4 (WordIs 192 (forward_word 2 257) ∷ worked_entries)
 forward_257 = writes_tables 4 (WordIs 192 (forward_word 2 257) ∷ worked_entries) (omega arith, entries_fit)
 
-the_second : Contains (walk_of forwarded_wrong 0) (record { at = 195; size = 2 })
+the_second : Contains (old_walk_of forwarded_wrong) (record { at = 195; size = 2 })
 unfolding put walk decode tag_of header_word forward_word busy_word
 the_second = rw forward_257.says (1, omega arith, refl)
 
-own_second : IsOwn forwarded_wrong (record { at = 195; size = 2 }) Fields 1 2 0
+in_old : IsCopying (table forwarded_wrong)
+in_old = rw forward_257.says (λ e. omega (arith, e))
+
+own_second : IsOwn (dump_of forwarded_wrong) (record { at = 195; size = 2 }) Fields 1 2 0
 unfolding put decode tag_of busy_word header_word
 own_second = record {
-  walked = inr (rw forward_257.says (omega arith), (0, rw forward_257.says refl, the_second));
+  walked = inr (in_old, the_second);
+  head = header_kind Fields;
+  said = refl;
   header = rw forward_257.says refl;
 }
 
 -- the field that leads to the old place denotes nothing
 denotes_nothing : denoted forwarded_wrong ((table forwarded_wrong).heap 196) ≡ None
-unfolding put denoted decode tag_of pointer_word forward_word number_word
-denotes_nothing = rw (forward_257.says, forward_257.says, forward_257.says) refl
+unfolding put denoted_in decode tag_of pointer_word forward_word number_word
+denotes_nothing = rw forward_257.says refl
 
 abbrev pub second : plain.Record
 second = record { kind = plain_kind.Fields; values = Reference (made 1) ∷ [] }
@@ -100,7 +108,7 @@ one_value (v ∷ values) e = (v, refl)
 
 pub wrong : (p : plain.Plain) → ¬ (Represents forwarded_wrong p)
 wrong p represents =
-    let r = (represents.records (record { at = 195; size = 2 }) Fields 1 2 0 own_second).2 in
+    let r = ((represents.dump.records (record { at = 195; size = 2 }) own_second.walked).shows Fields 1 2 0 own_second).1 in
     let v = one_value r.0.values r.2.size in
-    let shown : denoted forwarded_wrong ((table forwarded_wrong).heap 196) ≡ slice_get r.0.values 0 = r.2.fields 1 (omega arith) (omega arith) refl in
+    let shown : denoted forwarded_wrong ((table forwarded_wrong).heap 196) ≡ slice_get r.0.values 0 = (let z = r.2.size in r.2.fields 0 (omega (arith, z)) refl) in
     none≢some (sym denotes_nothing ∙ (shown ∙ v.1))

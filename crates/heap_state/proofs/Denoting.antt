@@ -5,9 +5,13 @@ use Rattle.heap_words.specs.Decoded.{Decoded, NumberWord, PointerWord, HeaderWor
 use Rattle.plain_state.specs.declared.value.Identity.{Identity}
 use Rattle.space_map.specs.declared.page_word.PageWord.TheVariants.{Open}
 use Rattle.heap_state.specs.Configuration.{Configuration, era, memory, team}
-use Rattle.heap_state.specs.Denotes.{own_header, named_at, denoted, denoted_by}
+use Rattle.heap_state.specs.Denotes.{named_in, denoted, denoted_in, denoted_by}
+use Rattle.heap_state.specs.Dump.{dump_of}
+use Rattle.heap_state.specs.Kept.{kept_of}
+use Rattle.heap_state.specs.Represents.{own_header}
+use Rattle.heap_state.proofs.Reserving.{kept_there}
 use Rattle.heap_state.specs.Era.{Era, Memory}
-use Rattle.heap_state.specs.Ghost.{Ghost, IsField, Here, Leads, Lands}
+use Rattle.heap_state.specs.Ghost.{Ghost, IsField, Here, Leads, Lands, header_kind}
 use Rattle.heap_state.specs.Inductive.{Invariant}
 use Rattle.heap_state.specs.Values.{value_of, value_said}
 use Rattle.heap_state.proofs.Holding.{First, OwnHeader, KeptBy, GoneTo, first, keeper, uncopied_here}
@@ -22,30 +26,30 @@ module _ (c : Configuration) (g : Ghost) (inv : Invariant (era c) (memory c) (te
 
   -- the header of a record, by its kind, size and identity
   abbrev pub header_of : ℕ → Decoded
-  header_of a = HeaderWord (g.kind a) (g.size a - 1) (g.identity a).serial (g.identity a).mutator
+  header_of a = HeaderWord (header_kind (g.kind a)) (g.size a - 1) (g.identity a).serial (g.identity a).mutator
 
   -- a record has its own header, or is forwarded to its copy
   pub data Headers (a : ℕ) : Type 0 where
-    Own : own_header c a ≡ header_of a → (g.copy a ≡ 0) ⊎ (0 < g.keeper a) → Headers a
-    Forwarded : (b : ℕ) → own_header c a ≡ Malformed → g.keeper a ≡ 0 → g.copy a ≡ b + 1 → decode (m.heap a) ≡ ForwardWord (g.size a - 1) b → Headers a
+    Own : own_header (dump_of c) a ≡ header_of a → (g.copy a ≡ 0) ⊎ (0 < g.keeper a) → Headers a
+    Forwarded : (b : ℕ) → own_header (dump_of c) a ≡ Malformed → g.keeper a ≡ 0 → g.copy a ≡ b + 1 → decode (m.heap a) ≡ ForwardWord (g.size a - 1) b → Headers a
 
   pub headers : (a : ℕ) → 0 < g.size a → g.writer a ≡ 0 → Headers a
   headers a st w = by_first (first E m (team c) g inv a st w)
     where
       by_first : First E m (team c) g inv a → Headers a
       by_first (OwnHeader n y e) = Own (rw e refl) (inl n)
-      by_first (KeptBy k y e) = let kp = keeper E m (team c) g inv a k st y in Own (rw (e, kp.copies) kp.keeps) (inr (omega arith))
+      by_first (KeptBy k y e) = let kp = keeper E m (team c) g inv a k st y in Own (rw (e, kept_there c.workers k, kp.copies) kp.keeps) (inr (omega arith))
       by_first (GoneTo b y n e) = Forwarded b (rw e refl) y n e
 
   -- ---- words
 
   -- at a record that nobody writes its identity is named
-  pub named : (a : ℕ) → 0 < g.size a → g.writer a ≡ 0 → named_at c (decode (m.heap a)) ≡ Some (g.identity a)
+  pub named : (a : ℕ) → 0 < g.size a → g.writer a ≡ 0 → named_in m.heap (kept_of c.workers) (decode (m.heap a)) ≡ Some (g.identity a)
   named a st w = by_first (first E m (team c) g inv a st w)
     where
-      by_first : First E m (team c) g inv a → named_at c (decode (m.heap a)) ≡ Some (g.identity a)
+      by_first : First E m (team c) g inv a → named_in m.heap (kept_of c.workers) (decode (m.heap a)) ≡ Some (g.identity a)
       by_first (OwnHeader n y e) = rw e refl
-      by_first (KeptBy k y e) = let kp = keeper E m (team c) g inv a k st y in rw (e, kp.copies, kp.keeps) refl
+      by_first (KeptBy k y e) = let kp = keeper E m (team c) g inv a k st y in rw (e, kept_there c.workers k, kp.copies, kp.keeps) refl
       by_first (GoneTo b y n e) =
           let t = inv.copied.target a b st n in
           let sb : 0 < g.size b = omega (arith, t.4) in
@@ -55,10 +59,10 @@ module _ (c : Configuration) (g : Ghost) (inv : Invariant (era c) (memory c) (te
 
   -- a word that lands denotes the value that the proofs give it
   pub denotes : (w : ℕ) → Lands g.size g.writer w → denoted c w ≡ value_of g.identity w
-  unfolding denoted value_of Lands
+  unfolding denoted_in value_of Lands
   denotes w lands = by_word (decode w) refl
     where
-      by_word : (d : Decoded) → decode w ≡ d → denoted_by c d ≡ value_said g.identity d
+      by_word : (d : Decoded) → decode w ≡ d → denoted_by m.heap (kept_of c.workers) d ≡ value_said g.identity d
       by_word (NumberWord n) e = refl
       by_word (PointerWord a) e = let l = lands a e in rw (named a l.0 l.1) refl
       by_word (HeaderWord k l s o) e = refl

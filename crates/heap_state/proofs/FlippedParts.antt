@@ -2,7 +2,7 @@
 use Rattle.std.proofs.Common.{◌≡◌, ◌≢◌, ℕ, ◌+◌, ◌/◌, ◌<◌, ◌≤◌, Some, true, false, zero, suc, refl, sym, ◌∙◌, arith, ⊎_elim, inl, inr}
 use Rattle.std.specs.Prelude.{if◌then◌else◌, ◌==◌, nat_lt}
 use Rattle.std.proofs.lemmas.Bool.{cases_eq, ne_eqb}
-use Rattle.heap_words.specs.declared.kind.Kind.TheVariants.{Raw}
+use Rattle.plain_state.specs.declared.kind.Kind.TheVariants.{Raw}
 use Rattle.heap_words.specs.Decoded.{PointerWord, NumberWord, HeaderWord, decode}
 use Rattle.heap_words.specs.Word.{number_word, pointer_word}
 use Rattle.heap_words.proofs.Decoding.{decode-number_word, decode-pointer_word, decode-header_word}
@@ -15,12 +15,12 @@ use Rattle.heap_state.specs.Entries.{table_with}
 use Rattle.heap_state.specs.Era.{Era}
 use Rattle.heap_state.specs.Flipped.{flipped, flipped_entries}
 use Rattle.heap_state.specs.Functions.{put, sum_below}
-use Rattle.heap_state.specs.Ghost.{Ghost, Here, Leads, Lands}
+use Rattle.heap_state.specs.Ghost.{Ghost, Here, Leads, Lands, header_kind}
 use Rattle.heap_state.specs.Parts.Copies.{Copied, Once, Kept, Room}
 use Rattle.heap_state.specs.Parts.Crossing.{Crossing}
 use Rattle.heap_state.specs.Parts.Gate.{Counted, Staffed}
 use Rattle.heap_state.specs.Parts.Leading.{Opened, Landing, Older}
-use Rattle.heap_state.specs.Parts.OldSpace.{OldSpace}
+use Rattle.heap_state.specs.Parts.OldSpace.{OldSpace, OldArea}
 use Rattle.heap_state.specs.Parts.Pages.{Shut, Filling, Tracing, Aged, OldPages, ScannedBy}
 use Rattle.heap_state.specs.Parts.Records.{Laid, Headed, NewArea, NewWritten, SpaceOf, RawWords}
 use Rattle.heap_state.specs.Parts.Stocks.{Stocks, Stocked, Numbered}
@@ -64,9 +64,9 @@ only a st = ⊎_elim (λ (e : a ≡ 192). (e, rw e refl)) (λ (n : a ≢ 192). a
 
 -- ---- words
 
-pub word_192 : decode (heap 192) ≡ HeaderWord Raw 2 1 0
+pub word_192 : decode (heap 192) ≡ HeaderWord (header_kind Raw) 2 1 0
 unfolding put
-word_192 = decode-header_word Raw 2 1 0 (omega arith) (omega arith)
+word_192 = decode-header_word (header_kind Raw) 2 1 0 (omega arith) (omega arith)
 
 pub blank_word : (x : ℕ) → 195 ≤ x → heap x ≡ 0
 unfolding put
@@ -184,6 +184,9 @@ pub aged : Aged flipped_era page
 unfolding put
 aged = record { young = λ p. let b = before p in omega (arith, b); board = omega arith }
 
+pub old_words : OldArea flipped_era 0 192
+old_words = record { order = (omega arith, omega arith, omega arith) }
+
 pub old_pages : OldPages flipped_era 0 page
 old_pages = record { old = λ p l m. absurd (omega arith) }
 
@@ -250,4 +253,4 @@ stocks = record { stocked = by_number; apart = λ j k l m n p q e f d o. absurd 
     by_number (suc k) l q e n = absurd (omega arith)
 
 pub numbered : Numbered 1 size identity workers.worker
-numbered = record { maker = λ a st. omega arith; first = λ a st. omega arith; last = λ a st. omega arith }
+numbered = record { maker = λ a st. omega arith; last = λ a st. omega arith }

@@ -2,28 +2,29 @@
 use Rattle.std.proofs.Common.{◌≡◌, ◌≢◌, ℕ, ◌+◌, ◌<◌, [], ◌∷◌, Some, true, zero, suc, refl, sym, ◌∙◌, arith, ⊎_elim, inr}
 use Rattle.std.specs.Prelude.{slice_get}
 use Rattle.std.proofs.lemmas.Bool.{cases_eq, ne_eqb}
-use Rattle.heap_words.specs.declared.kind.Kind.TheVariants.{Raw}
+use Rattle.plain_state.specs.declared.kind.Kind.TheVariants.{Raw}
 use Rattle.heap_words.specs.Decoded.{PointerWord, NumberWord, decode}
 use Rattle.heap_words.specs.Word.{header_word, pointer_word, tag_of}
 use Rattle.plain_state.specs.declared.value.Value.TheVariants.{Number, Reference}
 use Rattle.plain_state.specs.State as plain
 use Rattle.heap_state.specs.Configuration.{team, Stands}
-use Rattle.heap_state.specs.Denotes.{denoted}
+use Rattle.heap_state.specs.Denotes.{denoted, denoted_in}
 use Rattle.heap_state.specs.Entries.{EachFits}
 use Rattle.heap_state.specs.Era.{era_of, memory_of}
 use Rattle.heap_state.specs.Flipped.{flipped, flipped_entries, flipped_plain, late_mutator}
 use Rattle.heap_state.specs.Functions.{put}
 use Rattle.heap_state.specs.Inductive.{Invariant, Knows}
 use Rattle.heap_state.specs.Parts.Knowledge.{Clean}
+use Rattle.std.proofs.Common.{◌⊎◌, inl, inr, ◌≤◌}
 use Rattle.heap_state.specs.Sums.{uncopied}
 use Rattle.heap_state.specs.Theorems.Examples.{IsWorkedOutFlipped}
 use Rattle.heap_state.specs.Theorems.Rows.{Written}
 use Rattle.heap_state.specs.Theorems.Standing.{IsSound}
 use Rattle.heap_state.specs.Values.{value_of, ShowsAll, Accounts, RegistersShow, BoardShows, Shown}
-use Rattle.heap_state.specs.Walk.{walk, walk_of}
+use Rattle.heap_state.specs.Walk.{walk, old_walk_of}
 use Rattle.heap_state.specs.Worked.{made}
 use Rattle.heap_state.specs.Worker.{Worker}
-use Rattle.heap_state.proofs.FlippedParts.{flipped_table, flipped_era, flipped_ghost, workers, heap, page, size, none, identity, only, blank_word, zero_word, first_register, number_lands, pointer_lands, counted, staffed, laid, headed, copied, once, kept_by, room, raw_words, shut, filling, tracing, aged, scanned, opened, landing, older, new_area, new_written, old_space, old_pages, crossing, stocks, numbered}
+use Rattle.heap_state.proofs.FlippedParts.{flipped_table, flipped_era, flipped_ghost, workers, heap, page, size, none, identity, only, blank_word, zero_word, first_register, number_lands, pointer_lands, counted, staffed, laid, headed, copied, once, kept_by, room, raw_words, shut, filling, tracing, aged, scanned, opened, landing, older, new_area, new_written, old_space, old_words, old_pages, crossing, stocks, numbered}
 use Rattle.heap_state.proofs.Idle.{idle_knows}
 use Rattle.heap_state.proofs.Keeping.{holds}
 use Rattle.heap_state.proofs.Puts.{some_same, none≢some, true_false}
@@ -43,7 +44,12 @@ clean = record {
       (λ (e : j ≡ 0). rw e (pointer_lands (pointer_word 192) 192 first_register (omega arith)))
       (λ (d : j ≢ 0). rw (ne_eqb j 0 d) (number_lands 0 0 zero_word))
       (cases_eq j 0);
+  old = λ t j b l m e. old j b e (cases_eq j 0);
 }
+  where
+    old : (j b : ℕ) → decode (late_mutator.registers j) ≡ PointerWord b → (j ≡ 0) ⊎ (j ≢ 0) → (0 ≤ b) × (b < 256)
+    old j b e (inl z) = let q : PointerWord 192 ≡ PointerWord b = sym first_register ∙ rw z at e in let s : 192 ≡ b = cc in (omega arith, omega (arith, s))
+    old j b e (inr n) = absurd (let q : NumberWord 0 ≡ PointerWord b = sym zero_word ∙ rw (ne_eqb j 0 n) at e in cc)
 
 mutator_knows : Known 0 late_mutator
 mutator_knows = idle_knows (assumption)
@@ -82,6 +88,7 @@ keeps = record {
   new = new_area;
   new_written = new_written;
   old_space = old_space;
+  old_area = old_words;
   old_pages = old_pages;
   crossing = crossing;
   stocks = stocks;
@@ -108,11 +115,11 @@ objects = record {
     record {
       kind = refl;
       size = refl;
-      fields = λ i a b f. absurd (cc);
-      words = λ i a b f. ⊎_elim
-          (λ (q : i ≡ 1). rw q refl)
-          (λ (n : i ≢ 1). let q : i ≡ 2 = omega arith in rw q refl)
-          (cases_eq i 1);
+      fields = λ x l f. absurd (cc);
+      numbers = λ x l f. ⊎_elim
+          (λ (q : x ≡ 0). rw q refl)
+          (λ (n : x ≢ 0). let q : x ≡ 1 = omega arith in rw q refl)
+          (cases_eq x 0);
     },
   );
 }
@@ -190,16 +197,16 @@ stands = record {
 sound : IsSound flipped flipped_plain
 sound = record { holds = holds flipped stands.ghost stands.invariant; represents = represents flipped stands.ghost stands.invariant flipped_plain stands.shown }
 
-old : walk_of flipped 0 ≡ record { at = 192; size = 3 } ∷ []
+old : old_walk_of flipped ≡ record { at = 192; size = 3 } ∷ []
 unfolding put walk decode tag_of header_word
 old = rw table_is.says refl
 
-uncopied_words : uncopied flipped (walk_of flipped 0) ≡ 3
+uncopied_words : uncopied flipped (old_walk_of flipped) ≡ 3
 unfolding put decode tag_of header_word
 uncopied_words = rw (old, table_is.says) refl
 
 in_place : denoted flipped (pointer_word 192) ≡ Some (Reference (made 1))
-unfolding put denoted decode tag_of pointer_word header_word
+unfolding put denoted_in decode tag_of pointer_word header_word
 in_place = rw table_is.says refl
 
 pub worked_out_flipped : IsWorkedOutFlipped

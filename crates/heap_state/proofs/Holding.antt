@@ -3,7 +3,7 @@ use Rattle.std.proofs.Common.{◌≡◌, ◌≢◌, ℕ, ◌+◌, ◌-◌, ◌<�
 use Rattle.std.proofs.lemmas.Bool.{cases_eq, cases_lt, cases_Bool}
 use Rattle.heap_words.specs.Decoded.{HeaderWord, BusyWord, ForwardWord, decode}
 use Rattle.heap_state.specs.Era.{Era, Memory, IsLaidOut}
-use Rattle.heap_state.specs.Ghost.{Ghost}
+use Rattle.heap_state.specs.Ghost.{Ghost, header_kind}
 use Rattle.heap_state.specs.Inductive.{Invariant, Knows}
 use Rattle.heap_state.specs.Walk.{Record, met_word}
 use Rattle.heap_state.specs.Worker.{Team, Copy}
@@ -15,7 +15,7 @@ pub record Keeper (g : Ghost) (team : Team) (a k : ℕ) : Type 0 where
   pub copies : (team.worker k).copy ≡ Some copy
   pub from : copy.from ≡ a
   pub sized : copy.size ≡ g.size a
-  pub keeps : decode copy.header ≡ HeaderWord (g.kind a) (g.size a - 1) (g.identity a).serial (g.identity a).mutator
+  pub keeps : decode copy.header ≡ HeaderWord (header_kind (g.kind a)) (g.size a - 1) (g.identity a).serial (g.identity a).mutator
 
 -- the worker at k writes the copy at b, in the place that it has reserved
 pub record Writer (g : Ghost) (team : Team) (b k : ℕ) : Type 0 where
@@ -71,7 +71,7 @@ module _ (E : Era) (m : Memory) (team : Team) (g : Ghost) (inv : Invariant E m t
 
   -- what stands at the place of a record that nobody writes
   pub data First (a : ℕ) : Type 0 where
-    OwnHeader : g.copy a ≡ 0 → g.keeper a ≡ 0 → decode (m.heap a) ≡ HeaderWord (g.kind a) (g.size a - 1) (g.identity a).serial (g.identity a).mutator → First a
+    OwnHeader : g.copy a ≡ 0 → g.keeper a ≡ 0 → decode (m.heap a) ≡ HeaderWord (header_kind (g.kind a)) (g.size a - 1) (g.identity a).serial (g.identity a).mutator → First a
     KeptBy : (k : ℕ) → g.keeper a ≡ k + 1 → decode (m.heap a) ≡ BusyWord (g.size a - 1) k → First a
     GoneTo : (b : ℕ) → g.keeper a ≡ 0 → g.copy a ≡ b + 1 → decode (m.heap a) ≡ ForwardWord (g.size a - 1) b → First a
 

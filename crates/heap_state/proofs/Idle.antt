@@ -11,7 +11,7 @@ use Rattle.heap_state.proofs.Puts.{none≢some, true_false}
 
 pub record Idle (w : Worker) : Type 0 where
   pub access : w.access ≡ None
-  pub board_open : w.board_open ≡ false
+  pub opened : w.opened ≡ None
   pub quest : w.quest ≡ None
   pub copy : w.copy ≡ None
   pub scan : w.scan ≡ None
@@ -36,7 +36,7 @@ idle_knows i timely ends outside stock registers counted kept = record {
   registers = registers;
   active = λ f e. none≢some (sym i.access ∙ e);
   access = λ f e. none≢some (sym i.access ∙ e);
-  board = λ e. true_false i.board_open e;
+  opened = λ p e. none≢some (sym i.opened ∙ e);
   origin = λ q e. none≢some (sym i.quest ∙ e);
   quest = λ q e. none≢some (sym i.quest ∙ e);
   licensed = record { licensed = λ c e. none≢some (sym i.copy ∙ e); asked = λ c e. none≢some (sym i.copy ∙ e); counted = counted; idle = λ e. kept };

@@ -1,21 +1,25 @@
 -- A configuration that keeps the invariant of its proofs keeps the one by words and workers.
 use Rattle.std.proofs.Common.{◌≡◌, ◌≢◌, ℕ, zero, suc, ◌+◌, ◌-◌, ◌*◌, ◌/◌, ◌<◌, ◌≤◌, true, false, Some, refl, sym, ap, ◌∙◌, arith, ⊎_elim, ◌⊎◌, inl, inr}
-use Rattle.std.proofs.lemmas.Bool.{cases_eq, cases_lt, cases_Bool, eq-eqb}
+use Rattle.std.proofs.lemmas.Bool.{cases_eq, cases_lt, cases_Bool, eq-eqb, ne_eqb}
 use Rattle.heap_words.specs.Decoded.{BusyWord, ForwardWord, decode}
+use Rattle.space_map.specs.declared.page_word.PageWord.TheVariants.{Open}
 use Rattle.heap_state.specs.Configuration.{Configuration, era, memory, team}
 use Rattle.heap_state.specs.Era.{Era, Memory}
-use Rattle.heap_state.specs.Ghost.{Ghost, Here, OnBoard}
-use Rattle.heap_state.specs.Holds.{worker_of, IsWalkedField, IsReserved, GateHolds, HeadersHold, AccessHolds, RoomHolds, CrossingHolds, ClaimsHold, FreeHolds, Holds}
+use Rattle.heap_state.specs.Ghost.{Ghost, Here, OnBoard, header_kind}
+use Rattle.heap_state.specs.Holds.{worker_of, IsWalkedField, GateHolds, HeadersHold, AccessHolds, RoomHolds, CrossingHolds, ClaimsHold, FreeHolds, Holds}
 use Rattle.heap_state.specs.Inductive.{Invariant, Knows}
 use Rattle.heap_state.specs.Parts.Copies.{owing}
 use Rattle.heap_state.specs.Parts.Stocks.{Stocked}
+use Rattle.heap_state.specs.Dump.{dump_of}
+use Rattle.heap_state.specs.Kept.{kept_of, size_said, IsReservedIn}
 use Rattle.heap_state.specs.Represents.{IsInHeap}
+use Rattle.heap_state.proofs.Reserving.{kept_there}
 use Rattle.heap_state.specs.Sums.{is_uncopied}
 use Rattle.heap_state.specs.Walk.{Walked}
 use Rattle.heap_state.specs.Worker.{Post, Scanner, Outside, Running, Stopped, Flipping, Gone, Claim, Stock, is_live, is_running, is_flipper, is_late}
 use Rattle.heap_state.proofs.Denoting.{none_leads}
 use Rattle.heap_state.proofs.Holding.{First, OwnHeader, KeptBy, GoneTo, first, keeper, writer, reserves}
-use Rattle.heap_state.proofs.InHeap.{in_heap_sound, lay, now_sound, now_complete, old_sum}
+use Rattle.heap_state.proofs.InHeap.{in_heap_sound, lay, now_sound, now_complete, old_sum, still_copying}
 use Rattle.heap_state.proofs.Owning.{walked_here}
 use Rattle.heap_state.proofs.Spaces.{IsOf}
 use Rattle.heap_state.proofs.Walking.{item}
@@ -54,7 +58,7 @@ module _ (c : Configuration) (g : Ghost) (inv : Invariant (era c) (memory c) (te
 
   -- ---- headers
 
-  kept_here : (w : Walked) (len k : ℕ) → IsInHeap c w → decode (m.heap w.at) ≡ BusyWord len k → (0 < g.size w.at) × (g.keeper w.at ≡ k + 1) × (g.size w.at - 1 ≡ len)
+  kept_here : (w : Walked) (len k : ℕ) → IsInHeap (dump_of c) w → decode (m.heap w.at) ≡ BusyWord len k → (0 < g.size w.at) × (g.keeper w.at ≡ k + 1) × (g.size w.at - 1 ≡ len)
   kept_here w len k h e =
       let known = in_heap_sound c g inv w h in
       let st : 0 < g.size w.at = omega (arith, known.sized) in
@@ -71,7 +75,7 @@ module _ (c : Configuration) (g : Ghost) (inv : Invariant (era c) (memory c) (te
     kept = λ w len k h e.
         let q = kept_here w len k h e in
         let kp = keeper E m (team c) g inv w.at k q.0 q.1 in
-        record { below = kp.below; copy = kp.copy; copies = kp.copies; from = kp.from; size = omega (arith, kp.sized, q); kind = g.kind w.at; serial = (g.identity w.at).serial; mutator = (g.identity w.at).mutator; header = rw q.2 at kp.keeps };
+        record { below = kp.below; copy = kp.copy; copies = kp.copies; from = kp.from; size = omega (arith, kp.sized, q); head = header_kind (g.kind w.at); serial = (g.identity w.at).serial; mutator = (g.identity w.at).mutator; header = rw q.2 at kp.keeps };
     alone = λ w len k other copy h e l cp from.
         let q = kept_here w len k h e in
         let o = ((knows other l).copy copy cp).old.2 in
@@ -99,7 +103,7 @@ module _ (c : Configuration) (g : Ghost) (inv : Invariant (era c) (memory c) (te
   -- ---- room
 
   -- a record of the old space that is counted as uncopied has no copy
-  owes : m.traced ≤ E.epoch → (w : Walked) → IsOf E.old_start m.old_front m.old_low (E.old_start + E.old_span) g.size g.writer w → is_uncopied c (decode (m.heap w.at)) ≡ true
+  owes : m.traced ≤ E.epoch → (w : Walked) → IsOf E.old_start m.old_front m.old_low (E.old_start + E.old_span) g.size g.writer w → is_uncopied (kept_of c.workers) (decode (m.heap w.at)) ≡ true
       → owing g.size g.copy w.at ≡ w.size
   owes t w i u = let st : 0 < g.size w.at = omega (arith, i.sized) in by_first st (first E m (team c) g inv w.at st i.written)
     where
@@ -107,21 +111,24 @@ module _ (c : Configuration) (g : Ghost) (inv : Invariant (era c) (memory c) (te
       by_first st (OwnHeader n y d) = rw n i.sized.1
       by_first st (KeptBy k y d) =
           let kp = keeper E m (team c) g inv w.at k st y in
-          let q : is_uncopied c (BusyWord (g.size w.at - 1) k) ≡ true = rw d at u in
+          let q : is_uncopied (kept_of c.workers) (BusyWord (g.size w.at - 1) k) ≡ true = rw d at u in
           ⊎_elim
-          (λ (r : kp.copy.reserved ≡ true). absurd (let z : false ≡ true = rw (kp.copies, r) at q in cc))
+          (λ (r : kp.copy.reserved ≡ true). absurd (let z : false ≡ true = rw (kept_there c.workers k, kp.copies, r, ne_eqb (kp.copy.to + 1) 0 (λ e. omega arith)) at q in cc))
           (λ (r : kp.copy.reserved ≡ false).
           let l = ((knows k kp.below).copy kp.copy kp.copies).loose r in
           let n : g.copy w.at ≡ 0 = sym (ap g.copy kp.from) ∙ l.0 in
           rw n i.sized.1)
           (cases_Bool kp.copy.reserved)
-      by_first st (GoneTo b y n d) = absurd (let q : is_uncopied c (ForwardWord (g.size w.at - 1) b) ≡ true = rw d at u in let z : false ≡ true = q in cc)
+      by_first st (GoneTo b y n d) = absurd (let q : is_uncopied (kept_of c.workers) (ForwardWord (g.size w.at - 1) b) ≡ true = rw d at u in let z : false ≡ true = q in cc)
 
   room : RoomHolds c
   room = record {
     order = inv.laid.order.1;
-    fits = inv.room.fits;
-    enough = λ t d e. let s = old_sum c g inv t d e (λ w. is_uncopied c (decode (m.heap w.at))) (owing g.size g.copy) (owes t) in let n = inv.room.needs t in omega (arith, s, n);
+    fits = λ n. inv.room.fits (still_copying c g inv n).0;
+    enough = λ n.
+        let t = still_copying c g inv n in
+        let s = old_sum c g inv t.0 (E.epoch - 1) t.1 (λ w. is_uncopied (kept_of c.workers) (decode (m.heap w.at))) (owing g.size g.copy) (owes t.0) in
+        omega (arith, s, inv.room.needs t.0);
   }
 
   -- ---- crossing
@@ -148,12 +155,18 @@ module _ (c : Configuration) (g : Ghost) (inv : Invariant (era c) (memory c) (te
       begun : (p : ℕ) → E.start ≤ 64 * p → 64 * p < m.front → 0 < g.size E.start
       begun p s f = ⊎_elim (λ e. absurd (omega arith)) (λ e. e) inv.laid.start
 
-      nobody : (x b : ℕ) → 0 < g.size b → b ≤ x → x < b + g.size b → ((k : ℕ) → k < (team c).count → ¬ (IsReserved c k x)) → g.writer b ≡ 0
+      nobody : (x b : ℕ) → 0 < g.size b → b ≤ x → x < b + g.size b → ¬ (IsReservedIn (kept_of c.workers) x) → g.writer b ≡ 0
       nobody x b st l r free = ⊎_elim
           (λ (z : g.writer b ≡ 0). z)
           (λ (z : g.writer b ≢ 0).
           let p = writer E m (team c) g inv b (g.writer b - 1) st (omega arith) in
-          absurd (free (g.writer b - 1) p.below (record { copy = p.copy; copies = p.copies; reserved = p.reserved; inside = (omega (arith, p.to), omega (arith, p.to, p.sized)) })))
+          let said : size_said (decode p.copy.header) ≡ p.copy.size - 1 + 1 = rw ((knows (g.writer b - 1) p.below).keeps p.copy p.copies).keeps refl in
+          absurd (free (record {
+            worker = g.writer b - 1;
+            place = b;
+            reserved = rw (kept_there c.workers (g.writer b - 1), p.copies, p.reserved, p.to) (refl {a = b + 1});
+            inside = (l, rw (kept_there c.workers (g.writer b - 1), p.copies) (omega (arith, said, p.sized, r, st)));
+          })))
           (cases_eq (g.writer b) 0)
 
   -- ---- claims
@@ -165,6 +178,7 @@ module _ (c : Configuration) (g : Ghost) (inv : Invariant (era c) (memory c) (te
     passed = λ k s x l e h. ((knows k l).scan s e).passed x (here x h);
     young = inv.aged.young;
     board = λ t. (inv.tracing.quiet t).board;
+    first = λ z. let t : m.traced ≡ E.epoch + 1 = omega (arith, z, inv.tracing.begun, inv.tracing.top) in (inv.tracing.quiet t).board ∙ ap Open z;
     copied = λ t p s f. ⊎_elim
         (λ (n : m.front < 64 * p + 64). inv.tracing.last t p f n)
         (λ (n : 64 * p + 64 ≤ m.front). (inv.tracing.quiet t).full p s n)

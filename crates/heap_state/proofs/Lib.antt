@@ -5,8 +5,10 @@ pub mod Spelled
 pub mod Walking
 pub mod SpaceWalks
 pub mod Spaces
+pub mod Headers
+pub mod Layouts
+pub mod FieldSpans
 pub mod Holding
-pub mod Referring
 pub mod Reserving
 pub mod Placing
 pub mod InHeap

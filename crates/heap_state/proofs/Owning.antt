@@ -1,17 +1,20 @@
 -- What a record that has its own header is known to be.
 use Rattle.std.proofs.Common.{◌≡◌, ℕ, ◌+◌, ◌-◌, ◌<◌, true, sym, ap, ◌∙◌, arith, ◌⊎◌, inl}
-use Rattle.heap_words.specs.declared.kind.Kind.{Kind}
+use Rattle.plain_state.specs.declared.kind.Kind.{Kind}
 use Rattle.heap_words.specs.Decoded.{HeaderWord, Malformed}
 use Rattle.plain_state.specs.declared.value.Identity.{Identity}
+use Rattle.plain_state.specs.Layout.{is_field}
 use Rattle.heap_state.specs.Configuration.{Configuration, era, memory, team}
+use Rattle.heap_state.specs.Dump.{dump_of}
 use Rattle.heap_state.specs.Era.{Era, Memory}
-use Rattle.heap_state.specs.Ghost.{Ghost, IsField, is_field, Here}
+use Rattle.heap_state.specs.Ghost.{Ghost, IsField, Here, header_kind, said_kind}
 use Rattle.heap_state.specs.Holds.{IsWalkedField}
 use Rattle.heap_state.specs.Inductive.{Invariant}
 use Rattle.heap_state.specs.Represents.{IsOwn}
 use Rattle.heap_state.specs.Walk.{Walked}
 use Rattle.heap_state.proofs.Denoting.{header_of, Headers, Own, Forwarded, headers}
 use Rattle.heap_state.proofs.InHeap.{IsKnown, in_heap_sound, now_sound}
+use Rattle.heap_state.proofs.Headers.{said_kind-header_kind}
 
 abbrev pub identity_at : ℕ → ℕ → Identity
 identity_at mutator serial = record { mutator = mutator; serial = serial }
@@ -34,16 +37,17 @@ module _ (c : Configuration) (g : Ghost) (inv : Invariant (era c) (memory c) (te
     pub named : identity_at mutator serial ≡ g.identity w.at
     pub own : (g.copy w.at ≡ 0) ⊎ (0 < g.keeper w.at)
 
-  pub owns : (w : Walked) (kind : Kind) (len serial mutator : ℕ) → IsOwn c w kind len serial mutator → Owns w kind len serial mutator
+  pub owns : (w : Walked) (kind : Kind) (len serial mutator : ℕ) → IsOwn (dump_of c) w kind len serial mutator → Owns w kind len serial mutator
   owns w kind len serial mutator is =
       let known = in_heap_sound c g inv w is.walked in
       by_headers known (headers c g inv w.at (omega (arith, known.sized)) known.written)
     where
       by_headers : IsKnown E m.traced g w → Headers c g inv w.at → Owns w kind len serial mutator
-      by_headers known (Forwarded b e y n f) = absurd (let q : Malformed ≡ HeaderWord kind len serial mutator = sym e ∙ is.header in cc)
+      by_headers known (Forwarded b e y n f) = absurd (let q : Malformed ≡ HeaderWord is.head len serial mutator = sym e ∙ is.header in cc)
       by_headers known (Own e h) =
-          let q : header_of c g inv w.at ≡ HeaderWord kind len serial mutator = sym e ∙ is.header in
-          let k : kind ≡ g.kind w.at = cc in
+          let q : header_of c g inv w.at ≡ HeaderWord is.head len serial mutator = sym e ∙ is.header in
+          let d : is.head ≡ header_kind (g.kind w.at) = cc in
+          let k : kind ≡ g.kind w.at = is.said ∙ ap (λ y. said_kind y (m.heap (w.at + 1))) d ∙ said_kind-header_kind (g.kind w.at) (m.heap (w.at + 1)) in
           let l : g.size w.at - 1 ≡ len = cc in
           let s : serial ≡ (g.identity w.at).serial = cc in
           let o : mutator ≡ (g.identity w.at).mutator = cc in

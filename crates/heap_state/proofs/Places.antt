@@ -1,5 +1,5 @@
 -- A store in a row of the table changes what that row says and nothing else.
-use Rattle.std.proofs.Common.{◌≡◌, ◌≢◌, ℕ, ◌+◌, ◌*◌, ◌<◌, true, false, List, length, refl, ◌∙◌, arith, get_or, set, get_or-set_other, get_or-set_same, ⊎_elim}
+use Rattle.std.proofs.Common.{◌≡◌, ◌≢◌, ℕ, ◌+◌, ◌*◌, ◌<◌, ◌≤◌, true, false, List, length, refl, ◌∙◌, arith, get_or, set, get_or-set_other, get_or-set_same, ⊎_elim}
 use Rattle.std.proofs.Math.ListN.{length-set}
 use Rattle.std.proofs.lemmas.Bool.{cases_Bool, ltb-true, leb-true, lt-ltb, le-leb}
 use Rattle.space_map.specs.Table.{Row, Gate, Traced, Area, Page, Cross, HeapWord, Announce, IsRow, place_of, table_length}
@@ -34,7 +34,7 @@ module _ (n : ℕ) (words : List ℕ) (row : Row) (word : ℕ) (is : IsRow n row
   abbrev after : List ℕ
   after = set words (place_of n row) word
 
-  pub word_in-same : length words ≡ table_length n → word_in n after row ≡ word
+  pub word_in-same : table_length n ≤ length words → word_in n after row ≡ word
   word_in-same whole =
       let short = place_of-lt n row is in
       let inside : place_of n row < length words = omega arith in

@@ -20,7 +20,7 @@ pub record IsOf (start front low end : ℕ) (size writer : ℕ → ℕ) (w : Wal
 module _ (start front low end epoch : ℕ) (size writer heap reserved : ℕ → ℕ) (page : ℕ → PageWord) (told : Told start front low end epoch size writer heap page)
     (tells : TellsReserved start front size writer reserved) (clear : IsClear size low) where
   abbrev space : List Walked
-  space = walk_space epoch reserved heap page start front low end
+  space = walk_space (λ p. is_closed epoch (page p)) reserved heap start front low end
 
   low_of : (w : Walked) → IsItem start front size writer w → IsOf start front low end size writer w
   low_of w i = record { inside = (i.inside.0, omega (arith, i.inside, told.space.order)); part = inl i.inside.1; sized = i.sized; written = i.written }
@@ -34,7 +34,7 @@ module _ (start front low end epoch : ℕ) (size writer heap reserved : ℕ → 
       let upper = sound _ _ _ _ _ _ _ _ (new_part start front low end epoch size writer heap page told) (end - low) low (omega arith) clear in
       All-contains (IsOf start front low end size writer) space w (All-append (IsOf start front low end size writer) _ _ (All-weaker _ _ low_of _ lower) (All-weaker _ _ high_of _ upper)) h
 
-  pub space_read : ReadsSpace epoch reserved heap page start front low end
+  pub space_read : ReadsSpace (λ p. is_closed epoch (page p)) reserved heap start front low end
   space_read = (
     reads_all _ _ _ _ _ _ _ _ (copied_part start front low end epoch size writer heap page told reserved tells) (front - start) start (omega arith) (copied_start start front low end epoch size writer heap page told reserved tells),
     reads_all _ _ _ _ _ _ _ _ (new_part start front low end epoch size writer heap page told) (end - low) low (omega arith) clear,

@@ -1,5 +1,5 @@
 -- One law a family of places: a store in a row is a change of one part of the decoded table.
-use Rattle.std.proofs.Common.{◌≡◌, ◌≢◌, ℕ, ◌+◌, ◌*◌, ◌^◌, ◌<◌, ◌≤◌, ◌⊎◌, List, refl, ap, ◌∙◌, set, Some, ⊎_elim, inl, inr}
+use Rattle.std.proofs.Common.{◌≡◌, ◌≢◌, ℕ, ◌+◌, ◌*◌, ◌^◌, ◌<◌, ◌≤◌, ◌⊎◌, List, refl, ap, arith, ◌∙◌, set, Some, ⊎_elim, inl, inr}
 use Rattle.std.proofs.Math.Path.{fun_ext}
 use Rattle.std.proofs.lemmas.Bool.{cases_eq}
 use Rattle.space_map.specs.declared.area_word.AreaWord.{AreaWord}
@@ -80,7 +80,7 @@ module _ (n : ℕ) (words : List ℕ) (row : Row) (word : ℕ) (is : IsRow n row
       → IsFormed n (set words (place_of n row) word)
   unfolding table_of
   keeps_formed formed gate areas pages = record {
-    whole = length-after n words row word is ∙ formed.whole;
+    whole = omega (arith, length-after n words row word is, formed.whole);
     gate = ⊎_elim
         (λ (e : row ≡ Gate). rw (word_of Gate e) (gate e))
         (λ (d : Gate ≢ row). rw (word_in-other n words row word is Gate d) formed.gate)

@@ -1,5 +1,5 @@
 -- What the definitions say of the worked configuration.
-use Rattle.std.proofs.Common.{◌≡◌, ℕ, List, length, [], ◌∷◌, Some, None, zero, suc, refl, sym, ap, ◌∙◌, arith, ◌⊎◌, inl, inr, ◌≢◌, ⊎_elim, ◌+◌, ◌<◌, ◌≤◌}
+use Rattle.std.proofs.Common.{◌≡◌, ℕ, List, [], ◌∷◌, Some, None, zero, suc, refl, sym, ap, ◌∙◌, arith, ◌⊎◌, inl, inr, ◌≢◌, ⊎_elim, ◌+◌, ◌<◌, ◌≤◌}
 use Rattle.std.specs.Prelude.{slice_get}
 use Rattle.std.specs.List.{Contains}
 use Rattle.heap_words.specs.Decoded.{decode}
@@ -7,23 +7,23 @@ use Rattle.heap_words.specs.Word.{header_word, pointer_word, forward_word, busy_
 use Rattle.plain_state.specs.declared.value.Identity.{Identity}
 use Rattle.plain_state.specs.declared.value.Value.TheVariants.{Number, Reference}
 use Rattle.plain_state.specs.State as plain
-use Rattle.heap_state.specs.Denotes.{denoted}
+use Rattle.heap_state.specs.Denotes.{denoted, denoted_in}
 use Rattle.heap_state.specs.Functions.{put}
 use Rattle.heap_state.specs.Reachable.{Reachable, FromRegister, FromBoard, FromRecord, IsLive}
 use Rattle.heap_state.specs.Sums.{uncopied}
 use Rattle.heap_state.specs.Theorems.Rows.{Written}
 use Rattle.heap_state.specs.Theorems.Standing.{IsSound}
 use Rattle.heap_state.specs.Theorems.Examples.{IsWorkedOut}
-use Rattle.heap_state.specs.Walk.{walk, walk_of}
+use Rattle.heap_state.specs.Walk.{walk, walk_of, old_walk_of}
 use Rattle.heap_state.specs.Worked.{worked, worked_entries, worked_plain, made}
 use Rattle.heap_state.proofs.Puts.{some_same, none≢some}
 use Rattle.std.proofs.lemmas.List.Elements.{All-nil, All-cons}
 use Rattle.plain_state.specs.declared.kind.Kind.TheVariants as plain_kind
-use Rattle.heap_words.specs.declared.kind.Kind.TheVariants.{Fields}
+use Rattle.plain_state.specs.declared.kind.Kind.TheVariants.{Fields}
+use Rattle.plain_state.specs.Layout.{word_of, size_of}
 use Rattle.heap_state.specs.Configuration.{team}
-use Rattle.heap_state.specs.Cycle.{IsCopied, StillLeads, IsRoot, InRegister, OnTheBoard, Copying, Rooted, Cycle, RefersInFields}
+use Rattle.heap_state.specs.Cycle.{IsCopied, StillLeads, IsRoot, InRegister, OnTheBoard, Copying, Rooted, Cycle}
 use Rattle.heap_state.specs.Era.{era_of, memory_of}
-use Rattle.heap_state.specs.Values.{kind_of, value_at}
 use Rattle.std.proofs.lemmas.Bool.{cases_eq, ne_eqb}
 use Rattle.heap_state.proofs.WorkedGhost.{worked_table, worked_era, worked_ghost, size, writer, copy, keeper, identity, each_place}
 use Rattle.heap_state.proofs.WorkedRecords.{heap, older, word_258}
@@ -36,36 +36,36 @@ use Rattle.heap_state.proofs.Writing.{writes_tables}
 table_is : Written 4 worked_entries
 table_is = writes_tables 4 worked_entries entries_fit
 
-copies : walk_of worked 1 ≡ record { at = 256; size = 3 } ∷ []
+copies : walk_of worked ≡ record { at = 256; size = 3 } ∷ []
 unfolding put walk decode tag_of header_word
 copies = rw table_is.says refl
 
-old : walk_of worked 0 ≡ record { at = 192; size = 3 } ∷ record { at = 195; size = 2 } ∷ []
+old : old_walk_of worked ≡ record { at = 192; size = 3 } ∷ record { at = 195; size = 2 } ∷ []
 unfolding put walk decode tag_of forward_word busy_word
 old = rw table_is.says refl
 
-uncopied_words : uncopied worked (walk_of worked 0) ≡ 0
+uncopied_words : uncopied worked (old_walk_of worked) ≡ 0
 unfolding put decode tag_of forward_word busy_word
 uncopied_words = rw (old, table_is.says) refl
 
 number : denoted worked (number_word 7) ≡ Some (Number 7)
-unfolding denoted decode tag_of number_word
+unfolding denoted_in decode tag_of number_word
 number = refl
 
 copied : denoted worked (pointer_word 256) ≡ Some (Reference (made 1))
-unfolding put denoted decode tag_of pointer_word header_word
+unfolding put denoted_in decode tag_of pointer_word header_word
 copied = rw table_is.says refl
 
 forwarded : denoted worked (pointer_word 192) ≡ Some (Reference (made 1))
-unfolding put denoted decode tag_of pointer_word forward_word header_word
-forwarded = rw (table_is.says, table_is.says) refl
+unfolding put denoted_in decode tag_of pointer_word forward_word header_word
+forwarded = rw table_is.says refl
 
 in_copy : denoted worked (pointer_word 195) ≡ Some (Reference (made 2))
-unfolding put denoted decode tag_of pointer_word busy_word header_word
+unfolding put denoted_in decode tag_of pointer_word busy_word header_word
 in_copy = rw table_is.says refl
 
 not_there : denoted worked (pointer_word 193) ≡ None
-unfolding put denoted decode tag_of pointer_word number_word
+unfolding put denoted_in decode tag_of pointer_word number_word
 not_there = rw table_is.says refl
 
 -- ---- what is reachable
@@ -74,7 +74,7 @@ first_reached : Reachable worked_plain (made 1)
 first_reached = FromBoard 3 (made 1) refl
 
 second_reached : Reachable worked_plain (made 2)
-second_reached = FromRecord (made 1) _ 1 (made 2) first_reached refl refl
+second_reached = FromRecord (made 1) _ 1 (made 2) first_reached refl refl refl
 
 abbrev pub identities : List Identity
 identities = made 1 ∷ made 2 ∷ []
@@ -149,7 +149,7 @@ record_one i r n j (inr e) f g = let q : plain.record_of worked_plain.heap (made
 reached : (i : Identity) → Reachable worked_plain i → IsOne i
 reached _ (FromRegister m q j i e n f) = inl (mutator_one m q j i e f)
 reached _ (FromBoard x i e) = inl (board_one x i e)
-reached _ (FromRecord i r n j p e f) = record_one i r n j (reached i p) e f
+reached _ (FromRecord i r n j p e l f) = record_one i r n j (reached i p) e f
 
 contained : (i : Identity) → IsOne i → Contains identities i
 contained i (inl e) = (0, omega arith, e)
@@ -186,37 +186,32 @@ still_reached w i l = rw (← l.named) (all_reached l.at)
 first_copied : (i : Identity) → made 1 ≡ i → IsCopied worked_era 261 size writer identity i
 first_copied i e = record { at = 256; stands = (omega arith, refl); below = (omega arith, omega arith); named = e }
 
-all_fields : (z : ℕ) (r : plain.Record) → RefersInFields Fields z r
-unfolding RefersInFields
-all_fields z r n i f l e = refl
-
 copying : Copying worked_era 261 size writer copy keeper (λ a. Fields) identity heap worked_plain
 copying = record {
   old = λ a st l m o. objects.shows a st (older.written a l m) o;
   sound = λ x i h l. still_reached (heap x) i l;
   reached = λ a st l m o. all_reached a;
   sizes = each_place (λ b. 256 ≤ b → b < 261
-      → (r : plain.Record) × (plain.record_of worked_plain.heap (identity b) ≡ Some r) × (length r.values + 1 ≡ size b) × (r.kind ≡ kind_of Fields) × RefersInFields Fields (size b) r)
-      (λ l m. absurd (omega (arith, l))) (λ l m. absurd (omega (arith, l))) (λ l m. (first_record, refl, refl, refl, all_fields 3 first_record)) (λ l m. (second, refl, refl, refl, all_fields 2 second));
-  complete = λ b n r i st w l m f z e v. complete b st w l n f z r e i v;
+      → (r : plain.Record) × (plain.record_of worked_plain.heap (identity b) ≡ Some r) × (size_of r ≡ size b) × (r.kind ≡ Fields))
+      (λ l m. absurd (omega (arith, l))) (λ l m. absurd (omega (arith, l))) (λ l m. (first_record, refl, refl, refl)) (λ l m. (second, refl, refl, refl));
+  complete = λ b x r i st w l m e f v. complete b st w l x r e i v;
   from = each_place (λ b. 256 ≤ b → b < 261 → (a : ℕ) × (0 < size a) × (copy a ≡ b + 1))
       (λ l m. absurd (omega (arith, l))) (λ l m. absurd (omega (arith, l))) (λ l m. (192, omega arith, refl)) (λ l m. (195, omega arith, refl));
 }
   where
-    field : (n : ℕ) → 0 < n → n < 3 → (i : Identity) → value_at first_record n ≡ Some (Reference i) → IsCopied worked_era 261 size writer identity i ⊎ StillLeads worked_era identity (heap (256 + n)) i
-    field zero f z i v = absurd (omega arith)
-    field (suc zero) f z i v = no_number v
-    field (suc (suc zero)) f z i v = inr (record { at = 195; points = word_258; old = (omega arith, omega arith); named = same_reference v })
-    field (suc (suc (suc n))) f z i v = absurd (omega arith)
+    field : (x : ℕ) (i : Identity) → slice_get first_record.values x ≡ Some (Reference i) → IsCopied worked_era 261 size writer identity i ⊎ StillLeads worked_era identity (heap (256 + word_of Fields x)) i
+    field zero i v = no_number v
+    field (suc zero) i v = inr (record { at = 195; points = word_258; old = (omega arith, omega arith); named = same_reference v })
+    field (suc (suc x)) i v = none≢some v
 
-    complete : (b : ℕ) → 0 < size b → writer b ≡ 0 → 256 ≤ b → (n : ℕ) → 0 < n → n < size b → (r : plain.Record) → plain.record_of worked_plain.heap (identity b) ≡ Some r → (i : Identity) → value_at r n ≡ Some (Reference i)
-        → IsCopied worked_era 261 size writer identity i ⊎ StillLeads worked_era identity (heap (b + n)) i
-    complete = each_place (λ b. writer b ≡ 0 → 256 ≤ b → (n : ℕ) → 0 < n → n < size b → (r : plain.Record) → plain.record_of worked_plain.heap (identity b) ≡ Some r → (i : Identity) → value_at r n ≡ Some (Reference i)
-        → IsCopied worked_era 261 size writer identity i ⊎ StillLeads worked_era identity (heap (b + n)) i)
-        (λ w l n f z r e i v. absurd (omega (arith, l)))
-        (λ w l n f z r e i v. absurd (omega (arith, l)))
-        (λ w l n f z r e i v. let s : first_record ≡ r = some_same e in field n f z i (ap (λ (o : plain.Record). value_at o n) s ∙ v))
-        (λ w l n f z r e i v. absurd (omega (arith, w)))
+    complete : (b : ℕ) → 0 < size b → writer b ≡ 0 → 256 ≤ b → (x : ℕ) (r : plain.Record) → plain.record_of worked_plain.heap (identity b) ≡ Some r → (i : Identity) → slice_get r.values x ≡ Some (Reference i)
+        → IsCopied worked_era 261 size writer identity i ⊎ StillLeads worked_era identity (heap (b + word_of Fields x)) i
+    complete = each_place (λ b. writer b ≡ 0 → 256 ≤ b → (x : ℕ) (r : plain.Record) → plain.record_of worked_plain.heap (identity b) ≡ Some r → (i : Identity) → slice_get r.values x ≡ Some (Reference i)
+        → IsCopied worked_era 261 size writer identity i ⊎ StillLeads worked_era identity (heap (b + word_of Fields x)) i)
+        (λ w l x r e i v. absurd (omega (arith, l)))
+        (λ w l x r e i v. absurd (omega (arith, l)))
+        (λ w l x r e i v. let s : first_record ≡ r = some_same e in field x i (ap (λ (o : plain.Record). slice_get o.values x) s ∙ v))
+        (λ w l x r e i v. absurd (omega (arith, w)))
 
 rooted : Rooted worked_era 261 2 size writer identity heap (team worked).worker worked_plain
 rooted = record { roots = λ i r. inl (first_copied i (root i r)); sound = λ k r i l mu n b s. still_reached (((team worked).worker k).registers r) i s }

@@ -6,6 +6,7 @@ use Rattle.space_map.specs.declared.page_word.PageWord.TheVariants.{Unset, Open,
 use Rattle.space_map.specs.PageWord.{age_of}
 use Rattle.heap_state.specs.Configuration.{team}
 use Rattle.heap_state.specs.Functions.{put}
+use Rattle.heap_state.specs.Parts.OldSpace.{OldArea}
 use Rattle.heap_state.specs.Parts.Pages.{Shut, Quiet, Filling, Tracing, Aged, OldPages, ScannedBy}
 use Rattle.heap_state.specs.Worked.{worked}
 use Rattle.heap_state.specs.Worker.{Team, Scan}
@@ -87,3 +88,6 @@ scanned = record {
       (λ k e. absurd (cc)) (λ k e. let q : 1 ≡ k = cc in rw (← q) (omega arith, (_, refl, refl))) (λ k e. absurd (cc)) (λ k e. absurd (cc)) (λ k e. absurd (cc)) (λ k e. absurd (cc))
       (λ p u k e. absurd (let q = sym u ∙ e in cc)) p k e;
 }
+
+pub old_area : OldArea worked_era 0 192
+old_area = record { order = (omega arith, omega arith, omega arith) }

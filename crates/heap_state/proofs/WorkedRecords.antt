@@ -3,12 +3,12 @@ use Rattle.std.proofs.Common.{◌≡◌, ◌≢◌, ℕ, ◌+◌, ◌-◌, ◌<�
 use Rattle.std.proofs.lemmas.Bool.{cases_eq, ne_eqb}
 use Rattle.plain_state.specs.declared.value.Identity.{Identity}
 use Rattle.heap_state.specs.Worked.{made}
-use Rattle.heap_words.specs.declared.kind.Kind.TheVariants.{Fields}
+use Rattle.plain_state.specs.declared.kind.Kind.TheVariants.{Fields}
 use Rattle.heap_words.specs.Decoded.{NumberWord, PointerWord, HeaderWord, BusyWord, ForwardWord, decode}
 use Rattle.heap_words.specs.Word.{number_word}
 use Rattle.heap_words.proofs.Decoding.{decode-number_word, decode-pointer_word, decode-header_word, decode-forward_word, decode-busy_word}
 use Rattle.heap_state.specs.Functions.{put, sum_below}
-use Rattle.heap_state.specs.Ghost.{Here, Lands}
+use Rattle.heap_state.specs.Ghost.{Here, Lands, header_kind}
 use Rattle.heap_state.specs.Parts.Copies.{Copied, Once, Kept, Room}
 use Rattle.heap_state.specs.Parts.Leading.{Landing, Older}
 use Rattle.heap_state.specs.Parts.Records.{Laid, Headed, NewWritten}
@@ -35,9 +35,9 @@ pub word_196 : decode (heap 196) ≡ PointerWord 192
 unfolding put
 word_196 = decode-pointer_word 192 (omega arith)
 
-pub word_256 : decode (heap 256) ≡ HeaderWord Fields 2 1 0
+pub word_256 : decode (heap 256) ≡ HeaderWord (header_kind Fields) 2 1 0
 unfolding put
-word_256 = decode-header_word Fields 2 1 0 (omega arith) (omega arith)
+word_256 = decode-header_word (header_kind Fields) 2 1 0 (omega arith) (omega arith)
 
 pub word_257 : decode (heap 257) ≡ NumberWord 7
 unfolding put
@@ -51,9 +51,9 @@ pub word_258 : decode (heap 258) ≡ PointerWord 195
 unfolding put
 word_258 = decode-pointer_word 195 (omega arith)
 
-pub word_259 : decode (heap 259) ≡ HeaderWord Fields 1 2 0
+pub word_259 : decode (heap 259) ≡ HeaderWord (header_kind Fields) 1 2 0
 unfolding put
-word_259 = decode-header_word Fields 1 2 0 (omega arith) (omega arith)
+word_259 = decode-header_word (header_kind Fields) 1 2 0 (omega arith) (omega arith)
 
 pub word_515 : decode (heap 515) ≡ PointerWord 256
 unfolding put
@@ -105,7 +105,7 @@ laid = record {
 
 pub headed : Headed size writer copy keeper (λ a. Fields) identity heap
 headed = record {
-  own = each_place (λ a. writer a ≡ 0 → copy a ≡ 0 → keeper a ≡ 0 → decode (heap a) ≡ HeaderWord Fields (size a - 1) (identity a).serial (identity a).mutator)
+  own = each_place (λ a. writer a ≡ 0 → copy a ≡ 0 → keeper a ≡ 0 → decode (heap a) ≡ HeaderWord (header_kind Fields) (size a - 1) (identity a).serial (identity a).mutator)
       (λ w n y. absurd (omega (arith, n))) (λ w n y. absurd (omega (arith, n))) (λ w n y. word_256) (λ w n y. absurd (omega (arith, w)));
   kept = λ a k st y. each_place (λ a. (k : ℕ) → keeper a ≡ k + 1 → decode (heap a) ≡ BusyWord (size a - 1) k)
       (λ k y. absurd (omega (arith, y))) (λ k y. let e : k ≡ 1 = omega (arith, y) in rw e word_195) (λ k y. absurd (omega (arith, y))) (λ k y. absurd (omega (arith, y))) a st k y;

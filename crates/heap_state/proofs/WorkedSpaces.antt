@@ -1,7 +1,7 @@
 -- The worked configuration keeps the parts about spaces, the gate and claimed words.
 use Rattle.std.proofs.Common.{◌≡◌, ◌≢◌, ℕ, ◌+◌, ◌*◌, ◌/◌, ◌%◌, ◌<◌, ◌≤◌, Some, zero, suc, refl, sym, ◌∙◌, arith, ⊎_elim, ◌⊎◌, inl, inr}
 use Rattle.std.proofs.lemmas.Bool.{cases_eq, ne_eqb}
-use Rattle.heap_words.specs.declared.kind.Kind.TheVariants.{Fields}
+use Rattle.plain_state.specs.declared.kind.Kind.TheVariants.{Fields}
 use Rattle.heap_words.specs.Decoded.{PointerWord, NumberWord, decode}
 use Rattle.space_map.specs.declared.page_word.PageWord.TheVariants.{Open}
 use Rattle.heap_state.specs.Functions.{put, sum_below}
@@ -165,6 +165,5 @@ stocks = record { stocked = by_number; apart = by_numbers }
 pub numbered : Numbered 1 size identity workers.worker
 numbered = record {
   maker = each_place (λ a. (identity a).mutator < 1) (omega arith) (omega arith) (omega arith) (omega arith);
-  first = each_place (λ a. 1 ≤ (identity a).serial) (omega arith) (omega arith) (omega arith) (omega arith);
   last = each_place (λ a. (identity a).serial ≤ (workers.worker (identity a).mutator).account.serial) (omega arith) (omega arith) (omega arith) (omega arith);
 }

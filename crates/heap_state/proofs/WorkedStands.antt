@@ -2,7 +2,7 @@
 use Rattle.std.proofs.Common.{◌≡◌, ◌≢◌, ℕ, ◌+◌, ◌<◌, [], ◌∷◌, Some, None, zero, suc, refl, sym, ◌∙◌, arith, ⊎_elim, ◌⊎◌}
 use Rattle.std.specs.Prelude.{slice_get}
 use Rattle.std.proofs.lemmas.Bool.{cases_eq, ne_eqb}
-use Rattle.heap_words.specs.declared.kind.Kind.TheVariants.{Fields}
+use Rattle.plain_state.specs.declared.kind.Kind.TheVariants.{Fields}
 use Rattle.heap_words.specs.Decoded.{PointerWord, NumberWord, decode}
 use Rattle.plain_state.specs.declared.value.Value.TheVariants.{Number, Reference}
 use Rattle.plain_state.specs.State as plain
@@ -16,7 +16,7 @@ use Rattle.heap_state.specs.Worked.{worked, worked_entries, worked_plain, worked
 use Rattle.heap_words.specs.Word.{pointer_word}
 use Rattle.heap_state.proofs.Puts.{some_same, none≢some}
 use Rattle.heap_state.proofs.WorkedGhost.{worked_table, worked_era, worked_ghost, size, writer, copy, keeper, identity, each_place}
-use Rattle.heap_state.proofs.WorkedPages.{workers, shut, filling, tracing, aged, old_pages, scanned}
+use Rattle.heap_state.proofs.WorkedPages.{workers, shut, filling, tracing, aged, old_area, old_pages, scanned}
 use Rattle.heap_state.proofs.WorkedRecords.{heap, laid, headed, new_written, copied, once, kept_by, room, landing, older, word_196, word_257, word_258, word_515, elsewhere}
 use Rattle.heap_state.proofs.WorkedSpaces.{opened, new_area, old_space, crossing, counted, staffed, stocks, numbered}
 use Rattle.heap_state.proofs.WorkedWorkers.{Known, mutator_knows, scanner_knows, first_register, zero_register}
@@ -52,6 +52,7 @@ keeps = record {
   new = new_area;
   new_written = new_written;
   old_space = old_space;
+  old_area = old_area;
   old_pages = old_pages;
   crossing = crossing;
   stocks = stocks;
@@ -80,8 +81,8 @@ objects = record {
         record {
           kind = refl;
           size = refl;
-          fields = λ i a b f. let q : i ≡ 1 = omega arith in rw q (pointer_value (heap 196) 192 word_196);
-          words = λ i a b f. absurd (cc);
+          fields = λ x l f. let q : x ≡ 0 = omega arith in rw q (pointer_value (heap 196) 192 word_196);
+          numbers = λ x l f. absurd (cc);
         },
       ))
       (λ w o. (
@@ -90,11 +91,11 @@ objects = record {
         record {
           kind = refl;
           size = refl;
-          fields = λ i a b f. ⊎_elim
-              (λ (q : i ≡ 1). rw q (number_value (heap 257) 7 word_257))
-              (λ (n : i ≢ 1). let q : i ≡ 2 = omega arith in rw q (pointer_value (heap 258) 195 word_258))
-              (cases_eq i 1);
-          words = λ i a b f. absurd (cc);
+          fields = λ x l f. ⊎_elim
+              (λ (q : x ≡ 0). rw q (number_value (heap 257) 7 word_257))
+              (λ (n : x ≢ 0). let q : x ≡ 1 = omega arith in rw q (pointer_value (heap 258) 195 word_258))
+              (cases_eq x 0);
+          numbers = λ x l f. absurd (cc);
         },
       ))
       (λ w o. absurd (omega (arith, w)));

@@ -1,12 +1,12 @@
 -- The workers of the worked configuration know what they should.
 use Rattle.std.proofs.Common.{◌≡◌, ◌≢◌, ℕ, ◌+◌, ◌/◌, ◌<◌, ◌≤◌, true, false, Some, None, refl, sym, arith, ⊎_elim, inl, inr}
 use Rattle.std.proofs.lemmas.Bool.{cases_eq, ne_eqb}
-use Rattle.heap_words.specs.declared.kind.Kind.TheVariants.{Fields}
+use Rattle.plain_state.specs.declared.kind.Kind.TheVariants.{Fields}
 use Rattle.heap_words.specs.Decoded.{PointerWord, NumberWord, decode}
 use Rattle.heap_words.specs.Word.{number_word, pointer_word, header_word}
 use Rattle.heap_words.proofs.Decoding.{decode-number_word, decode-pointer_word, decode-header_word}
 use Rattle.heap_state.specs.Functions.{put}
-use Rattle.heap_state.specs.Ghost.{Here, Leads}
+use Rattle.heap_state.specs.Ghost.{Here, Leads, header_kind}
 use Rattle.heap_state.specs.Inductive.{Knows}
 use Rattle.heap_state.specs.Parts.Copying.{IsOrigin, Seeks, Copies, Keeps}
 use Rattle.heap_state.specs.Parts.Knowledge.{Clean}
@@ -43,6 +43,7 @@ clean = record {
       (λ (e : j ≡ 0). rw e (pointer_lands (pointer_word 256) 256 first_register (omega arith) refl))
       (λ (d : j ≢ 0). rw (ne_eqb j 0 d) (number_lands 0 0 zero_register))
       (cases_eq j 0);
+  old = λ e. true_false refl e;
 }
 
 pub mutator_knows : Known 0 worked_mutator
@@ -58,7 +59,7 @@ mutator_knows = idle_knows (assumption)
 -- ---- scanner 1
 
 abbrev pub the_copy : Copy
-the_copy = record { header = header_word Fields 1 2 0; from = 195; to = 259; size = 2; done = 1; word = None; aimed = true; announced = true; reserved = true; crossed = 0 }
+the_copy = record { header = header_word (header_kind Fields) 1 2 0; from = 195; to = 259; size = 2; done = 1; word = None; aimed = true; announced = true; reserved = true; crossed = 0 }
 
 abbrev pub the_scan : Scan
 the_scan = record { page = 4; cursor = 258; in_place = true; over = None; current = Some (record { at = 256; size = 3; kind = Fields }); inner = false; ended = false }
@@ -81,7 +82,7 @@ copies = record {
 }
 
 keeps : Keeps (λ a. Fields) identity heap the_copy
-keeps = record { head = λ l. word_259; keeps = decode-header_word Fields 1 2 0 (omega arith) (omega arith) }
+keeps = record { head = λ l. word_259; keeps = decode-header_word (header_kind Fields) 1 2 0 (omega arith) (omega arith) }
 
 scans : Scans worked_era 261 size writer (λ a. Fields) heap page 1 the_scan
 unfolding put Here
@@ -133,7 +134,7 @@ scanner_knows = record {
   registers = λ m n. true_false refl m;
   active = λ f e. none≢some e;
   access = λ f e. none≢some e;
-  board = λ e. true_false refl e;
+  opened = λ p e. none≢some e;
   origin = λ q e. let s : the_quest ≡ q = some_same e in rw (← s) origin;
   quest = λ q e. let s : the_quest ≡ q = some_same e in rw (← s) seeks;
   licensed = record {

@@ -1,5 +1,5 @@
 -- A table written from a list of entries says what they say.
-use Rattle.std.proofs.Common.{◌≡◌, ℕ, true, false, [], ◌∷◌, Some, refl, ap, ◌∙◌, arith, ⊎_elim}
+use Rattle.std.proofs.Common.{◌≡◌, length, ℕ, true, false, [], ◌∷◌, Some, refl, ap, ◌∙◌, arith, ⊎_elim}
 use Rattle.std.proofs.Math.Path.{fun_ext}
 use Rattle.std.proofs.lemmas.Bool.{cases_Bool}
 use Rattle.std.proofs.lemmas.List.{get_or-replicate, length-replicate}
@@ -48,7 +48,7 @@ area-zero = refl
 blank_formed : (n : ℕ) → IsFormed n (blank_words n)
 unfolding table_of
 blank_formed n = record {
-  whole = length-replicate (table_length n) 0;
+  whole = let l : length (blank_words n) ≡ table_length n = length-replicate (table_length n) 0 in omega arith;
   gate = rw (blank_word n Gate) (omega arith);
   areas = λ space l. rw (blank_word n (Area space)) (omega arith);
   pages = λ p l. rw (blank_word n (Page p), page-zero) refl;

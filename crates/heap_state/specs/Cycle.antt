@@ -1,15 +1,16 @@
 -- What a cycle of the collector keeps, from its flip on: which records it copies, and that they are those that were reachable
 -- at the flip. This stands beside the invariant.
-use Rattle.std.specs.Prelude.{◌≡◌, ℕ, ◌+◌, ◌<◌, ◌≤◌, ◌⊎◌, true, length, Some, None, slice_get}
-use Rattle.heap_words.specs.declared.kind.Kind.{Kind}
+use Rattle.std.specs.Prelude.{◌≡◌, ℕ, ◌+◌, ◌<◌, ◌≤◌, ◌⊎◌, true, Some, None, slice_get}
+use Rattle.plain_state.specs.declared.kind.Kind.{Kind}
 use Rattle.heap_words.specs.Decoded.{PointerWord, decode}
 use Rattle.plain_state.specs.declared.value.Identity.{Identity}
 use Rattle.plain_state.specs.declared.value.Value.TheVariants.{Reference}
 use Rattle.plain_state.specs.State as plain
+use Rattle.plain_state.specs.Layout.{is_field, word_of, size_of}
 use Rattle.heap_state.specs.Era.{Era, Memory}
-use Rattle.heap_state.specs.Ghost.{Ghost, Here, is_field}
+use Rattle.heap_state.specs.Ghost.{Ghost, Here}
 use Rattle.heap_state.specs.Reachable.{Reachable}
-use Rattle.heap_state.specs.Values.{kind_of, value_at, value_of, Shows}
+use Rattle.heap_state.specs.Values.{value_of, Shows}
 use Rattle.heap_state.specs.Worker.{Worker, Team, is_late, is_mutator}
 
 -- a copy of this identity stands, and nobody writes it any more
@@ -32,10 +33,6 @@ pub data RootLeads (E : Era) (count : ℕ) (identity : ℕ → Identity) (heap :
   ByRegister : (k r : ℕ) → k < count → r < 8 → is_late E.epoch (worker k) ≡ true → (worker k).done ≤ r → StillLeads E identity ((worker k).registers r) i
       → RootLeads E count identity heap worker i
 
--- what a record of this kind and size refers to, it refers to in its fields
-unfoldable pub RefersInFields : Kind → ℕ → plain.Record → Type 0
-RefersInFields k z r = (n : ℕ) (i : Identity) → 0 < n → n < z → value_at r n ≡ Some (Reference i) → is_field k n ≡ true
-
 -- the identity is a root of the plain state at the flip
 pub data IsRoot (p : plain.Plain) (i : Identity) : Type 0 where
   InRegister : (m j : ℕ) (q : plain.Mutator) → slice_get p.mutators m ≡ Some q → q.end ≡ None
@@ -43,18 +40,19 @@ pub data IsRoot (p : plain.Plain) (i : Identity) : Type 0 where
   OnTheBoard : (x : ℕ) → slice_get p.heap.board x ≡ Some (Reference i) → IsRoot p i
 
 -- Of the plain state at the flip: an old record that has its own header shows it. What a word leads to in the old space is
--- reachable, and so is what has a copy or a kept header. Each copy has the size and kind of its identity there, which referred to
--- others in its fields alone, and is the copy of an old record. Where a copied record referred to another, that one is copied, or the copy's field still leads to it.
+-- reachable, and so is what has a copy or a kept header. Each copy has the size and kind of its identity there, and is the
+-- copy of an old record. Where a field of a copied record referred to another, that one is copied, or the copy's field still
+-- leads to it.
 pub record Copying (E : Era) (front : ℕ) (size writer copy keeper : ℕ → ℕ) (kind : ℕ → Kind) (identity : ℕ → Identity) (heap : ℕ → ℕ) (p : plain.Plain) : Type 0 where
   pub old : (a : ℕ) → 0 < size a → E.old_start ≤ a → a < E.old_start + E.old_span → (copy a ≡ 0) ⊎ (0 < keeper a)
       → (r : plain.Record) × (plain.record_of p.heap (identity a) ≡ Some r) × Shows (value_of identity) heap a (kind a) (size a) r
   pub sound : (x : ℕ) (i : Identity) → Here E size writer kind x → StillLeads E identity (heap x) i → Reachable p i
   pub reached : (a : ℕ) → 0 < size a → E.old_start ≤ a → a < E.old_start + E.old_span → (0 < copy a) ⊎ (0 < keeper a) → Reachable p (identity a)
   pub sizes : (b : ℕ) → 0 < size b → E.start ≤ b → b < front
-      → (r : plain.Record) × (plain.record_of p.heap (identity b) ≡ Some r) × (length r.values + 1 ≡ size b) × (r.kind ≡ kind_of (kind b)) × RefersInFields (kind b) (size b) r
-  pub complete : (b n : ℕ) (r : plain.Record) (i : Identity) → 0 < size b → writer b ≡ 0 → E.start ≤ b → b < front → 0 < n → n < size b
-      → plain.record_of p.heap (identity b) ≡ Some r → value_at r n ≡ Some (Reference i)
-      → IsCopied E front size writer identity i ⊎ StillLeads E identity (heap (b + n)) i
+      → (r : plain.Record) × (plain.record_of p.heap (identity b) ≡ Some r) × (size_of r ≡ size b) × (r.kind ≡ kind b)
+  pub complete : (b x : ℕ) (r : plain.Record) (i : Identity) → 0 < size b → writer b ≡ 0 → E.start ≤ b → b < front
+      → plain.record_of p.heap (identity b) ≡ Some r → is_field (kind b) (word_of (kind b) x) ≡ true → slice_get r.values x ≡ Some (Reference i)
+      → IsCopied E front size writer identity i ⊎ StillLeads E identity (heap (b + word_of (kind b) x)) i
   pub from : (b : ℕ) → 0 < size b → E.start ≤ b → b < front → (a : ℕ) × (0 < size a) × (copy a ≡ b + 1)
 
 -- each root is copied, or a root's word still leads to it; and what a register leads to in the old space is reachable

@@ -1,14 +1,17 @@
 -- What the proofs know of the heap beside its words: where records stand and what has become of them.
-use Rattle.std.specs.Prelude.{◌≡◌, ℕ, ◌+◌, ◌<◌, ◌≤◌, ◌⊎◌, Bool, true, false}
-use Rattle.heap_words.specs.declared.kind.Kind.{Kind}
-use Rattle.heap_words.specs.declared.kind.Kind.TheVariants.{Fields, Raw}
+use Rattle.std.specs.Prelude.{◌≡◌, ℕ, ◌+◌, ◌<◌, ◌≤◌, ◌⊎◌, true}
+use Rattle.plain_state.specs.declared.kind.Kind.{Kind}
+use Rattle.heap_words.specs.declared.kind.Kind.{Kind as HeaderKind}
+use Rattle.heap_words.specs.declared.kind.Kind.TheVariants as header
 use Rattle.heap_words.specs.Decoded.{PointerWord, decode}
 use Rattle.plain_state.specs.declared.value.Identity.{Identity}
+use Rattle.plain_state.specs.declared.kind.Kind.TheVariants.{Fields, Raw}
+use Rattle.plain_state.specs.Layout.{is_field}
 use Rattle.heap_state.specs.Era.{Era}
 
 -- By place: the size of the record or of the place reserved for one that begins there, or 0 where none does; the worker
 -- that still writes it, and one more, or 0; the place of its copy, and one more, or 0; the worker that keeps its header,
--- and one more, or 0; its kind and its identity. By worker: the place of the record whose header it keeps, and one more,
+-- and one more, or 0; its kind and its identity, as the plain machine has them. By worker: the place of the record whose header it keeps, and one more,
 -- or 0. A place that is written and a record that has a copy both count as standing.
 pub record Ghost : Type 0 where
   pub size : ℕ → ℕ
@@ -21,10 +24,15 @@ pub record Ghost : Type 0 where
 
 -- ---- words
 
--- a record of this kind has a field at this word, counted from its header
-abbrev pub is_field : Kind → ℕ → Bool
-is_field Fields word = true
-is_field Raw word = false
+-- the kind that the header of a record of this kind has
+abbrev pub header_kind : Kind → HeaderKind
+header_kind Fields = header.Fields
+header_kind Raw = header.Raw
+
+-- the kind of a record whose header has this kind, and whose next word is this
+abbrev pub said_kind : HeaderKind → (next : ℕ) → Kind
+said_kind header.Fields next = Fields
+said_kind header.Raw next = Raw
 
 -- the word is a pointer into the old space
 unfoldable pub Leads : Era → ℕ → Type 0

@@ -1,15 +1,18 @@
 -- The invariant of the collected heap, by its words and workers alone.
 use Rattle.std.specs.Prelude.{◌≡◌, ◌≢◌, ℕ, ◌+◌, ◌*◌, ◌/◌, ◌<◌, ◌≤◌, ◌⊎◌, true, false, Contains, Some, None}
-use Rattle.heap_words.specs.declared.kind.Kind.{Kind}
+use Rattle.plain_state.specs.declared.kind.Kind.{Kind}
 use Rattle.heap_words.specs.Decoded.{HeaderWord, BusyWord, decode}
+use Rattle.heap_words.specs.declared.kind.Kind.{Kind as HeaderKind}
 use Rattle.space_map.specs.declared.page_word.PageWord.TheVariants.{Open, Scanning}
 use Rattle.space_map.specs.PageWord.{age_of}
 use Rattle.heap_state.specs.Configuration.{Configuration, table, era, memory, team}
 use Rattle.heap_state.specs.Ghost.{Leads, OnBoard}
 use Rattle.heap_state.specs.Parts.Gate.{Counted}
-use Rattle.heap_state.specs.Represents.{IsInHeap, IsOwn, IsFieldOf}
+use Rattle.heap_state.specs.Dump.{dump_of}
+use Rattle.heap_state.specs.Kept.{kept_of}
+use Rattle.heap_state.specs.Represents.{IsCopying, IsInHeap, IsOwn, IsFieldOf}
 use Rattle.heap_state.specs.Sums.{uncopied}
-use Rattle.heap_state.specs.Walk.{Walked, walk_of}
+use Rattle.heap_state.specs.Walk.{Walked, walk_of, old_walk_of, CrossingsHold}
 use Rattle.heap_state.specs.Worker.{Worker, Stopped, Stock, Copy, Scan, Claim, is_mutator, is_live, is_late}
 
 -- the worker at a number below the count
@@ -26,9 +29,9 @@ pub record IsWalkedField (c : Configuration) (x : ℕ) : Type 0 where
   pub serial : ℕ
   pub mutator : ℕ
   pub i : ℕ
-  pub walked : Contains (walk_of c (era c).epoch) of
-  pub own : IsOwn c of kind len serial mutator
-  pub field : IsFieldOf c of kind i
+  pub walked : Contains (walk_of c) of
+  pub own : IsOwn (dump_of c) of kind len serial mutator
+  pub field : IsFieldOf of kind i
   pub at : x ≡ of.at + i
 
 -- the address is a word of the place that the worker has reserved and not published yet
@@ -45,10 +48,10 @@ pub record KeepsHeader (c : Configuration) (k len a : ℕ) : Type 0 where
   pub copies : (worker_of c k).copy ≡ Some copy
   pub from : copy.from ≡ a
   pub size : copy.size ≡ len + 1
-  pub kind : Kind
+  pub head : HeaderKind
   pub serial : ℕ
   pub mutator : ℕ
-  pub header : decode copy.header ≡ HeaderWord kind len serial mutator
+  pub header : decode copy.header ≡ HeaderWord head len serial mutator
 
 -- ---- the parts
 
@@ -64,8 +67,8 @@ pub record GateHolds (c : Configuration) : Type 0 where
 
 -- A header is kept by the worker that its place names, and by no other. Each reserved place is announced by its worker.
 pub record HeadersHold (c : Configuration) : Type 0 where
-  pub kept : (w : Walked) (len k : ℕ) → IsInHeap c w → decode ((table c).heap w.at) ≡ BusyWord len k → KeepsHeader c k len w.at
-  pub alone : (w : Walked) (len k other : ℕ) (copy : Copy) → IsInHeap c w → decode ((table c).heap w.at) ≡ BusyWord len k
+  pub kept : (w : Walked) (len k : ℕ) → IsInHeap (dump_of c) w → decode ((table c).heap w.at) ≡ BusyWord len k → KeepsHeader c k len w.at
+  pub alone : (w : Walked) (len k other : ℕ) (copy : Copy) → IsInHeap (dump_of c) w → decode ((table c).heap w.at) ≡ BusyWord len k
       → other < (team c).count → (worker_of c other).copy ≡ Some copy → copy.from ≡ w.at → other ≡ k
   pub announced : (k : ℕ) (copy : Copy) → k < (team c).count → (worker_of c k).copy ≡ Some copy → copy.reserved ≡ true
       → (memory c).announced k ≡ copy.to + 1
@@ -80,20 +83,19 @@ pub record AccessHolds (c : Configuration) : Type 0 where
   pub traced : (memory c).traced ≡ (era c).epoch + 1 → (x : ℕ) → IsWalkedField c x ⊎ OnBoard (era c) x → ¬ (Leads (era c) ((memory c).heap x))
   pub none : (memory c).traced ≡ (era c).epoch + 1 → (memory c).gate.behind ≡ 0
 
--- while the epoch is not traced there is room for what is owed, and the records still to be copied are at most that
+-- while the epoch is not traced there is room for what is owed, and the records of the old space still to be copied are at most
+-- that
 pub record RoomHolds (c : Configuration) : Type 0 where
   pub order : (memory c).front ≤ (memory c).low
-  pub fits : (memory c).traced ≤ (era c).epoch → (memory c).front + (memory c).owed ≤ (memory c).low
-  pub enough : (memory c).traced ≤ (era c).epoch → (epoch : ℕ) → epoch + 1 ≡ (era c).epoch → uncopied c (walk_of c epoch) ≤ (memory c).owed
+  pub fits : IsCopying (table c) → (memory c).front + (memory c).owed ≤ (memory c).low
+  pub enough : IsCopying (table c) → uncopied c (old_walk_of c) ≤ (memory c).owed
 
--- A page whose first word is below FRONT, and in no place that is reserved, has the place of the walked record over that
--- word as its crossing.
-pub record CrossingHolds (c : Configuration) : Type 0 where
-  pub crossing : (p : ℕ) → (era c).start ≤ 64 * p → 64 * p < (memory c).front → ((k : ℕ) → k < (team c).count → ¬ (IsReserved c k (64 * p)))
-      → (w : Walked) × Contains (walk_of c (era c).epoch) w × (w.at ≤ 64 * p) × (64 * p < w.at + w.size) × ((memory c).cross p ≡ w.at)
+-- a page whose first word is copied has the place of the record over that word as its crossing
+abbrev pub CrossingHolds : Configuration → Type 0
+CrossingHolds c = CrossingsHold (table c) (kept_of c.workers)
 
 -- A page's word says that a worker scans it where that worker does. What it has passed leads to no old record. No page's word
--- is of a later epoch. Where the epoch is traced the board and all copied pages are open. Who is about to claim a page in this
+-- is of a later epoch. Where the epoch is traced, as the first one always is, the board and all copied pages are open. Who is about to claim a page in this
 -- epoch knows it as full, as the board, or as one that was the filling page. Who is of a past epoch and has read the gate
 -- again, as it does before each exchange, finds a word of that epoch or a later one there. On a page that a worker scans no
 -- other worker has a reserved place.
@@ -104,6 +106,7 @@ pub record ClaimsHold (c : Configuration) : Type 0 where
       → ¬ (Leads (era c) ((memory c).heap x))
   pub young : (p : ℕ) → age_of ((memory c).page p) ≤ (era c).epoch + 1
   pub board : (memory c).traced ≡ (era c).epoch + 1 → (memory c).page ((era c).board / 64) ≡ Open (era c).epoch
+  pub first : (era c).epoch ≡ 0 → (memory c).page ((era c).board / 64) ≡ Open 0
   pub copied : (memory c).traced ≡ (era c).epoch + 1 → (p : ℕ) → (era c).start ≤ 64 * p → 64 * p < (memory c).front → (memory c).page p ≡ Open (era c).epoch
   pub knows : (k : ℕ) (q : Claim) → k < (team c).count → (worker_of c k).claim ≡ Some q → (worker_of c k).epoch ≡ (era c).epoch
       → (q.page ≡ (era c).board / 64)
@@ -116,7 +119,7 @@ pub record ClaimsHold (c : Configuration) : Type 0 where
 -- from LOW up, and no two mutators have one in common. From its place on these words are 0 as far as it has stored zeros, and
 -- as far as it has opened their pages.
 pub record FreeHolds (c : Configuration) : Type 0 where
-  pub walked : (w : Walked) → Contains (walk_of c (era c).epoch) w → (w.at + w.size ≤ (memory c).front) ⊎ ((memory c).low ≤ w.at)
+  pub walked : (w : Walked) → Contains (walk_of c) w → (w.at + w.size ≤ (memory c).front) ⊎ ((memory c).low ≤ w.at)
   pub above : (k : ℕ) (q : Stock) → k < (team c).count → (worker_of c k).stock ≡ Some q → q.epoch ≡ (era c).epoch → (memory c).low ≤ q.at
   pub apart : (j k : ℕ) (p q : Stock) → j < (team c).count → k < (team c).count → j ≢ k → (worker_of c j).stock ≡ Some p → (worker_of c k).stock ≡ Some q
       → p.epoch ≡ (era c).epoch → q.epoch ≡ (era c).epoch → (p.end ≤ q.at) ⊎ (q.end ≤ p.at)

@@ -1,5 +1,5 @@
 -- The invariant that each step keeps, in one place.
-use Rattle.std.specs.Prelude.{◌≡◌, ℕ, ◌+◌, ◌/◌, ◌<◌, ◌⊎◌, true, Some, None, is_some}
+use Rattle.std.specs.Prelude.{◌≡◌, ℕ, ◌+◌, ◌<◌, ◌⊎◌, true, Some, None, is_some}
 use Rattle.space_map.specs.declared.gate_word.GateWord.{GateWord}
 use Rattle.space_map.specs.declared.page_word.PageWord.{PageWord}
 use Rattle.space_map.specs.declared.page_word.PageWord.TheVariants.{Open}
@@ -12,7 +12,7 @@ use Rattle.heap_state.specs.Parts.Pages.{Shut, Filling, Tracing, Aged, OldPages,
 use Rattle.heap_state.specs.Parts.Leading.{Opened, Landing, Older}
 use Rattle.heap_state.specs.Parts.Gate.{Counted, Staffed}
 use Rattle.heap_state.specs.Parts.Stocks.{Stocks, Numbered}
-use Rattle.heap_state.specs.Parts.OldSpace.{OldSpace}
+use Rattle.heap_state.specs.Parts.OldSpace.{OldSpace, OldArea}
 use Rattle.heap_state.specs.Parts.Crossing.{Crossing}
 use Rattle.heap_state.specs.Parts.Knowledge.{Timely, Ends, Passes, Resets, Clean, Accesses}
 use Rattle.heap_state.specs.Parts.Copying.{IsOrigin, Seeks, Copies, Keeps, Licensed}
@@ -26,8 +26,8 @@ pub record Knows (E : Era) (gate : GateWord) (traced front low old_front old_low
   pub stock : (q : Stock) → w.stock ≡ Some q → q.epoch ≡ w.epoch
   pub registers : is_mutator w.post ≡ true → w.account.end ≡ None → Clean E g.size g.writer (is_late E.epoch w) w.done w.registers
   pub active : (f : Access) → w.access ≡ Some f → is_running w.post ≡ true
-  pub access : (f : Access) → w.access ≡ Some f → Accesses E g.size g.writer g.kind page f
-  pub board : w.board_open ≡ true → (is_running w.post ≡ true) × (page (E.board / 64) ≡ Open E.epoch)
+  pub access : (f : Access) → w.access ≡ Some f → Accesses E g.size g.writer g.kind f
+  pub opened : (p : ℕ) → w.opened ≡ Some p → (is_running w.post ≡ true) × (page p ≡ Open E.epoch)
   pub origin : (q : Quest) → w.quest ≡ Some q → IsOrigin E g.size g.writer g.kind heap (is_late E.epoch w) w.done w.registers w.scan q.old q.origin
   pub quest : (q : Quest) → w.quest ≡ Some q → Seeks E g.size g.writer g.copy q
   pub licensed : Licensed gate.behind g.kept k (is_late E.epoch w) w.copy w.quest w.scan
@@ -68,6 +68,7 @@ pub record Invariant (E : Era) (m : Memory) (team : Team) (g : Ghost) : Type 0 w
   pub new : NewArea m.low (E.start + E.span) E.epoch g.size m.heap m.page
   pub new_written : NewWritten E m.low g.size g.writer
   pub old_space : OldSpace E m.traced m.old_front m.old_low g.size m.heap m.page
+  pub old_area : OldArea E m.old_front m.old_low
   pub old_pages : OldPages E m.old_front m.page
   pub crossing : Crossing E m.front g.size g.writer m.cross
   pub stocks : Stocks E m.low team.count g.size m.heap m.page team.worker

@@ -2,13 +2,16 @@ pub mod Functions
 pub mod Table
 pub mod Era
 pub mod Worker
+pub mod FieldSpan
 pub mod Ghost
 pub mod Parts
 pub mod Inductive
 pub mod Values
 pub mod Configuration
+pub mod Kept
 pub mod Walk
 pub mod Denotes
+pub mod Dump
 pub mod Represents
 pub mod Sums
 pub mod Holds

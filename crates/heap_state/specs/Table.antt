@@ -58,9 +58,10 @@ table_of n words = record {
   announced = λ worker. word_in n words (Announce worker);
 }
 
--- The words are those of a whole table, and each shared word can be read: it has no bit that its format doesn't have.
+-- The words hold a whole table, and each shared word can be read: it has no bit that its format doesn't have. Words behind the
+-- table are no part of it.
 pub record IsFormed (n : ℕ) (words : List ℕ) : Type 0 where
-  pub whole : length words ≡ table_length n
+  pub whole : table_length n ≤ length words
   pub gate : word_in n words Gate < 2 ^ 62
   pub areas : (space : ℕ) → space < 2 → word_in n words (Area space) < 2 ^ 54
   pub pages : (page : ℕ) → page ≤ 2 * n → decode_page (word_in n words (Page page)) ≡ Some ((table_of n words).page page)

@@ -1,16 +1,14 @@
 -- What words stand for in the plain machine, by what the proofs know of the heap.
-use Rattle.std.specs.Prelude.{◌≡◌, ℕ, ◌+◌, ◌-◌, ◌<◌, ◌⊎◌, true, false, length, Option, Some, None, slice_get}
-use Rattle.heap_words.specs.declared.kind.Kind.{Kind}
-use Rattle.heap_words.specs.declared.kind.Kind.TheVariants.{Fields, Raw}
+use Rattle.std.specs.Prelude.{◌≡◌, ℕ, ◌+◌, ◌<◌, ◌⊎◌, true, length, Option, Some, None, slice_get}
+use Rattle.plain_state.specs.declared.kind.Kind.{Kind}
 use Rattle.heap_words.specs.Decoded.{Decoded, NumberWord, PointerWord, decode}
-use Rattle.plain_state.specs.declared.kind.Kind as plain_kinds
-use Rattle.plain_state.specs.declared.kind.Kind.TheVariants as plain_kind
 use Rattle.plain_state.specs.declared.value.Identity.{Identity}
 use Rattle.plain_state.specs.declared.value.Value.{Value}
 use Rattle.plain_state.specs.declared.value.Value.TheVariants.{Number, Reference}
 use Rattle.plain_state.specs.State as plain
+use Rattle.plain_state.specs.Layout.{is_field, is_raw, word_of, size_of}
 use Rattle.heap_state.specs.Era.{Era, Memory}
-use Rattle.heap_state.specs.Ghost.{Ghost, is_field}
+use Rattle.heap_state.specs.Ghost.{Ghost}
 use Rattle.heap_state.specs.Worker.{Team, Account}
 
 -- ---- words
@@ -26,21 +24,13 @@ value_of identity w = value_said identity (decode w)
 
 -- ---- records
 
--- the plain machine's kind of a record
-abbrev pub kind_of : Kind → plain_kinds.Kind
-kind_of Fields = plain_kind.Fields
-kind_of Raw = plain_kind.Raw
-
--- the value of a record's word, counted from the header
-abbrev pub value_at : plain.Record → ℕ → Option Value
-value_at r i = slice_get r.values (i - 1)
-
--- The words at a show a record of this kind and size: each field denotes its value, and each raw word is its number.
+-- The words at a show a record of this kind and size: each value that stands in a field is denoted there, and each other one
+-- is the number there.
 pub record Shows (denotes : ℕ → Option Value) (heap : ℕ → ℕ) (a : ℕ) (k : Kind) (z : ℕ) (r : plain.Record) : Type 0 where
-  pub kind : r.kind ≡ kind_of k
-  pub size : length r.values + 1 ≡ z
-  pub fields : (i : ℕ) → 0 < i → i < z → is_field k i ≡ true → denotes (heap (a + i)) ≡ value_at r i
-  pub words : (i : ℕ) → 0 < i → i < z → is_field k i ≡ false → Some (Number (heap (a + i))) ≡ value_at r i
+  pub kind : r.kind ≡ k
+  pub size : size_of r ≡ z
+  pub fields : (x : ℕ) → x < length r.values → is_field k (word_of k x) ≡ true → denotes (heap (a + word_of k x)) ≡ slice_get r.values x
+  pub numbers : (x : ℕ) → x < length r.values → is_raw k (word_of k x) ≡ true → Some (Number (heap (a + word_of k x))) ≡ slice_get r.values x
 
 -- each record that nobody writes, and that has not been copied to the end, shows the plain record of its identity
 pub record ShowsAll (size writer copy keeper : ℕ → ℕ) (kind : ℕ → Kind) (identity : ℕ → Identity) (heap : ℕ → ℕ) (records : plain.Heap) : Type 0 where

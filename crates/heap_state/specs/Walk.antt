@@ -1,11 +1,13 @@
 -- The walk over the records of a space.
-use Rattle.std.specs.Prelude.{ℕ, ⊤, zero, suc, ◌+◌, ◌-◌, ◌*◌, ◌==◌, ◌&&◌, Bool, true, false, List, [], ◌∷◌, ◌++◌, Option, Some, None, nat_lt, if◌then◌else◌}
+use Rattle.std.specs.Prelude.{◌≡◌, ◌<◌, ◌≤◌, Contains, ℕ, ⊤, zero, suc, ◌+◌, ◌-◌, ◌*◌, ◌==◌, Bool, true, false, List, [], ◌∷◌, ◌++◌, nat_lt, if◌then◌else◌}
 use Rattle.heap_words.specs.Decoded.{Decoded, HeaderWord, BusyWord, ForwardWord, decode}
 use Rattle.space_map.specs.declared.page_word.PageWord.{PageWord}
 use Rattle.space_map.specs.declared.page_word.PageWord.TheVariants.{Unset, Open, Scanning}
-use Rattle.space_map.specs.Spaces.{to_space, space_start, page_of, first_word}
+use Rattle.space_map.specs.Spaces.{page_of, first_word}
 use Rattle.heap_state.specs.Configuration.{Configuration, table}
-use Rattle.heap_state.specs.Worker.{Worker, Copy}
+use Rattle.heap_state.specs.Era.{era_of, memory_of}
+use Rattle.heap_state.specs.Kept.{Kept, kept_of, reserved_in, IsReservedIn}
+use Rattle.heap_state.specs.Table.{Table}
 
 -- ---- what is met at a place
 
@@ -72,49 +74,63 @@ ReadsAll (suc turns) passes reserved heap end at =
 
 -- ---- a space's records
 
--- the size of the place at this address that the worker has reserved, or 0
-abbrev pub reserved_by : Option Copy → ℕ → ℕ
-reserved_by None a = 0
-reserved_by (Some c) a = if c.reserved && (c.to == a) then c.size else 0
-
--- the size of the place at this address that some worker has reserved, or 0
-abbrev pub reserved_in : List Worker → ℕ → ℕ
-reserved_in [] a = 0
-reserved_in (w ∷ workers) a = if reserved_by w.copy a == 0 then reserved_in workers a else reserved_by w.copy a
-
 -- the page is not open in this epoch
 abbrev pub is_closed : ℕ → PageWord → Bool
 is_closed epoch Unset = true
 is_closed epoch (Open e) = if e == epoch then false else true
 is_closed epoch (Scanning e worker) = true
 
--- the records of a space of an epoch, from its first word to FRONT, and from LOW to its end on pages that are open in the
--- epoch; a place that is reserved below FRONT is left out
-abbrev pub walk_space : (epoch : ℕ) (reserved heap : ℕ → ℕ) (page : ℕ → PageWord) (start front low end : ℕ) → List Walked
-walk_space epoch reserved heap page start front low end =
-    walk (front - start) (λ p. false) reserved heap front start ++ walk (end - low) (λ p. is_closed epoch (page p)) (λ a. 0) heap end low
+-- the page is not open in the epoch before this one; in the first epoch none is
+abbrev pub is_closed_before : ℕ → PageWord → Bool
+is_closed_before epoch Unset = true
+is_closed_before epoch (Open e) = if e + 1 == epoch then false else true
+is_closed_before epoch (Scanning e worker) = true
 
--- the walks of a space of an epoch can read all that they meet
-abbrev pub ReadsSpace : (epoch : ℕ) (reserved heap : ℕ → ℕ) (page : ℕ → PageWord) (start front low end : ℕ) → Type 0
-ReadsSpace epoch reserved heap page start front low end =
-    ReadsAll (front - start) (λ p. false) reserved heap front start × ReadsAll (end - low) (λ p. is_closed epoch (page p)) (λ a. 0) heap end low
+-- the records of a space, from its first word to FRONT, and from LOW to its end, where the walk passes over some pages; a place
+-- that is reserved below FRONT is left out
+abbrev pub walk_space : (passes : ℕ → Bool) (reserved heap : ℕ → ℕ) (start front low end : ℕ) → List Walked
+walk_space passes reserved heap start front low end =
+    walk (front - start) (λ p. false) reserved heap front start ++ walk (end - low) passes (λ a. 0) heap end low
 
--- the first word of a space of the configuration
-abbrev pub start_of : Configuration → ℕ → ℕ
-start_of c space = space_start (table c).pages space
+-- the walks of a space can read all that they meet
+abbrev pub ReadsSpace : (passes : ℕ → Bool) (reserved heap : ℕ → ℕ) (start front low end : ℕ) → Type 0
+ReadsSpace passes reserved heap start front low end =
+    ReadsAll (front - start) (λ p. false) reserved heap front start × ReadsAll (end - low) passes (λ a. 0) heap end low
 
--- the walk of the space of an epoch
-abbrev pub walk_of : Configuration → ℕ → List Walked
-walk_of c epoch =
-    walk_space epoch (reserved_in c.workers) (table c).heap (table c).page (start_of c (to_space epoch))
-    (start_of c (to_space epoch) + ((table c).area (to_space epoch)).front)
-    (start_of c (to_space epoch) + ((table c).area (to_space epoch)).low)
-    (start_of c (to_space epoch) + 64 * (table c).in_use (to_space epoch))
+-- ---- the spaces of a table, with what its workers keep
 
--- the walk of the space of an epoch can read all that it meets
-abbrev pub IsReadable : Configuration → ℕ → Type 0
-IsReadable c epoch =
-    ReadsSpace epoch (reserved_in c.workers) (table c).heap (table c).page (start_of c (to_space epoch))
-    (start_of c (to_space epoch) + ((table c).area (to_space epoch)).front)
-    (start_of c (to_space epoch) + ((table c).area (to_space epoch)).low)
-    (start_of c (to_space epoch) + 64 * (table c).in_use (to_space epoch))
+-- the walk of the epoch's space, which passes over the pages that are not open in the epoch
+abbrev pub walk_in : Table → List Kept → List Walked
+walk_in t kept =
+    walk_space (λ p. is_closed t.gate.epoch (t.page p)) (reserved_in kept) t.heap (era_of t).start (memory_of t).front (memory_of t).low ((era_of t).start + (era_of t).span)
+
+-- the walk of the old space, as one of the epoch before
+abbrev pub old_walk_in : Table → List Kept → List Walked
+old_walk_in t kept =
+    walk_space (λ p. is_closed_before t.gate.epoch (t.page p)) (reserved_in kept) t.heap (era_of t).old_start (memory_of t).old_front (memory_of t).old_low
+    ((era_of t).old_start + (era_of t).old_span)
+
+-- the walk of the epoch's space can read all that it meets
+abbrev pub IsReadable : Table → List Kept → Type 0
+IsReadable t kept =
+    ReadsSpace (λ p. is_closed t.gate.epoch (t.page p)) (reserved_in kept) t.heap (era_of t).start (memory_of t).front (memory_of t).low ((era_of t).start + (era_of t).span)
+
+-- the walk of the old space can read all that it meets
+abbrev pub IsOldReadable : Table → List Kept → Type 0
+IsOldReadable t kept =
+    ReadsSpace (λ p. is_closed_before t.gate.epoch (t.page p)) (reserved_in kept) t.heap (era_of t).old_start (memory_of t).old_front (memory_of t).old_low
+    ((era_of t).old_start + (era_of t).old_span)
+
+-- A page of the epoch's space whose first word is below FRONT, and in no place that is reserved, has the place of the walked
+-- record over that word as its crossing.
+pub record CrossingsHold (t : Table) (kept : List Kept) : Type 0 where
+  pub crossing : (p : ℕ) → (era_of t).start ≤ 64 * p → 64 * p < (memory_of t).front → ¬ (IsReservedIn kept (64 * p))
+      → (w : Walked) × Contains (walk_in t kept) w × (w.at ≤ 64 * p) × (64 * p < w.at + w.size) × (t.cross p ≡ w.at)
+
+-- ---- those of a configuration
+
+abbrev pub walk_of : Configuration → List Walked
+walk_of c = walk_in (table c) (kept_of c.workers)
+
+abbrev pub old_walk_of : Configuration → List Walked
+old_walk_of c = old_walk_in (table c) (kept_of c.workers)

@@ -1,6 +1,6 @@
 -- What a worker holds between two steps, by component. Each machine's state is read as these, whatever its phases are.
 use Rattle.std.specs.Prelude.{ℕ, ◌+◌, ◌==◌, ◌&&◌, Bool, true, false, List, [], Option, None}
-use Rattle.heap_words.specs.declared.kind.Kind.{Kind}
+use Rattle.plain_state.specs.declared.kind.Kind.{Kind}
 use Rattle.plain_state.specs.declared.end.End.{End}
 use Rattle.space_map.specs.declared.gate_word.GateWord.{GateWord}
 use Rattle.space_map.specs.declared.page_word.PageWord.{PageWord}
@@ -78,11 +78,16 @@ pub record Seen : Type 0 where
   pub size : ℕ
   pub kind : Kind
 
--- the access to one word of a record whose header was read, and whether that word's page was found open
+-- what stands at a word of a record: a field, or a plain number
+pub data Role : Type 0 where
+  FieldRole : Role
+  NumberRole : Role
+
+-- the access to a word of a record whose header was read: the record's place, the word counted from its first, and its role
 pub record Access : Type 0 where
-  pub of : Seen
+  pub at : ℕ
   pub word : ℕ
-  pub allowed : Bool
+  pub role : Role
 
 -- ---- copying
 
@@ -165,7 +170,7 @@ pub record Account : Type 0 where
   pub end : Option End
 
 -- A worker: its post, its epoch, its account, its registers and how many of them it has forwarded since the flip; then
--- what it is about to do, and what it knows by what it has read in its epoch.
+-- what it is about to do, and what it knows by what it has read in its epoch: `opened` is a page that it found open.
 pub record Worker : Type 0 where
   pub post : Post
   pub epoch : ℕ
@@ -174,7 +179,7 @@ pub record Worker : Type 0 where
   pub done : ℕ
   pub stock : Option Stock
   pub access : Option Access
-  pub board_open : Bool
+  pub opened : Option ℕ
   pub quest : Option Quest
   pub copy : Option Copy
   pub scan : Option Scan
@@ -204,7 +209,7 @@ fresh post = record {
   done = 0;
   stock = None;
   access = None;
-  board_open = false;
+  opened = None;
   quest = None;
   copy = None;
   scan = None;

@@ -1,6 +1,6 @@
 -- An instruction that leaves the board alone does the same on any two heaps in which its mutator has
 -- the same records, and leads it to no record of another.
-use Rattle.std.proofs.Common.{◌≡◌, ℕ, ◌+◌, ◌-◌, Bool, true, false, List, [], ◌∷◌, ◌++◌, length, replicate, Option, Some, None, Result, Ok, Err, slice_set, cond, nat_lt, refl, ap, sym, subst}
+use Rattle.std.proofs.Common.{◌≡◌, ℕ, ◌+◌, ◌-◌, Bool, true, false, List, [], ◌∷◌, ◌++◌, length, Option, Some, None, Result, Ok, Err, slice_set, cond, nat_lt, refl, ap, sym, subst}
 use Rattle.std.proofs.lemmas.List.{set-get_or}
 use Rattle.plain_state.specs.declared.end.End.{End}
 use Rattle.plain_state.specs.declared.kind.Kind.{Kind}
@@ -12,12 +12,13 @@ use Rattle.plain_state.specs.declared.value.Value.{Value}
 use Rattle.plain_state.specs.declared.value.Value.TheVariants.{Number, Reference}
 use Rattle.plain_state.specs.Operation.{applied, one_if}
 use Rattle.plain_state.specs.State.{Record, Heap, Mutator, made_by, record_of, serial_of}
+use Rattle.plain_state.specs.Writing.{with_word, with_records, stored}
 use Rattle.mutator_asm.specs.declared.instr.Instr.{Instr}
 use Rattle.mutator_asm.specs.declared.instr.Instr.TheVariants as instrs
 use Rattle.mutator_asm.specs.declared.operand.Operand.{Operand}
-use Rattle.plain_heap.specs.Call.{After, ◌>>=◌, register, number_in, reference_in, operand, word_of, values_of, may_hold, with_word, with_records, store_in, stored, length_of, next_of, jumped, went_on, set_register, loads, makes, prints, computes, makes_new, call, is_zero, is_reference, are_same}
+use Rattle.plain_heap.specs.Call.{After, ◌>>=◌, register, number_in, reference_in, operand, value_in, values_of, may_hold, store_in, length_of, zeros, next_of, jumped, went_on, set_register, loads, allocated, prints, computes, allocates, call, is_zero, is_reference, are_same}
 use Rattle.plain_heap.specs.Solo.{leaves_board}
-use Rattle.plain_heap.proofs.Owning.{IsOf, IsOwn, register-own, word-own, held-own, loads-own, jumps-own, stores-own, makes-own}
+use Rattle.plain_heap.proofs.Owning.{IsOf, IsOwn, register-own, word-own, held-own, loads-own, jumps-own, stores-own, gains-own}
 
 -- two outcomes with the same end, or both with none
 abbrev pub Same : (After → After → Type 0) → Result After End → Result After End → Type 0
@@ -66,19 +67,19 @@ module _ (m : ℕ) (heap other : Heap) (k : Mutator) (same : made_by other m ≡
       same-bind (Alike m heap other) (number_in (register k a)) _ _ (λ x is_x. same-bind (Alike m heap other) (number_in (register k b)) _ _
       (λ y is_y. same-bind (Alike m heap other) (applied operation x y) _ _ (λ n is_n. loads-alike d (Number n) tt)))
 
-  makes-alike : (kind : Kind) (d n : ℕ) → Alike m heap other (makes m heap k kind d n) (makes m other k kind d n)
-  makes-alike kind d n = rw same (record {
-    records = made_by heap m ++ record { kind = kind; values = replicate n (Number 0) } ∷ [];
+  allocated-alike : (kind : Kind) (d n : ℕ) → Alike m heap other (allocated m heap k kind d n) (allocated m other k kind d n)
+  allocated-alike kind d n = rw same (record {
+    records = made_by heap m ++ zeros kind n ∷ [];
     heap_is = refl;
     other_is = refl;
     mutator_is = refl;
     own = loads-own m _ k d (next_of k) (Reference (record { mutator = m; serial = serial_of heap m + 1 }))
-        (record { registers = own.registers; words = makes-own m (made_by heap m) kind n own.words }) refl;
+        (record { registers = own.registers; words = gains-own m (made_by heap m) kind n own.words }) refl;
   })
 
-  makes_new-alike : (kind : Kind) (d : ℕ) (x : Operand) → IsAlike (makes_new m heap k kind d x) (makes_new m other k kind d x)
-  makes_new-alike kind d x =
-      same-bind (Alike m heap other) (operand k x) _ _ (λ y is_y. same-bind (Alike m heap other) (length_of y) _ _ (λ n is_n. makes-alike kind d n))
+  allocates-alike : (kind : Kind) (d : ℕ) (x : Operand) → IsAlike (allocates m heap k kind d x) (allocates m other k kind d x)
+  allocates-alike kind d x =
+      same-bind (Alike m heap other) (operand k x) _ _ (λ y is_y. same-bind (Alike m heap other) (length_of y) _ _ (λ n is_n. allocated-alike kind d n))
 
   -- a reference that the mutator holds is to a record of its own
   reference_as : (v : Value) (f g : Identity → Result After End) → IsOf m v → ((n : ℕ) → IsAlike (f (record { mutator = m; serial = n })) (g (record { mutator = m; serial = n })))
@@ -93,15 +94,15 @@ module _ (m : ℕ) (heap other : Heap) (k : Mutator) (same : made_by other m ≡
   abbrev own_record : ℕ → Identity
   own_record n = record { mutator = m; serial = n }
 
-  word-same : (n x : ℕ) → word_of other (own_record n) x ≡ word_of heap (own_record n) x
+  word-same : (n x : ℕ) → value_in other (own_record n) x ≡ value_in heap (own_record n) x
   word-same n x = rw same refl
 
   -- a word of a record of the mutator
   word-alike : (n x : ℕ) (f g : Value → Result After End) → ((v : Value) → IsOf m v → IsAlike (f v) (g v))
-      → IsAlike (word_of heap (own_record n) x >>= f) (word_of other (own_record n) x >>= g)
+      → IsAlike (value_in heap (own_record n) x >>= f) (value_in other (own_record n) x >>= g)
   word-alike n x f g next =
-      subst (λ o. IsAlike (word_of heap (own_record n) x >>= f) (o >>= g)) (sym (word-same n x))
-      (same-bind (Alike m heap other) (word_of heap (own_record n) x) f g (λ v is. next v (word-own m (made_by heap m) (n - 1) x v own.words is)))
+      subst (λ o. IsAlike (value_in heap (own_record n) x >>= f) (o >>= g)) (sym (word-same n x))
+      (same-bind (Alike m heap other) (value_in heap (own_record n) x) f g (λ v is. next v (word-own m (made_by heap m) n x v own.words is)))
 
   stored-alike : (n : ℕ) (r : Record) (x : ℕ) (v : Value) → record_of heap (own_record n) ≡ Some r → IsOf m v
       → Alike m heap other (record { heap = stored heap (own_record n) r x v; mutator = went_on k }) (record { heap = stored other (own_record n) r x v; mutator = went_on k })
@@ -110,7 +111,7 @@ module _ (m : ℕ) (heap other : Heap) (k : Mutator) (same : made_by other m ≡
     heap_is = refl;
     other_is = refl;
     mutator_is = refl;
-    own = record { registers = own.registers; words = stores-own m (made_by heap m) (n - 1) r x v own.words found is };
+    own = record { registers = own.registers; words = stores-own m (made_by heap m) n r x v own.words found is };
   })
 
   held-alike : (n : ℕ) (r : Record) (x : ℕ) (u : Value) (o : Result Value End) → record_of heap (own_record n) ≡ Some r → IsOf m u → may_hold r.kind u ≡ o
@@ -157,8 +158,8 @@ module _ (m : ℕ) (heap other : Heap) (k : Mutator) (same : made_by other m ≡
   call-alike (instrs.Jz a target) leaves = jumps-alike (cond (is_zero (register k a)) target (next_of k))
   call-alike (instrs.Jal d target) leaves = stays (jumped (set_register k d (Number (next_of k))) target) (loads-own m (made_by heap m) k d target (Number (next_of k)) own tt)
   call-alike (instrs.Jr a) leaves = same-bind (Alike m heap other) (number_in (register k a)) _ _ (λ n is. jumps-alike n)
-  call-alike (instrs.New d x) leaves = makes_new-alike Fields d x
-  call-alike (instrs.Raw d x) leaves = makes_new-alike Raw d x
+  call-alike (instrs.New d x) leaves = allocates-alike Fields d x
+  call-alike (instrs.Raw d x) leaves = allocates-alike Raw d x
   call-alike (instrs.Ld d a x) leaves =
       reference-alike a _ _ (λ n. same-bind (Alike m heap other) (operand k x) _ _ (λ y is_y. word-alike n y _ _ (λ v is. loads-alike d v is)))
   call-alike (instrs.St a x b) leaves =

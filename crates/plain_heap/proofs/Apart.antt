@@ -8,7 +8,7 @@ use Rattle.plain_state.specs.declared.end.End.{End}
 use Rattle.plain_state.specs.declared.value.Value.TheVariants.{Number}
 use Rattle.plain_state.specs.State.{Record, Mutator, Plain, made_by}
 use Rattle.mutator_asm.specs.declared.instr.Instr.{Instr}
-use Rattle.plain_heap.specs.Call.{with_records}
+use Rattle.plain_state.specs.Writing.{with_records}
 use Rattle.plain_heap.specs.Step.{ended}
 use Rattle.plain_heap.specs.Order.{fresh, opening}
 use Rattle.plain_heap.proofs.Opening.{opening-replicate}
@@ -129,7 +129,7 @@ module _ (code : List (List Instr)) where
     own = begun-own;
   })
 
-  -- no mutator has made an instruction
+  -- no mutator has executed an instruction
   pub opening-begun : (m : ℕ) → (mutator_of (opening code) m).executed ≡ 0
   opening-begun m = ap (λ s. (mutator_of s m).executed) (opening-replicate code)
       ∙ read_all (λ k. k.executed ≡ 0) (replicate (length code) fresh) m fresh (All-replicate (λ k. k.executed ≡ 0) (length code) fresh refl) refl

@@ -1,4 +1,4 @@
--- An instruction that is made counts, and takes back no number.
+-- An instruction that is executed counts, and takes back no number.
 use Rattle.std.proofs.Common.{◌≡◌, ℕ, ◌+◌, Bool, true, false, List, [], ◌∷◌, ◌++◌, length, Result, Ok, Err, nat_lt, refl, ap, sym, ◌∙◌, append_assoc, append-nil}
 use Rattle.std.specs.Result.{IfOk}
 use Rattle.plain_state.specs.declared.end.End.{End}
@@ -11,7 +11,7 @@ use Rattle.plain_state.specs.State.{Heap, Mutator, record_of}
 use Rattle.mutator_asm.specs.declared.instr.Instr.{Instr}
 use Rattle.mutator_asm.specs.declared.instr.Instr.TheVariants as instrs
 use Rattle.mutator_asm.specs.declared.operand.Operand.{Operand}
-use Rattle.plain_heap.specs.Call.{After, ◌>>=◌, register, number_in, reference_in, operand, word_of, board_word, store_in, length_of, prints, computes, makes_new, call}
+use Rattle.plain_heap.specs.Call.{After, ◌>>=◌, register, number_in, reference_in, operand, value_in, board_word, store_in, length_of, prints, computes, allocates, call}
 
 -- the second list is the first with more behind it
 pub record Grown (xs ys : List ℕ) : Type 0 where
@@ -46,8 +46,8 @@ module _ (m : ℕ) (heap : Heap) (k : Mutator) where
   computes-went operation d a b =
       if_ok-bind WentOn (number_in (register k a)) _ (λ x. if_ok-bind WentOn (number_in (register k b)) _ (λ y. if_ok-bind WentOn (applied operation x y) _ (λ n. quiet _ refl refl refl)))
 
-  makes-went : (kind : Kind) (d : ℕ) (x : Operand) → IfOk (makes_new m heap k kind d x) WentOn
-  makes-went kind d x = if_ok-bind WentOn (operand k x) _ (λ y. if_ok-bind WentOn (length_of y) _ (λ n. quiet _ refl refl refl))
+  allocates-went : (kind : Kind) (d : ℕ) (x : Operand) → IfOk (allocates m heap k kind d x) WentOn
+  allocates-went kind d x = if_ok-bind WentOn (operand k x) _ (λ y. if_ok-bind WentOn (length_of y) _ (λ n. quiet _ refl refl refl))
 
   prints_as : (n : ℕ) (b : Bool) → nat_lt (length k.printed) 65536 ≡ b → IfOk (prints heap k n) WentOn
   prints_as n true is = rw is (record { printed = record { rest = n ∷ []; is = refl }; executed = refl; going = refl })
@@ -68,10 +68,10 @@ module _ (m : ℕ) (heap : Heap) (k : Mutator) where
   call-went (instrs.Jz a target) = quiet _ refl refl refl
   call-went (instrs.Jal d target) = quiet _ refl refl refl
   call-went (instrs.Jr a) = if_ok-bind WentOn (number_in (register k a)) _ (λ n. quiet _ refl refl refl)
-  call-went (instrs.New d x) = makes-went Fields d x
-  call-went (instrs.Raw d x) = makes-went Raw d x
-  call-went (instrs.Ld d a x) = if_ok-bind WentOn (reference_in (register k a)) _ (λ i. if_ok-bind WentOn (operand k x) _ (λ y. if_ok-bind WentOn (word_of heap i y) _ (λ v. quiet _ refl refl refl)))
-  call-went (instrs.St a x b) = if_ok-bind WentOn (reference_in (register k a)) _ (λ i. if_ok-bind WentOn (operand k x) _ (λ y. if_ok-bind WentOn (word_of heap i y) _
+  call-went (instrs.New d x) = allocates-went Fields d x
+  call-went (instrs.Raw d x) = allocates-went Raw d x
+  call-went (instrs.Ld d a x) = if_ok-bind WentOn (reference_in (register k a)) _ (λ i. if_ok-bind WentOn (operand k x) _ (λ y. if_ok-bind WentOn (value_in heap i y) _ (λ v. quiet _ refl refl refl)))
+  call-went (instrs.St a x b) = if_ok-bind WentOn (reference_in (register k a)) _ (λ i. if_ok-bind WentOn (operand k x) _ (λ y. if_ok-bind WentOn (value_in heap i y) _
       (λ old. if_ok-bind WentOn (store_in heap i (record_of heap i) y (register k b)) _ (λ h. quiet _ refl refl refl))))
   call-went (instrs.Len d a) = if_ok-bind WentOn (reference_in (register k a)) _ (λ i. quiet _ refl refl refl)
   call-went (instrs.Isp d a) = quiet _ refl refl refl

@@ -9,7 +9,7 @@ use Rattle.plain_state.specs.declared.end.End.TheVariants.{TurnsOut}
 use Rattle.plain_state.specs.State.{Mutator, Plain}
 use Rattle.mutator_asm.specs.declared.instr.Instr.{Instr}
 use Rattle.plain_heap.specs.Call.{After, ◌>>=◌, call}
-use Rattle.plain_heap.specs.Step.{fetch, made, settled, stepped_if, stepped_as, mutator_in, stepped}
+use Rattle.plain_heap.specs.Step.{fetch, executes, settled, stepped_if, stepped_as, mutator_in, stepped}
 use Rattle.plain_heap.specs.declared.mark.Mark.TheVariants.{Step}
 use Rattle.plain_heap.specs.Order.{fresh, marked, state_after}
 use Rattle.plain_heap.proofs.Counting.{Grown, grown-refl, grown-trans, Went, call-went}
@@ -22,7 +22,7 @@ mutator_of s m = get_or s.mutators m fresh
 abbrev pub after_steps : List (List Instr) → ℕ → Plain → ℕ → ℕ → Plain
 after_steps code turns s n m = state_after code turns s (replicate n (Step m))
 
--- a mutator with an end stays what it is; another makes an instruction, for which it has a turn, or
+-- a mutator with an end stays what it is; another executes an instruction, for which it has a turn, or
 -- gets its end
 pub record Follows (turns : ℕ) (k l : Mutator) : Type 0 where
   pub printed : Grown k.printed l.printed
@@ -48,12 +48,12 @@ module _ (code : List (List Instr)) (turns : ℕ) (s : Plain) (m : ℕ) (has : m
   pub stepped-rests : is_some (mutator_of s m).end ≡ true → stepped code turns s m ≡ s
   stepped-rests is = stepped-is ∙ rests_as (mutator_of s m) (mutator_of s m).end is
 
-  goes_as : (k : Mutator) (end : Option End) → is_some end ≡ false → stepped_if code turns s m k end ≡ settled s m k (made code turns m s.heap k)
+  goes_as : (k : Mutator) (end : Option End) → is_some end ≡ false → stepped_if code turns s m k end ≡ settled s m k (executes code turns m s.heap k)
   goes_as k None is = refl
   goes_as k (Some why) is = cc
 
   -- a step of a mutator without an end
-  pub stepped-goes : is_some (mutator_of s m).end ≡ false → stepped code turns s m ≡ settled s m (mutator_of s m) (made code turns m s.heap (mutator_of s m))
+  pub stepped-goes : is_some (mutator_of s m).end ≡ false → stepped code turns s m ≡ settled s m (mutator_of s m) (executes code turns m s.heap (mutator_of s m))
   stepped-goes is = stepped-is ∙ goes_as (mutator_of s m) (mutator_of s m).end is
 
   settled-counted_as : (o : Result After End) → length (settled s m (mutator_of s m) o).mutators ≡ length s.mutators
@@ -62,17 +62,17 @@ module _ (code : List (List Instr)) (turns : ℕ) (s : Plain) (m : ℕ) (has : m
 
   counted_as : (end : Bool) → is_some (mutator_of s m).end ≡ end → length (stepped code turns s m).mutators ≡ length s.mutators
   counted_as true is = ap (λ t. length t.mutators) (stepped-rests is)
-  counted_as false is = ap (λ t. length t.mutators) (stepped-goes is) ∙ settled-counted_as (made code turns m s.heap (mutator_of s m))
+  counted_as false is = ap (λ t. length t.mutators) (stepped-goes is) ∙ settled-counted_as (executes code turns m s.heap (mutator_of s m))
 
   -- no mutator comes or goes
   pub stepped-counted : length (stepped code turns s m).mutators ≡ length s.mutators
   stepped-counted = counted_as (is_some (mutator_of s m).end) refl
 
-  out_of_turns : (k : Mutator) → nat_le turns k.executed ≡ true → made code turns m s.heap k ≡ Err TurnsOut
+  out_of_turns : (k : Mutator) → nat_le turns k.executed ≡ true → executes code turns m s.heap k ≡ Err TurnsOut
   out_of_turns k out = rw out refl
 
-  -- what is made has a turn
-  fetched_as : (k : Mutator) (after : After) (out : Bool) → nat_le turns k.executed ≡ out → made code turns m s.heap k ≡ Ok after → k.executed < turns
+  -- what is executed has a turn
+  fetched_as : (k : Mutator) (after : After) (out : Bool) → nat_le turns k.executed ≡ out → executes code turns m s.heap k ≡ Ok after → k.executed < turns
   fetched_as k after true out is = absurd (apart (sym (out_of_turns k out) ∙ is))
     where
       apart : Err TurnsOut ≡ Ok after → ⊥
@@ -83,7 +83,7 @@ module _ (code : List (List Instr)) (turns : ℕ) (s : Plain) (m : ℕ) (has : m
   went_as k (Ok i) = call-went m s.heap k i
   went_as k (Err why) = tt
 
-  settled-follows : (o : Result After End) → is_some (mutator_of s m).end ≡ false → made code turns m s.heap (mutator_of s m) ≡ o → IfOk o (λ after. Went (mutator_of s m) after.mutator)
+  settled-follows : (o : Result After End) → is_some (mutator_of s m).end ≡ false → executes code turns m s.heap (mutator_of s m) ≡ o → IfOk o (λ after. Went (mutator_of s m) after.mutator)
       → Follows turns (mutator_of s m) (mutator_of (settled s m (mutator_of s m) o) m)
   settled-follows (Ok after) no_end is went = rw (get_or-set_same s.mutators m after.mutator fresh within) (record {
     printed = went.printed;
@@ -99,7 +99,7 @@ module _ (code : List (List Instr)) (turns : ℕ) (s : Plain) (m : ℕ) (has : m
   follows_as : (end : Bool) → is_some (mutator_of s m).end ≡ end → Follows turns (mutator_of s m) (mutator_of (stepped code turns s m) m)
   follows_as true is = rw (stepped-rests is) (record { printed = grown-refl (mutator_of s m).printed; rests = λ ended. refl; goes = λ no_end. cc })
   follows_as false is = rw (stepped-goes is)
-      (settled-follows (made code turns m s.heap (mutator_of s m)) is refl (went_as (mutator_of s m) (fetch code turns m (mutator_of s m))))
+      (settled-follows (executes code turns m s.heap (mutator_of s m)) is refl (went_as (mutator_of s m) (fetch code turns m (mutator_of s m))))
 
   pub stepped-follows : Follows turns (mutator_of s m) (mutator_of (stepped code turns s m) m)
   stepped-follows = follows_as (is_some (mutator_of s m).end) refl

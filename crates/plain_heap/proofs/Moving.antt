@@ -12,7 +12,7 @@ use Rattle.plain_state.specs.State.{Record, Mutator, Plain, made_by}
 use Rattle.mutator_asm.specs.declared.instr.Instr.{Instr}
 use Rattle.mutator_asm.specs.Program.{instr_at}
 use Rattle.plain_heap.specs.Call.{After, call}
-use Rattle.plain_heap.specs.Step.{fetch, made, ended, settled, stepped, asked_by, asked_if}
+use Rattle.plain_heap.specs.Step.{fetch, executes, ended, settled, stepped, asked_by, asked_if}
 use Rattle.plain_heap.specs.declared.mark.Mark.{Mark}
 use Rattle.plain_heap.specs.declared.mark.Mark.TheVariants.{Step, Flip, Full}
 use Rattle.plain_heap.specs.Order.{fresh, is_asked, marked}
@@ -61,8 +61,8 @@ module _ (code : List (List Instr)) (turns : ℕ) (alone : is_alone code ≡ tru
       no_instr e = cc
   leaves_as k i false out is = at_counter k i (instr_at code m k.counter) refl (rw out at is)
 
-  made-alike : Same (Alike m s.heap u.heap) (made code turns m s.heap (mutator_of s m)) (made code turns m u.heap (mutator_of s m))
-  made-alike = same-bind (Alike m s.heap u.heap) (fetch code turns m (mutator_of s m)) (λ i. call m s.heap (mutator_of s m) i) (λ i. call m u.heap (mutator_of s m) i)
+  executes-alike : Same (Alike m s.heap u.heap) (executes code turns m s.heap (mutator_of s m)) (executes code turns m u.heap (mutator_of s m))
+  executes-alike = same-bind (Alike m s.heap u.heap) (fetch code turns m (mutator_of s m)) (λ i. call m s.heap (mutator_of s m) i) (λ i. call m u.heap (mutator_of s m) i)
       (λ i is. call-alike m s.heap u.heap (mutator_of s m) meets.records (apart.own m) i (leaves_as (mutator_of s m) i _ refl is))
 
   settles : (o p : Result After End) → Same (Alike m s.heap u.heap) o p → MovesBoth m s u (settled s m (mutator_of s m) o) (settled u m (mutator_of s m) p)
@@ -87,7 +87,7 @@ module _ (code : List (List Instr)) (turns : ℕ) (alone : is_alone code ≡ tru
   step-both no_end =
       let there : is_some (mutator_of u m).end ≡ false = ap (λ k. is_some k.end) meets.mutator ∙ no_end in
       rw (stepped-goes code turns s m has apart.counted no_end, stepped-goes code turns u m has other_apart.counted there, meets.mutator)
-      (settles (made code turns m s.heap (mutator_of s m)) (made code turns m u.heap (mutator_of s m)) made-alike)
+      (settles (executes code turns m s.heap (mutator_of s m)) (executes code turns m u.heap (mutator_of s m)) executes-alike)
 
   ended_apart : true ≡ false → ⊥
   ended_apart e = cc

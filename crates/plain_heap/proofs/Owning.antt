@@ -1,5 +1,5 @@
 -- What a mutator holds that shares nothing: numbers, and references to records of its own.
-use Rattle.std.proofs.Common.{◌≡◌, ℕ, ◌<◌, ◌≤◌, ◌⊎◌, inl, inr, List, [], ◌∷◌, ◌++◌, length, replicate, Option, Some, None, Ok, slice_get, slice_set, get_or, refl, subst}
+use Rattle.std.proofs.Common.{◌≡◌, ℕ, zero, suc, ◌-◌, ◌<◌, ◌≤◌, ◌⊎◌, inl, inr, List, [], ◌∷◌, ◌++◌, length, Option, Some, None, Ok, slice_get, slice_set, get_or, refl, subst}
 use Rattle.std.specs.Bool.{⊤}
 use Rattle.std.specs.Option.{ok_or, option_map_or}
 use Rattle.std.specs.List.{All}
@@ -12,8 +12,9 @@ use Rattle.plain_state.specs.declared.kind.Kind.{Kind}
 use Rattle.plain_state.specs.declared.kind.Kind.TheVariants.{Fields, Raw}
 use Rattle.plain_state.specs.declared.value.Value.{Value}
 use Rattle.plain_state.specs.declared.value.Value.TheVariants.{Number, Reference}
-use Rattle.plain_state.specs.State.{Record, Mutator}
-use Rattle.plain_heap.specs.Call.{register, may_hold, with_word, jumped, set_register}
+use Rattle.plain_state.specs.State.{Record, Mutator, at_serial}
+use Rattle.plain_state.specs.Writing.{with_word}
+use Rattle.plain_heap.specs.Call.{register, may_hold, zeros, jumped, set_register}
 
 -- a number, or a reference to a record of mutator m
 abbrev pub IsOf : ℕ → Value → Type 0
@@ -44,9 +45,14 @@ found_all P xs i x all is = subst P (get_or_from_slice_get xs i x x is) (All-get
 pub register-own : (m : ℕ) (k : Mutator) (r : ℕ) → All (IsOf m) k.registers → IsOf m (register k r)
 register-own m k r all = read_all (IsOf m) k.registers r (Number 0) all tt
 
-values_as : (m : ℕ) (records : List Record) (n : ℕ) (o : Option Record) → All (AllOf m) records → slice_get records n ≡ o → All (IsOf m) (option_map_or (λ r. r.values) o [])
+-- what holds of each record holds of one found by its serial
+found_serial : (P : Record → Type 0) (records : List Record) (n : ℕ) (r : Record) → All P records → at_serial records n ≡ Some r → P r
+found_serial P records zero r all is = cc
+found_serial P records (suc n) r all is = found_all P records n r all is
+
+values_as : (m : ℕ) (records : List Record) (n : ℕ) (o : Option Record) → All (AllOf m) records → at_serial records n ≡ o → All (IsOf m) (option_map_or (λ r. r.values) o [])
 values_as m records n None all is = All-nil (IsOf m)
-values_as m records n (Some r) all is = found_all (AllOf m) records n r all is
+values_as m records n (Some r) all is = found_serial (AllOf m) records n r all is
 
 word_as : (m : ℕ) (values : List Value) (x : ℕ) (o : Option Value) (v : Value) → All (IsOf m) values → slice_get values x ≡ o → ok_or o OutOfRange ≡ Ok v → IsOf m v
 word_as m values x None v all found is = cc
@@ -55,12 +61,12 @@ word_as m values x (Some u) v all found is = subst (IsOf m) (same_Ok u v is) (fo
     same_Ok : (u v : Value) → ok_or (Some u) OutOfRange ≡ Ok v → u ≡ v
     same_Ok u v is = cc
 
--- a word that is read of a record of mutator m
+-- a word that is read of the record of mutator m with a serial
 pub word-own : (m : ℕ) (records : List Record) (n x : ℕ) (v : Value) → All (AllOf m) records
-    → ok_or (slice_get (option_map_or (λ r. r.values) (slice_get records n) []) x) OutOfRange ≡ Ok v → IsOf m v
+    → ok_or (slice_get (option_map_or (λ r. r.values) (at_serial records n) []) x) OutOfRange ≡ Ok v → IsOf m v
 word-own m records n x v all is =
-    let values = option_map_or (λ r. r.values) (slice_get records n) [] in
-    word_as m values x (slice_get values x) v (values_as m records n (slice_get records n) all refl) refl is
+    let values = option_map_or (λ r. r.values) (at_serial records n) [] in
+    word_as m values x (slice_get values x) v (values_as m records n (at_serial records n) all refl) refl is
 
 -- ---- what is written
 
@@ -82,12 +88,12 @@ loads-own m records k d target v own is = record { registers = All-set (IsOf m) 
 pub jumps-own : (m : ℕ) (records : List Record) (k : Mutator) (target : ℕ) → IsOwn m records k → IsOwn m records (jumped k target)
 jumps-own m records k target own = record { registers = own.registers; words = own.words }
 
--- a word of a record takes a value
-pub stores-own : (m : ℕ) (records : List Record) (n : ℕ) (r : Record) (x : ℕ) (v : Value) → All (AllOf m) records → slice_get records n ≡ Some r → IsOf m v
-    → All (AllOf m) (slice_set records n (with_word r x v))
+-- a word of the record with a serial takes a value
+pub stores-own : (m : ℕ) (records : List Record) (n : ℕ) (r : Record) (x : ℕ) (v : Value) → All (AllOf m) records → at_serial records n ≡ Some r → IsOf m v
+    → All (AllOf m) (slice_set records (n - 1) (with_word r x v))
 stores-own m records n r x v all found is =
-    All-set (AllOf m) records n (with_word r x v) (All-set (IsOf m) r.values x v is (found_all (AllOf m) records n r all found)) all
+    All-set (AllOf m) records (n - 1) (with_word r x v) (All-set (IsOf m) r.values x v is (found_serial (AllOf m) records n r all found)) all
 
 -- a new record holds zeros
-pub makes-own : (m : ℕ) (records : List Record) (kind : Kind) (n : ℕ) → All (AllOf m) records → All (AllOf m) (records ++ record { kind = kind; values = replicate n (Number 0) } ∷ [])
-makes-own m records kind n all = All-push (AllOf m) records (record { kind = kind; values = replicate n (Number 0) }) all (All-replicate (IsOf m) n (Number 0) tt)
+pub gains-own : (m : ℕ) (records : List Record) (kind : Kind) (n : ℕ) → All (AllOf m) records → All (AllOf m) (records ++ zeros kind n ∷ [])
+gains-own m records kind n all = All-push (AllOf m) records (zeros kind n) all (All-replicate (IsOf m) n (Number 0) tt)

@@ -6,7 +6,7 @@ use Rattle.std.proofs.lemmas.Option.{slice_get_read}
 use Rattle.plain_state.specs.declared.end.End.{End}
 use Rattle.plain_state.specs.State.{Heap, Mutator, Plain}
 use Rattle.mutator_asm.specs.declared.instr.Instr.{Instr}
-use Rattle.plain_heap.specs.Step.{made, settled, stepped_if, stepped_as, mutator_in, stepped}
+use Rattle.plain_heap.specs.Step.{executes, settled, stepped_if, stepped_as, mutator_in, stepped}
 
 cond_same : (b : Bool) (k : Option Mutator) → cond b k k ≡ k
 cond_same true k = refl
@@ -33,7 +33,7 @@ stepped_if-some : (code : List (List Instr)) (turns : ℕ) (s : Plain) (m : ℕ)
 stepped_if-some code turns s m k None h = cc
 stepped_if-some code turns s m k (Some why) h = refl
 
-stepped_if-none : (code : List (List Instr)) (turns : ℕ) (s : Plain) (m : ℕ) (k : Mutator) (end : Option End) → is_some end ≡ false → stepped_if code turns s m k end ≡ settled s m k (made code turns m s.heap k)
+stepped_if-none : (code : List (List Instr)) (turns : ℕ) (s : Plain) (m : ℕ) (k : Mutator) (end : Option End) → is_some end ≡ false → stepped_if code turns s m k end ≡ settled s m k (executes code turns m s.heap k)
 stepped_if-none code turns s m k None h = refl
 stepped_if-none code turns s m k (Some why) h = cc
 
@@ -46,16 +46,16 @@ module _ (code : List (List Instr)) (turns : ℕ) (heap : Heap) (ks : List Mutat
   unfolding stepped
   stepped-ended has_end = rw (found, stepped_if-some code turns (state heap ks) m k k.end has_end) (rw is (ap (state heap) (set-get_or ks m k)))
 
-  stepped-settled : is_some k.end ≡ false → stepped code turns (state heap ks) m ≡ settled (state heap ks) m k (made code turns m heap k)
+  stepped-settled : is_some k.end ≡ false → stepped code turns (state heap ks) m ≡ settled (state heap ks) m k (executes code turns m heap k)
   unfolding stepped
   stepped-settled no_end = rw found (stepped_if-none code turns (state heap ks) m k k.end no_end)
 
-  -- it makes its next instruction
-  pub stepped-made : (heap' : Heap) (k' : Mutator) → is_some k.end ≡ false → made code turns m heap k ≡ Ok (record { heap = heap'; mutator = k' })
+  -- it executes its next instruction
+  pub stepped-executed : (heap' : Heap) (k' : Mutator) → is_some k.end ≡ false → executes code turns m heap k ≡ Ok (record { heap = heap'; mutator = k' })
       → state heap' (slice_set ks m k') ≡ stepped code turns (state heap ks) m
-  stepped-made heap' k' no_end is_made = rw (stepped-settled no_end, is_made) refl
+  stepped-executed heap' k' no_end is_executed = rw (stepped-settled no_end, is_executed) refl
 
   -- it gets its end
-  pub stepped-stopped : (why : End) → is_some k.end ≡ false → made code turns m heap k ≡ Err why
+  pub stepped-stopped : (why : End) → is_some k.end ≡ false → executes code turns m heap k ≡ Err why
       → state heap (slice_set ks m (record k { end = Some why })) ≡ stepped code turns (state heap ks) m
-  stepped-stopped why no_end is_made = rw (stepped-settled no_end, is_made) refl
+  stepped-stopped why no_end is_executed = rw (stepped-settled no_end, is_executed) refl

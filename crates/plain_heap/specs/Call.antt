@@ -1,5 +1,5 @@
 -- One instruction on the plain heap: its ends in the order in which they are tried, else its effect.
-use Rattle.std.specs.Prelude.{ℕ, ◌+◌, ◌-◌, ◌%◌, ◌^◌, Bool, true, false, ◌&&◌, List, [], ◌∷◌, ◌++◌, length, Option, Some, None, Result, Ok, Err, nat_lt, nat_le, ◌==◌, if◌then◌else◌, slice_get, slice_index_or, slice_set, replicate}
+use Rattle.std.specs.Prelude.{ℕ, ◌+◌, ◌%◌, ◌^◌, Bool, true, false, ◌&&◌, List, [], ◌∷◌, ◌++◌, length, Option, Some, None, Result, Ok, Err, nat_lt, nat_le, ◌==◌, if◌then◌else◌, slice_get, slice_index_or, slice_set, replicate}
 use Rattle.std.specs.Option.{ok_or, option_map_or}
 use Rattle.plain_state.specs.declared.end.End.{End}
 use Rattle.plain_state.specs.declared.end.End.TheVariants.{Halt, NotPointer, NotNumber, OutOfRange, IntoRaw, OutputFull}
@@ -11,7 +11,8 @@ use Rattle.plain_state.specs.declared.value.Identity.{Identity}
 use Rattle.plain_state.specs.declared.value.Value.{Value}
 use Rattle.plain_state.specs.declared.value.Value.TheVariants.{Number, Reference}
 use Rattle.plain_state.specs.Operation.{one_if, applied}
-use Rattle.plain_state.specs.State.{Record, Heap, Mutator, made_by, record_of, serial_of}
+use Rattle.plain_state.specs.State.{Record, Heap, Mutator, record_of, serial_of}
+use Rattle.plain_state.specs.Writing.{stored, with_board, gained}
 use Rattle.mutator_asm.specs.declared.instr.Instr.{Instr}
 use Rattle.mutator_asm.specs.declared.instr.Instr.TheVariants as instrs
 use Rattle.mutator_asm.specs.declared.operand.Operand.{Operand}
@@ -23,7 +24,7 @@ abbrev pub ◌>>=◌ : {A B : Type 0} → Result A End → (A → Result B End) 
 (Ok x) >>= f = f x
 (Err why) >>= f = Err why
 
--- what an instruction leaves: the heap, and the mutator that made it
+-- what an instruction leaves: the heap, and the mutator that executed it
 pub record After : Type 0 where
   pub heap : Heap
   pub mutator : Mutator
@@ -62,13 +63,13 @@ abbrev pub operand : Mutator → Operand → Result ℕ End
 operand k (operands.Reg r) = number_in (register k r)
 operand k (operands.Number n) = Ok n
 
--- the words of a record
+-- the values of a record
 abbrev pub values_of : Heap → Identity → List Value
 values_of heap i = option_map_or (λ r. r.values) (record_of heap i) []
 
--- word x of a record
-abbrev pub word_of : Heap → Identity → ℕ → Result Value End
-word_of heap i x = ok_or (slice_get (values_of heap i) x) OutOfRange
+-- value x of a record
+abbrev pub value_in : Heap → Identity → ℕ → Result Value End
+value_in heap i x = ok_or (slice_get (values_of heap i) x) OutOfRange
 
 -- word x of the board
 abbrev pub board_word : Heap → ℕ → Result Value End
@@ -101,35 +102,25 @@ may_hold Fields v = Ok v
 may_hold Raw (Number n) = Ok (Number n)
 may_hold Raw (Reference i) = Err IntoRaw
 
-abbrev pub with_word : Record → ℕ → Value → Record
-with_word r x v = record r { values = slice_set r.values x v }
-
-abbrev pub with_records : Heap → ℕ → List Record → Heap
-with_records heap m records = record heap { records = slice_set heap.records m records }
-
--- word x of the board takes a value
-abbrev pub with_board : Heap → ℕ → Value → Heap
-with_board heap x v = record heap { board = slice_set heap.board x v }
-
--- word x of the record r with identity i takes a value
-abbrev pub stored : Heap → Identity → Record → ℕ → Value → Heap
-stored heap i r x v = with_records heap i.mutator (slice_set (made_by heap i.mutator) (i.serial - 1) (with_word r x v))
-
--- the same, where the record is there and may hold the value
+-- a value of the record with an identity is replaced, where the record is there and may hold it
 abbrev pub store_in : Heap → Identity → Option Record → ℕ → Value → Result Heap End
 store_in heap i None x v = Err OutOfRange
 store_in heap i (Some r) x v = do
   v ← may_hold r.kind v
   Ok (stored heap i r x v)
 
--- mutator m makes a record of n words, all 0, and register d refers to it
-abbrev pub makes : ℕ → Heap → Mutator → Kind → ℕ → ℕ → After
-makes m heap k kind d n = record {
-  heap = with_records heap m (made_by heap m ++ record { kind = kind; values = replicate n (Number 0) } ∷ []);
+-- a record of n values, each the number 0
+abbrev pub zeros : Kind → ℕ → Record
+zeros kind n = record { kind = kind; values = replicate n (Number 0) }
+
+-- mutator m allocates a record of n values, all 0, and register d refers to it
+abbrev pub allocated : ℕ → Heap → Mutator → Kind → ℕ → ℕ → After
+allocated m heap k kind d n = record {
+  heap = gained heap m (zeros kind n);
   mutator = went_on (set_register k d (Reference (record { mutator = m; serial = serial_of heap m + 1 })));
 }
 
--- a record has at most 4095 words
+-- a record has at most 4095 values
 abbrev pub length_of : ℕ → Result ℕ End
 length_of n = if nat_le n 4095 then Ok n else Err OutOfRange
 
@@ -140,7 +131,7 @@ prints heap k n =
     then Ok (record { heap = heap; mutator = went_on (record k { printed = k.printed ++ n ∷ [] }) })
     else Err OutputFull
 
--- ---- the instructions, made by mutator m
+-- ---- the instructions, executed by mutator m
 
 -- register d takes what an operation computes of the numbers in registers a and b
 abbrev pub computes : Operation → Heap → Mutator → ℕ → ℕ → ℕ → Result After End
@@ -151,11 +142,11 @@ computes operation heap k d a b = do
   Ok (loads heap k d (Number n))
 
 -- register d refers to a new record, whose length an operand names
-abbrev pub makes_new : ℕ → Heap → Mutator → Kind → ℕ → Operand → Result After End
-makes_new m heap k kind d x = do
+abbrev pub allocates : ℕ → Heap → Mutator → Kind → ℕ → Operand → Result After End
+allocates m heap k kind d x = do
   x ← operand k x
   n ← length_of x
-  Ok (makes m heap k kind d n)
+  Ok (allocated m heap k kind d n)
 
 unfoldable pub call : ℕ → Heap → Mutator → Instr → Result After End
 call m heap k (instrs.Li d n) = Ok (loads heap k d (Number n))
@@ -173,17 +164,17 @@ call m heap k (instrs.Jal d target) = Ok (record { heap = heap; mutator = jumped
 call m heap k (instrs.Jr a) = do
   n ← number_in (register k a)
   Ok (record { heap = heap; mutator = jumped k n })
-call m heap k (instrs.New d x) = makes_new m heap k Fields d x
-call m heap k (instrs.Raw d x) = makes_new m heap k Raw d x
+call m heap k (instrs.New d x) = allocates m heap k Fields d x
+call m heap k (instrs.Raw d x) = allocates m heap k Raw d x
 call m heap k (instrs.Ld d a x) = do
   i ← reference_in (register k a)
   x ← operand k x
-  v ← word_of heap i x
+  v ← value_in heap i x
   Ok (loads heap k d v)
 call m heap k (instrs.St a x b) = do
   i ← reference_in (register k a)
   x ← operand k x
-  old ← word_of heap i x
+  old ← value_in heap i x
   heap ← store_in heap i (record_of heap i) x (register k b)
   Ok (record { heap = heap; mutator = went_on k })
 call m heap k (instrs.Len d a) = do

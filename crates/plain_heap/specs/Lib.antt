@@ -1,6 +1,7 @@
 pub mod Call
 pub mod Outcome
 pub mod Step
+pub mod Memory
 pub mod Order
 pub mod Print
 pub mod Solo

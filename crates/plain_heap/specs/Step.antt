@@ -4,20 +4,22 @@ use Rattle.std.specs.Option.{ok_or, option_and_then, option_map}
 use Rattle.std.specs.Result.{result_ok}
 use Rattle.plain_state.specs.declared.end.End.{End}
 use Rattle.plain_state.specs.declared.end.End.TheVariants.{JumpOut, TurnsOut}
-use Rattle.plain_state.specs.State.{Heap, Mutator, Plain}
+use Rattle.plain_state.specs.declared.kind.Kind.TheVariants.{Fields, Raw}
+use Rattle.plain_state.specs.Layout.{size_of}
+use Rattle.plain_state.specs.State.{Record, Heap, Mutator, Plain}
 use Rattle.mutator_asm.specs.declared.instr.Instr.{Instr}
 use Rattle.mutator_asm.specs.declared.instr.Instr.TheVariants as instrs
 use Rattle.mutator_asm.specs.declared.operand.Operand.{Operand}
 use Rattle.mutator_asm.specs.Program.{instr_at}
-use Rattle.plain_heap.specs.Call.{After, ◌>>=◌, call, operand, length_of}
+use Rattle.plain_heap.specs.Call.{After, ◌>>=◌, call, operand, length_of, zeros}
 
--- the instruction that a mutator makes next, or the end that stands in its place
+-- the instruction that a mutator executes next, or the end that stands in its place
 abbrev pub fetch : List (List Instr) → ℕ → ℕ → Mutator → Result Instr End
 fetch code turns m k = if nat_le turns k.executed then Err TurnsOut else ok_or (instr_at code m k.counter) JumpOut
 
 -- what the next step of a mutator without an end does
-abbrev pub made : List (List Instr) → ℕ → ℕ → Heap → Mutator → Result After End
-made code turns m heap k = do
+abbrev pub executes : List (List Instr) → ℕ → ℕ → Heap → Mutator → Result After End
+executes code turns m heap k = do
   i ← fetch code turns m k
   call m heap k i
 
@@ -33,7 +35,7 @@ settled s m k (Err why) = ended s m k why
 -- where a mutator has its end nothing changes
 abbrev pub stepped_if : List (List Instr) → ℕ → Plain → ℕ → Mutator → Option End → Plain
 stepped_if code turns s m k (Some why) = s
-stepped_if code turns s m k None = settled s m k (made code turns m s.heap k)
+stepped_if code turns s m k None = settled s m k (executes code turns m s.heap k)
 
 abbrev pub stepped_as : List (List Instr) → ℕ → Plain → ℕ → Option Mutator → Plain
 stepped_as code turns s m None = s
@@ -55,20 +57,24 @@ length_named k x = result_ok (do
   x ← operand k x
   length_of x)
 
--- the length of the record that an instruction would make
-abbrev pub length_made : Mutator → Instr → Option ℕ
-length_made k (instrs.New d x) = length_named k x
-length_made k (instrs.Raw d x) = length_named k x
-length_made k _ = None
+-- the record that an instruction would allocate
+abbrev pub new_record : Mutator → Instr → Option Record
+new_record k (instrs.New d x) = option_map (zeros Fields) (length_named k x)
+new_record k (instrs.Raw d x) = option_map (zeros Raw) (length_named k x)
+new_record k _ = None
 
--- the pages that a record of n words takes with its header, a page having 64 words
-abbrev pub pages_for : ℕ → ℕ
-pages_for n = (n + 1 + 63) / 64
+-- the pages that so many words take, a page having 64 words
+abbrev pub pages_for : (size : ℕ) → ℕ
+pages_for size = (size + 63) / 64
+
+-- the pages that a record takes with its header
+abbrev pub pages_of : Record → ℕ
+pages_of r = pages_for (size_of r)
 
 abbrev pub asked_if : List (List Instr) → ℕ → ℕ → Mutator → Option End → Option ℕ
 asked_if code turns m k (Some why) = None
-asked_if code turns m k None = option_map pages_for (option_and_then (length_made k) (result_ok (fetch code turns m k)))
+asked_if code turns m k None = option_map pages_of (option_and_then (new_record k) (result_ok (fetch code turns m k)))
 
--- the pages that the record would take which mutator m's next step would make
+-- the pages that the record would take which mutator m's next step would allocate
 unfoldable pub asked_by : List (List Instr) → ℕ → Plain → ℕ → Option ℕ
 asked_by code turns s m = option_and_then (λ k. asked_if code turns m k k.end) (slice_get s.mutators m)

@@ -3,18 +3,18 @@
 ghost use Rattle.std.specs.Prelude.{◌≡◌, ℕ, ◌<◌, ◌+◌, ◌^◌, length};
 ghost use Rattle.mutator_asm.specs.declared.instr.Instr.TheVariants as instrs;
 ghost use Rattle.plain_heap.specs.Call.{call};
-ghost use Rattle.plain_heap.specs.Outcome.{IsMade};
+ghost use Rattle.plain_heap.specs.Outcome.{IsExecuted};
 
 use crate::heap::PlainHeap;
 use crate::mutator::PlainMutator;
-use crate::stop::Stop;
 use mutator_asm::Operand;
+use plain_state::End;
 
 /// `get rd x`
 #[tactic(auto, unfolding(crate::specs::Call::call))]
-pub fn get(heap: &PlainHeap, mutator: &mut PlainMutator, d: u8, x: Operand) -> Result<(), Stop>
+pub fn get(heap: &PlainHeap, mutator: &mut PlainMutator, d: u8, x: Operand) -> Result<(), End>
     requires { mutator.old.executed + 1 < 2 ^ 32 }
-    ensures { (m : ℕ) → IsMade (call m heap.now mutator.old (instrs.Get d x)) result heap.now mutator.old heap.now mutator.new }
+    ensures { (m : ℕ) → IsExecuted (call m heap.now mutator.old (instrs.Get d x)) result heap.now mutator.old heap.now mutator.new }
 {
     let x = mutator.operand(x)?;
     let value = heap.board_word(x)?;
@@ -24,9 +24,9 @@ pub fn get(heap: &PlainHeap, mutator: &mut PlainMutator, d: u8, x: Operand) -> R
 
 /// `put x ra`
 #[tactic(auto, unfolding(crate::specs::Call::call))]
-pub fn put(heap: &mut PlainHeap, mutator: &mut PlainMutator, x: Operand, a: u8) -> Result<(), Stop>
+pub fn put(heap: &mut PlainHeap, mutator: &mut PlainMutator, x: Operand, a: u8) -> Result<(), End>
     requires { mutator.old.executed + 1 < 2 ^ 32 }
-    ensures made { (m : ℕ) → IsMade (call m heap.old mutator.old (instrs.Put x a)) result heap.old mutator.old heap.new mutator.new }
+    ensures executed { (m : ℕ) → IsExecuted (call m heap.old mutator.old (instrs.Put x a)) result heap.old mutator.old heap.new mutator.new }
     ensures as_many { length heap.new.records ≡ length heap.old.records }
 {
     let x = mutator.operand(x)?;
@@ -38,9 +38,9 @@ pub fn put(heap: &mut PlainHeap, mutator: &mut PlainMutator, x: Operand, a: u8) 
 
 /// `swap rd x`
 #[tactic(auto, unfolding(crate::specs::Call::call))]
-pub fn swap(heap: &mut PlainHeap, mutator: &mut PlainMutator, d: u8, x: Operand) -> Result<(), Stop>
+pub fn swap(heap: &mut PlainHeap, mutator: &mut PlainMutator, d: u8, x: Operand) -> Result<(), End>
     requires { mutator.old.executed + 1 < 2 ^ 32 }
-    ensures made { (m : ℕ) → IsMade (call m heap.old mutator.old (instrs.Swap d x)) result heap.old mutator.old heap.new mutator.new }
+    ensures executed { (m : ℕ) → IsExecuted (call m heap.old mutator.old (instrs.Swap d x)) result heap.old mutator.old heap.new mutator.new }
     ensures as_many { length heap.new.records ≡ length heap.old.records }
 {
     let x = mutator.operand(x)?;

@@ -1,10 +1,10 @@
 //! The plain heap, which never moves or frees a record.
 
-ghost use Rattle.std.specs.Prelude.{◌≡◌, ◌<◌, ◌+◌, ◌-◌, [], ◌∷◌, ◌++◌, length, IfOk, IfSome, MatchResult, OnOk, OnErr, option_copied, replicate};
+ghost use Rattle.std.specs.Prelude.{◌≡◌, ◌<◌, ◌+◌, [], length, IfOk, IfSome, MatchResult, OnOk, OnErr, option_copied, replicate};
 ghost use Rattle.plain_state.specs.declared.value.Value.TheVariants.{Number};
 
-use crate::made::Made;
 use crate::record::PlainRecord;
+use crate::record_list::RecordList;
 use plain_state::{End, Identity, Kind, NoMemory, Value};
 use std::alloc::Global;
 use std::marker::Model;
@@ -12,7 +12,7 @@ use std::marker::Model;
 /// The records of each mutator, and the board. Contracts see it so.
 #[derive(Debug, Drop)]
 pub struct PlainHeap {
-    records: Vec<Made>,
+    records: Vec<RecordList>,
     board: [Value; 16],
 }
 
@@ -27,25 +27,19 @@ impl Model for PlainHeap {
     ghost invariant = { λ h. length h.board ≡ 16 };
 }
 
-/// The place of a record in the list of its mutator. Serials count from 1.
-fn place_of(i: Identity) -> usize
-    ensures { result ≡ i.serial - 1 }
-{
-    i.serial.saturating_sub(1) as usize
-}
-
 impl PlainHeap {
-    ghost use Rattle.plain_state.specs.State.{made_by, record_of, serial_of};
-    ghost use Rattle.plain_heap.specs.Call.{values_of, word_of, board_word, store_in, stored, with_records, with_board};
+    ghost use Rattle.plain_state.specs.State.{record_of, serial_of};
+    ghost use Rattle.plain_state.specs.Writing.{stored, with_board, gained};
+    ghost use Rattle.plain_heap.specs.Call.{values_of, value_in, board_word, store_in, zeros};
 
-    /// The heap of so many mutators, none of which has made a record.
+    /// The heap of so many mutators, none of which has allocated a record.
     pub fn new(alloc: Global, mutators: usize) -> Result<PlainHeap, NoMemory>
         ensures { IfOk result (λ heap.
             heap ≡ record { records = replicate mutators []; board = replicate 16 (Number 0) }) }
     {
         let mut records = Vec::new(alloc);
         for _mutator in 0..mutators {
-            records.push(Made::new(alloc))?;
+            records.push(RecordList::new(alloc))?;
         }
         Ok(PlainHeap {
             records,
@@ -56,13 +50,13 @@ impl PlainHeap {
     fn record(&self, i: Identity) -> Option<&PlainRecord>
         ensures { option_copied result ≡ record_of self.now i }
     {
-        let made = self.records.get(i.mutator as usize)?;
-        made.get(place_of(i))
+        let records = self.records.get(i.mutator as usize)?;
+        records.get(i.serial)
     }
 
     /// A word of a record, else the end for a word that isn't there.
     pub fn word(&self, i: Identity, x: u64) -> Result<Value, End>
-        ensures { result ≡ word_of self.now i x }
+        ensures { result ≡ value_in self.now i x }
     {
         let word = self.record(i).and_then(|r| r.word(x));
         word.ok_or(End::OutOfRange)
@@ -96,8 +90,8 @@ impl PlainHeap {
     fn set_word(&mut self, i: Identity, x: u64, value: Value)
         ensures { IfSome (record_of self.old i) (λ r. self.new ≡ stored self.old i r x value) }
     {
-        if let Some(made) = self.records.get_mut(i.mutator as usize) {
-            made.set_word(place_of(i), x, value);
+        if let Some(records) = self.records.get_mut(i.mutator as usize) {
+            records.set_word(i.serial, x, value);
         }
     }
 
@@ -114,8 +108,8 @@ impl PlainHeap {
         Ok(())
     }
 
-    /// Makes a record for a mutator, each of its words the number 0.
-    pub fn make(
+    /// Allocates a record for a mutator, each of its words the number 0.
+    pub fn allocate(
         &mut self,
         alloc: Global,
         m: u8,
@@ -125,15 +119,14 @@ impl PlainHeap {
         requires { m < length self.old.records }
         ensures identity { IfOk result (λ i.
             i ≡ record { mutator = m; serial = serial_of self.old m + 1 }) }
-        ensures made { OnOk result (self.new ≡ with_records self.old m (made_by self.old m
-            ++ record { kind = kind; values = replicate len (Number 0) } ∷ [])) }
+        ensures gained { OnOk result (self.new ≡ gained self.old m (zeros kind len)) }
         ensures unchanged { OnErr result (self.new ≡ self.old) }
     {
-        let made = &mut self.records[m as usize];
-        made.push(PlainRecord::new(alloc, kind, len)?)?;
+        let records = &mut self.records[m as usize];
+        records.push(PlainRecord::new(alloc, kind, len)?)?;
         Ok(Identity {
             mutator: m,
-            serial: made.len() as u64,
+            serial: records.len() as u64,
         })
     }
 }

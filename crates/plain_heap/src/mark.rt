@@ -5,7 +5,7 @@ use std::fmt;
 /// One entry of an order, the list of what happened in a run.
 #[derive(Clone, Copy, Debug, PartialEq, Eq)]
 pub enum Mark {
-    /// A mutator made its next instruction, or got the end that stands in its place.
+    /// A mutator executed its next instruction, or got the end that stands in its place.
     Step(u8),
     /// The two spaces changed their parts, since a mutator had asked for so many pages.
     Flip(u32),

@@ -4,7 +4,7 @@ ghost use Rattle.std.specs.Prelude.{ℕ, ◌<◌, ◌+◌, ◌^◌};
 ghost use Rattle.mutator_asm.specs.declared.instr.Instr.TheVariants as instrs;
 ghost use Rattle.plain_state.specs.State.{Heap};
 ghost use Rattle.plain_heap.specs.Call.{call, computes};
-ghost use Rattle.plain_heap.specs.Outcome.{IsMade};
+ghost use Rattle.plain_heap.specs.Outcome.{IsExecuted, IsTried};
 
 use crate::mutator::PlainMutator;
 use crate::stop::Stop;
@@ -15,9 +15,9 @@ const MOST_PRINTED: usize = 65_536;
 
 /// `li rd k`
 #[tactic(auto, unfolding(crate::specs::Call::call))]
-pub fn load_number(mutator: &mut PlainMutator, d: u8, number: u64) -> Result<(), Stop>
+pub fn load_number(mutator: &mut PlainMutator, d: u8, number: u64) -> Result<(), End>
     requires { mutator.old.executed + 1 < 2 ^ 32 }
-    ensures { (m : ℕ) (heap : Heap) → IsMade (call m heap mutator.old (instrs.Li d number)) result heap mutator.old heap mutator.new }
+    ensures { (m : ℕ) (heap : Heap) → IsExecuted (call m heap mutator.old (instrs.Li d number)) result heap mutator.old heap mutator.new }
 {
     mutator.load(d, Value::Number(number));
     Ok(())
@@ -31,9 +31,9 @@ pub fn compute(
     d: u8,
     a: u8,
     b: u8,
-) -> Result<(), Stop>
+) -> Result<(), End>
     requires { mutator.old.executed + 1 < 2 ^ 32 }
-    ensures { (m : ℕ) (heap : Heap) → IsMade (computes operation heap mutator.old d a b) result heap mutator.old heap mutator.new }
+    ensures { (m : ℕ) (heap : Heap) → IsExecuted (computes operation heap mutator.old d a b) result heap mutator.old heap mutator.new }
 {
     let a = mutator.number(a)?;
     let b = mutator.number(b)?;
@@ -46,7 +46,7 @@ pub fn compute(
 #[tactic(auto, unfolding(crate::specs::Call::call))]
 pub fn output(mutator: &mut PlainMutator, a: u8) -> Result<(), Stop>
     requires { mutator.old.executed + 1 < 2 ^ 32 }
-    ensures { (m : ℕ) (heap : Heap) → IsMade (call m heap mutator.old (instrs.Out a)) result heap mutator.old heap mutator.new }
+    ensures { (m : ℕ) (heap : Heap) → IsTried (call m heap mutator.old (instrs.Out a)) result heap mutator.old heap mutator.new }
 {
     let number = mutator.number(a)?;
     if mutator.printed().len() >= MOST_PRINTED {

@@ -1,7 +1,6 @@
 //! A record of the plain heap.
 
-ghost use Rattle.std.specs.Prelude.{◌≡◌, IfOk, replicate};
-ghost use Rattle.plain_state.specs.declared.value.Value.TheVariants.{Number};
+ghost use Rattle.std.specs.Prelude.{◌≡◌, IfOk};
 
 use plain_state::{End, Kind, NoMemory, Value};
 use std::alloc::Global;
@@ -24,11 +23,12 @@ impl Model for PlainRecord {
 
 impl PlainRecord {
     ghost use Rattle.std.specs.Prelude.{length, slice_get, ok_or};
-    ghost use Rattle.plain_heap.specs.Call.{may_hold, with_word};
+    ghost use Rattle.plain_state.specs.Writing.{with_word};
+    ghost use Rattle.plain_heap.specs.Call.{may_hold, zeros};
 
     /// A record of so many words, each the number 0.
     pub fn new(alloc: Global, kind: Kind, len: usize) -> Result<PlainRecord, NoMemory>
-        ensures { IfOk result (λ r. r ≡ record { kind = kind; values = replicate len (Number 0) }) }
+        ensures { IfOk result (λ r. r ≡ zeros kind len) }
     {
         let values = vec![in alloc; Value::Number(0); len]?;
         Ok(PlainRecord { kind, values })

@@ -2,8 +2,8 @@
 
 ghost use Rattle.std.specs.Prelude.{◌≡◌, ℕ, ◌<◌, ◌≤◌, ◌+◌, ◌^◌, length, IfOk};
 ghost use Rattle.mutator_asm.specs.declared.instr.Instr.TheVariants as instrs;
-ghost use Rattle.plain_heap.specs.Call.{call, length_of, makes_new};
-ghost use Rattle.plain_heap.specs.Outcome.{IsMade};
+ghost use Rattle.plain_heap.specs.Call.{call, length_of, allocates};
+ghost use Rattle.plain_heap.specs.Outcome.{IsExecuted, IsTried};
 
 use crate::heap::PlainHeap;
 use crate::mutator::PlainMutator;
@@ -28,7 +28,7 @@ pub fn length_of(number: u64) -> Result<usize, End>
 }
 
 /// `new rd x` and `raw rd x`
-pub fn make(
+pub fn allocate(
     alloc: Global,
     heap: &mut PlainHeap,
     mutator: &mut PlainMutator,
@@ -39,12 +39,12 @@ pub fn make(
 ) -> Result<(), Stop>
     requires has_records { m < length heap.old.records }
     requires has_turns { mutator.old.executed + 1 < 2 ^ 32 }
-    ensures made { IsMade (makes_new m heap.old mutator.old kind d x) result heap.old mutator.old heap.new mutator.new }
+    ensures tried { IsTried (allocates m heap.old mutator.old kind d x) result heap.old mutator.old heap.new mutator.new }
     ensures as_many { length heap.new.records ≡ length heap.old.records }
 {
     let number = mutator.operand(x)?;
     let len = length_of(number)?;
-    let identity = heap.make(alloc, m, kind, len)?;
+    let identity = heap.allocate(alloc, m, kind, len)?;
     mutator.load(d, Value::Reference(identity));
     Ok(())
 }
@@ -57,9 +57,9 @@ pub fn load(
     d: u8,
     a: u8,
     x: Operand,
-) -> Result<(), Stop>
+) -> Result<(), End>
     requires { mutator.old.executed + 1 < 2 ^ 32 }
-    ensures { (m : ℕ) → IsMade (call m heap.now mutator.old (instrs.Ld d a x)) result heap.now mutator.old heap.now mutator.new }
+    ensures { (m : ℕ) → IsExecuted (call m heap.now mutator.old (instrs.Ld d a x)) result heap.now mutator.old heap.now mutator.new }
 {
     let identity = mutator.reference(a)?;
     let x = mutator.operand(x)?;
@@ -76,9 +76,9 @@ pub fn store(
     a: u8,
     x: Operand,
     b: u8,
-) -> Result<(), Stop>
+) -> Result<(), End>
     requires { mutator.old.executed + 1 < 2 ^ 32 }
-    ensures made { (m : ℕ) → IsMade (call m heap.old mutator.old (instrs.St a x b)) result heap.old mutator.old heap.new mutator.new }
+    ensures executed { (m : ℕ) → IsExecuted (call m heap.old mutator.old (instrs.St a x b)) result heap.old mutator.old heap.new mutator.new }
     ensures as_many { length heap.new.records ≡ length heap.old.records }
 {
     let identity = mutator.reference(a)?;
@@ -92,9 +92,9 @@ pub fn store(
 
 /// `len rd ra`
 #[tactic(auto, unfolding(crate::specs::Call::call))]
-pub fn measure(heap: &PlainHeap, mutator: &mut PlainMutator, d: u8, a: u8) -> Result<(), Stop>
+pub fn measure(heap: &PlainHeap, mutator: &mut PlainMutator, d: u8, a: u8) -> Result<(), End>
     requires { mutator.old.executed + 1 < 2 ^ 32 }
-    ensures { (m : ℕ) → IsMade (call m heap.now mutator.old (instrs.Len d a)) result heap.now mutator.old heap.now mutator.new }
+    ensures { (m : ℕ) → IsExecuted (call m heap.now mutator.old (instrs.Len d a)) result heap.now mutator.old heap.now mutator.new }
 {
     let identity = mutator.reference(a)?;
     mutator.load(d, Value::Number(heap.len(identity) as u64));

@@ -3,6 +3,7 @@
 ghost use Rattle.std.specs.Prelude.{◌≡◌, ◌<◌, length, Some, IfOk, OnOk, OnErr, option_map, slice_get};
 ghost use Rattle.std.specs.Option.{option_map_or};
 ghost use Rattle.plain_heap.specs.Order.{opening};
+ghost use Rattle.plain_heap.specs.Memory.{StepTakesMemory};
 ghost use Rattle.plain_heap.specs.Step.{stepped, asked_by, ended};
 
 use crate::heap::PlainHeap;
@@ -76,7 +77,7 @@ impl PlainState {
         self.mutators.as_slice()
     }
 
-    /// The pages that the record would take which mutator m's next step would make.
+    /// The pages that the record would take which mutator m's next step would allocate.
     #[tactic(auto, unfolding(crate::specs::Step::asked_by))]
     pub(crate) fn asked_by(&self, code: &Code, turns: u32, m: u8) -> Option<u32>
         ensures { result ≡ asked_by code.now turns self.now m }
@@ -96,8 +97,9 @@ impl PlainState {
     }
 }
 
-/// A step of mutator m, which makes at most so many turns. Where the program or the state has no
-/// such mutator, and where memory is out, nothing changes.
+/// A step of mutator m, which executes at most so many instructions. Where the program or the state
+/// has no such mutator, nothing changes; nor where there is no memory for the record or the number
+/// that the step adds.
 pub fn plain_step(
     alloc: Global,
     s: &mut PlainState,
@@ -107,6 +109,7 @@ pub fn plain_step(
 ) -> Result<(), NoMemory>
     ensures ok { OnOk result (s.new ≡ stepped p.now.code turns s.old m) }
     ensures err { OnErr result (s.new ≡ s.old) }
+    ensures no_memory { OnErr result (StepTakesMemory p.now.code turns s.old m) }
 {
     if m as usize >= p.code.len() {
         return Ok(());

@@ -1,8 +1,11 @@
 //! What a mutator does next.
 
-ghost use Rattle.std.specs.Prelude.{◌≡◌, ◌<◌, ◌≤◌, length, Ok, IfErr, IfSome, OnOk, OnErr};
+ghost use Rattle.std.specs.Prelude.{◌≡◌, ◌<◌, ◌≤◌, length, Ok, Err, IfErr, IfSome, OnOk, OnErr, option_map};
+ghost use Rattle.plain_state.specs.Layout.{size_of};
+ghost use Rattle.plain_heap.specs.declared.stop.Stop.TheVariants.{OutOfMemory};
+ghost use Rattle.plain_heap.specs.Memory.{TurnTakesMemory};
 ghost use Rattle.plain_heap.specs.Outcome.{Leaves, StopsBy};
-ghost use Rattle.plain_heap.specs.Step.{fetch, made, length_named, length_made, pages_for, asked_if};
+ghost use Rattle.plain_heap.specs.Step.{fetch, executes, length_named, new_record, pages_for, asked_if};
 
 use crate::heap::PlainHeap;
 use crate::instructions::execute;
@@ -16,7 +19,7 @@ use std::alloc::Global;
 /// The words of a page.
 const PAGE: usize = 64;
 
-/// The instruction that mutator m makes next, or the end that stands in its place.
+/// The instruction that mutator m executes next, or the end that stands in its place.
 fn fetch(code: &Code, turns: u32, m: u8, mutator: &PlainMutator) -> Result<Instr, End>
     ensures exact { result ≡ fetch code.now turns m mutator.now }
     ensures has_turns { OnOk result (mutator.now.executed < turns) }
@@ -27,7 +30,7 @@ fn fetch(code: &Code, turns: u32, m: u8, mutator: &PlainMutator) -> Result<Instr
     code.instr(m, mutator.counter()).ok_or(End::JumpOut)
 }
 
-/// Mutator m, which has no end, makes its next instruction. Where it stops, nothing changes.
+/// Mutator m, which has no end, executes its next instruction. Where it stops, nothing changes.
 pub fn take_turn(
     alloc: Global,
     heap: &mut PlainHeap,
@@ -37,8 +40,9 @@ pub fn take_turn(
     m: u8,
 ) -> Result<(), Stop>
     requires { m < length heap.old.records }
-    ensures made { OnOk result (Leaves (made code.now turns m heap.old mutator.old) heap.new mutator.new) }
-    ensures stopped { IfErr result (StopsBy (made code.now turns m heap.old mutator.old)) }
+    ensures executed { OnOk result (Leaves (executes code.now turns m heap.old mutator.old) heap.new mutator.new) }
+    ensures stopped { IfErr result (StopsBy (executes code.now turns m heap.old mutator.old)) }
+    ensures takes_memory { result ≡ Err OutOfMemory → TurnTakesMemory code.now turns m heap.old mutator.old }
     ensures as_many { length heap.new.records ≡ length heap.old.records }
     ensures heap_unchanged { OnErr result (heap.new ≡ heap.old) }
     ensures mutator_unchanged { OnErr result (mutator.new ≡ mutator.old) }
@@ -56,26 +60,26 @@ fn length_named(mutator: &PlainMutator, x: Operand) -> Option<usize>
     length_of(number).ok()
 }
 
-/// The length of the record that an instruction would make.
-fn length_made(mutator: &PlainMutator, instr: Instr) -> Option<usize>
-    ensures exact { result ≡ length_made mutator.now instr }
-    ensures short { IfSome result (λ len. len ≤ 4095) }
+/// The words of the record that an instruction would allocate, with its header.
+fn size_allocated(mutator: &PlainMutator, instr: Instr) -> Option<usize>
+    ensures exact { result ≡ option_map size_of (new_record mutator.now instr) }
+    ensures short { IfSome result (λ size. size ≤ 4096) }
 {
     match instr {
-        Instr::New(_, x) | Instr::Raw(_, x) => length_named(mutator, x),
+        Instr::New(_, x) | Instr::Raw(_, x) => Some(length_named(mutator, x)? + 1),
         _ => None,
     }
 }
 
-/// The pages that a record of so many words takes with its header.
-fn pages_for(len: usize) -> u32
-    requires { len ≤ 4095 }
-    ensures { result ≡ pages_for len }
+/// The pages that so many words take.
+fn pages_for(size: usize) -> u32
+    requires { size ≤ 4096 }
+    ensures { result ≡ pages_for size }
 {
-    (len + 1).div_ceil(PAGE) as u32
+    size.div_ceil(PAGE) as u32
 }
 
-/// The pages that the record would take which mutator m's next step would make.
+/// The pages that the record would take which mutator m's next step would allocate.
 pub fn asked(code: &Code, turns: u32, m: u8, mutator: &PlainMutator) -> Option<u32>
     ensures { result ≡ asked_if code.now turns m mutator.now mutator.now.end }
 {
@@ -83,6 +87,6 @@ pub fn asked(code: &Code, turns: u32, m: u8, mutator: &PlainMutator) -> Option<u
         return None;
     }
     let instr = fetch(code, turns, m, mutator).ok()?;
-    let len = length_made(mutator, instr)?;
-    Some(pages_for(len))
+    let size = size_allocated(mutator, instr)?;
+    Some(pages_for(size))
 }

@@ -1,16 +1,16 @@
-//! Why an instruction wasn't made.
+//! Why an instruction wasn't executed.
 
 ghost use Rattle.std.specs.Prelude.{◌≡◌};
 ghost use Rattle.plain_heap.specs.declared.stop.Stop.TheVariants.{Ended, OutOfMemory};
 
 use plain_state::{End, NoMemory};
 
-/// Why a mutator didn't make an instruction.
+/// Why a mutator didn't execute an instruction.
 #[derive(Clone, Copy, Debug)]
 pub enum Stop {
     /// The instruction is the mutator's end.
     Ended(End),
-    /// There was no memory for what it makes.
+    /// There was no memory for what it leaves.
     OutOfMemory,
 }
 

@@ -1,10 +1,10 @@
 -- What a worker knows that copies a record.
 use Rattle.std.specs.Prelude.{◌≡◌, ℕ, ◌+◌, ◌-◌, ◌*◌, ◌/◌, ◌<◌, ◌≤◌, ◌⊎◌, Bool, true, false, Option, Some, None}
-use Rattle.heap_words.specs.declared.kind.Kind.{Kind}
+use Rattle.plain_state.specs.declared.kind.Kind.{Kind}
 use Rattle.heap_words.specs.Decoded.{PointerWord, HeaderWord, decode}
 use Rattle.plain_state.specs.declared.value.Identity.{Identity}
 use Rattle.heap_state.specs.Era.{Era}
-use Rattle.heap_state.specs.Ghost.{Here}
+use Rattle.heap_state.specs.Ghost.{Here, header_kind}
 use Rattle.heap_state.specs.Worker.{Origin, Register, Scanned, Quest, Copy, Scan}
 
 -- the word that a quest began from still leads to the old place: a register of who is late, the first not forwarded; or
@@ -35,8 +35,8 @@ pub record Copies (E : Era) (front : ℕ) (size writer copy keeper kept announce
 
 -- the header that was kept is the record's, and so is the first word of the copy once a word is copied
 pub record Keeps (kind : ℕ → Kind) (identity : ℕ → Identity) (heap : ℕ → ℕ) (c : Copy) : Type 0 where
-  pub head : 0 < c.done → decode (heap c.to) ≡ HeaderWord (kind c.from) (c.size - 1) (identity c.from).serial (identity c.from).mutator
-  pub keeps : decode c.header ≡ HeaderWord (kind c.from) (c.size - 1) (identity c.from).serial (identity c.from).mutator
+  pub head : 0 < c.done → decode (heap c.to) ≡ HeaderWord (header_kind (kind c.from)) (c.size - 1) (identity c.from).serial (identity c.from).mutator
+  pub keeps : decode c.header ≡ HeaderWord (header_kind (kind c.from)) (c.size - 1) (identity c.from).serial (identity c.from).mutator
 
 -- Who copies has a quest for that record and scans a page or is late. While one is late the gate counts someone behind.
 -- Who copies nothing keeps no header.

@@ -1,12 +1,12 @@
 -- What each worker knows, component by component.
-use Rattle.std.specs.Prelude.{◌≡◌, ℕ, ◌+◌, ◌/◌, ◌<◌, ◌≤◌, ◌⊎◌, Bool, true, false, Some}
-use Rattle.heap_words.specs.declared.kind.Kind.{Kind}
+use Rattle.std.specs.Prelude.{◌≡◌, ℕ, ◌+◌, ◌<◌, ◌≤◌, ◌⊎◌, Bool, true, false, Some}
+use Rattle.heap_words.specs.Decoded.{PointerWord, decode}
+use Rattle.plain_state.specs.Layout.{is_field, is_raw}
+use Rattle.plain_state.specs.declared.kind.Kind.{Kind}
 use Rattle.space_map.specs.declared.gate_word.GateWord.{GateWord}
-use Rattle.space_map.specs.declared.page_word.PageWord.{PageWord}
-use Rattle.space_map.specs.declared.page_word.PageWord.TheVariants.{Open}
 use Rattle.heap_state.specs.Era.{Era}
 use Rattle.heap_state.specs.Ghost.{Leads, Lands}
-use Rattle.heap_state.specs.Worker.{Post, Outside, Stopped, Passage, Enter, Park, Request, Forwarded, Resume, Leave, Reset, Seen, Access, is_live, is_running, is_flipper, is_gone, is_behind}
+use Rattle.heap_state.specs.Worker.{Post, Outside, Stopped, Passage, Enter, Park, Request, Forwarded, Resume, Leave, Reset, Role, FieldRole, NumberRole, Access, is_live, is_running, is_flipper, is_gone, is_behind}
 
 -- ---- epochs and the gate
 
@@ -44,21 +44,21 @@ pub record Resets (E : Era) (gate : GateWord) (front low old_front old_low old_o
 
 -- ---- registers and accesses
 
--- registers lead to records; those of who is late lead into the old space at most from the first not forwarded on
+-- Registers lead to records. Those of who is late that are not forwarded yet lead into the old space, and all others do not.
 pub record Clean (E : Era) (size writer : ℕ → ℕ) (late : Bool) (done : ℕ) (registers : ℕ → ℕ) : Type 0 where
   pub clean : (j : ℕ) → j < 8 → (late ≡ true → j < done) → ¬ (Leads E (registers j))
   pub lands : (j : ℕ) → j < 8 → Lands size writer (registers j)
+  pub old : late ≡ true → (j b : ℕ) → done ≤ j → j < 8 → decode (registers j) ≡ PointerWord b → (E.old_start ≤ b) × (b < E.old_start + E.old_span)
 
--- the record's size and kind are as they were read, and nobody writes it
-pub record Stands (size writer : ℕ → ℕ) (kind : ℕ → Kind) (s : Seen) : Type 0 where
-  pub stands : 0 < s.size
-  pub sized : size s.at ≡ s.size
-  pub of_kind : kind s.at ≡ s.kind
-  pub written : writer s.at ≡ 0
+-- a word of a record of this kind has this role
+abbrev pub HasRole : Kind → (word : ℕ) → Role → Type 0
+HasRole kind word FieldRole = is_field kind word ≡ true
+HasRole kind word NumberRole = is_raw kind word ≡ true
 
--- the access is to a word of a record of the epoch's space, and its page is open where it was found so
-pub record Accesses (E : Era) (size writer : ℕ → ℕ) (kind : ℕ → Kind) (page : ℕ → PageWord) (f : Access) : Type 0 where
-  pub of : Stands size writer kind f.of
-  pub inside : (E.start ≤ f.of.at) × (f.of.at < E.start + E.span)
-  pub word : (0 < f.word) × (f.word < f.of.size)
-  pub allowed : f.allowed ≡ true → page ((f.of.at + f.word) / 64) ≡ Open E.epoch
+-- the access is to a word of a record of the epoch's space that nobody writes, and the word has this role
+pub record Accesses (E : Era) (size writer : ℕ → ℕ) (kind : ℕ → Kind) (f : Access) : Type 0 where
+  pub stands : 0 < size f.at
+  pub written : writer f.at ≡ 0
+  pub inside : (E.start ≤ f.at) × (f.at < E.start + E.span)
+  pub word : (0 < f.word) × (f.word < size f.at)
+  pub role : HasRole (kind f.at) f.word f.role

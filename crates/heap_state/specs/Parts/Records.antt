@@ -1,12 +1,13 @@
 -- Where records stand.
 use Rattle.std.specs.Prelude.{◌≡◌, ◌≢◌, ℕ, ◌+◌, ◌-◌, ◌/◌, ◌%◌, ◌^◌, ◌<◌, ◌≤◌, ◌⊎◌, false}
-use Rattle.heap_words.specs.declared.kind.Kind.{Kind}
+use Rattle.plain_state.specs.declared.kind.Kind.{Kind}
 use Rattle.heap_words.specs.Decoded.{HeaderWord, BusyWord, ForwardWord, decode}
 use Rattle.plain_state.specs.declared.value.Identity.{Identity}
+use Rattle.plain_state.specs.Layout.{is_field}
 use Rattle.space_map.specs.declared.page_word.PageWord.{PageWord}
 use Rattle.space_map.specs.declared.page_word.PageWord.TheVariants.{Open}
 use Rattle.heap_state.specs.Era.{Era}
-use Rattle.heap_state.specs.Ghost.{is_field}
+use Rattle.heap_state.specs.Ghost.{header_kind}
 
 -- No two records share a word. A record lies below FRONT, from LOW up, or in the old space. Below FRONT they follow
 -- one another without a gap.
@@ -24,7 +25,7 @@ pub record Laid (E : Era) (front low : ℕ) (size : ℕ → ℕ) : Type 0 where
 -- forward to the copy.
 pub record Headed (size writer copy keeper : ℕ → ℕ) (kind : ℕ → Kind) (identity : ℕ → Identity) (heap : ℕ → ℕ) : Type 0 where
   pub own : (a : ℕ) → 0 < size a → writer a ≡ 0 → copy a ≡ 0 → keeper a ≡ 0
-      → decode (heap a) ≡ HeaderWord (kind a) (size a - 1) (identity a).serial (identity a).mutator
+      → decode (heap a) ≡ HeaderWord (header_kind (kind a)) (size a - 1) (identity a).serial (identity a).mutator
   pub kept : (a k : ℕ) → 0 < size a → keeper a ≡ k + 1 → decode (heap a) ≡ BusyWord (size a - 1) k
   pub gone : (a b : ℕ) → 0 < size a → copy a ≡ b + 1 → keeper a ≡ 0 → decode (heap a) ≡ ForwardWord (size a - 1) b
 

@@ -7,7 +7,7 @@ use Rattle.heap_state.specs.Denotes.{denoted}
 use Rattle.heap_state.specs.Flipped.{flipped, flipped_plain, late_mutator}
 use Rattle.heap_state.specs.Reachable.{IsLive}
 use Rattle.heap_state.specs.Sums.{uncopied}
-use Rattle.heap_state.specs.Walk.{walk_of}
+use Rattle.heap_state.specs.Walk.{walk_of, old_walk_of}
 use Rattle.heap_state.specs.Worker.{is_late}
 use Rattle.heap_state.specs.Worked.{worked, forwarded_wrong, opened_early, short_of_room, worked_plain, made}
 use Rattle.heap_state.specs.Configuration.{Stands, era, memory, team}
@@ -22,9 +22,9 @@ use Rattle.heap_state.specs.Theorems.Standing.{IsSound}
 pub record IsWorkedOut : Type 0 where
   pub stands : Stands worked worked_plain
   pub sound : IsSound worked worked_plain
-  pub copies : walk_of worked 1 ≡ record { at = 256; size = 3 } ∷ []
-  pub old : walk_of worked 0 ≡ record { at = 192; size = 3 } ∷ record { at = 195; size = 2 } ∷ []
-  pub uncopied_words : uncopied worked (walk_of worked 0) ≡ 0
+  pub copies : walk_of worked ≡ record { at = 256; size = 3 } ∷ []
+  pub old : old_walk_of worked ≡ record { at = 192; size = 3 } ∷ record { at = 195; size = 2 } ∷ []
+  pub uncopied_words : uncopied worked (old_walk_of worked) ≡ 0
   pub number : denoted worked (number_word 7) ≡ Some (Number 7)
   pub copied : denoted worked (pointer_word 256) ≡ Some (Reference (made 1))
   pub forwarded : denoted worked (pointer_word 192) ≡ Some (Reference (made 1))
@@ -38,8 +38,8 @@ pub record IsWorkedOutFlipped : Type 0 where
   pub stands : Stands flipped flipped_plain
   pub sound : IsSound flipped flipped_plain
   pub late : is_late 1 late_mutator ≡ true
-  pub old : walk_of flipped 0 ≡ record { at = 192; size = 3 } ∷ []
-  pub uncopied_words : uncopied flipped (walk_of flipped 0) ≡ 3
+  pub old : old_walk_of flipped ≡ record { at = 192; size = 3 } ∷ []
+  pub uncopied_words : uncopied flipped (old_walk_of flipped) ≡ 3
   pub in_place : denoted flipped (pointer_word 192) ≡ Some (Reference (made 1))
 
 -- what is broken is told: no plain state is represented, or the part of the invariant that speaks of it doesn't hold

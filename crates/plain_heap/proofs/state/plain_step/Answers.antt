@@ -1,7 +1,7 @@
 use Rattle.std.proofs.Common.{◌≤◌, length, sym, rules, arith}
 use Rattle.std.proofs.lemmas.Grind.{common_steps}
 use Rattle.std.proofs.lemmas.Option.{slice_get_past}
-use Rattle.plain_heap.proofs.Stepping.{stepped-past, stepped-none, stepped-ended, stepped-made, stepped-stopped}
+use Rattle.plain_heap.proofs.Stepping.{stepped-past, stepped-none, stepped-ended, stepped-executed, stepped-stopped}
 use Rattle.plain_heap.proofs.state.plain_step.Goals.{in-Ok, in-Err-Ended, in-Err-OutOfMemory}
 use Rattle.plain_heap.proofs.state.plain_step.Goals as goal
 
@@ -13,7 +13,7 @@ returns-then-is_some-clause-ok c = rw (← c.s.view_is) (search (rules, stepped-
 
 pub returns-clause-ok : goal.returns-clause-ok
 returns-clause-ok c = elim c.match-take_turn.branch [
-  | in-Ok w ↦ rw (w.result-is, w.s-inside-is, ← c.s.view_is) (search (rules, stepped-made))
+  | in-Ok w ↦ rw (w.result-is, w.s-inside-is, ← c.s.view_is) (search (rules, stepped-executed))
   | in-Err-Ended w ↦ rw (w.result-is, w.s-inside-is, w.set_end.ensures) (rw (w.in-Err-Ended.ensures.heap_unchanged, w.in-Err-Ended.ensures.mutator_unchanged, ← c.s.view_is) (search (rules, stepped-stopped)))
   | in-Err-OutOfMemory w ↦ rw w.result-is tt
 ]

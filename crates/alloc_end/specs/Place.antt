@@ -1,0 +1,185 @@
+-- The allocation of a record, step by step: what it wants, what a reply makes of it, what it comes to, and what it has left.
+use Rattle.std.specs.Prelude.{ℕ, ◌+◌, ◌-◌, ◌*◌, ◌/◌, ◌==◌, Bool, true, false, Option, Some, None, is_some, nat_lt, nat_le, if◌then◌else◌}
+use Rattle.atom_store.specs.declared.step.Step.{Step}
+use Rattle.atom_store.specs.declared.step.Step.TheVariants.{Load, Store, Exchange}
+use Rattle.atom_store.specs.declared.reply.Reply.{Reply}
+use Rattle.atom_store.specs.declared.reply.Reply.TheVariants.{Value, Done, Won, Lost}
+use Rattle.atom_store.specs.declared.turn.Turn.{Turn}
+use Rattle.atom_store.specs.declared.turn.Turn.TheVariants.{More, Finished}
+use Rattle.atom_store.specs.Machine.{Machine}
+use Rattle.heap_words.specs.Decoded.{encode}
+use Rattle.record_layout.specs.declared.header.Header.{Header}
+use Rattle.record_layout.specs.Layout.{header_says}
+use Rattle.space_map.specs.declared.area_word.AreaWord.{AreaWord}
+use Rattle.space_map.specs.declared.page_word.PageWord.TheVariants.{Open}
+use Rattle.space_map.specs.AreaWord.{encode_area, decode_area}
+use Rattle.space_map.specs.PageWord.{encode_page}
+use Rattle.space_map.specs.Spaces.{Layout, to_space, space_start, page_of}
+use Rattle.space_map.specs.Table.{Traced, Area, Page, HeapWord, place_of}
+use Rattle.alloc_end.specs.declared.run.Run.{Run}
+use Rattle.alloc_end.specs.declared.fitting.Fitting.{Fitting}
+use Rattle.alloc_end.specs.declared.new_pages.NewPages.{NewPages}
+use Rattle.alloc_end.specs.declared.shortage.Shortage.{Shortage}
+use Rattle.alloc_end.specs.declared.allocated.Allocated.{Allocated}
+use Rattle.alloc_end.specs.declared.allocated.Allocated.TheVariants.{Placed, Full}
+use Rattle.alloc_end.specs.declared.place_stage.PlaceStage.{PlaceStage}
+use Rattle.alloc_end.specs.declared.place_stage.PlaceStage.TheVariants.{LoadsTraced, LoadsArea, ExchangesArea, StoresZero, OpensPage, StoresHeader, Ended}
+
+-- the allocation of a record with this header, by a mutator of an epoch that has this run
+pub record Placing : Type 0 where
+  pub layout : Layout
+  pub run : Run
+  pub header : Header
+  pub epoch : ℕ
+  pub stage : PlaceStage
+
+-- the words of a record with this header
+abbrev pub size_of : Header → ℕ
+size_of header = header.len + 1
+
+-- the pages that a record of this size needs
+abbrev pub pages_for : ℕ → ℕ
+pages_for size = (size + 63) / 64
+
+-- the words of the pages that a record with this header needs
+abbrev pub words_for : Header → ℕ
+words_for header = 64 * pages_for (size_of header)
+
+-- ---- how it begins
+
+-- in the run, where the record fits there
+abbrev pub first_stage : Run → Header → PlaceStage
+first_stage run header = if nat_le (run.at + size_of header) run.end then StoresHeader else LoadsTraced
+
+abbrev pub begun : Layout → Run → Header → (epoch : ℕ) → Placing
+begun layout run header epoch = record { layout = layout; run = run; header = header; epoch = epoch; stage = first_stage run header }
+
+-- ---- the claim of pages
+
+-- the words that have to be kept for the records still to be copied: none, once the epoch is traced
+abbrev pub kept_room : (traced : Bool) → AreaWord → ℕ
+kept_room true area = 0
+kept_room false area = area.owed
+
+-- the words between FRONT and LOW
+abbrev pub room_in : AreaWord → ℕ
+room_in area = area.low - area.front
+
+-- so many words can be claimed, and the room that has to be kept is left
+abbrev pub fits : (traced : Bool) → (words : ℕ) → AreaWord → Bool
+fits traced words area = nat_le (words + kept_room traced area) (room_in area)
+
+-- the area after the claim of so many words
+abbrev pub area_after : (words : ℕ) → Fitting → AreaWord
+area_after words f = record { front = f.area.front; low = f.area.low - words; owed = kept_room f.traced f.area }
+
+-- what forbids the claim
+abbrev pub shortage : (traced : Bool) → Header → AreaWord → Shortage
+shortage traced header area = record {
+  asked = pages_for (size_of header);
+  room = room_in area;
+  owed = kept_room traced area;
+  traced = traced;
+  live = area.front;
+}
+
+-- the first word of the pages claimed
+abbrev pub first_claimed : Placing → Fitting → ℕ
+first_claimed p f = space_start p.layout.pages (to_space p.epoch) + (f.area.low - words_for p.header)
+
+-- ---- the next step
+
+abbrev pub wanted_at : Placing → PlaceStage → Option Step
+wanted_at p LoadsTraced = Some (Load (place_of p.layout.pages Traced))
+wanted_at p (LoadsArea traced) = Some (Load (place_of p.layout.pages (Area (to_space p.epoch))))
+wanted_at p (ExchangesArea f) =
+    Some (Exchange (place_of p.layout.pages (Area (to_space p.epoch))) (encode_area f.area) (encode_area (area_after (words_for p.header) f)))
+wanted_at p (StoresZero new) = Some (Store (place_of p.layout.pages (HeapWord new.next)) 0)
+wanted_at p (OpensPage new) = Some (Store (place_of p.layout.pages (Page new.next)) (encode_page (Open p.epoch)))
+wanted_at p StoresHeader = Some (Store (place_of p.layout.pages (HeapWord p.run.at)) (encode (header_says p.header)))
+wanted_at p (Ended result) = None
+
+abbrev pub wanted : Placing → Option Step
+wanted p = wanted_at p p.stage
+
+-- ---- what a reply makes of it
+
+abbrev pub at_stage : Placing → PlaceStage → Placing
+at_stage p stage = record p { stage = stage }
+
+-- by what the area's word says
+abbrev pub looked_at_area : Placing → (traced : Bool) → Option AreaWord → PlaceStage
+looked_at_area p traced (Some area) =
+    if fits traced (words_for p.header) area then ExchangesArea (record { traced = traced; area = area }) else Ended (Full (shortage traced p.header area))
+looked_at_area p traced None = LoadsArea traced
+
+-- after a word that was cleared, the next; after the last, the first page
+abbrev pub cleared : (words : ℕ) → NewPages → PlaceStage
+cleared words new =
+    if nat_lt (new.next + 1) (new.first + words) then StoresZero (record { first = new.first; next = new.next + 1 })
+    else OpensPage (record { first = new.first; next = page_of new.first })
+
+-- after a page that was opened, the next; after the last, these pages are the run
+abbrev pub opened : Placing → NewPages → Placing
+opened p new =
+    if nat_lt (new.next + 1) (page_of new.first + pages_for (size_of p.header))
+    then at_stage p (OpensPage (record { first = new.first; next = new.next + 1 }))
+    else record p { run = record { at = new.first; end = new.first + words_for p.header }; stage = StoresHeader }
+
+-- the record stands, and the run goes on behind it
+abbrev pub placed : Placing → Placing
+placed p = record p { run = record { at = p.run.at + size_of p.header; end = p.run.end }; stage = Ended (Placed p.run.at) }
+
+abbrev pub taken_at : Placing → PlaceStage → Reply → Placing
+taken_at p LoadsTraced (Value word) = at_stage p (LoadsArea (word == p.epoch + 1))
+taken_at p (LoadsArea traced) (Value word) = at_stage p (looked_at_area p traced (decode_area word))
+taken_at p (ExchangesArea f) Won = at_stage p (StoresZero (record { first = first_claimed p f; next = first_claimed p f }))
+taken_at p (ExchangesArea f) (Lost word) = at_stage p LoadsTraced
+taken_at p (StoresZero new) Done = at_stage p (cleared (words_for p.header) new)
+taken_at p (OpensPage new) Done = opened p new
+taken_at p StoresHeader Done = placed p
+taken_at p stage answer = p
+
+abbrev pub taken : Placing → Reply → Placing
+taken p answer = taken_at p p.stage answer
+
+-- ---- what it tells
+
+abbrev pub told_at : PlaceStage → Turn Allocated
+told_at (Ended result) = Finished result
+told_at stage = More
+
+abbrev pub told : Placing → Turn Allocated
+told p = told_at p.stage
+
+-- the allocation as a machine
+abbrev pub place_machine : Machine Placing Allocated
+place_machine = record { wanted = wanted; taken = taken; told = told }
+
+-- ---- the steps that are left, no exchange being lost
+
+-- where the record needs so many pages
+abbrev pub left_at : (asked : ℕ) → PlaceStage → ℕ
+left_at asked LoadsTraced = 65 * asked + 4
+left_at asked (LoadsArea traced) = 65 * asked + 3
+left_at asked (ExchangesArea f) = 65 * asked + 2
+left_at asked (StoresZero new) = 65 * asked + 1 - (new.next - new.first)
+left_at asked (OpensPage new) = asked + 1 - (new.next - page_of new.first)
+left_at asked StoresHeader = 1
+left_at asked (Ended result) = 0
+
+abbrev pub left : Placing → ℕ
+left p = left_at (pages_for (size_of p.header)) p.stage
+
+-- the reply is one to the step that it wants, and takes it on: the exchange isn't lost
+abbrev pub advances_at : PlaceStage → Reply → Bool
+advances_at LoadsTraced (Value word) = true
+advances_at (LoadsArea traced) (Value word) = is_some (decode_area word)
+advances_at (ExchangesArea f) Won = true
+advances_at (StoresZero new) Done = true
+advances_at (OpensPage new) Done = true
+advances_at StoresHeader Done = true
+advances_at stage answer = false
+
+abbrev pub advances : Placing → Reply → Bool
+advances p answer = advances_at p.stage answer

@@ -1,0 +1,49 @@
+-- What an allocation keeps of itself: its places are in the table, its run and the pages that it claimed are in the spaces, and
+-- the areas that it writes fit their words.
+use Rattle.std.specs.Prelude.{◌≡◌, ℕ, ◌+◌, ◌-◌, ◌*◌, ◌/◌, ◌^◌, ◌<◌, ◌≤◌, true, ⊤}
+use Rattle.space_map.specs.declared.area_word.AreaWord.{AreaWord}
+use Rattle.space_map.specs.Spaces.{IsPageCount, page_of}
+use Rattle.record_layout.specs.declared.header.Header.{Header}
+use Rattle.alloc_end.specs.declared.run.Run.{Run}
+use Rattle.alloc_end.specs.declared.fitting.Fitting.{Fitting}
+use Rattle.alloc_end.specs.declared.new_pages.NewPages.{NewPages}
+use Rattle.alloc_end.specs.declared.allocated.Allocated.{Allocated}
+use Rattle.alloc_end.specs.declared.place_stage.PlaceStage.{PlaceStage}
+use Rattle.alloc_end.specs.declared.place_stage.PlaceStage.TheVariants.{LoadsTraced, LoadsArea, ExchangesArea, StoresZero, OpensPage, StoresHeader, Ended}
+use Rattle.alloc_end.specs.Place.{Placing, size_of, pages_for, kept_room}
+
+-- the run lies in the spaces
+abbrev pub IsRun : (pages : ℕ) → Run → Type 0
+IsRun n run = (run.at ≤ run.end) × (run.end ≤ 128 * n)
+
+-- the area has room for so many words, and its parts are in their ranges
+pub record HasRoom (pages words : ℕ) (f : Fitting) : Type 0 where
+  pub kept : words + kept_room f.traced f.area + f.area.front ≤ f.area.low
+  pub in_space : f.area.low ≤ 64 * pages
+  pub owed : f.area.owed < 2 ^ 18
+
+-- so many words from the first one lie in the spaces
+abbrev pub IsClaimed : (pages words first : ℕ) → Type 0
+IsClaimed n words first = first + words ≤ 128 * n
+
+-- where the record needs so many pages
+abbrev pub FitsPlaceStage : (pages asked : ℕ) → Run → Header → PlaceStage → Type 0
+FitsPlaceStage n asked run header LoadsTraced = ⊤
+FitsPlaceStage n asked run header (LoadsArea traced) = ⊤
+FitsPlaceStage n asked run header (ExchangesArea f) = HasRoom n (64 * asked) f
+FitsPlaceStage n asked run header (StoresZero new) = IsClaimed n (64 * asked) new.first × (new.first ≤ new.next) × (new.next < new.first + 64 * asked)
+FitsPlaceStage n asked run header (OpensPage new) =
+    IsClaimed n (64 * asked) new.first × (page_of new.first ≤ new.next) × (new.next < page_of new.first + asked)
+FitsPlaceStage n asked run header StoresHeader = run.at + size_of header ≤ run.end
+FitsPlaceStage n asked run header (Ended result) = ⊤
+
+pub record IsSoundPlacing (p : Placing) : Type 0 where
+  pub pages : IsPageCount p.layout.pages
+  pub run : IsRun p.layout.pages p.run
+  pub epoch : p.epoch < 2 ^ 32
+  pub stage : FitsPlaceStage p.layout.pages (pages_for (size_of p.header)) p.run p.header p.stage
+
+-- the allocation has a next step
+abbrev pub IsPlacingGoing : PlaceStage → Type 0
+IsPlacingGoing (Ended result) = ⊥
+IsPlacingGoing stage = ⊤

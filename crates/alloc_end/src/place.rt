@@ -1,0 +1,260 @@
+ghost use Rattle.std.specs.Prelude.{◌≡◌, ◌+◌, ◌*◌, ◌^◌, ◌<◌, ◌≤◌, Some, IsTrue};
+ghost use Rattle.record_layout.specs.declared.header.Header.{Header};
+ghost use Rattle.space_map.specs.AreaWord.{AreaFits, decode_area};
+ghost use Rattle.space_map.specs.Spaces.{to_space};
+ghost use Rattle.space_map.specs.Table.{Area, place_of};
+ghost use Rattle.alloc_end.specs.Place.{begun, wanted, taken, told, left, advances, size_of, pages_for, words_for, kept_room, looked_at_area, area_after, shortage, cleared, opened, placed, at_stage, first_claimed};
+ghost use Rattle.alloc_end.specs.Soundness.{IsRun, IsSoundPlacing, IsPlacingGoing, FitsPlaceStage, HasRoom};
+
+use crate::allocated::Allocated;
+use crate::fitting::Fitting;
+use crate::new_pages::NewPages;
+use crate::place_stage::PlaceStage;
+use crate::run::Run;
+use crate::shortage::Shortage;
+use atom_store::{Reply, Step, Turn};
+use mmu_model::unprotect;
+use record_layout::{Header, pack};
+use space_map::{AreaWord, PAGE_WORDS, Spaces};
+use std::marker::Model;
+
+/// The allocation of one record, by a running mutator.
+#[derive(Clone, Copy, Debug)]
+pub struct Place {
+    spaces: Spaces,
+    run: Run,
+    header: Header,
+    epoch: u32,
+    stage: PlaceStage,
+}
+
+impl Model for Place {
+    ghost use Rattle.alloc_end.specs.Place.{Placing};
+    ghost use Rattle.alloc_end.specs.Soundness.{IsSoundPlacing};
+
+    ghost Value = { Placing };
+
+    ghost view = { λ p. record { layout = p.spaces; run = p.run; header = p.header; epoch = p.epoch; stage = p.stage } };
+
+    ghost invariant = { λ p. IsSoundPlacing (record { layout = p.spaces; run = p.run; header = p.header; epoch = p.epoch; stage = p.stage }) };
+
+    ghost inverse = { λ p. record { spaces = p.layout; run = p.run; header = p.header; epoch = p.epoch; stage = p.stage } };
+}
+
+impl Place {
+    /// The allocation of a record with this header, by a mutator of this epoch that has this run.
+    pub fn new(spaces: Spaces, run: Run, header: Header, epoch: u32) -> Place
+        requires { IsRun spaces.pages run }
+        ensures { result ≡ begun spaces run header epoch }
+    {
+        let _pages = spaces.pages();
+        let stage = if run.at + size(header) <= run.end {
+            PlaceStage::StoresHeader
+        } else {
+            PlaceStage::LoadsTraced
+        };
+        Place {
+            spaces,
+            run,
+            header,
+            epoch,
+            stage,
+        }
+    }
+
+    /// The run: after the result, what is left of it for the next record.
+    pub fn run(&self) -> Run
+        ensures { result ≡ self.now.run }
+    {
+        self.run
+    }
+
+    /// The next step.
+    pub fn want(&self) -> Step
+        requires { IsPlacingGoing self.now.stage }
+        ensures { wanted self.now ≡ Some result }
+    {
+        let spaces = self.spaces;
+        match self.stage {
+            PlaceStage::LoadsTraced => Step::Load(spaces.traced_place()),
+            PlaceStage::LoadsArea(_) => Step::Load(self.area_place()),
+            PlaceStage::ExchangesArea(fitting) => Step::Exchange(
+                self.area_place(),
+                fitting.area.pack(),
+                claimed(spaces, self.header, fitting).pack(),
+            ),
+            PlaceStage::StoresZero(new) => Step::Store(spaces.word_place(new.next), 0),
+            PlaceStage::OpensPage(new) => {
+                Step::Store(spaces.page_place(new.next), unprotect(self.epoch))
+            }
+            PlaceStage::StoresHeader => {
+                Step::Store(spaces.word_place(self.run.at), pack(&self.header))
+            }
+            PlaceStage::Ended(_) => unreachable!(),
+        }
+    }
+
+    /// Takes the reply to it.
+    pub fn take(&mut self, reply: Reply) -> Turn<Allocated>
+        requires going { IsPlacingGoing self.old.stage }
+        requires allowed { IsSoundPlacing (taken self.old reply) }
+        ensures state { self.new ≡ taken self.old reply }
+        ensures tells { result ≡ told self.new }
+        ensures lowers { IsTrue (advances self.old reply) → left self.new < left self.old }
+    {
+        match (self.stage, reply) {
+            (PlaceStage::LoadsTraced, Reply::Value(word)) => {
+                self.stage = PlaceStage::LoadsArea(word == u64::from(self.epoch) + 1);
+                Turn::More
+            }
+            (PlaceStage::LoadsArea(traced), Reply::Value(word)) => self.look_at_area(traced, word),
+            (PlaceStage::ExchangesArea(fitting), Reply::Won) => self.claim(fitting),
+            (PlaceStage::ExchangesArea(_), Reply::Lost(_)) => {
+                self.stage = PlaceStage::LoadsTraced;
+                Turn::More
+            }
+            (PlaceStage::StoresZero(new), Reply::Done) => self.clear(new),
+            (PlaceStage::OpensPage(new), Reply::Done) => self.open(new),
+            (PlaceStage::StoresHeader, Reply::Done) => self.place(),
+            _ => Turn::More,
+        }
+    }
+
+    fn look_at_area(&mut self, traced: bool, word: u64) -> Turn<Allocated>
+        requires { IsSoundPlacing (at_stage self.old (looked_at_area self.old traced (decode_area word))) }
+        ensures state { self.new ≡ at_stage self.old (looked_at_area self.old traced (decode_area word)) }
+        ensures tells { result ≡ told self.new }
+    {
+        let Some(area) = AreaWord::read(word) else {
+            self.stage = PlaceStage::LoadsArea(traced);
+            return Turn::More;
+        };
+        let owed = if traced { 0 } else { area.owed };
+        let room = area.low.saturating_sub(area.front);
+        let asked = pages(self.header);
+        if PAGE_WORDS * asked + owed <= room {
+            self.stage = PlaceStage::ExchangesArea(Fitting { traced, area });
+            return Turn::More;
+        }
+        let live = area.front;
+        self.end(Allocated::Full(Shortage {
+            asked,
+            room,
+            owed,
+            traced,
+            live,
+        }))
+    }
+
+    fn claim(&mut self, fitting: Fitting) -> Turn<Allocated>
+        requires { HasRoom self.old.layout.pages (words_for self.old.header) fitting }
+        ensures state { self.new ≡ at_stage self.old (PlaceStage.StoresZero (record { first = first_claimed self.old fitting; next = first_claimed self.old fitting })) }
+        ensures tells { result ≡ told self.new }
+    {
+        let _pages = self.spaces.pages();
+        let start = self.spaces.space_start(self.spaces.to_space(self.epoch));
+        let first = start + (fitting.area.low - PAGE_WORDS * pages(self.header));
+        self.stage = PlaceStage::StoresZero(NewPages { first, next: first });
+        Turn::More
+    }
+
+    fn clear(&mut self, new: NewPages) -> Turn<Allocated>
+        requires { FitsPlaceStage self.old.layout.pages (pages_for (size_of self.old.header)) self.old.run self.old.header (PlaceStage.StoresZero new) }
+        ensures state { self.new ≡ at_stage self.old (cleared (words_for self.old.header) new) }
+        ensures tells { result ≡ told self.new }
+    {
+        let _pages = self.spaces.pages();
+        let NewPages { first, next } = new;
+        self.stage = if next + 1 < first + PAGE_WORDS * pages(self.header) {
+            PlaceStage::StoresZero(NewPages {
+                first,
+                next: next + 1,
+            })
+        } else {
+            PlaceStage::OpensPage(NewPages {
+                first,
+                next: self.spaces.page_of(first),
+            })
+        };
+        Turn::More
+    }
+
+    fn open(&mut self, new: NewPages) -> Turn<Allocated>
+        requires { FitsPlaceStage self.old.layout.pages (pages_for (size_of self.old.header)) self.old.run self.old.header (PlaceStage.OpensPage new) }
+        ensures state { self.new ≡ opened self.old new }
+        ensures tells { result ≡ told self.new }
+    {
+        let _pages = self.spaces.pages();
+        let NewPages { first, next } = new;
+        let asked = pages(self.header);
+        if next + 1 < self.spaces.page_of(first) + asked {
+            self.stage = PlaceStage::OpensPage(NewPages {
+                first,
+                next: next + 1,
+            });
+        } else {
+            self.run = Run {
+                at: first,
+                end: first + PAGE_WORDS * asked,
+            };
+            self.stage = PlaceStage::StoresHeader;
+        }
+        Turn::More
+    }
+
+    fn place(&mut self) -> Turn<Allocated>
+        requires { self.old.run.at + size_of self.old.header ≤ self.old.run.end }
+        ensures state { self.new ≡ placed self.old }
+        ensures tells { result ≡ told self.new }
+    {
+        let _pages = self.spaces.pages();
+        let at = self.run.at;
+        let outcome = Allocated::Placed(at);
+        self.run.at = at + size(self.header);
+        self.stage = PlaceStage::Ended(outcome);
+        Turn::Finished(outcome)
+    }
+
+    fn end(&mut self, outcome: Allocated) -> Turn<Allocated>
+        ensures state { self.new ≡ at_stage self.old (PlaceStage.Ended outcome) }
+        ensures tells { result ≡ told self.new }
+    {
+        self.stage = PlaceStage::Ended(outcome);
+        Turn::Finished(outcome)
+    }
+
+    fn area_place(&self) -> usize
+        ensures { result ≡ place_of self.now.layout.pages (Area (to_space self.now.epoch)) }
+    {
+        self.spaces.area_place(self.spaces.to_space(self.epoch))
+    }
+}
+
+/// The area after the claim of the pages that the record needs.
+fn claimed(spaces: Spaces, header: Header, fitting: Fitting) -> AreaWord
+    requires { HasRoom spaces.pages (words_for header) fitting }
+    ensures area { result ≡ area_after (words_for header) fitting }
+    ensures fits { AreaFits result }
+{
+    let _pages = spaces.pages();
+    AreaWord {
+        front: fitting.area.front,
+        low: fitting.area.low - PAGE_WORDS * pages(header),
+        owed: if fitting.traced { 0 } else { fitting.area.owed },
+    }
+}
+
+/// The pages that a record with this header needs.
+fn pages(header: Header) -> u32
+    ensures pages { result ≡ pages_for (size_of header) }
+    ensures in_range { result ≤ 64 }
+{
+    size(header).div_ceil(PAGE_WORDS)
+}
+
+fn size(header: Header) -> u32
+    ensures size { result ≡ size_of header }
+    ensures in_range { result ≤ 4096 }
+{
+    u32::from(header.len) + 1
+}

@@ -1,0 +1,22 @@
+use crate::allocated::Allocated;
+use crate::fitting::Fitting;
+use crate::new_pages::NewPages;
+
+/// What an allocation is about to do.
+#[derive(Clone, Copy, Debug)]
+pub enum PlaceStage {
+    /// Load TRACED, whether room has to be kept for copies.
+    LoadsTraced,
+    /// Load the area, whether pages for the record fit: the epoch was found traced or not.
+    LoadsArea(bool),
+    /// Move LOW below these pages, by exchange of the area that was read.
+    ExchangesArea(Fitting),
+    /// Store 0 in the next word of the pages claimed.
+    StoresZero(NewPages),
+    /// Open the next of the pages claimed.
+    OpensPage(NewPages),
+    /// Store the header at the run's place.
+    StoresHeader,
+    /// Nothing more: it has come to this.
+    Ended(Allocated),
+}

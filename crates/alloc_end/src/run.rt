@@ -1,0 +1,8 @@
+/// The words that a mutator has for its next new records.
+#[derive(Clone, Copy, Debug, PartialEq, Eq)]
+pub struct Run {
+    /// Where its next record goes.
+    pub at: u32,
+    /// The first word after the run.
+    pub end: u32,
+}

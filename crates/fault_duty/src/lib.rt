@@ -1,0 +1,24 @@
+//! The duty.
+#![tactic(auto)]
+
+mod caller;
+mod choice;
+mod duty;
+mod duty_stage;
+mod end_look;
+mod laws;
+mod page_state;
+mod round_end;
+mod seen;
+mod wanted_page;
+
+pub use caller::Caller;
+pub use choice::Choice;
+pub use duty::Duty;
+pub use duty_stage::DutyStage;
+pub use end_look::EndLook;
+pub use laws::rows_are_worked_out;
+pub use page_state::PageState;
+pub use round_end::RoundEnd;
+pub use seen::Seen;
+pub use wanted_page::WantedPage;

@@ -1,0 +1,121 @@
+-- The flip, step by step: what it wants, what a reply makes of it, what it comes to, and what it has left.
+use Rattle.std.specs.Prelude.{ℕ, ◌+◌, ◌-◌, ◌*◌, ◌==◌, ◌&&◌, Bool, true, false, Option, Some, None, is_some, if◌then◌else◌}
+use Rattle.atom_store.specs.declared.step.Step.{Step}
+use Rattle.atom_store.specs.declared.step.Step.TheVariants.{Load, Store, Exchange}
+use Rattle.atom_store.specs.declared.reply.Reply.{Reply}
+use Rattle.atom_store.specs.declared.reply.Reply.TheVariants.{Value, Done, Won, Lost}
+use Rattle.atom_store.specs.declared.turn.Turn.{Turn}
+use Rattle.atom_store.specs.declared.turn.Turn.TheVariants.{More, Finished}
+use Rattle.atom_store.specs.Machine.{Machine}
+use Rattle.space_map.specs.declared.area_word.AreaWord.{AreaWord}
+use Rattle.space_map.specs.declared.gate_word.GateWord.{GateWord}
+use Rattle.space_map.specs.AreaWord.{encode_area, decode_area}
+use Rattle.space_map.specs.GateWord.{encode_gate, decode_gate}
+use Rattle.space_map.specs.Spaces.{Layout, to_space}
+use Rattle.space_map.specs.Table.{Gate, Area, place_of}
+use Rattle.gate_core.specs.declared.reset.Reset.{Reset}
+use Rattle.gate_core.specs.declared.flipped.Flipped.{Flipped}
+use Rattle.gate_core.specs.declared.flipped.Flipped.TheVariants.{Went, NotYet}
+use Rattle.gate_core.specs.declared.flip_stage.FlipStage.{FlipStage}
+use Rattle.gate_core.specs.declared.flip_stage.FlipStage.TheVariants.{LoadsGate, LoadsArea, StoresArea, Exchanges, Ended}
+
+-- the flip out of an epoch, by the mutator that requested it because it asks for so many pages
+pub record Flipping : Type 0 where
+  pub layout : Layout
+  pub epoch : ℕ
+  pub asked : ℕ
+  pub stage : FlipStage
+
+abbrev pub begun : Layout → (epoch asked : ℕ) → Flipping
+begun layout epoch asked = record { layout = layout; epoch = epoch; asked = asked; stage = LoadsGate }
+
+-- ---- what changes
+
+-- all mutators have stopped, and none is behind
+abbrev pub is_still : GateWord → Bool
+is_still gate = (gate.running == 0) && (gate.behind == 0)
+
+-- the gate of the next epoch: all that are live are behind, and no flip is requested any more
+abbrev pub gate_flipped : GateWord → GateWord
+gate_flipped gate = record gate { epoch = gate.epoch + 1; behind = gate.live; request = false }
+
+-- the words in use in a space: those that are not between FRONT and LOW
+abbrev pub used_in : (pages : ℕ) → AreaWord → ℕ
+used_in n area = 64 * n - (area.low - area.front)
+
+-- the area of an empty space, in which so many words are going to be copied
+abbrev pub area_reset : (pages used : ℕ) → AreaWord
+area_reset n used = record { front = 0; low = 64 * n; owed = used }
+
+-- ---- the next step
+
+abbrev pub wanted_at : Flipping → FlipStage → Option Step
+wanted_at f LoadsGate = Some (Load (place_of f.layout.pages Gate))
+wanted_at f (LoadsArea gate) = Some (Load (place_of f.layout.pages (Area (to_space f.epoch))))
+wanted_at f (StoresArea reset) =
+    Some (Store (place_of f.layout.pages (Area (to_space (f.epoch + 1)))) (encode_area (area_reset f.layout.pages reset.used)))
+wanted_at f (Exchanges reset) =
+    Some (Exchange (place_of f.layout.pages Gate) (encode_gate reset.gate) (encode_gate (gate_flipped reset.gate)))
+wanted_at f (Ended result) = None
+
+abbrev pub wanted : Flipping → Option Step
+wanted f = wanted_at f f.stage
+
+-- ---- what a reply makes of it
+
+-- by what the gate's word says
+abbrev pub looked : (word : ℕ) → Option GateWord → FlipStage
+looked word (Some gate) = if is_still gate then LoadsArea gate else Ended (NotYet word)
+looked word None = LoadsGate
+
+-- by what the word of the area in use says
+abbrev pub read_area : (pages : ℕ) → GateWord → Option AreaWord → FlipStage
+read_area n gate (Some area) = StoresArea (record { gate = gate; used = used_in n area })
+read_area n gate None = LoadsArea gate
+
+abbrev pub next_stage : Flipping → FlipStage → Reply → FlipStage
+next_stage f LoadsGate (Value word) = looked word (decode_gate word)
+next_stage f (LoadsArea gate) (Value word) = read_area f.layout.pages gate (decode_area word)
+next_stage f (StoresArea reset) Done = Exchanges reset
+next_stage f (Exchanges reset) Won = Ended (Went f.asked)
+next_stage f (Exchanges reset) (Lost word) = LoadsGate
+next_stage f stage answer = stage
+
+abbrev pub taken : Flipping → Reply → Flipping
+taken f answer = record f { stage = next_stage f f.stage answer }
+
+-- ---- what it tells
+
+abbrev pub told_at : FlipStage → Turn Flipped
+told_at (Ended result) = Finished result
+told_at stage = More
+
+abbrev pub told : Flipping → Turn Flipped
+told f = told_at f.stage
+
+-- the flip as a machine
+abbrev pub flip_machine : Machine Flipping Flipped
+flip_machine = record { wanted = wanted; taken = taken; told = told }
+
+-- ---- the steps that are left, no exchange being lost
+
+abbrev pub left_at : FlipStage → ℕ
+left_at LoadsGate = 4
+left_at (LoadsArea gate) = 3
+left_at (StoresArea reset) = 2
+left_at (Exchanges reset) = 1
+left_at (Ended result) = 0
+
+abbrev pub left : Flipping → ℕ
+left f = left_at f.stage
+
+-- the reply is one to the step that it wants, and takes it on: the exchange isn't lost
+abbrev pub advances_at : FlipStage → Reply → Bool
+advances_at LoadsGate (Value word) = is_some (decode_gate word)
+advances_at (LoadsArea gate) (Value word) = is_some (decode_area word)
+advances_at (StoresArea reset) Done = true
+advances_at (Exchanges reset) Won = true
+advances_at stage answer = false
+
+abbrev pub advances : Flipping → Reply → Bool
+advances f answer = advances_at f.stage answer

@@ -1,0 +1,67 @@
+-- What the machines keep of themselves: the rows that they want are in the table, and the gates and areas that they write fit
+-- their words.
+use Rattle.std.specs.Prelude.{◌≡◌, ℕ, ◌+◌, ◌*◌, ◌^◌, ◌<◌, ◌≤◌, true, ⊤}
+use Rattle.space_map.specs.declared.gate_word.GateWord.{GateWord}
+use Rattle.space_map.specs.GateWord.{GateFits}
+use Rattle.space_map.specs.Spaces.{IsPageCount}
+use Rattle.gate_core.specs.declared.passage.Passage.{Passage}
+use Rattle.gate_core.specs.declared.passage.Passage.TheVariants.{Attach, Park, Request, Resume, Forwarded, Leave}
+use Rattle.gate_core.specs.declared.gate_stage.GateStage.{GateStage}
+use Rattle.gate_core.specs.declared.gate_stage.GateStage.TheVariants as gate_stage
+use Rattle.gate_core.specs.declared.reset.Reset.{Reset}
+use Rattle.gate_core.specs.declared.flip_stage.FlipStage.{FlipStage}
+use Rattle.gate_core.specs.declared.flip_stage.FlipStage.TheVariants as flip_stage
+use Rattle.gate_core.specs.Gate.{Passing, allows}
+use Rattle.gate_core.specs.Flip.{Flipping, is_still}
+
+-- the gate counts those whom the passage takes away, and has room for those whom it brings
+abbrev pub Counts : Passage → GateWord → Type 0
+Counts Attach gate = (gate.live + 1 < 2 ^ 8) × (gate.running + 1 < 2 ^ 8)
+Counts Park gate = 0 < gate.running
+Counts Request gate = 0 < gate.running
+Counts (Resume epoch) gate = gate.running + 1 < 2 ^ 8
+Counts Forwarded gate = 0 < gate.behind
+Counts Leave gate = (0 < gate.live) × (0 < gate.running) × (gate.left + 1 < 2 ^ 5)
+
+-- a gate from which the passage may be made
+pub record MayPass (passage : Passage) (gate : GateWord) : Type 0 where
+  pub fits : GateFits gate
+  pub allowed : allows passage gate ≡ true
+  pub counts : Counts passage gate
+
+abbrev pub FitsGateStage : Passage → GateStage → Type 0
+FitsGateStage passage gate_stage.Loads = ⊤
+FitsGateStage passage (gate_stage.Exchanges gate) = MayPass passage gate
+FitsGateStage passage (gate_stage.Ended result) = ⊤
+
+pub record IsSoundPassing (p : Passing) : Type 0 where
+  pub pages : IsPageCount p.layout.pages
+  pub stage : FitsGateStage p.passage p.stage
+
+-- the passage has a next step
+abbrev pub IsPassingGoing : GateStage → Type 0
+IsPassingGoing (gate_stage.Ended result) = ⊥
+IsPassingGoing stage = ⊤
+
+-- a gate from which the heap may be flipped
+pub record MayFlip (gate : GateWord) : Type 0 where
+  pub fits : GateFits gate
+  pub still : is_still gate ≡ true
+  pub next_fits : gate.epoch + 1 < 2 ^ 32
+
+abbrev pub FitsFlipStage : (pages : ℕ) → FlipStage → Type 0
+FitsFlipStage n flip_stage.LoadsGate = ⊤
+FitsFlipStage n (flip_stage.LoadsArea gate) = MayFlip gate
+FitsFlipStage n (flip_stage.StoresArea reset) = MayFlip reset.gate × (reset.used ≤ 64 * n)
+FitsFlipStage n (flip_stage.Exchanges reset) = MayFlip reset.gate × (reset.used ≤ 64 * n)
+FitsFlipStage n (flip_stage.Ended result) = ⊤
+
+pub record IsSoundFlipping (f : Flipping) : Type 0 where
+  pub pages : IsPageCount f.layout.pages
+  pub epoch : f.epoch + 1 < 2 ^ 32
+  pub stage : FitsFlipStage f.layout.pages f.stage
+
+-- the flip has a next step
+abbrev pub IsFlippingGoing : FlipStage → Type 0
+IsFlippingGoing (flip_stage.Ended result) = ⊥
+IsFlippingGoing stage = ⊤

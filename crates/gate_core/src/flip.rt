@@ -1,0 +1,172 @@
+ghost use Rattle.std.specs.Prelude.{◌≡◌, ◌+◌, ◌*◌, ◌^◌, ◌<◌, ◌≤◌, Some, IsTrue};
+ghost use Rattle.space_map.specs.AreaWord.{AreaFits, decode_area};
+ghost use Rattle.space_map.specs.GateWord.{decode_gate};
+ghost use Rattle.gate_core.specs.Flip.{begun, wanted, taken, told, left, advances, is_still, gate_flipped, used_in, area_reset, looked, read_area};
+ghost use Rattle.gate_core.specs.Soundness.{IsFlippingGoing, IsSoundFlipping, FitsFlipStage, MayFlip};
+
+use crate::flip_stage::FlipStage;
+use crate::flipped::Flipped;
+use crate::reset::Reset;
+use atom_store::{Reply, Step, Turn};
+use space_map::{AreaWord, GateWord, PAGE_WORDS, Spaces};
+use std::marker::Model;
+
+/// The flip out of one epoch, by the mutator that requested it.
+#[derive(Clone, Copy, Debug)]
+pub struct Flip {
+    spaces: Spaces,
+    epoch: u32,
+    asked: u32,
+    stage: FlipStage,
+}
+
+impl Model for Flip {
+    ghost use Rattle.gate_core.specs.Flip.{Flipping};
+    ghost use Rattle.gate_core.specs.Soundness.{IsSoundFlipping};
+
+    ghost Value = { Flipping };
+
+    ghost view = { λ f. record { layout = f.spaces; epoch = f.epoch; asked = f.asked; stage = f.stage } };
+
+    ghost invariant = { λ f. IsSoundFlipping (record { layout = f.spaces; epoch = f.epoch; asked = f.asked; stage = f.stage }) };
+
+    ghost inverse = { λ f. record { spaces = f.layout; epoch = f.epoch; asked = f.asked; stage = f.stage } };
+}
+
+impl Flip {
+    /// The flip of a mutator of this epoch, which asks for so many pages.
+    pub fn new(spaces: Spaces, epoch: u32, asked: u32) -> Flip
+        requires { epoch + 1 < 2 ^ 32 }
+        ensures { result ≡ begun spaces epoch asked }
+    {
+        let _pages = spaces.pages();
+        Flip {
+            spaces,
+            epoch,
+            asked,
+            stage: FlipStage::LoadsGate,
+        }
+    }
+
+    /// The next step.
+    pub fn want(&self) -> Step
+        requires { IsFlippingGoing self.now.stage }
+        ensures { wanted self.now ≡ Some result }
+    {
+        let spaces = self.spaces;
+        match self.stage {
+            FlipStage::LoadsGate => Step::Load(spaces.gate_place()),
+            FlipStage::LoadsArea(_) => Step::Load(spaces.area_place(spaces.to_space(self.epoch))),
+            FlipStage::StoresArea(reset) => Step::Store(
+                spaces.area_place(spaces.to_space(self.epoch + 1)),
+                empty_area(spaces, reset.used).pack(),
+            ),
+            FlipStage::Exchanges(reset) => Step::Exchange(
+                spaces.gate_place(),
+                reset.gate.pack(),
+                flipped(reset.gate).pack(),
+            ),
+            FlipStage::Ended(_) => unreachable!(),
+        }
+    }
+
+    /// Takes the reply to it.
+    pub fn take(&mut self, reply: Reply) -> Turn<Flipped>
+        requires going { IsFlippingGoing self.old.stage }
+        requires allowed { IsSoundFlipping (taken self.old reply) }
+        ensures state { self.new ≡ taken self.old reply }
+        ensures tells { result ≡ told self.new }
+        ensures lowers { IsTrue (advances self.old reply) → left self.new < left self.old }
+    {
+        match (self.stage, reply) {
+            (FlipStage::LoadsGate, Reply::Value(word)) => self.look(word),
+            (FlipStage::LoadsArea(gate), Reply::Value(word)) => self.read_area(gate, word),
+            (FlipStage::StoresArea(reset), Reply::Done) => {
+                self.stage = FlipStage::Exchanges(reset);
+                Turn::More
+            }
+            (FlipStage::Exchanges(_), Reply::Won) => self.end(Flipped::Went(self.asked)),
+            (FlipStage::Exchanges(_), Reply::Lost(_)) => {
+                self.stage = FlipStage::LoadsGate;
+                Turn::More
+            }
+            _ => Turn::More,
+        }
+    }
+
+    fn look(&mut self, word: u64) -> Turn<Flipped>
+        requires { FitsFlipStage self.old.layout.pages (looked word (decode_gate word)) }
+        ensures state { self.new ≡ record self.old { stage = looked word (decode_gate word) } }
+        ensures tells { result ≡ told self.new }
+    {
+        match GateWord::read(word) {
+            Some(gate) if gate.running == 0 && gate.behind == 0 => {
+                self.stage = FlipStage::LoadsArea(gate);
+                Turn::More
+            }
+            Some(_) => self.end(Flipped::NotYet(word)),
+            None => {
+                self.stage = FlipStage::LoadsGate;
+                Turn::More
+            }
+        }
+    }
+
+    fn read_area(&mut self, gate: GateWord, word: u64) -> Turn<Flipped>
+        requires { FitsFlipStage self.old.layout.pages (read_area self.old.layout.pages gate (decode_area word)) }
+        ensures state { self.new ≡ record self.old { stage = read_area self.old.layout.pages gate (decode_area word) } }
+        ensures tells { result ≡ told self.new }
+    {
+        self.stage = match AreaWord::read(word) {
+            Some(area) => FlipStage::StoresArea(Reset {
+                gate,
+                used: used(self.spaces, area),
+            }),
+            None => FlipStage::LoadsArea(gate),
+        };
+        Turn::More
+    }
+
+    fn end(&mut self, outcome: Flipped) -> Turn<Flipped>
+        ensures state { self.new ≡ record self.old { stage = FlipStage.Ended outcome } }
+        ensures tells { result ≡ told self.new }
+    {
+        self.stage = FlipStage::Ended(outcome);
+        Turn::Finished(outcome)
+    }
+}
+
+/// The words in use: those that are not between FRONT and LOW.
+fn used(spaces: Spaces, area: AreaWord) -> u32
+    ensures { result ≡ used_in spaces.pages area }
+{
+    let room = area.low.saturating_sub(area.front);
+    (PAGE_WORDS * spaces.pages()).saturating_sub(room)
+}
+
+/// The area of the space that is going to be copied into.
+fn empty_area(spaces: Spaces, used: u32) -> AreaWord
+    requires { used ≤ 64 * spaces.pages }
+    ensures area { result ≡ area_reset spaces.pages used }
+    ensures fits { AreaFits result }
+{
+    AreaWord {
+        front: 0,
+        low: PAGE_WORDS * spaces.pages(),
+        owed: used,
+    }
+}
+
+/// The gate of the next epoch: all that are live are behind, and no flip is requested any more.
+fn flipped(gate: GateWord) -> GateWord
+    requires { MayFlip gate }
+    ensures gate { result ≡ gate_flipped gate }
+    ensures fits { result.left < 2 ^ 5 }
+{
+    GateWord {
+        epoch: gate.epoch + 1,
+        behind: gate.live,
+        request: false,
+        ..gate
+    }
+}

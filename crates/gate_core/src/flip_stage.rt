@@ -1,0 +1,18 @@
+use crate::flipped::Flipped;
+use crate::reset::Reset;
+use space_map::GateWord;
+
+/// What a flip is about to do.
+#[derive(Clone, Copy, Debug)]
+pub enum FlipStage {
+    /// Load the gate, whether all mutators have stopped and none is behind.
+    LoadsGate,
+    /// Load the area of the space that is in use: this was the gate.
+    LoadsArea(GateWord),
+    /// Store the area of the other space, which is empty yet.
+    StoresArea(Reset),
+    /// Exchange the gate that was read for that of the next epoch.
+    Exchanges(Reset),
+    /// Nothing more: it has come to this.
+    Ended(Flipped),
+}

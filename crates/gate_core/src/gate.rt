@@ -1,0 +1,222 @@
+ghost use Rattle.std.specs.Prelude.{◌≡◌, ◌^◌, ◌<◌, Some, IsTrue};
+ghost use Rattle.space_map.specs.declared.gate_word.GateWord.{GateWord};
+ghost use Rattle.space_map.specs.GateWord.{decode_gate, encode_gate};
+ghost use Rattle.gate_core.specs.Gate.{begun, wanted, taken, told, left, advances, allows, gate_after, is_clear, looked};
+ghost use Rattle.gate_core.specs.Soundness.{IsSoundPassing, IsPassingGoing, FitsGateStage, MayPass};
+
+use crate::gate_stage::GateStage;
+use crate::passage::Passage;
+use crate::passed::Passed;
+use atom_store::{Reply, Step, Turn};
+use space_map::{GateWord, Spaces};
+use std::marker::Model;
+
+/// A passage of the gate by one mutator: a load, and the exchange from the word read where that allows it.
+#[derive(Clone, Copy, Debug)]
+pub struct Gate {
+    spaces: Spaces,
+    passage: Passage,
+    stage: GateStage,
+}
+
+impl Model for Gate {
+    ghost use Rattle.gate_core.specs.Gate.{Passing};
+    ghost use Rattle.gate_core.specs.Soundness.{IsSoundPassing};
+
+    ghost Value = { Passing };
+
+    ghost view = { λ g. record { layout = g.spaces; passage = g.passage; stage = g.stage } };
+
+    ghost invariant = { λ g. IsSoundPassing (record { layout = g.spaces; passage = g.passage; stage = g.stage }) };
+
+    ghost inverse = { λ g. record { spaces = g.layout; passage = g.passage; stage = g.stage } };
+}
+
+impl Gate {
+    /// A mutator comes to the heap.
+    pub fn attach(spaces: Spaces) -> Gate
+        ensures { result ≡ begun spaces Passage.Attach }
+    {
+        Gate::begin(spaces, Passage::Attach)
+    }
+
+    /// A running mutator stops for a flip.
+    pub fn park(spaces: Spaces) -> Gate
+        ensures { result ≡ begun spaces Passage.Park }
+    {
+        Gate::begin(spaces, Passage::Park)
+    }
+
+    /// A running mutator requests a flip, and stops.
+    pub fn request(spaces: Spaces) -> Gate
+        ensures { result ≡ begun spaces Passage.Request }
+    {
+        Gate::begin(spaces, Passage::Request)
+    }
+
+    /// A stopped mutator of this epoch runs on.
+    pub fn resume(spaces: Spaces, epoch: u32) -> Gate
+        ensures { result ≡ begun spaces (Passage.Resume epoch) }
+    {
+        Gate::begin(spaces, Passage::Resume(epoch))
+    }
+
+    /// A stopped mutator has forwarded its registers.
+    pub fn forwarded(spaces: Spaces) -> Gate
+        ensures { result ≡ begun spaces Passage.Forwarded }
+    {
+        Gate::begin(spaces, Passage::Forwarded)
+    }
+
+    /// A running mutator has its end.
+    pub fn leave(spaces: Spaces) -> Gate
+        ensures { result ≡ begun spaces Passage.Leave }
+    {
+        Gate::begin(spaces, Passage::Leave)
+    }
+
+    fn begin(spaces: Spaces, passage: Passage) -> Gate
+        ensures { result ≡ begun spaces passage }
+    {
+        let _pages = spaces.pages();
+        Gate {
+            spaces,
+            passage,
+            stage: GateStage::Loads,
+        }
+    }
+
+    /// The next step.
+    pub fn want(&self) -> Step
+        requires { IsPassingGoing self.now.stage }
+        ensures { wanted self.now ≡ Some result }
+    {
+        let place = self.spaces.gate_place();
+        match self.stage {
+            GateStage::Loads => Step::Load(place),
+            GateStage::Exchanges(gate) => {
+                Step::Exchange(place, gate.pack(), after(self.passage, gate).pack())
+            }
+            GateStage::Ended(_) => unreachable!(),
+        }
+    }
+
+    /// Takes the reply to it.
+    pub fn take(&mut self, reply: Reply) -> Turn<Passed>
+        requires going { IsPassingGoing self.old.stage }
+        requires allowed { IsSoundPassing (taken self.old reply) }
+        ensures state { self.new ≡ taken self.old reply }
+        ensures tells { result ≡ told self.new }
+        ensures lowers { IsTrue (advances self.old reply) → left self.new < left self.old }
+    {
+        match (self.stage, reply) {
+            (GateStage::Loads, Reply::Value(word)) => self.look(word),
+            (GateStage::Exchanges(gate), Reply::Won) => self.go_through(gate),
+            (GateStage::Exchanges(_), Reply::Lost(_)) => {
+                self.stage = GateStage::Loads;
+                Turn::More
+            }
+            _ => Turn::More,
+        }
+    }
+
+    fn look(&mut self, word: u64) -> Turn<Passed>
+        requires { FitsGateStage self.old.passage (looked self.old.passage word (decode_gate word)) }
+        ensures state { self.new ≡ record self.old { stage = looked self.old.passage word (decode_gate word) } }
+        ensures tells { result ≡ told self.new }
+    {
+        match GateWord::read(word) {
+            Some(gate) if allowed(self.passage, gate) => {
+                self.stage = GateStage::Exchanges(gate);
+                Turn::More
+            }
+            Some(_) => self.end(Passed::NotYet(word)),
+            None => {
+                self.stage = GateStage::Loads;
+                Turn::More
+            }
+        }
+    }
+
+    fn go_through(&mut self, gate: GateWord) -> Turn<Passed>
+        requires { MayPass self.old.passage gate }
+        ensures state { self.new ≡ record self.old { stage = GateStage.Ended (Passed.Went (encode_gate (gate_after self.old.passage gate))) } }
+        ensures tells { result ≡ told self.new }
+    {
+        let now = after(self.passage, gate).pack();
+        self.end(Passed::Went(now))
+    }
+
+    fn end(&mut self, outcome: Passed) -> Turn<Passed>
+        ensures state { self.new ≡ record self.old { stage = GateStage.Ended outcome } }
+        ensures tells { result ≡ told self.new }
+    {
+        self.stage = GateStage::Ended(outcome);
+        Turn::Finished(outcome)
+    }
+}
+
+/// Whether the gate allows the passage.
+fn allowed(passage: Passage, gate: GateWord) -> bool
+    ensures { result ≡ allows passage gate }
+{
+    match passage {
+        Passage::Attach => no_flip(gate),
+        Passage::Park => gate.request,
+        Passage::Request => !gate.request,
+        Passage::Resume(epoch) => no_flip(gate) && gate.epoch == epoch,
+        Passage::Forwarded | Passage::Leave => true,
+    }
+}
+
+/// Whether no flip is requested, and no mutator is behind.
+fn no_flip(gate: GateWord) -> bool
+    ensures { result ≡ is_clear gate }
+{
+    !gate.request && gate.behind == 0
+}
+
+/// The gate after the passage.
+fn after(passage: Passage, gate: GateWord) -> GateWord
+    requires { MayPass passage gate }
+    ensures gate { result ≡ gate_after passage gate }
+    ensures fits { result.left < 2 ^ 5 }
+{
+    let GateWord {
+        live,
+        running,
+        behind,
+        left,
+        ..
+    } = gate;
+    match passage {
+        Passage::Attach => GateWord {
+            live: live + 1,
+            running: running + 1,
+            ..gate
+        },
+        Passage::Park => GateWord {
+            running: running - 1,
+            ..gate
+        },
+        Passage::Request => GateWord {
+            running: running - 1,
+            request: true,
+            ..gate
+        },
+        Passage::Resume(_) => GateWord {
+            running: running + 1,
+            ..gate
+        },
+        Passage::Forwarded => GateWord {
+            behind: behind - 1,
+            ..gate
+        },
+        Passage::Leave => GateWord {
+            live: live - 1,
+            running: running - 1,
+            left: left + 1,
+            ..gate
+        },
+    }
+}

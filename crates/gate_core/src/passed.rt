@@ -1,0 +1,8 @@
+/// What a passage comes to.
+#[derive(Clone, Copy, Debug, PartialEq, Eq)]
+pub enum Passed {
+    /// It was made, and this is now the gate's word.
+    Went(u64),
+    /// This word of the gate forbids it.
+    NotYet(u64),
+}

@@ -1,0 +1,10 @@
+use space_map::GateWord;
+
+/// What a flipper has read.
+#[derive(Clone, Copy, Debug)]
+pub struct Reset {
+    /// The gate, with nobody running and nobody behind.
+    pub gate: GateWord,
+    /// The words in use, for which the next epoch keeps room.
+    pub used: u32,
+}

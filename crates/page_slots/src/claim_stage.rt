@@ -1,0 +1,14 @@
+use crate::claimed::Claimed;
+
+/// What a claim is about to do.
+#[derive(Clone, Copy, Debug, PartialEq, Eq)]
+pub enum ClaimStage {
+    /// Load the place that this worker has announced, where a copy of its may come to lie.
+    LooksAtPlace(u8),
+    /// Load the gate, whether the epoch is still the claim's.
+    LooksAtGate,
+    /// Exchange the page's word for this worker's own.
+    Exchanges,
+    /// Nothing more: it has come to this.
+    Ended(Claimed),
+}
