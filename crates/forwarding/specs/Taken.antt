@@ -71,7 +71,7 @@ stage_after l e stage reply = stage
 
 -- the machine after a reply
 abbrev pub taken : Evacuation → Reply → Evacuation
-taken v reply = record v { stage = stage_after v.spaces v.epoch v.stage reply }
+taken v reply = record v { stage = stage_after v.layout v.epoch v.stage reply }
 
 -- what a machine tells that has come to this stage
 abbrev pub told : EvacStage → Turn To

@@ -8,6 +8,8 @@ use Rattle.atom_store.specs.declared.reply.Reply.{Reply}
 use Rattle.atom_store.specs.declared.reply.Reply.TheVariants.{Value, Done}
 use Rattle.atom_store.specs.declared.step.Step.{Step}
 use Rattle.atom_store.specs.declared.turn.Turn.TheVariants.{Finished}
+use Rattle.heap_state.specs.FieldSpan.{first_field}
+use Rattle.heap_state.specs.Ghost.{said_kind}
 use Rattle.heap_words.specs.declared.kind.Kind.{Kind}
 use Rattle.heap_words.specs.Decoded.{Decoded, NumberWord, PointerWord, HeaderWord, ForwardWord, BusyWord, Malformed, decode}
 use Rattle.space_map.specs.declared.area_word.AreaWord.{AreaWord}
@@ -28,7 +30,7 @@ use Rattle.page_scan.specs.Theorems.{AsksAtWords, AsksOfPointers, CursorRises, E
 
 -- ---- stores
 
-stores : (v : Scanning) (x : ScanStage) (step : Step) → v.stage ≡ x → wanted_at v.spaces v.page v.epoch x ≡ Some step → StoresAnswer v step
+stores : (v : Scanning) (x : ScanStage) (step : Step) → v.stage ≡ x → wanted_at v.layout v.page v.epoch x ≡ Some step → StoresAnswer v step
 stores v LoadsCross step is wants = subst (StoresAnswer v) (same_Some _ _ wants) tt
 stores v (LoadsFirst at) step is wants = subst (StoresAnswer v) (same_Some _ _ wants) tt
 stores v (LoadsWord spot) step is wants = subst (StoresAnswer v) (same_Some _ _ wants) tt
@@ -75,7 +77,7 @@ module _ (P : ScanStage → Type 0) where
   of_passes page in_place (InRecord r x) word end goes = goes r x refl
 
   pub of_header : (page : ℕ) (in_place : Bool) (at : ℕ) (stage : ScanStage) (d : Decoded)
-      → ((kind : Kind) (len serial mutator : ℕ) → d ≡ HeaderWord kind len serial mutator → P (enters page in_place (record_at at kind len)))
+      → ((kind : Kind) (len serial mutator : ℕ) → d ≡ HeaderWord kind len serial mutator → P (enters page in_place at kind len))
       → P stage → P (by_header page in_place at stage d)
   of_header page in_place at stage (HeaderWord kind len serial mutator) header other = header kind len serial mutator refl
   of_header page in_place at stage (NumberWord n) header other = other
@@ -115,8 +117,8 @@ module _ (P : ScanStage → Type 0) where
 pub record OfEachWay (l : Layout) (page epoch : ℕ) (in_place : Bool) (P : ScanStage → Reply → ScanStage → Type 0) : Type 0 where
   pub stays : (x : ScanStage) (reply : Reply) → P x reply x
   pub crosses : (w : ℕ) → P LoadsCross (Value w) (LoadsFirst w)
-  pub enters_first : (at w : ℕ) (kind : Kind) (len : ℕ) → P (LoadsFirst at) (Value w) (enters page in_place (record_at at kind len))
-  pub enters_next : (r : ScannedRecord) (w : ℕ) (kind : Kind) (len : ℕ) → P (LoadsNext r) (Value w) (enters page in_place (record_at r.next kind len))
+  pub enters_first : (at w : ℕ) (kind : Kind) (len : ℕ) → P (LoadsFirst at) (Value w) (enters page in_place at kind len)
+  pub enters_next : (r : ScannedRecord) (w : ℕ) (kind : Kind) (len : ℕ) → P (LoadsNext r) (Value w) (enters page in_place r.next kind len)
   pub asks : (spot : Spot) (w old : ℕ) → decode w ≡ PointerWord old → P (LoadsWord spot) (Value w) (Asks (record { spot = spot; old = old }))
   pub passes_read : (spot : Spot) (w : ℕ) → P (LoadsWord spot) (Value w) (passes page in_place spot)
   pub passes_stored : (asked : Asked) (to : ℕ) → P (StoresCopy asked to) Done (passes page in_place asked.spot)
@@ -148,18 +150,19 @@ passes_without_asking : (page : ℕ) (in_place : Bool) (spot : Spot) (asked : As
 passes_without_asking page in_place spot asked =
     of_passes (λ z. z ≡ Asks asked → ⊥) page in_place spot (λ x is a z. cc) (λ x is a z. cc) (λ r x is. never_asks page in_place r (x + 1) asked)
 
-never_enters : (page : ℕ) (in_place : Bool) (r : ScannedRecord) (asked : Asked) → enters page in_place r ≡ Asks asked → ⊥
-never_enters page in_place r asked = never_asks page in_place r (max (r.at + 1) (first_word page)) asked
+never_enters : (page : ℕ) (in_place : Bool) (at : ℕ) (kind : Kind) (len : ℕ) (asked : Asked) → enters page in_place at kind len ≡ Asks asked → ⊥
+never_enters page in_place at kind len asked =
+    never_asks page in_place (record_at at kind len) (max (at + first_field (said_kind kind 0)) (first_word page)) asked
 
 pub asks_at_words : AsksAtWords
 asks_at_words v reply asked =
     let P : ScanStage → Reply → ScanStage → Type 0 = λ x reply z. HasStep x → z ≡ Asks asked
     → (x ≡ LoadsWord asked.spot) × ((word : ℕ) × (reply ≡ Value word) × (decode word ≡ PointerWord asked.old)) in
-    of_each_way v.spaces v.page v.epoch v.in_place P (record {
+    of_each_way v.layout v.page v.epoch v.in_place P (record {
       stays = λ x reply going is. absurd (subst HasStep is going);
       crosses = λ w going is. absurd (cc);
-      enters_first = λ at w kind len going is. absurd (never_enters v.page v.in_place (record_at at kind len) asked is);
-      enters_next = λ r w kind len going is. absurd (never_enters v.page v.in_place (record_at r.next kind len) asked is);
+      enters_first = λ at w kind len going is. absurd (never_enters v.page v.in_place at kind len asked is);
+      enters_next = λ r w kind len going is. absurd (never_enters v.page v.in_place r.next kind len asked is);
       asks = λ spot w old leads going is.
           let same : record { spot = spot; old = old } ≡ asked = cc in
           (ap (λ (a : Asked). LoadsWord a.spot) same, (w, refl, leads ∙ ap (λ (a : Asked). PointerWord a.old) same));
@@ -185,7 +188,7 @@ old_told l p e i spot old d =
 pub asks_of_pointers : AsksOfPointers
 asks_of_pointers v spot word old at =
     rw at (
-      old_told v.spaces v.page v.epoch v.in_place spot old (decode word),
+      old_told v.layout v.page v.epoch v.in_place spot old (decode word),
       λ leads. rw (leads.0, leads.1) refl,
     )
 
@@ -203,21 +206,23 @@ passes-cursor n page in_place (InRecord r x) on =
     let fields = on.0.fields in let below = on.5 in
     goes_on-cursor page in_place r (x + 1) x (omega arith) (omega arith)
 
-enters-cursor : (n page : ℕ) (in_place : Bool) (r : ScannedRecord) → FitsStage n page (enters page in_place r) → 64 * page ≤ cursor_at page (enters page in_place r)
-enters-cursor n page in_place r =
-    of_goes_on (λ z. FitsStage n page z → 64 * page ≤ cursor_at page z) page in_place r (max (r.at + 1) (first_word page))
+enters-cursor : (n page : ℕ) (in_place : Bool) (at : ℕ) (kind : Kind) (len : ℕ) → FitsStage n page (enters page in_place at kind len)
+    → 64 * page ≤ cursor_at page (enters page in_place at kind len)
+enters-cursor n page in_place at kind len =
+    of_goes_on (λ z. FitsStage n page z → 64 * page ≤ cursor_at page z) page in_place (record_at at kind len)
+    (max (at + first_field (said_kind kind 0)) (first_word page))
     (λ a b fits. omega arith) (λ a b fits. omega arith) (λ a b fits. fits.2) (λ a b fits. fits.2) (λ a b fits. omega arith)
 
 pub cursor_rises : CursorRises
 cursor_rises v reply before after =
-    let n : ℕ = v.spaces.pages in
+    let n : ℕ = v.layout.pages in
     let P : ScanStage → Reply → ScanStage → Type 0 = λ x reply z. FitsStage n v.page x → FitsStage n v.page z → cursor_at v.page x ≤ cursor_at v.page z in
-    of_each_way v.spaces v.page v.epoch v.in_place P (record {
+    of_each_way v.layout v.page v.epoch v.in_place P (record {
       stays = λ x reply from to. omega arith;
       crosses = λ w from to. omega arith;
-      enters_first = λ at w kind len from to. enters-cursor n v.page v.in_place (record_at at kind len) to;
+      enters_first = λ at w kind len from to. enters-cursor n v.page v.in_place at kind len to;
       enters_next = λ r w kind len from to.
-          goes_on-cursor v.page v.in_place (record_at r.next kind len) (max (r.next + 1) (first_word v.page)) r.next (omega arith) (omega arith);
+          goes_on-cursor v.page v.in_place (record_at r.next kind len) (max (r.next + first_field (said_kind kind 0)) (first_word v.page)) r.next (omega arith) (omega arith);
       asks = λ spot w old leads from to. omega arith;
       passes_read = λ spot w from to. passes-cursor n v.page v.in_place spot from;
       passes_stored = λ asked to' from to. passes-cursor n v.page v.in_place asked.spot from;
@@ -232,47 +237,47 @@ module _ (v : Scanning) (ending : Ending) where
   abbrev Ends : ScanStage → Reply → Type 0
   Ends x reply =
       (ending.at_front ≡ true → (r : ScannedRecord) × (word : ℕ) × (area : AreaWord) × (x ≡ LoadsFront r) × (reply ≡ Value word)
-      × (decode_area word ≡ Some area) × (space_start v.spaces.pages (to_space v.epoch) + area.front ≡ ending.cursor))
-      × (ending.at_front ≡ false → scan_end v.spaces v.page ≤ ending.cursor)
+      × (decode_area word ≡ Some area) × (space_start v.layout.pages (to_space v.epoch) + area.front ≡ ending.cursor))
+      × (ending.at_front ≡ false → scan_end v.layout v.page ≤ ending.cursor)
 
   -- it ended at a word that isn't scanned any more
-  at_end : (x : ScanStage) (reply : Reply) (cursor : ℕ) → scan_end v.spaces v.page ≤ cursor → Ended (record { cursor = cursor; at_front = false }) ≡ Ended ending
+  at_end : (x : ScanStage) (reply : Reply) (cursor : ℕ) → scan_end v.layout v.page ≤ cursor → Ended (record { cursor = cursor; at_front = false }) ≡ Ended ending
       → Ends x reply
   at_end x reply cursor behind is =
       let same : record { cursor = cursor; at_front = false } ≡ ending = cc in (
         λ front. absurd (let e : false ≡ true = ap (λ (z : Ending). z.at_front) same ∙ front in cc),
-        λ end. subst (λ (z : Ending). scan_end v.spaces v.page ≤ z.cursor) same behind,
+        λ end. subst (λ (z : Ending). scan_end v.layout v.page ≤ z.cursor) same behind,
       )
 
-  page_end : v.page < 2 * v.spaces.pages → (c : ℕ) → 64 * (v.page + 1) ≤ c → scan_end v.spaces v.page ≤ c
+  page_end : v.page < 2 * v.layout.pages → (c : ℕ) → 64 * (v.page + 1) ≤ c → scan_end v.layout v.page ≤ c
   page_end within c behind = grind (arith, nat_tests)
 
-  board_end : v.page ≡ 2 * v.spaces.pages → (c : ℕ) → 64 * v.page + board_words ≤ c → scan_end v.spaces v.page ≤ c
+  board_end : v.page ≡ 2 * v.layout.pages → (c : ℕ) → 64 * v.page + board_words ≤ c → scan_end v.layout v.page ≤ c
   board_end is c behind = grind (arith, nat_tests)
 
-  goes_on-ends : (x : ScanStage) (reply : Reply) (r : ScannedRecord) (y : ℕ) → v.page < 2 * v.spaces.pages → goes_on v.page v.in_place r y ≡ Ended ending → Ends x reply
+  goes_on-ends : (x : ScanStage) (reply : Reply) (r : ScannedRecord) (y : ℕ) → v.page < 2 * v.layout.pages → goes_on v.page v.in_place r y ≡ Ended ending → Ends x reply
   goes_on-ends x reply r y within =
       of_goes_on (λ z. z ≡ Ended ending → Ends x reply) v.page v.in_place r y
       (λ a b is. absurd (cc)) (λ a b is. at_end x reply y (page_end within y b) is)
       (λ a b is. absurd (cc)) (λ a b is. absurd (cc)) (λ a b is. at_end x reply r.next (page_end within r.next b) is)
 
-  passes-ends : (x : ScanStage) (reply : Reply) (spot : Spot) → IsOnPage v.spaces.pages v.page spot → passes v.page v.in_place spot ≡ Ended ending → Ends x reply
+  passes-ends : (x : ScanStage) (reply : Reply) (spot : Spot) → IsOnPage v.layout.pages v.page spot → passes v.page v.in_place spot ≡ Ended ending → Ends x reply
   passes-ends x reply (OnBoard y) on =
       of_passes (λ z. z ≡ Ended ending → Ends x reply) v.page v.in_place (OnBoard y)
       (λ c at a is. absurd (cc)) (λ c at a is. at_end x reply (c + 1) (board_end on.0 (c + 1) a) is) (λ r c at is. absurd (cc))
   passes-ends x reply (InRecord r y) on = goes_on-ends x reply r (y + 1) on.1
 
-  ends_from : (x : ScanStage) (reply : Reply) → FitsStage v.spaces.pages v.page x → HasStep x
-      → stage_after v.spaces v.page v.epoch v.in_place x reply ≡ Ended ending → Ends x reply
+  ends_from : (x : ScanStage) (reply : Reply) → FitsStage v.layout.pages v.page x → HasStep x
+      → stage_after v.layout v.page v.epoch v.in_place x reply ≡ Ended ending → Ends x reply
   ends_from =
-      let P : ScanStage → Reply → ScanStage → Type 0 = λ x reply z. FitsStage v.spaces.pages v.page x → HasStep x → z ≡ Ended ending → Ends x reply in
-      of_each_way v.spaces v.page v.epoch v.in_place P (record {
+      let P : ScanStage → Reply → ScanStage → Type 0 = λ x reply z. FitsStage v.layout.pages v.page x → HasStep x → z ≡ Ended ending → Ends x reply in
+      of_each_way v.layout v.page v.epoch v.in_place P (record {
         stays = λ x reply fits going is. absurd (subst HasStep is going);
         crosses = λ w fits going is. absurd (cc);
         enters_first = λ at w kind len fits going is.
-            goes_on-ends (LoadsFirst at) (Value w) (record_at at kind len) (max (at + 1) (first_word v.page)) fits.0 is;
+            goes_on-ends (LoadsFirst at) (Value w) (record_at at kind len) (max (at + first_field (said_kind kind 0)) (first_word v.page)) fits.0 is;
         enters_next = λ r w kind len fits going is.
-            goes_on-ends (LoadsNext r) (Value w) (record_at r.next kind len) (max (r.next + 1) (first_word v.page)) fits.1 is;
+            goes_on-ends (LoadsNext r) (Value w) (record_at r.next kind len) (max (r.next + first_field (said_kind kind 0)) (first_word v.page)) fits.1 is;
         asks = λ spot w old leads fits going is. absurd (cc);
         passes_read = λ spot w fits going is. passes-ends (LoadsWord spot) (Value w) spot fits is;
         passes_stored = λ asked to fits going is. passes-ends (StoresCopy asked to) Done asked.spot fits is;

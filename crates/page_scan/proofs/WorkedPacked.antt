@@ -1,13 +1,15 @@
 -- On the worked filling page records lie packed.
-use Rattle.std.proofs.Common.{◌≡◌, ℕ, zero, suc, ◌+◌, ◌<◌, ◌≤◌, refl, arith, lit≤, lit<}
+use Rattle.std.proofs.Common.{IsTrue, ◌≡◌, ℕ, zero, suc, ◌+◌, ◌<◌, ◌≤◌, refl, arith, lit≤, lit<}
 use Rattle.heap_words.specs.Decoded.{decode}
+use Rattle.heap_words.specs.FirstWords.{is_header}
 use Rattle.heap_words.specs.Word.{tag_of}
 use Rattle.space_map.specs.AreaWord.{decode_area, area_in}
 use Rattle.space_map.specs.Table.{place_of}
 use Rattle.page_scan.specs.Answering.{crossing_in, heap_in}
-use Rattle.page_scan.specs.Fields.{IsHeader, begins}
+use Rattle.page_scan.specs.Fields.{begins}
 use Rattle.page_scan.specs.Theorems.{WorkedIsPacked}
-use Rattle.page_scan.specs.Worked.{four_pages, words_with}
+use Rattle.space_map.specs.Worked.{four_pages}
+use Rattle.page_scan.specs.Worked.{words_with}
 use Rattle.page_scan.proofs.Packed.{begins-le}
 
 abbrev heap : ℕ → ℕ
@@ -28,9 +30,9 @@ second = refl
 none_more : (n : ℕ) → begins heap from (suc n) < 259 → ⊥
 none_more n below = let least = begins-le heap from 259 1 (suc n) (omega arith) in let is = second in omega arith
 
-headers : (n : ℕ) → begins heap from n < 259 → IsHeader (decode (heap (begins heap from n)))
+headers : (n : ℕ) → begins heap from n < 259 → IsTrue (is_header (decode (heap (begins heap from n))))
 unfolding begins decode tag_of place_of words_with
-headers zero below = tt
+headers zero below = refl
 headers (suc n) below = absurd (none_more n below)
 
 packed : (n : ℕ) → begins heap from n < 259 → begins heap from (n + 1) ≤ 259

@@ -37,6 +37,6 @@ FitsStage n p (LoadsNext r) = NextIsOnPage n p r
 FitsStage n p (Ended ending) = ending.cursor < 2 ^ 20
 
 pub record IsSound (v : Scanning) : Type 0 where
-  pub pages : IsPageCount v.spaces.pages
-  pub page : v.page ≤ board_page v.spaces.pages
-  pub fits : FitsStage v.spaces.pages v.page v.stage
+  pub pages : IsPageCount v.layout.pages
+  pub page : v.page ≤ board_page v.layout.pages
+  pub fits : FitsStage v.layout.pages v.page v.stage

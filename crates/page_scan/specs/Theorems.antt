@@ -13,6 +13,7 @@ use Rattle.space_map.specs.declared.area_word.AreaWord.{AreaWord}
 use Rattle.space_map.specs.AreaWord.{decode_area}
 use Rattle.space_map.specs.Spaces.{Layout, to_space, space_start, first_word, board_page}
 use Rattle.space_map.specs.Table.{HeapWord, place_of, table_length}
+use Rattle.space_map.specs.Worked.{four_pages}
 use Rattle.page_scan.specs.declared.asked.Asked.{Asked}
 use Rattle.page_scan.specs.declared.ending.Ending.{Ending}
 use Rattle.page_scan.specs.declared.scan_stage.ScanStage.{ScanStage}
@@ -25,7 +26,7 @@ use Rattle.page_scan.specs.Fields.{IsFieldOn, IsOnBoard}
 use Rattle.page_scan.specs.Scanning.{Scanning, HasStep, address_of, begun, wanted}
 use Rattle.page_scan.specs.Soundness.{IsSound}
 use Rattle.page_scan.specs.Taken.{answered, is_old, scan_end, scan_machine, taken, told}
-use Rattle.page_scan.specs.Worked.{four_pages, answered_after, board, board_loads, board_asks, board_goes_on, filling, filling_asks, filling_goes_on, full, full_loads, words_with}
+use Rattle.page_scan.specs.Worked.{answered_after, board, board_loads, board_asks, board_goes_on, filling, filling_asks, filling_goes_on, full, full_loads, words_with}
 
 -- ---- one step of a scan
 
@@ -44,7 +45,7 @@ cursor_at page (Ended ending) = ending.cursor
 abbrev pub StoresAnswer : Scanning → Step → Type 0
 StoresAnswer v (Load place) = ⊤
 StoresAnswer v (Store place word) = (asked : Asked) × (to : ℕ)
-    × (v.stage ≡ StoresCopy asked to) × (place ≡ place_of v.spaces.pages (HeapWord (address_of asked.spot))) × (word ≡ pointer_word to)
+    × (v.stage ≡ StoresCopy asked to) × (place ≡ place_of v.layout.pages (HeapWord (address_of asked.spot))) × (word ≡ pointer_word to)
 StoresAnswer v (Exchange place old new) = ⊥
 
 abbrev pub StoresOnlyAnswers : Type 0
@@ -53,7 +54,7 @@ StoresOnlyAnswers = (v : Scanning) (step : Step) → wanted v ≡ Some step → 
 -- a copy is asked for exactly where a word that was to be looked at leads into the old space
 abbrev pub AsksOfPointers : Type 0
 AsksOfPointers = (v : Scanning) (spot : Spot) (word old : ℕ) → v.stage ≡ LoadsWord spot
-    → (told (taken v (Value word)).stage ≡ Finished (comes_to.Ask old)) ↔ ((decode word ≡ PointerWord old) × (is_old v.spaces v.epoch old ≡ true))
+    → (told (taken v (Value word)).stage ≡ Finished (comes_to.Ask old)) ↔ ((decode word ≡ PointerWord old) × (is_old v.layout v.epoch old ≡ true))
 
 -- no other stage asks
 abbrev pub AsksAtWords : Type 0
@@ -67,8 +68,8 @@ CursorRises = (v : Scanning) (reply : Reply) → IsSound v → IsSound (taken v 
 -- a scan ends at FRONT, as it was read, or behind the last word of what is scanned
 pub record EndsAt (v : Scanning) (reply : Reply) (ending : Ending) : Type 0 where
   pub at_front : ending.at_front ≡ true → (r : ScannedRecord) × (word : ℕ) × (area : AreaWord) × (v.stage ≡ LoadsFront r) × (reply ≡ Value word)
-      × (decode_area word ≡ Some area) × (space_start v.spaces.pages (to_space v.epoch) + area.front ≡ ending.cursor)
-  pub at_end : ending.at_front ≡ false → scan_end v.spaces v.page ≤ ending.cursor
+      × (decode_area word ≡ Some area) × (space_start v.layout.pages (to_space v.epoch) + area.front ≡ ending.cursor)
+  pub at_end : ending.at_front ≡ false → scan_end v.layout v.page ≤ ending.cursor
 
 abbrev pub EndsInPlace : Type 0
 EndsInPlace = (v : Scanning) (reply : Reply) (ending : Ending) → IsSound v → HasStep v.stage → (taken v reply).stage ≡ Ended ending → EndsAt v reply ending

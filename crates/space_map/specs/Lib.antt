@@ -3,3 +3,4 @@ pub mod Table
 pub mod AreaWord
 pub mod GateWord
 pub mod PageWord
+pub mod Worked
