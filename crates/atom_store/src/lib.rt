@@ -20,6 +20,3 @@ pub use plain_atoms::PlainAtoms;
 pub use reply::Reply;
 pub use step::Step;
 pub use turn::Turn;
-
-#[cfg(test)]
-mod tests;

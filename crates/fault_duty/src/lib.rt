@@ -1,13 +1,24 @@
-// A library with one function.
+//! The duty.
 #![tactic(auto)]
 
-ghost use Rattle.std.specs.Prelude.{◌≡◌};
-ghost use Rattle.fault_duty.specs.Echo.{echo_of};
+mod caller;
+mod choice;
+mod duty;
+mod duty_stage;
+mod end_look;
+mod laws;
+mod page_state;
+mod round_end;
+mod seen;
+mod wanted_page;
 
-// The `ensures` clause is the contract: what `echo` returns is `echo_of` of its argument, a definition
-// in `specs/Echo.antt`, which a caller's clause can cite too.
-pub fn echo(x: usize) -> usize
-    ensures { result ≡ echo_of x }
-{
-    x
-}
+pub use caller::Caller;
+pub use choice::Choice;
+pub use duty::Duty;
+pub use duty_stage::DutyStage;
+pub use end_look::EndLook;
+pub use laws::rows_are_worked_out;
+pub use page_state::PageState;
+pub use round_end::RoundEnd;
+pub use seen::Seen;
+pub use wanted_page::WantedPage;

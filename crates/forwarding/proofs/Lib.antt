@@ -1,2 +1,5 @@
 pub mod FirstWords
+pub mod Stages
+pub mod Finding
+pub mod Ordering
 pub mod WorkedOut

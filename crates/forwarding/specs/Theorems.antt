@@ -1,12 +1,94 @@
 -- What is proved of the copy of a record.
-use Rattle.std.specs.Prelude.{◌≡◌, ℕ}
+use Rattle.std.specs.Prelude.{◌≡◌, ℕ, ◌+◌, ◌-◌, ◌*◌, ◌<◌, ◌≤◌, ◌⊎◌, ◌↔◌, List, Option, Some, slice_index}
 use Rattle.atom_store.specs.Machine.{ComesTo, after_replies}
-use Rattle.atom_store.specs.Runs.{alone}
+use Rattle.atom_store.specs.Runs.{alone, among}
+use Rattle.atom_store.specs.declared.reply.Reply.{Reply}
+use Rattle.atom_store.specs.declared.reply.Reply.TheVariants.{Value, Done, Won}
+use Rattle.atom_store.specs.declared.step.Step.{Step}
+use Rattle.atom_store.specs.declared.step.Step.TheVariants.{Load, Store, Exchange}
 use Rattle.atom_store.specs.declared.turn.Turn.TheVariants.{Finished}
-use Rattle.forwarding.specs.declared.evac_stage.EvacStage.TheVariants.{Ended}
-use Rattle.forwarding.specs.Evacuation.{begun}
-use Rattle.forwarding.specs.Taken.{evac_machine}
+use Rattle.heap_words.specs.declared.kind.Kind.{Kind}
+use Rattle.heap_words.specs.Decoded.{HeaderWord, ForwardWord, decode}
+use Rattle.heap_words.specs.Word.{busy_word, forward_word}
+use Rattle.space_map.specs.declared.area_word.AreaWord.{AreaWord}
+use Rattle.space_map.specs.AreaWord.{encode_area}
+use Rattle.space_map.specs.Spaces.{to_space, first_word}
+use Rattle.space_map.specs.Table.{Row, Area, Cross, HeapWord, Announce, place_of}
+use Rattle.forwarding.specs.declared.evac_stage.EvacStage.TheVariants.{LoadsHeader, TakesHeader, Announces, Reserves, StoresHeader, Clears, Ended}
+use Rattle.forwarding.specs.declared.kept_header.KeptHeader.{KeptHeader}
+use Rattle.forwarding.specs.declared.reserved.Reserved.{Reserved}
+use Rattle.forwarding.specs.Evacuation.{Evacuation, IsGoing, area_past, begun, front_of, size_of, wanted}
+use Rattle.forwarding.specs.Keeping.{address_reserved, header_kept}
+use Rattle.forwarding.specs.Taken.{evac_machine, first_page, taken, told}
 use Rattle.forwarding.specs.Worked.{worked, copy, second, taken_by_another, header_lost, low_moved, front_moved, over_two_pages, header_alone, longest_replies, words_before, words_after}
+
+-- the place of a row of the machine's table
+abbrev pub place : Evacuation → Row → ℕ
+place v row = place_of v.spaces.pages row
+
+-- ---- what a copy's address comes from
+
+-- who looks at the old address comes to an address exactly where a forward to it is there
+abbrev pub FollowsForwards : Type 0
+FollowsForwards = (v : Evacuation) (word to : ℕ) → v.stage ≡ LoadsHeader
+    → (told (taken v (Value word)).stage ≡ Finished (record { 0 = to })) ↔ ((len : ℕ) × (decode word ≡ ForwardWord len to))
+
+-- else it comes to one only behind its own forward
+abbrev pub EndsBehindForwards : Type 0
+EndsBehindForwards = (v : Evacuation) (reply : Reply) (to : ℕ) → IsGoing v.stage → (taken v reply).stage ≡ Ended to
+    → (v.stage ≡ LoadsHeader) ⊎ ((v.stage ≡ Clears to) × (reply ≡ Done))
+
+-- a header is to be taken only where it was read at the old address
+abbrev pub ReadsHeaders : Type 0
+ReadsHeaders = (v : Evacuation) (reply : Reply) (kept : KeptHeader) → (taken v reply).stage ≡ TakesHeader kept
+    → (v.stage ≡ TakesHeader kept)
+    ⊎ ((v.stage ≡ LoadsHeader) × (reply ≡ Value kept.word) × ((kind : Kind) × (serial : ℕ) × (mutator : ℕ) × (decode kept.word ≡ HeaderWord kind kept.len serial mutator)))
+
+-- a header is kept only from a won exchange on, of the header that was read for the word of this worker
+abbrev pub TakesByExchange : Type 0
+TakesByExchange = (v : Evacuation) (reply : Reply) (kept : KeptHeader) → header_kept (taken v reply).stage ≡ Some kept
+    → (header_kept v.stage ≡ Some kept)
+    ⊎ ((reply ≡ Won) × (v.stage ≡ TakesHeader kept) × (wanted v ≡ Some (Exchange (place v (HeapWord v.addr)) kept.word (busy_word kept.len v.worker))))
+
+-- an area is exchanged only where its FRONT was announced
+abbrev pub AnnouncesFirst : Type 0
+AnnouncesFirst = (v : Evacuation) (reply : Reply) (kept : KeptHeader) (area : AreaWord) → (taken v reply).stage ≡ Reserves kept area
+    → ((other : AreaWord) × (v.stage ≡ Reserves kept other) × (other.front ≡ area.front))
+    ⊎ ((reply ≡ Done) × (v.stage ≡ Announces kept area) × (wanted v ≡ Some (Store (place v (Announce v.worker)) (front_of v.spaces v.epoch area + 1))))
+
+-- an address is reserved only by a won exchange of the area, whose FRONT it was and then is behind the copy
+abbrev pub ReservesByExchange : Type 0
+ReservesByExchange = (v : Evacuation) (reply : Reply) (to : ℕ) → address_reserved (taken v reply).stage ≡ Some to
+    → (address_reserved v.stage ≡ Some to)
+    ⊎ ((kept : KeptHeader) × (area : AreaWord) × (reply ≡ Won) × (v.stage ≡ Reserves kept area) × (to ≡ front_of v.spaces v.epoch area)
+    × (wanted v ≡ Some (Exchange (place v (Area (to_space v.epoch))) (encode_area area) (encode_area (area_past (size_of kept) area)))))
+
+-- ---- the copy, in order
+
+-- what the machine wants after so many steps, whatever words each of them met
+abbrev pub wants : Evacuation → (met : ℕ → List ℕ) → ℕ → Option Step
+wants v met n = wanted (among evac_machine v met n)
+
+-- the number of pages that begin in the copy
+abbrev pub pages_begun : Reserved → ℕ
+pages_begun r = first_page (record { kept = r.kept; to = r.to + size_of r.kept }) - first_page r
+
+-- From the reserved address on: the header is stored; each word is loaded from the old record and stored; of each page that
+-- begins in the copy it is said that the copy lies over its first word; then the forward is stored, and what was announced
+-- is taken back.
+pub record CopiesInOrder (v : Evacuation) (r : Reserved) (met : ℕ → List ℕ) : Type 0 where
+  pub header : wants v met 0 ≡ Some (Store (place v (HeapWord r.to)) r.kept.word)
+  pub loads : (i : ℕ) → i < r.kept.len → wants v met (2 * i + 1) ≡ Some (Load (place v (HeapWord (v.addr + (i + 1)))))
+  pub stores : (i : ℕ) → i < r.kept.len → wants v met (2 * i + 2)
+      ≡ Some (Store (place v (HeapWord (r.to + (i + 1)))) (slice_index (met (2 * i + 1)) (place v (HeapWord (v.addr + (i + 1))))))
+  pub crosses : (page : ℕ) → r.to ≤ first_word page → first_word page < r.to + size_of r.kept
+      → wants v met (2 * r.kept.len + 1 + (page - first_page r)) ≡ Some (Store (place v (Cross page)) r.to)
+  pub forward : wants v met (2 * r.kept.len + 1 + pages_begun r) ≡ Some (Store (place v (HeapWord v.addr)) (forward_word r.kept.len r.to))
+  pub clear : wants v met (2 * r.kept.len + 2 + pages_begun r) ≡ Some (Store (place v (Announce v.worker)) 0)
+  pub ends : told (among evac_machine v met (2 * r.kept.len + 3 + pages_begun r)).stage ≡ Finished (record { 0 = r.to })
+
+abbrev pub EachCopiesInOrder : Type 0
+EachCopiesInOrder = (v : Evacuation) (r : Reserved) (met : ℕ → List ℕ) → v.stage ≡ StoresHeader r → CopiesInOrder v r met
 
 -- ---- the copy worked out by hand
 

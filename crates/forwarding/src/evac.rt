@@ -5,6 +5,7 @@ ghost use Rattle.heap_words.specs.Word.{busy_word, forward_word};
 ghost use Rattle.space_map.specs.AreaWord.{AreaFits, decode_area};
 ghost use Rattle.space_map.specs.Spaces.{IsInSpace, to_space};
 ghost use Rattle.forwarding.specs.Evacuation.{IsGoing, area_past, begun, front_of, size_of, wanted};
+ghost use Rattle.forwarding.specs.Keeping.{address_reserved, header_kept, kept_word, reserved_word};
 ghost use Rattle.forwarding.specs.Left.{advances, left};
 ghost use Rattle.forwarding.specs.Soundness.{IsSound, HasReserved, HasRoom};
 ghost use Rattle.forwarding.specs.Taken.{by_area, by_first_word, by_other_area, copied, crossed, first_page, reserved_at, stage_after, taken, told};
@@ -119,6 +120,27 @@ impl Evac {
             (EvacStage::StoresForward(r), Reply::Done) => self.goes_to(EvacStage::Clears(r.to)),
             (EvacStage::Clears(to), Reply::Done) => self.ends(to),
             _ => Turn::More,
+        }
+    }
+
+    /// The header that the worker keeps, and the address that it has reserved and one more; 0 for none.
+    pub fn kept(&self) -> (u64, u64)
+        ensures header { result.0 ≡ kept_word (header_kept self.now.stage) }
+        ensures place { result.1 ≡ reserved_word (address_reserved self.now.stage) }
+    {
+        match self.stage {
+            EvacStage::LoadsArea(kept)
+            | EvacStage::Announces(kept, _)
+            | EvacStage::Reserves(kept, _) => (kept.word, 0),
+            EvacStage::StoresHeader(r)
+            | EvacStage::LoadsWord(r, _)
+            | EvacStage::StoresWord(r, _)
+            | EvacStage::StoresCross(r, _)
+            | EvacStage::StoresForward(r) => (r.kept.word, u64::from(r.to) + 1),
+            EvacStage::LoadsHeader
+            | EvacStage::TakesHeader(_)
+            | EvacStage::Clears(_)
+            | EvacStage::Ended(_) => (0, 0),
         }
     }
 

@@ -1,9 +1,25 @@
 //! What holds of the machine by its table. Each function here does nothing: its contract is what is proved.
 
-ghost use Rattle.forwarding.specs.Theorems.{IsWorkedOut};
+ghost use Rattle.forwarding.specs.Theorems.{FollowsForwards, EndsBehindForwards, ReadsHeaders, TakesByExchange, AnnouncesFirst, ReservesByExchange, EachCopiesInOrder, IsWorkedOut};
 
 /// A small heap, worked out by hand: the copy's steps and the words after it, a second copy, another worker's copy, each
 /// exchange lost, a copy over two pages, and the shortest and the longest record.
 pub fn worked_copy_is_made()
     ensures { IsWorkedOut }
+{}
+
+/// The machine comes to the address of the one copy: of a forward that it read, or of the copy that it made.
+pub fn one_copy_is_found()
+    ensures follows_forwards { FollowsForwards }
+    ensures ends_behind_forwards { EndsBehindForwards }
+    ensures reads_headers { ReadsHeaders }
+    ensures takes_by_exchange { TakesByExchange }
+    ensures announces_first { AnnouncesFirst }
+    ensures reserves_by_exchange { ReservesByExchange }
+{}
+
+/// Whatever others do meanwhile, a copy has its header and every word, and each page that begins in it is crossed, before
+/// the forward is stored.
+pub fn copies_are_made_in_order()
+    ensures { EachCopiesInOrder }
 {}

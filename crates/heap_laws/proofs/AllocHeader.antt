@@ -145,10 +145,6 @@ module _ (E : Era) (m : Memory) (team : Team) (g : Ghost) (k : ℕ) (q : Stock) 
         (λ (e : b ≡ q.at). rw (put_at g.identity q.at i b e) mutator)
         (λ (d : b ≢ q.at). rw (put_other g.identity q.at i b d) (inv.numbered.maker b (was cradle b d st)))
         (cases_eq b q.at);
-    first = λ b st. ⊎_elim
-        (λ (e : b ≡ q.at). rw (put_at g.identity q.at i b e) (omega arith))
-        (λ (d : b ≢ q.at). rw (put_other g.identity q.at i b d) (inv.numbered.first b (was cradle b d st)))
-        (cases_eq b q.at);
     last = λ b st. ⊎_elim
         (λ (e : b ≡ q.at). rw (put_at g.identity q.at i b e) (rw (put_same team.worker k w) (omega arith)))
         (λ (d : b ≢ q.at). rw (put_other g.identity q.at i b d) (let y = inv.numbered.last b (was cradle b d st) in let o = more (g.identity b).mutator in omega (arith, y, o)))

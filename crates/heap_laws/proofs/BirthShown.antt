@@ -16,17 +16,17 @@ use Rattle.heap_state.specs.Values.{value_of, Shows, ShowsAll, Accounts, Registe
 use Rattle.heap_state.specs.Worker.{Worker, Team, Stock}
 use Rattle.heap_state.proofs.Puts.{put_at, put_other, put_same, proj_put}
 use Rattle.heap_laws.specs.Opening.{opening_mutator}
-use Rattle.heap_laws.specs.Placing.{next_identity, born, placed, PlacesNext, PlacingShows, zeros_of}
+use Rattle.heap_laws.specs.Placing.{next_identity, born, placed, PlacesNext, PlacingShows, ZerosShow, zeros_of}
 use Rattle.heap_laws.specs.Steps.{with_word, with_worker}
 use Rattle.heap_laws.proofs.AllocFree.{IsFree, word_same, board_same}
 use Rattle.heap_laws.proofs.AllocHeader.{cradle, free, mutator, zeros}
 use Rattle.heap_laws.proofs.BirthParts.{Cradle, unused as unused_place, was, same_size, same_writer}
 use Rattle.heap_laws.proofs.BirthValues.{field_lands, value_born}
 use Rattle.heap_laws.proofs.PlainGains.{gained_there, gained_elsewhere, gained_serial, gained_serial_other, gained_makers}
-use Rattle.heap_laws.proofs.PlainLists.{slice_get-of_replicate}
+use Rattle.plain_state.proofs.Lists.{slice_get-of_replicate}
 use Rattle.heap_laws.proofs.Words.{board_here, zero_value}
 
-module _ (E : Era) (m : Memory) (team : Team) (g : Ghost) (p : plain.Plain) (k : ℕ) (q : Stock) (c : Kind) (z v : ℕ) (lay : IsLaidOut E) (inv : Invariant E m team g) (places : PlacesNext E team k q c z v) (s : Shown E m team g p) where
+module _ (E : Era) (m : Memory) (team : Team) (g : Ghost) (p : plain.Plain) (k : ℕ) (q : Stock) (c : Kind) (z v : ℕ) (new : plain.Record) (lay : IsLaidOut E) (inv : Invariant E m team g) (places : PlacesNext E team k q c z v) (behind : Shows (value_of g.identity) m.heap q.at c z new) (s : Shown E m team g p) where
   abbrev i : Identity
   i = next_identity team k
 
@@ -39,9 +39,6 @@ module _ (E : Era) (m : Memory) (team : Team) (g : Ghost) (p : plain.Plain) (k :
   abbrev w : Worker
   w = placed team k q z
 
-  abbrev new : plain.Record
-  new = zeros_of c (z - 1)
-
   abbrev after : plain.Heap
   after = gained p.heap k new
 
@@ -51,7 +48,7 @@ module _ (E : Era) (m : Memory) (team : Team) (g : Ghost) (p : plain.Plain) (k :
   is_cradle : Cradle E m.front m.low g.size g.copy g.keeper q.at z
   is_cradle = cradle E m team g k q c z v lay inv places
 
-  within : k < length p.heap.records
+  pub within : k < length p.heap.records
   within = let u = mutator E m team g k q c z v lay inv places in let n = s.makers in omega arith
 
   -- its serial is the next one
@@ -67,18 +64,21 @@ module _ (E : Era) (m : Memory) (team : Team) (g : Ghost) (p : plain.Plain) (k :
 
   -- ---- values
 
-  within_new : (x : ℕ) → x < length new.values → x < z - 1
-  within_new x l = rw (length-replicate (z - 1) (Number 0)) at l
+  -- the words behind the header are 0, and denote the same as before
+  zero_behind : (x : ℕ) → x < length new.values → heap (q.at + (x + 1)) ≡ 0
+  zero_behind x l = let n = behind.size in zeros E m team g k q c z v lay inv places (x + 1) (omega arith) (omega arith)
 
-  zero_word : (x : ℕ) → x < length new.values → heap (q.at + (x + 1)) ≡ 0
-  zero_word x l = let u = within_new x l in zeros E m team g k q c z v lay inv places (x + 1) (omega arith) (omega (arith, u))
+  same_behind : (x : ℕ) → heap (q.at + (x + 1)) ≡ m.heap (q.at + (x + 1))
+  same_behind x = put_other m.heap q.at v (q.at + (x + 1)) (λ e. omega (arith, e))
 
   shows_new : Shows (value_of g'.identity) heap q.at c z new
   shows_new = record {
-    kind = refl;
-    size = let n = length-replicate (z - 1) (Number 0) in let l = places.some in omega arith;
-    fields = λ x l t. zero_value g'.identity (heap (q.at + (x + 1))) (zero_word x l) ∙ sym (slice_get-of_replicate (z - 1) x (Number 0) (within_new x l));
-    numbers = λ x l t. ap (λ y. Some (Number y)) (zero_word x l) ∙ sym (slice_get-of_replicate (z - 1) x (Number 0) (within_new x l));
+    kind = behind.kind;
+    size = behind.size;
+    fields = λ x l t.
+        let zero : m.heap (q.at + (x + 1)) ≡ 0 = sym (same_behind x) ∙ zero_behind x l in
+        zero_value g'.identity (heap (q.at + (x + 1))) (zero_behind x l) ∙ (sym (zero_value g.identity (m.heap (q.at + (x + 1))) zero) ∙ behind.fields x l t);
+    numbers = λ x l t. ap (λ y. Some (Number y)) (same_behind x) ∙ behind.numbers x l t;
   }
 
   shows_old : (b : ℕ) → 0 < g.size b → g.writer b ≡ 0 → (g.copy b ≡ 0) ⊎ (0 < g.keeper b)
@@ -165,4 +165,19 @@ module _ (E : Era) (m : Memory) (team : Team) (g : Ghost) (p : plain.Plain) (k :
   }
 
 pub placing_shows : PlacingShows
-placing_shows = shows_placed
+placing_shows E m team g p k q c z v r = shows_placed E m team g p k q c z v r
+
+pub zeros_show : ZerosShow
+zeros_show E m team g k q c z v lay inv places = record {
+  kind = refl;
+  size = let n = length-replicate (z - 1) (Number 0) in let l = places.some in omega arith;
+  fields = λ x l t. zero_value g.identity (m.heap (q.at + (x + 1))) (zero x l) ∙ sym (slice_get-of_replicate (z - 1) x (Number 0) (within x l));
+  numbers = λ x l t. ap (λ y. Some (Number y)) (zero x l) ∙ sym (slice_get-of_replicate (z - 1) x (Number 0) (within x l));
+}
+  where
+    within : (x : ℕ) → x < length (zeros_of c (z - 1)).values → x < z - 1
+    within x l = rw (length-replicate (z - 1) (Number 0)) at l
+
+    zero : (x : ℕ) → x < length (zeros_of c (z - 1)).values → m.heap (q.at + (x + 1)) ≡ 0
+    zero x l = let u = within x l in
+        sym (put_other m.heap q.at v (q.at + (x + 1)) (λ e. omega (arith, e))) ∙ zeros E m team g k q c z v lay inv places (x + 1) (omega arith) (omega (arith, u))

@@ -254,10 +254,6 @@ module _ {E : Era} {front low : ℕ} {g : Ghost} {k a f z : ℕ} (growth : Growt
         (λ (e : b ≡ f). rw (put_at g.identity f (g.identity a) b e) (p.maker a source))
         (λ (d : b ≢ f). rw (put_other g.identity f (g.identity a) b d) (p.maker b (was b d st)))
         (cases_eq b f);
-    first = λ b st. ⊎_elim
-        (λ (e : b ≡ f). rw (put_at g.identity f (g.identity a) b e) (p.first a source))
-        (λ (d : b ≢ f). rw (put_other g.identity f (g.identity a) b d) (p.first b (was b d st)))
-        (cases_eq b f);
     last = λ b st. ⊎_elim
         (λ (e : b ≡ f). rw (put_at g.identity f (g.identity a) b e) (p.last a source))
         (λ (d : b ≢ f). rw (put_other g.identity f (g.identity a) b d) (p.last b (was b d st)))

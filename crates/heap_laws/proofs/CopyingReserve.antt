@@ -328,7 +328,7 @@ module _ {E : Era} {m : Memory} {team : Team} {g : Ghost} {k : ℕ} {c : Copy} (
   kept : Kept g'.size g'.keeper team.count
   kept = record { kept = λ b j st y. inv.kept.kept b j (was growth b (λ e. let q : g.keeper b ≡ g.keeper c.to = ap g.keeper e in let z = (inv.copied.blank c.to (empty growth)).1 in omega (arith, q, z, y)) st) y }
 
-  pub invariant : Invariant E (with_area m (c.to + c.size) (m.owed - c.size)) (with_worker team k w') g'
+  pub invariant : Invariant E (with_area m (c.to + c.size) m.low (m.owed - c.size)) (with_worker team k w') g'
   invariant = record {
     counted = counted_put team.worker k w' refl refl inv.counted;
     staffed = staffed_put team.worker k w' refl inv.staffed;

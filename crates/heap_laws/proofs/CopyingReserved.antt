@@ -83,7 +83,7 @@ module _ {E : Era} {m : Memory} {team : Team} {g : Ghost} {k : ℕ} {c : Copy} (
         same_record records b d st' w' (p.shows b st' w' (uncopied b y));
   }
 
-  shown : (p : plain.Plain) → Shown E m team g p → Shown E (with_area m (c.to + c.size) (m.owed - c.size)) (with_worker team k (w' reserving)) after p
+  shown : (p : plain.Plain) → Shown E m team g p → Shown E (with_area m (c.to + c.size) m.low (m.owed - c.size)) (with_worker team k (w' reserving)) after p
   shown p s = record {
     objects = objects p.heap s.objects;
     board = record { sixteen = s.board.sixteen; board = λ x l. value_grown (growth reserving) (m.heap (E.board + x)) (board_lands x l) ∙ s.board.board x l };
@@ -182,7 +182,7 @@ module _ {E : Era} {m : Memory} {team : Team} {g : Ghost} {k : ℕ} {c : Copy} (
       leads i (ByBoard x l s) = ByBoard x l (leads_on (m.heap (E.board + x)) i s)
       leads i (ByRegister j x l n d e s) = ByRegister j x l n d e (leads_on ((team.worker j).registers x) i s)
 
-  pub preserves : Preserves E m (with_area m (c.to + c.size) (m.owed - c.size)) team (with_worker team k (w' reserving)) g after
+  pub preserves : Preserves E m (with_area m (c.to + c.size) m.low (m.owed - c.size)) team (with_worker team k (w' reserving)) g after
   preserves = record { invariant = invariant reserving; ages = λ page. omega arith; shown = shown; cycle = λ p cy. record { copying = copying p cy.copying; rooted = rooted p cy.rooted } }
 
 pub places_reserved : PlacesAreReserved

@@ -18,7 +18,7 @@ use Rattle.heap_laws.specs.Fields.{IsWordOf, StandsFor, StoresShow, BoardStoresS
 use Rattle.heap_laws.specs.Steps.{with_word}
 use Rattle.heap_laws.proofs.OtherWords.{shows_same}
 use Rattle.heap_laws.proofs.PlainHeaps.{stored_there, stored_elsewhere, stored_serial, stored_makers}
-use Rattle.heap_laws.proofs.PlainLists.{slice_get-set_same, slice_get-set_other}
+use Rattle.plain_state.proofs.Lists.{slice_get-set_same, slice_get-set_other}
 use Rattle.heap_laws.proofs.Words.{one_place}
 
 -- ---- records of the epoch's space

@@ -109,7 +109,6 @@ module _ (E : Era) (m : Memory) (team : Team) (g : Ghost) (k : ℕ) (r : Reset) 
   numbered : Numbered team.mutators (next_ghost E g).size g.identity (put team.worker k w')
   numbered = record {
     maker = λ a st. inv.numbered.maker a (was ready a st).0;
-    first = λ a st. inv.numbered.first a (was ready a st).0;
     last = λ a st. rw (proj_put (λ u. u.account) team.worker k w' (g.identity a).mutator refl) (inv.numbered.last a (was ready a st).0);
   }
 

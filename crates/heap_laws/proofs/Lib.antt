@@ -15,6 +15,7 @@ pub mod CopyingRoom
 pub mod CopyingReserve
 pub mod CopyingReserved
 pub mod LiftingSteps
+pub mod LiftingRows
 pub mod LiftingCopies
 pub mod Learning
 pub mod ScanningWho
@@ -32,7 +33,6 @@ pub mod FlippingParts
 pub mod FlippingWorkers
 pub mod FlippingShown
 pub mod FlippingRegisters
-pub mod PlainLists
 pub mod OpeningWorkers
 pub mod Opening
 pub mod MutatorSteps
@@ -54,6 +54,7 @@ pub mod BirthValues
 pub mod BirthShown
 pub mod BirthCycle
 pub mod MutatorStores
+pub mod MutatorPlaces
 pub mod MutatorsStand
 pub mod ScanningRecords
 pub mod AgingEntries

@@ -65,10 +65,10 @@ module _ (c : Configuration) (p : Plain) (s : Stands c p) (k : ℕ) (l : k < len
       (omega arith, record { front_fits = (let y = f.low_fits in omega (arith, y, below)); low_fits = f.low_fits; owed_fits = (let y = f.owed_fits in omega (arith, y)) })
 
   area_moves : (d : Copy) → d.to ≡ (memory c).front
-      → memory_of (table_after (table c) (Some (AreaIs (to_space (era c).epoch) (moved_by d.size (area_now c))))) ≡ with_area (memory c) (d.to + d.size) ((memory c).owed - d.size)
+      → memory_of (table_after (table c) (Some (AreaIs (to_space (era c).epoch) (moved_by d.size (area_now c))))) ≡ with_area (memory c) (d.to + d.size) (memory c).low ((memory c).owed - d.size)
   area_moves d at =
       let front : (era c).start + ((area_now c).front + d.size) ≡ d.to + d.size = omega (arith, at) in
-      (follows.area (table c) (moved_by d.size (area_now c))).now ∙ ap (λ x. with_area (memory c) x ((memory c).owed - d.size)) front
+      (follows.area (table c) (moved_by d.size (area_now c))).now ∙ ap (λ x. with_area (memory c) x (memory c).low ((memory c).owed - d.size)) front
 
   pub copy_stands : CopyStands c p s k
   copy_stands = record {

@@ -11,7 +11,7 @@ use Rattle.heap_state.proofs.Writing.{stores_entry}
 use Rattle.heap_laws.specs.Lifting.{words_after, table_after, RowFits, StepsAreSeen, StandingIsReady, StepsStand, LawsAreLifted, CyclesAreLifted}
 
 pub ready : StandingIsReady
-ready c p s k l = record { laid_out = laid_out c.pages c.words; invariant = s.invariant; member = l }
+ready c p s k l = record { laid_out = laid_out c.pages c.words; at_gate = refl; invariant = s.invariant; member = l }
 
 -- ---- where the rows are
 

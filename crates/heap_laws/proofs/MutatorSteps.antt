@@ -19,7 +19,7 @@ use Rattle.heap_state.proofs.Frames.{counted_put, staffed_put, scanned_put, stoc
 use Rattle.heap_state.proofs.Puts.{put_at, put_other, each_put, team_put, none≢some, true_false}
 use Rattle.heap_laws.specs.MutatorSteps.{GoesOn, MutatorsGoOn, GoingOnShows, GoingOnKeepsCycle}
 use Rattle.heap_laws.specs.Steps.{with_worker}
-use Rattle.heap_laws.proofs.PlainLists.{slice_get-set_other, set-found}
+use Rattle.plain_state.proofs.Lists.{slice_get-set_other, set-found}
 use Rattle.heap_laws.proofs.ScanningWho.{now_not_late}
 use Rattle.heap_laws.proofs.Words.{still_leads}
 

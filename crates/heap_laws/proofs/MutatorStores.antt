@@ -1,24 +1,25 @@
 -- A mutator's store and its going on are one step.
-use Rattle.std.proofs.Common.{◌≡◌, ◌≢◌, ℕ, ◌≤◌, refl, arith, ⊎_elim}
+use Rattle.std.proofs.Common.{◌≡◌, ◌≢◌, ℕ, ◌+◌, ◌≤◌, Some, refl, sym, ◌∙◌, arith, ⊎_elim}
 use Rattle.std.proofs.Math.Path.{fun_ext}
 use Rattle.std.proofs.lemmas.Bool.{cases_eq}
+use Rattle.plain_state.specs.Layout.{word_of}
 use Rattle.plain_state.specs.State as plain
+use Rattle.plain_state.specs.declared.end.End.TheVariants.{HeapFull}
 use Rattle.space_map.specs.PageWord.{age_of}
 use Rattle.heap_state.specs.Cycle.{Cycle}
 use Rattle.heap_state.specs.Era.{Era, Memory}
 use Rattle.heap_state.specs.Functions.{put}
 use Rattle.heap_state.specs.Ghost.{Ghost}
-use Rattle.heap_state.specs.Worker.{Team}
-use Rattle.heap_state.proofs.Puts.{put_at, put_other, put_same}
-use Rattle.heap_laws.specs.Steps.{with_worker}
-use Rattle.heap_laws.specs.MutatorStores.{Makes, MutatorsStep, MutatorsStore, MutatorsStoreOnBoard, MutatorsPlace}
-use Rattle.heap_laws.specs.Placing.{placed}
-use Rattle.heap_laws.proofs.AllocHeader.{records_are_placed}
-use Rattle.heap_laws.proofs.BirthCycle.{placing_keeps_cycle}
-use Rattle.heap_laws.proofs.BirthShown.{placing_shows}
+use Rattle.heap_state.specs.Values.{Accounts}
+use Rattle.heap_state.specs.Worker.{Worker, Team, Account}
+use Rattle.heap_state.proofs.Puts.{put_at, put_other, none≢some}
+use Rattle.heap_laws.specs.MutatorSteps.{GoesOn}
+use Rattle.heap_laws.specs.Steps.{with_word, Makes}
+use Rattle.heap_laws.specs.MutatorStores.{MutatorsStep, MutatorsStore, MutatorsStoreOnBoard, MutatorsEnd, MutatorsFindNoRoom, with_end}
 use Rattle.heap_laws.proofs.FieldCycle.{stores_keep_cycle, board_stores_keep_cycle}
 use Rattle.heap_laws.proofs.FieldShown.{stores_show, board_stores_show}
 use Rattle.heap_laws.proofs.FieldStore.{words_are_stored, board_is_stored}
+use Rattle.heap_laws.proofs.PlainHeaps.{stored_serial}
 use Rattle.heap_laws.proofs.MutatorSteps.{mutators_go_on, going_on_shows, going_on_keeps_cycle}
 
 pub mutators_step : MutatorsStep
@@ -30,34 +31,76 @@ mutators_step E m team g p k next q ready runs s goes same = record {
 }
 
 -- a step in two halves
-both : {E : Era} {m n : Memory} {team mid after : Team} {g h : Ghost} {q : plain.Plain} → ((o : plain.Plain) → Cycle E m team g o → Cycle E n mid h o) → ((page : ℕ) → age_of (m.page page) ≤ age_of (n.page page))
+pub both : {E : Era} {m n : Memory} {team mid after : Team} {g h : Ghost} {q : plain.Plain} → ((o : plain.Plain) → Cycle E m team g o → Cycle E n mid h o) → ((page : ℕ) → age_of (m.page page) ≤ age_of (n.page page))
     → Makes E n n mid after h h q → Makes E m n team after g h q
 both cycle ages y = record { invariant = y.invariant; shown = y.shown; cycle = λ o cy. y.cycle o (cycle o cy); ages = ages }
 
+-- what is so of the state before a store of a heap word is so after it
+goes_on : {E : Era} {m : Memory} {g : Ghost} {w next : Worker} (addr word : ℕ) → GoesOn E m g w next → GoesOn E (with_word m addr word) g w next
+goes_on addr word goes = assumption
+
+-- an account agrees with a plain heap in which the mutator has made as many records
+pub accounts_in : {before after : plain.Heap} {k : ℕ} {a : Account} {q : plain.Mutator} → plain.serial_of after k ≡ plain.serial_of before k → Accounts before k a q → Accounts after k a q
+accounts_in same a = record { counter = a.counter; printed = a.printed; executed = a.executed; end = a.end; serial = a.serial ∙ sym same }
+
 pub mutators_store : MutatorsStore
-mutators_store E m team g p k next q a i v r y ready runs s word opens may is stands goes same =
-    let inv = words_are_stored E m team g a i v ready.laid_out ready.invariant word opens may in
-    both (λ o cy. stores_keep_cycle E m team g o a i v ready.laid_out ready.invariant word opens may cy) (λ page. omega arith)
-    (mutators_step E _ team g _ k next q (record { laid_out = ready.laid_out; invariant = inv; member = ready.member }) runs (stores_show E m team g p a i v r y ready.laid_out ready.invariant word is stands s) goes same)
+mutators_store E m team g p k next q a x v r y ready runs s word opens may is stands goes same =
+    let inv = words_are_stored E m team g a x v ready.laid_out ready.invariant word opens may in
+    let account = accounts_in (stored_serial p.heap (g.identity a) r x y is k) same.account in
+    both (λ o cy. stores_keep_cycle E m team g o a x v ready.laid_out ready.invariant word opens may cy) (λ page. omega arith)
+    (mutators_step E _ team g _ k next q (record { laid_out = ready.laid_out; at_gate = ready.at_gate; invariant = inv; member = ready.member }) runs (stores_show E m team g p a x v r y ready.laid_out ready.invariant word is stands s)
+    (goes_on (a + word_of (g.kind a) x) v goes) (record { account = account; registers = same.registers }))
 
 pub mutators_store_on_board : MutatorsStoreOnBoard
 mutators_store_on_board E m team g p k next q x v y ready runs s l opens may denotes goes same =
     let inv = board_is_stored E m team g x v ready.laid_out ready.invariant l opens may in
     both (λ o cy. board_stores_keep_cycle E m team g o x v ready.laid_out ready.invariant l opens may cy) (λ page. omega arith)
-    (mutators_step E _ team g _ k next q (record { laid_out = ready.laid_out; invariant = inv; member = ready.member }) runs (board_stores_show E m team g p x v y ready.laid_out ready.invariant l denotes s) goes same)
+    (mutators_step E _ team g _ k next q (record { laid_out = ready.laid_out; at_gate = ready.at_gate; invariant = inv; member = ready.member }) runs (board_stores_show E m team g p x v y ready.laid_out ready.invariant l denotes s)
+    (goes_on (E.board + x) v goes) (record { account = accounts_in refl same.account; registers = same.registers }))
 
 -- what is put twice at a place is what was put there last
-put_twice : {X : Type 0} (f : ℕ → X) (k : ℕ) (a b : X) → put (put f k a) k b ≡ put f k b
+pub put_twice : {X : Type 0} (f : ℕ → X) (k : ℕ) (a b : X) → put (put f k a) k b ≡ put f k b
 put_twice f k a b = fun_ext (λ j. ⊎_elim
     (λ (e : j ≡ k). rw (put_at (put f k a) k b j e, put_at f k b j e) refl)
     (λ (d : j ≢ k). rw (put_other (put f k a) k b j d, put_other f k b j d, put_other f k a j d) refl)
     (cases_eq j k))
 
-pub mutators_place : MutatorsPlace
-mutators_place E m team g p k next q s c z v ready shows places goes same =
-    let t = put_twice team.worker k (placed team k s z) next in
-    let w = put_same team.worker k (placed team k s z) in
-    let inv = records_are_placed E m team g k s c z v ready.laid_out ready.invariant places in
-    rw (← t) (both (λ o cy. placing_keeps_cycle E m team g o k s c z v ready.laid_out ready.invariant places cy) (λ page. omega arith)
-    (mutators_step E _ (with_worker team k (placed team k s z)) _ _ k next q (record { laid_out = ready.laid_out; invariant = inv; member = ready.member }) (rw w places.runs)
-    (placing_shows E m team g p k s c z v ready.laid_out ready.invariant places shows) (rw w goes) same))
+-- ---- ends
+
+pub mutators_end : MutatorsEnd
+mutators_end E m team g p k q why ready runs s is =
+    let known = ready.invariant.workers k ready.member in
+    let a = s.accounts k q is in
+    let r = s.registers k q is in
+    let goes : GoesOn E m g (team.worker k) (with_end (team.worker k) why) = record {
+      post = refl;
+      epoch = refl;
+      done = refl;
+      serial = refl;
+      quest = refl;
+      copy = refl;
+      scan = refl;
+      gate_step = refl;
+      stock = λ t e. e;
+      round = λ t e. e;
+      claim = λ t e. e;
+      look = λ t e. e;
+      last_look = λ t e. e;
+      traced_seen = λ e. (known.seen_traced e).1;
+      reset = λ t e. e;
+      access = λ f e. none≢some e;
+      opened = λ x e. none≢some e;
+      registers = λ n. none≢some (sym n);
+    } in
+    mutators_step E m team g p k (with_end (team.worker k) why) (record q { end = Some why }) ready runs s goes
+    (record {
+      account = record { counter = a.counter; printed = a.printed; executed = a.executed; end = refl; serial = a.serial };
+      registers = record { eight = r.eight; registers_show = λ n. none≢some (sym n) };
+    })
+
+pub mutators_find_no_room : MutatorsFindNoRoom
+mutators_find_no_room E m team g p k q asked room live ready runs s is seen all below short = record {
+  traced = ((ready.invariant.workers k ready.member).seen_traced seen).1;
+  none_fits = λ owed has. omega (arith, has.room, all, short);
+  ends = mutators_end E m team g p k q (HeapFull asked room live) ready runs s is;
+}

@@ -17,14 +17,15 @@ use Rattle.heap_state.proofs.Spelled.{spelled}
 use Rattle.heap_laws.specs.Allocating.{HasStock, HasRoom, OpensNext, with_low}
 use Rattle.heap_laws.specs.Fields.{IsWordOf}
 use Rattle.heap_laws.specs.Lifting.{stepped, table_after, RowFits}
-use Rattle.heap_laws.specs.MutatorStores.{Makes}
+use Rattle.heap_laws.specs.MutatorStores.{with_record}
 use Rattle.heap_laws.specs.MutatorsStand.{StandsAfter, lowered, StockStands, MutatorStands, StocksStand, MutatorsStand}
-use Rattle.heap_laws.specs.Steps.{Ready, with_worker}
+use Rattle.heap_laws.specs.Steps.{Ready, with_worker, Makes}
 use Rattle.heap_laws.proofs.AllocClaim.{stocks_are_claimed}
 use Rattle.heap_laws.proofs.AllocOpen.{stocks_are_opened}
 use Rattle.heap_laws.proofs.AllocZero.{stocks_are_zeroed}
 use Rattle.heap_laws.proofs.LiftingSteps.{ready, lifted, seen, stand, board_at, below_board}
-use Rattle.heap_laws.proofs.MutatorStores.{mutators_step, mutators_store, mutators_store_on_board, mutators_place}
+use Rattle.heap_laws.proofs.MutatorStores.{mutators_step, mutators_store, mutators_store_on_board}
+use Rattle.heap_laws.proofs.MutatorPlaces.{mutators_place}
 
 -- what a step makes of a memory and its team it makes of the configuration
 made : (c : Configuration) (p q : plain.Plain) (s : Stands c p) (e : Option Entry) (k : ℕ) (w : Worker) (h : Ghost) → k < length c.workers → RowFits c.pages e
@@ -110,8 +111,8 @@ module _ (c : Configuration) (p : plain.Plain) (s : Stands c p) (k : ℕ) (l : k
         (mutators_store (era c) (memory c) (team c) g p k next q a x v r y is_ready runs s.shown word opens may is stands goes same);
     board_stored = λ next q x v y b opens may denotes goes same. made c p _ s (Some (WordIs ((era c).board + x) v)) k next _ l (board_fits x v b) refl
         (mutators_store_on_board (era c) (memory c) (team c) g p k next q x v y is_ready runs s.shown b opens may denotes goes same);
-    record_placed = λ next q t o z v places goes same. made c p _ s (Some (WordIs t.at v)) k next _ l (space_fits t.at v (let y = (stock t places.own).lies in let f = places.fits in let n = places.some in omega (arith, y, f, n))) refl
-        (mutators_place (era c) (memory c) (team c) g p k next q t o z v is_ready s.shown places goes same);
+    record_placed = λ next q t o z v d pointer r places behind small points goes same. made c p _ s (Some (WordIs t.at v)) k (with_record next t z d pointer) _ l (space_fits t.at v (let y = (stock t places.own).lies in let f = places.fits in let n = places.some in omega (arith, y, f, n))) refl
+        (mutators_place (era c) (memory c) (team c) g p k next q t o z v d pointer r is_ready s.shown places behind small points goes same);
   }
 
 pub stocks_stand : StocksStand

@@ -24,7 +24,7 @@ use Rattle.heap_state.proofs.Puts.{put_at, put_other, none≢some, true_false}
 use Rattle.heap_state.proofs.Writing.{writes_tables}
 use Rattle.heap_laws.specs.Opening.{opening_entries, opening_plain, opening_mutator, OpeningStands}
 use Rattle.heap_laws.proofs.OpeningWorkers.{opening_team, each_fresh, counted, staffed}
-use Rattle.heap_laws.proofs.PlainLists.{slice_get-replicate, slice_get-of_replicate}
+use Rattle.plain_state.proofs.Lists.{slice_get-replicate, slice_get-of_replicate}
 use Rattle.heap_laws.proofs.Words.{zero_word, zero_clean, zero_lands, zero_value}
 
 -- ---- nothing stands
@@ -148,7 +148,7 @@ module _ (n : ℕ) where
           old_pages = record { old = λ p a b. absurd (let o = old_front in omega (arith, a, b, o)) };
           crossing = record { crossing = λ p a s u st. absurd (omega (arith, st)) };
           stocks = record { stocked = λ k u q e. absurd (let z = no_stock k in none≢some (sym z ∙ e)); apart = λ i k u v d p q e. absurd (let z = no_stock i in none≢some (sym z ∙ e)) };
-          numbered = record { maker = λ a st. absurd (omega (arith, st)); first = λ a st. absurd (omega (arith, st)); last = λ a st. absurd (omega (arith, st)) };
+          numbered = record { maker = λ a st. absurd (omega (arith, st)); last = λ a st. absurd (omega (arith, st)) };
           workers = λ k u. each_fresh mutators scanners k (λ w. Known k w) (outside k) (scanner k);
         }
 

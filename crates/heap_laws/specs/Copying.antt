@@ -76,7 +76,7 @@ CopiesHaveRoom = (E : Era) (m : Memory) (team : Team) (g : Ghost) (k : ℕ) (c :
 abbrev pub PlacesAreReserved : Type 0
 PlacesAreReserved = (E : Era) (m : Memory) (team : Team) (g : Ghost) (k : ℕ) (c : Copy) → Ready E m team g k
     → (team.worker k).copy ≡ Some c → c.announced ≡ true → c.reserved ≡ false → c.to ≡ m.front
-    → Preserves E m (with_area m (c.to + c.size) (m.owed - c.size)) team
+    → Preserves E m (with_area m (c.to + c.size) m.low (m.owed - c.size)) team
     (with_worker team k (copying (team.worker k) (record c { reserved = true; crossed = (c.to + 63) / 64 }))) g (reserved g k c.from c.to c.size)
 
 -- who copies nothing announces no place any more

@@ -1,7 +1,8 @@
 -- From the laws to configurations: a step writes a row of the table, or none, and one worker becomes another.
-use Rattle.std.specs.Prelude.{◌≡◌, ℕ, ◌<◌, ⊤, List, length, Option, Some, None, slice_set}
+use Rattle.std.specs.Prelude.{◌≡◌, ℕ, ◌<◌, ⊤, List, length, Option, Some, None, slice_set, ◌≤◌}
 use Rattle.plain_state.specs.State.{Plain}
 use Rattle.space_map.specs.Table.{place_of}
+use Rattle.space_map.specs.PageWord.{age_of}
 use Rattle.heap_state.specs.Configuration.{Configuration, Stands, table, era, memory, team}
 use Rattle.heap_state.specs.Cycle.{Cycle}
 use Rattle.heap_state.specs.Entries.{Entry, row_of, word_of, EntryFits, with_entry}
@@ -11,7 +12,7 @@ use Rattle.heap_state.specs.Inductive.{Invariant}
 use Rattle.heap_state.specs.Table.{Table, IsFormed}
 use Rattle.heap_state.specs.Values.{Shown}
 use Rattle.heap_state.specs.Worker.{Worker, Team}
-use Rattle.heap_laws.specs.Steps.{Ready, with_worker, Preserves}
+use Rattle.heap_laws.specs.Steps.{Ready, with_worker, Preserves, Steps, StepsTo}
 
 -- ---- one step
 
@@ -79,3 +80,23 @@ abbrev pub CyclesAreLifted : Type 0
 CyclesAreLifted = (c : Configuration) (e : Option Entry) (k : ℕ) (w : Worker) (h : Ghost) (o : Plain) → IsFormed c.pages c.words → k < length c.workers → RowFits c.pages e
     → Cycle (era_of (table_after (table c) e)) (memory_of (table_after (table c) e)) (with_worker (team c) k w) h o
     → Cycle (era (stepped c e k w)) (memory (stepped c e k w)) (team (stepped c e k w)) h o
+
+-- ---- one lifting
+
+-- The step of worker k leaves a configuration that stands for the plain state q. The row that it writes is one of the table, what
+-- a cycle kept of the earlier configuration it keeps of this, and no page word's epoch fell.
+pub record Leaves (c : Configuration) (e : Option Entry) (k : ℕ) (w : Worker) (q : Plain) (g h : Ghost) : Type 0 where
+  pub fits : RowFits c.pages e
+  pub standing : StandsWith (stepped c e k w) q h
+  pub cycle : (o : Plain) → Cycle (era c) (memory c) (team c) g o → Cycle (era (stepped c e k w)) (memory (stepped c e k w)) (team (stepped c e k w)) h o
+  pub ages : (page : ℕ) → age_of ((table c).page page) ≤ age_of ((table (stepped c e k w)).page page)
+
+-- what a law says of a step is so of each configuration that stands
+abbrev pub StepsAreLifted : Type 0
+StepsAreLifted = (c : Configuration) (p : Plain) (s : Stands c p) (e : Option Entry) (k : ℕ) (w : Worker) (h : Ghost) → k < length c.workers
+    → Steps (era c) (memory c) (team c) s.ghost k e w h → Leaves c e k w p s.ghost h
+
+-- the same of a step of the plain machine
+abbrev pub PlainStepsAreLifted : Type 0
+PlainStepsAreLifted = (c : Configuration) (p q : Plain) (s : Stands c p) (e : Option Entry) (k : ℕ) (w : Worker) (h : Ghost) → k < length c.workers
+    → StepsTo (era c) (memory c) (team c) s.ghost k e w h q → Leaves c e k w q s.ghost h

@@ -1,34 +1,28 @@
 -- One step of a running mutator that is one of the plain machine: it stores nothing, or in a record, on the board, or a new
 -- record's header.
-use Rattle.std.specs.Prelude.{◌≡◌, ℕ, ◌+◌, ◌-◌, ◌/◌, ◌<◌, ◌≤◌, true, Some}
+use Rattle.std.specs.Prelude.{◌≡◌, ℕ, ◌+◌, ◌*◌, ◌/◌, ◌<◌, true, Some, None, slice_get, slice_set}
+use Rattle.heap_words.specs.Decoded.{PointerWord, decode}
+use Rattle.plain_state.specs.declared.end.End.{End}
+use Rattle.plain_state.specs.declared.end.End.TheVariants.{HeapFull}
+use Rattle.plain_state.specs.declared.value.Value.TheVariants.{Reference}
 use Rattle.plain_state.specs.declared.kind.Kind.{Kind}
 use Rattle.plain_state.specs.declared.value.Value.{Value}
 use Rattle.plain_state.specs.State as plain
 use Rattle.plain_state.specs.Writing.{with_heap, stored, with_board, gained}
 use Rattle.plain_state.specs.Layout.{word_of}
 use Rattle.space_map.specs.declared.page_word.PageWord.TheVariants.{Open}
-use Rattle.space_map.specs.PageWord.{age_of}
-use Rattle.heap_state.specs.Cycle.{Cycle}
 use Rattle.heap_state.specs.Era.{Era, Memory}
 use Rattle.heap_state.specs.Ghost.{Ghost}
-use Rattle.heap_state.specs.Inductive.{Invariant}
-use Rattle.heap_state.specs.Values.{Shown, Accounts, RegistersShow, value_of}
+use Rattle.heap_state.specs.Values.{Shown, Shows, Accounts, RegistersShow, value_of}
 use Rattle.heap_state.specs.Worker.{Worker, Team, Stock, is_running}
+use Rattle.heap_state.specs.Functions.{put}
+use Rattle.heap_laws.specs.Allocating.{HasRoom}
 use Rattle.heap_laws.specs.Fields.{IsWordOf, MayStore, StandsFor}
 use Rattle.heap_laws.specs.MutatorSteps.{with_mutator, MayHold, GoesOn}
-use Rattle.heap_laws.specs.Placing.{PlacesNext, born, next_identity, placed, zeros_of}
-use Rattle.heap_laws.specs.Steps.{Ready, with_word, with_worker}
+use Rattle.heap_laws.specs.Placing.{PlacesNext, born, next_identity}
+use Rattle.heap_laws.specs.Steps.{Ready, with_word, with_worker, Makes}
 
--- ---- what a step makes
-
--- The step keeps the invariant, shows the plain state q, and keeps what a cycle keeps. No page word's epoch falls.
-pub record Makes (E : Era) (m later : Memory) (team after : Team) (g h : Ghost) (q : plain.Plain) : Type 0 where
-  pub invariant : Invariant E later after h
-  pub shown : Shown E later after h q
-  pub cycle : (o : plain.Plain) → Cycle E m team g o → Cycle E later after h o
-  pub ages : (page : ℕ) → age_of (m.page page) ≤ age_of (later.page page)
-
--- the worker has what the plain mutator has, in this heap
+-- the worker has what the plain mutator has, with this plain heap
 pub record IsAs (g : Ghost) (heap : plain.Heap) (k : ℕ) (w : Worker) (q : plain.Mutator) : Type 0 where
   pub account : Accounts heap k w.account q
   pub registers : RegistersShow (value_of g.identity) w.registers q
@@ -47,7 +41,7 @@ MutatorsStore = (E : Era) (m : Memory) (team : Team) (g : Ghost) (p : plain.Plai
     → Ready E m team g k → is_running (team.worker k).post ≡ true → Shown E m team g p
     → IsWordOf E g.size g.writer g.kind a x → m.page ((a + word_of (g.kind a) x) / 64) ≡ Open E.epoch → MayStore E g.size g.writer (g.kind a) x v
     → plain.record_of p.heap (g.identity a) ≡ Some r → StandsFor g (g.kind a) x v y
-    → GoesOn E (with_word m (a + word_of (g.kind a) x) v) g (team.worker k) next → IsAs g (stored p.heap (g.identity a) r x y) k next q
+    → GoesOn E m g (team.worker k) next → IsAs g p.heap k next q
     → Makes E m (with_word m (a + word_of (g.kind a) x) v) team (with_worker team k next) g g (with_mutator (with_heap p (stored p.heap (g.identity a) r x y)) k q)
 
 -- a store on the open board: the plain board changes at that word
@@ -55,13 +49,52 @@ abbrev pub MutatorsStoreOnBoard : Type 0
 MutatorsStoreOnBoard = (E : Era) (m : Memory) (team : Team) (g : Ghost) (p : plain.Plain) (k : ℕ) (next : Worker) (q : plain.Mutator) (x v : ℕ) (y : Value)
     → Ready E m team g k → is_running (team.worker k).post ≡ true → Shown E m team g p
     → x < 16 → m.page (E.board / 64) ≡ Open E.epoch → MayHold E g.size g.writer v → value_of g.identity v ≡ Some y
-    → GoesOn E (with_word m (E.board + x) v) g (team.worker k) next → IsAs g (with_board p.heap x y) k next q
+    → GoesOn E m g (team.worker k) next → IsAs g p.heap k next q
     → Makes E m (with_word m (E.board + x) v) team (with_worker team k next) g g (with_mutator (with_heap p (with_board p.heap x y)) k q)
 
--- the store of a new record's header: the plain heap gains the record
+-- the mutator that has placed a record of size z at the place of its stock s, with a pointer to it in register d
+abbrev pub with_record : Worker → Stock → (z d pointer : ℕ) → Worker
+with_record w s z d pointer = record w {
+  stock = Some (record s { at = s.at + z });
+  account = record w.account { serial = w.account.serial + 1 };
+  registers = put w.registers d pointer;
+}
+
+-- the plain mutator k with a reference to the next record of its own in register d
+abbrev pub with_reference : plain.Heap → ℕ → plain.Mutator → ℕ → plain.Mutator
+with_reference heap k q d = record q { registers = slice_set q.registers d (Reference (record { mutator = k; serial = plain.serial_of heap k + 1 })) }
+
+-- the store of a new record's header: the plain heap gains the record that the words behind it show
 abbrev pub MutatorsPlace : Type 0
-MutatorsPlace = (E : Era) (m : Memory) (team : Team) (g : Ghost) (p : plain.Plain) (k : ℕ) (next : Worker) (q : plain.Mutator) (s : Stock) (c : Kind) (z v : ℕ)
-    → Ready E m team g k → Shown E m team g p → PlacesNext E team k s c z v
-    → GoesOn E (with_word m s.at v) (born g s.at z c (next_identity team k)) (placed team k s z) next
-    → IsAs (born g s.at z c (next_identity team k)) (gained p.heap k (zeros_of c (z - 1))) k next q
-    → Makes E m (with_word m s.at v) team (with_worker team k next) g (born g s.at z c (next_identity team k)) (with_mutator (with_heap p (gained p.heap k (zeros_of c (z - 1)))) k q)
+MutatorsPlace = (E : Era) (m : Memory) (team : Team) (g : Ghost) (p : plain.Plain) (k : ℕ) (next : Worker) (q : plain.Mutator) (s : Stock) (c : Kind) (z v d pointer : ℕ) (r : plain.Record)
+    → Ready E m team g k → Shown E m team g p → PlacesNext E team k s c z v → Shows (value_of g.identity) m.heap s.at c z r
+    → d < 8 → decode pointer ≡ PointerWord s.at
+    → GoesOn E m g (team.worker k) next → IsAs g p.heap k next q
+    → Makes E m (with_word m s.at v) team (with_worker team k (with_record next s z d pointer)) g (born g s.at z c (next_identity team k))
+    (with_mutator (with_heap p (gained p.heap k r)) k (with_reference p.heap k q d))
+
+-- ---- ends
+
+-- the mutator with this end
+abbrev pub with_end : Worker → End → Worker
+with_end w why = record w { account = record w.account { end = Some why }; access = None; opened = None; gate_step = None }
+
+-- a running mutator gets an end, and the plain one gets the same
+abbrev pub MutatorsEnd : Type 0
+MutatorsEnd = (E : Era) (m : Memory) (team : Team) (g : Ghost) (p : plain.Plain) (k : ℕ) (q : plain.Mutator) (why : End) → Ready E m team g k
+    → is_running (team.worker k).post ≡ true → Shown E m team g p → slice_get p.mutators k ≡ Some q
+    → Makes E m m team (with_worker team k (with_end (team.worker k) why)) g g (with_mutator p k (record q { end = Some why }))
+
+-- Mutator k has read in AREA that the room is too small for the pages that it asks for, and before that its epoch is traced: nothing
+-- is owed any more, no claim of so many pages fits, and it gets its end.
+pub record IsFull (E : Era) (m : Memory) (team : Team) (g : Ghost) (p : plain.Plain) (k : ℕ) (q : plain.Mutator) (asked room live : ℕ) : Type 0 where
+  pub traced : m.traced ≡ E.epoch + 1
+  pub none_fits : (owed : ℕ) → ¬ (HasRoom E m asked owed)
+  pub ends : Makes E m m team (with_worker team k (with_end (team.worker k) (HeapFull asked room live))) g g (with_mutator p k (record q { end = Some (HeapFull asked room live) }))
+
+-- the words of room are those from FRONT to LOW, the live ones those below FRONT
+abbrev pub MutatorsFindNoRoom : Type 0
+MutatorsFindNoRoom = (E : Era) (m : Memory) (team : Team) (g : Ghost) (p : plain.Plain) (k : ℕ) (q : plain.Mutator) (asked room live : ℕ) → Ready E m team g k
+    → is_running (team.worker k).post ≡ true → Shown E m team g p → slice_get p.mutators k ≡ Some q
+    → (team.worker k).traced_seen ≡ true → m.front + room ≡ m.low → E.start + live ≡ m.front → room < 64 * asked
+    → IsFull E m team g p k q asked room live

@@ -1,5 +1,6 @@
 -- The steps of a mutator, of a configuration that stands.
 use Rattle.std.specs.Prelude.{◌≡◌, ℕ, ◌+◌, ◌-◌, ◌*◌, ◌/◌, ◌<◌, true, length, Some, None}
+use Rattle.heap_words.specs.Decoded.{PointerWord, decode}
 use Rattle.plain_state.specs.declared.kind.Kind.{Kind}
 use Rattle.plain_state.specs.declared.value.Value.{Value}
 use Rattle.plain_state.specs.State as plain
@@ -12,15 +13,14 @@ use Rattle.heap_state.specs.Configuration.{Configuration, Stands, table, era, me
 use Rattle.heap_state.specs.Cycle.{Cycle}
 use Rattle.heap_state.specs.Entries.{WordIs, AreaIs, PageIs}
 use Rattle.heap_state.specs.Ghost.{Ghost}
-use Rattle.heap_state.specs.Values.{value_of}
+use Rattle.heap_state.specs.Values.{Shows, value_of}
 use Rattle.heap_state.specs.Worker.{Worker, Stock, is_running}
 use Rattle.heap_laws.specs.Allocating.{HasStock, HasRoom, OpensNext, claimed, zeroed_further, opened_further}
 use Rattle.heap_laws.specs.Fields.{IsWordOf, MayStore, StandsFor}
 use Rattle.heap_laws.specs.Lifting.{stepped, StandsWith, StandsAsBefore}
 use Rattle.heap_laws.specs.MutatorSteps.{with_mutator, MayHold, GoesOn}
-use Rattle.heap_laws.specs.MutatorStores.{IsAs}
-use Rattle.heap_laws.specs.Placing.{PlacesNext, born, next_identity, placed, zeros_of}
-use Rattle.heap_laws.specs.Steps.{with_word}
+use Rattle.heap_laws.specs.MutatorStores.{IsAs, with_record, with_reference}
+use Rattle.heap_laws.specs.Placing.{PlacesNext, born, next_identity}
 
 -- the configuration stands for the plain state q, and what a cycle kept of the earlier one it keeps of this
 pub record StandsAfter (c later : Configuration) (q : plain.Plain) (g h : Ghost) : Type 0 where
@@ -52,16 +52,16 @@ pub record MutatorStands (c : Configuration) (p : plain.Plain) (s : Stands c p) 
   pub word_stored : (next : Worker) (q : plain.Mutator) (a x v : ℕ) (r : plain.Record) (y : Value) → IsWordOf (era c) s.ghost.size s.ghost.writer s.ghost.kind a x
       → (memory c).page ((a + word_of (s.ghost.kind a) x) / 64) ≡ Open (era c).epoch → MayStore (era c) s.ghost.size s.ghost.writer (s.ghost.kind a) x v
       → plain.record_of p.heap (s.ghost.identity a) ≡ Some r → StandsFor s.ghost (s.ghost.kind a) x v y
-      → GoesOn (era c) (with_word (memory c) (a + word_of (s.ghost.kind a) x) v) s.ghost ((team c).worker k) next → IsAs s.ghost (stored p.heap (s.ghost.identity a) r x y) k next q
+      → GoesOn (era c) (memory c) s.ghost ((team c).worker k) next → IsAs s.ghost p.heap k next q
       → StandsAfter c (stepped c (Some (WordIs (a + word_of (s.ghost.kind a) x) v)) k next) (with_mutator (with_heap p (stored p.heap (s.ghost.identity a) r x y)) k q) s.ghost s.ghost
   pub board_stored : (next : Worker) (q : plain.Mutator) (x v : ℕ) (y : Value) → x < 16 → (memory c).page ((era c).board / 64) ≡ Open (era c).epoch
       → MayHold (era c) s.ghost.size s.ghost.writer v → value_of s.ghost.identity v ≡ Some y
-      → GoesOn (era c) (with_word (memory c) ((era c).board + x) v) s.ghost ((team c).worker k) next → IsAs s.ghost (with_board p.heap x y) k next q
+      → GoesOn (era c) (memory c) s.ghost ((team c).worker k) next → IsAs s.ghost p.heap k next q
       → StandsAfter c (stepped c (Some (WordIs ((era c).board + x) v)) k next) (with_mutator (with_heap p (with_board p.heap x y)) k q) s.ghost s.ghost
-  pub record_placed : (next : Worker) (q : plain.Mutator) (t : Stock) (o : Kind) (z v : ℕ) → PlacesNext (era c) (team c) k t o z v
-      → GoesOn (era c) (with_word (memory c) t.at v) (born s.ghost t.at z o (next_identity (team c) k)) (placed (team c) k t z) next
-      → IsAs (born s.ghost t.at z o (next_identity (team c) k)) (gained p.heap k (zeros_of o (z - 1))) k next q
-      → StandsAfter c (stepped c (Some (WordIs t.at v)) k next) (with_mutator (with_heap p (gained p.heap k (zeros_of o (z - 1)))) k q)
+  pub record_placed : (next : Worker) (q : plain.Mutator) (t : Stock) (o : Kind) (z v d pointer : ℕ) (r : plain.Record) → PlacesNext (era c) (team c) k t o z v
+      → Shows (value_of s.ghost.identity) (memory c).heap t.at o z r → d < 8 → decode pointer ≡ PointerWord t.at
+      → GoesOn (era c) (memory c) s.ghost ((team c).worker k) next → IsAs s.ghost p.heap k next q
+      → StandsAfter c (stepped c (Some (WordIs t.at v)) k (with_record next t z d pointer)) (with_mutator (with_heap p (gained p.heap k r)) k (with_reference p.heap k q d))
       s.ghost (born s.ghost t.at z o (next_identity (team c) k))
 
 abbrev pub StocksStand : Type 0

@@ -11,7 +11,7 @@ use Rattle.heap_state.specs.Era.{Era, IsLaidOut, Memory}
 use Rattle.heap_state.specs.Functions.{put}
 use Rattle.heap_state.specs.Ghost.{Ghost, header_kind}
 use Rattle.heap_state.specs.Inductive.{Invariant}
-use Rattle.heap_state.specs.Values.{Shown, value_of}
+use Rattle.heap_state.specs.Values.{Shown, Shows, value_of}
 use Rattle.heap_state.specs.Worker.{Worker, Team, Stock, is_running}
 use Rattle.heap_laws.specs.Steps.{with_word, with_worker}
 use Rattle.heap_laws.specs.Allocating.{HasStock}
@@ -54,11 +54,16 @@ abbrev pub RecordsArePlaced : Type 0
 RecordsArePlaced = (E : Era) (m : Memory) (team : Team) (g : Ghost) (k : ℕ) (q : Stock) (c : Kind) (z v : ℕ) → IsLaidOut E → Invariant E m team g
     → PlacesNext E team k q c z v → Invariant E (with_word m q.at v) (with_worker team k (placed team k q z)) (born g q.at z c (next_identity team k))
 
--- the plain heap gains the record
+-- the plain heap gains the record that the words behind the header show
 abbrev pub PlacingShows : Type 0
-PlacingShows = (E : Era) (m : Memory) (team : Team) (g : Ghost) (p : plain.Plain) (k : ℕ) (q : Stock) (c : Kind) (z v : ℕ) → IsLaidOut E → Invariant E m team g
-    → PlacesNext E team k q c z v → Shown E m team g p
-    → Shown E (with_word m q.at v) (with_worker team k (placed team k q z)) (born g q.at z c (next_identity team k)) (with_heap p (gained p.heap k (zeros_of c (z - 1))))
+PlacingShows = (E : Era) (m : Memory) (team : Team) (g : Ghost) (p : plain.Plain) (k : ℕ) (q : Stock) (c : Kind) (z v : ℕ) (r : plain.Record) → IsLaidOut E → Invariant E m team g
+    → PlacesNext E team k q c z v → Shows (value_of g.identity) m.heap q.at c z r → Shown E m team g p
+    → Shown E (with_word m q.at v) (with_worker team k (placed team k q z)) (born g q.at z c (next_identity team k)) (with_heap p (gained p.heap k r))
+
+-- the words of a run, which are 0, show a record whose values all are 0
+abbrev pub ZerosShow : Type 0
+ZerosShow = (E : Era) (m : Memory) (team : Team) (g : Ghost) (k : ℕ) (q : Stock) (c : Kind) (z v : ℕ) → IsLaidOut E → Invariant E m team g
+    → PlacesNext E team k q c z v → Shows (value_of g.identity) m.heap q.at c z (zeros_of c (z - 1))
 
 abbrev pub PlacingKeepsCycle : Type 0
 PlacingKeepsCycle = (E : Era) (m : Memory) (team : Team) (g : Ghost) (p : plain.Plain) (k : ℕ) (q : Stock) (c : Kind) (z v : ℕ) → IsLaidOut E → Invariant E m team g

@@ -1,20 +1,117 @@
--- One step of one worker, and what it keeps.
-use Rattle.std.specs.Prelude.{◌≡◌, ℕ, ◌<◌, ◌≤◌}
+-- One step of one worker: the row that it writes, and what it keeps.
+use Rattle.std.specs.Prelude.{◌≡◌, ℕ, ◌+◌, ◌/◌, ◌<◌, ◌≤◌, Option, Some, None}
 use Rattle.plain_state.specs.State.{Plain}
-use Rattle.space_map.specs.PageWord.{age_of}
+use Rattle.space_map.specs.declared.area_word.AreaWord.{AreaWord}
+use Rattle.space_map.specs.declared.gate_word.GateWord.{GateWord}
+use Rattle.space_map.specs.declared.page_word.PageWord.{PageWord}
+use Rattle.space_map.specs.AreaWord.{AreaFits}
+use Rattle.space_map.specs.GateWord.{GateFits}
+use Rattle.space_map.specs.PageWord.{PageFits, age_of}
+use Rattle.space_map.specs.Spaces.{to_space}
 use Rattle.heap_state.specs.Cycle.{Cycle}
-use Rattle.heap_state.specs.Era.{Era, Memory, IsLaidOut}
+use Rattle.heap_state.specs.Entries.{Entry, GateIs, TracedIs, AreaIs, PageIs, CrossIs, WordIs, AnnounceIs}
+use Rattle.heap_state.specs.Era.{Era, Memory, IsLaidOut, from_space}
 use Rattle.heap_state.specs.Functions.{put}
 use Rattle.heap_state.specs.Ghost.{Ghost}
 use Rattle.heap_state.specs.Inductive.{Invariant, Knows}
 use Rattle.heap_state.specs.Values.{Shown}
 use Rattle.heap_state.specs.Worker.{Worker, Team}
 
--- the invariant holds, and worker k is one of the team
+-- The invariant holds, the gate is of the epoch, and worker k is one of the team. This is the first premise of each law.
 pub record Ready (E : Era) (m : Memory) (team : Team) (g : Ghost) (k : ℕ) : Type 0 where
   pub laid_out : IsLaidOut E
+  pub at_gate : m.gate.epoch ≡ E.epoch
   pub invariant : Invariant E m team g
   pub member : k < team.count
+
+-- the area word of the epoch's space
+pub record IsAreaNow (E : Era) (m : Memory) (area : AreaWord) : Type 0 where
+  pub front : m.front ≡ E.start + area.front
+  pub low : m.low ≡ E.start + area.low
+  pub owed : m.owed ≡ area.owed
+  pub fits : AreaFits area
+
+-- ---- what changes
+
+-- worker k becomes another
+abbrev pub with_worker : Team → ℕ → Worker → Team
+with_worker team k w = record team { worker = put team.worker k w }
+
+-- the gate is stored
+abbrev pub with_gate : Memory → GateWord → Memory
+with_gate m gate = record m { gate = gate }
+
+-- TRACED is stored
+abbrev pub with_traced : Memory → ℕ → Memory
+with_traced m word = record m { traced = word }
+
+-- FRONT, LOW and owed of the epoch's space are stored, FRONT and LOW as addresses
+abbrev pub with_area : Memory → (front low owed : ℕ) → Memory
+with_area m front low owed = record m { front = front; low = low; owed = owed }
+
+-- those of the old space are stored
+abbrev pub with_old_area : Memory → (front low owed : ℕ) → Memory
+with_old_area m front low owed = record m { old_front = front; old_low = low; old_owed = owed }
+
+-- a page's word is stored
+abbrev pub with_page : Memory → ℕ → PageWord → Memory
+with_page m page word = record m { page = put m.page page word }
+
+-- a page's crossing is stored
+abbrev pub with_crossing : Memory → (page place : ℕ) → Memory
+with_crossing m page place = record m { cross = put m.cross page place }
+
+-- a heap word is stored
+abbrev pub with_word : Memory → (addr word : ℕ) → Memory
+with_word m addr word = record m { heap = put m.heap addr word }
+
+-- the place that a worker announces is stored
+abbrev pub with_announced : Memory → (worker place : ℕ) → Memory
+with_announced m worker place = record m { announced = put m.announced worker place }
+
+-- A row of the table is written, or none, and then the epoch sees this memory. What is written fits its word.
+pub data Writes (E : Era) (m : Memory) : Option Entry → Memory → Type 0 where
+  NoRow : Writes E m None m
+  InGate : (gate : GateWord) → GateFits gate → gate.epoch ≡ E.epoch → Writes E m (Some (GateIs gate)) (with_gate m gate)
+  InTraced : (word : ℕ) → Writes E m (Some (TracedIs word)) (with_traced m word)
+  InArea : (area : AreaWord) → AreaFits area → Writes E m (Some (AreaIs (to_space E.epoch) area)) (with_area m (E.start + area.front) (E.start + area.low) area.owed)
+  InOldArea : (area : AreaWord) → AreaFits area → Writes E m (Some (AreaIs (from_space E.epoch) area)) (with_old_area m (E.old_start + area.front) (E.old_start + area.low) area.owed)
+  InPage : (page : ℕ) (word : PageWord) → page ≤ E.board / 64 → PageFits word → Writes E m (Some (PageIs page word)) (with_page m page word)
+  InCross : (page place : ℕ) → page < E.board / 64 → Writes E m (Some (CrossIs page place)) (with_crossing m page place)
+  InWord : (addr word : ℕ) → addr < E.board + 64 → Writes E m (Some (WordIs addr word)) (with_word m addr word)
+  InAnnounce : (worker place : ℕ) → worker < 24 → Writes E m (Some (AnnounceIs worker place)) (with_announced m worker place)
+
+-- ---- what is kept
+
+-- The invariant is kept. Each plain state that was shown still is, and what a cycle keeps is kept. No page word's epoch falls.
+pub record Preserves (E : Era) (m later : Memory) (team after : Team) (g h : Ghost) : Type 0 where
+  pub invariant : Invariant E later after h
+  pub shown : (p : Plain) → Shown E m team g p → Shown E later after h p
+  pub cycle : (p : Plain) → Cycle E m team g p → Cycle E later after h p
+  pub ages : (page : ℕ) → age_of (m.page page) ≤ age_of (later.page page)
+
+-- Worker k becomes w, and what the proofs know beside the words becomes h: a row of the table is written, or none, and all is
+-- kept. This is what a law says of a step that is none of the plain machine.
+pub record Steps (E : Era) (m : Memory) (team : Team) (g : Ghost) (k : ℕ) (e : Option Entry) (w : Worker) (h : Ghost) : Type 0 where
+  pub later : Memory
+  pub writes : Writes E m e later
+  pub keeps : Preserves E m later team (with_worker team k w) g h
+
+-- A step that is one of the plain machine: the invariant is kept, and the plain state q is shown after it. What a cycle keeps is
+-- kept. No page word's epoch falls.
+pub record Makes (E : Era) (m later : Memory) (team after : Team) (g h : Ghost) (q : Plain) : Type 0 where
+  pub invariant : Invariant E later after h
+  pub shown : Shown E later after h q
+  pub cycle : (p : Plain) → Cycle E m team g p → Cycle E later after h p
+  pub ages : (page : ℕ) → age_of (m.page page) ≤ age_of (later.page page)
+
+-- the same of such a step: after it the plain state is q
+pub record StepsTo (E : Era) (m : Memory) (team : Team) (g : Ghost) (k : ℕ) (e : Option Entry) (w : Worker) (h : Ghost) (q : Plain) : Type 0 where
+  pub later : Memory
+  pub writes : Writes E m e later
+  pub makes : Makes E m later team (with_worker team k w) g h q
+
+-- ---- what others read of a worker
 
 -- The worker w has the post, epoch, account, registers, stock and scan of u. These are what others read of a worker.
 pub record Alike (w u : Worker) : Type 0 where
@@ -26,40 +123,12 @@ pub record Alike (w u : Worker) : Type 0 where
   pub stock : w.stock ≡ u.stock
   pub scan : w.scan ≡ u.scan
 
--- worker k becomes another
-abbrev pub with_worker : Team → ℕ → Worker → Team
-with_worker team k w = record team { worker = put team.worker k w }
-
--- a heap word is stored
-abbrev pub with_word : Memory → (addr word : ℕ) → Memory
-with_word m addr word = record m { heap = put m.heap addr word }
-
--- FRONT and owed of the epoch's space are stored
-abbrev pub with_area : Memory → (front owed : ℕ) → Memory
-with_area m front owed = record m { front = front; owed = owed }
-
--- a page's crossing is stored
-abbrev pub with_crossing : Memory → (page place : ℕ) → Memory
-with_crossing m page place = record m { cross = put m.cross page place }
-
--- the place that a worker announces is stored
-abbrev pub with_announced : Memory → (worker place : ℕ) → Memory
-with_announced m worker place = record m { announced = put m.announced worker place }
-
--- The step keeps the invariant. Each plain state that was shown still is, and what a cycle keeps is kept. No page word's epoch
--- falls.
-pub record Preserves (E : Era) (m later : Memory) (team after : Team) (g h : Ghost) : Type 0 where
-  pub invariant : Invariant E later after h
-  pub shown : (p : Plain) → Shown E m team g p → Shown E later after h p
-  pub cycle : (p : Plain) → Cycle E m team g p → Cycle E later after h p
-  pub ages : (page : ℕ) → age_of (m.page page) ≤ age_of (later.page page)
-
--- A step that changes what worker k knows, and nothing else: a load.
+-- a step that changes what worker k knows, and nothing else: a load
 abbrev pub KnowledgeChangesAlone : Type 0
 KnowledgeChangesAlone = (E : Era) (m : Memory) (team : Team) (g : Ghost) (k : ℕ) (w : Worker) → Ready E m team g k → Alike w (team.worker k)
     → Knows E m.gate m.traced m.front m.low m.old_front m.old_low m.old_owed g m.page m.cross m.announced m.heap k w
-    → Preserves E m m team (with_worker team k w) g g
+    → Steps E m team g k None w g
 
--- a step that changes nothing: an exchange that is lost and tells the worker nothing
+-- a step that changes nothing: a load that teaches nothing, an exchange that is lost
 abbrev pub NothingChanges : Type 0
-NothingChanges = (E : Era) (m : Memory) (team : Team) (g : Ghost) (k : ℕ) → Ready E m team g k → Preserves E m m team (with_worker team k (team.worker k)) g g
+NothingChanges = (E : Era) (m : Memory) (team : Team) (g : Ghost) (k : ℕ) → Ready E m team g k → Steps E m team g k None (team.worker k) g

@@ -3,7 +3,7 @@
 ghost use Rattle.heap_laws.specs.Allocating.{StocksAreClaimed, StocksAreOpened, StocksAreZeroed};
 ghost use Rattle.heap_laws.specs.MutatorsStand.{StocksStand};
 ghost use Rattle.heap_laws.specs.MutatorStores.{MutatorsPlace};
-ghost use Rattle.heap_laws.specs.Placing.{PlacedIsHeld, PlacingKeepsCycle, PlacingShows, RecordsArePlaced};
+ghost use Rattle.heap_laws.specs.Placing.{PlacedIsHeld, PlacingKeepsCycle, PlacingShows, RecordsArePlaced, ZerosShow};
 
 /// A running mutator exchanges the area word and has pages below LOW.
 pub fn stocks_are_claimed()
@@ -20,10 +20,12 @@ pub fn stocks_are_opened()
     ensures { StocksAreOpened }
 {}
 
-/// The header of a new record is stored at the run's place: the plain heap gains that record, and its pointer may be held.
+/// The header of a new record is stored at the run's place: the plain heap gains the record that the words behind it show, one of
+/// zeros where they are still 0, and its pointer may be held.
 pub fn records_are_placed()
     ensures keeps { RecordsArePlaced }
     ensures shows { PlacingShows }
+    ensures zeros { ZerosShow }
     ensures cycle { PlacingKeepsCycle }
     ensures held { PlacedIsHeld }
 {}

@@ -2,7 +2,7 @@
 
 ghost use Rattle.heap_laws.specs.Fields.{WordsAreStored, StoresShow, StoresKeepCycle, BoardIsStored, BoardStoresShow, BoardStoresKeepCycle, AccessesAreAllowed, WordsAreLoaded, BoardIsLoaded, HeadersAreRead, RegistersAreHeld, NumbersAreHeld};
 ghost use Rattle.heap_laws.specs.MutatorsStand.{MutatorsStand};
-ghost use Rattle.heap_laws.specs.MutatorStores.{MutatorsStep, MutatorsStore, MutatorsStoreOnBoard};
+ghost use Rattle.heap_laws.specs.MutatorStores.{MutatorsStep, MutatorsStore, MutatorsStoreOnBoard, MutatorsEnd, MutatorsFindNoRoom};
 ghost use Rattle.heap_laws.specs.MutatorSteps.{MutatorsGoOn, GoingOnShows, GoingOnKeepsCycle};
 
 /// A running mutator goes on with other registers, another account or another access.
@@ -50,6 +50,12 @@ pub fn mutators_store()
 /// A store on the board with what the mutator does besides, as one step.
 pub fn mutators_store_on_board()
     ensures { MutatorsStoreOnBoard }
+{}
+
+/// A running mutator gets an end; and the end for want of room, where AREA shows too little of it and nothing is owed any more.
+pub fn mutators_end()
+    ensures ends { MutatorsEnd }
+    ensures full { MutatorsFindNoRoom }
 {}
 
 /// Each of these steps leaves a configuration that stands for the plain state after it, and writes a row that the table has.

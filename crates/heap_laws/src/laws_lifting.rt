@@ -1,7 +1,7 @@
 //! From the laws to configurations. Each function here does nothing: its contract is what is proved.
 
 ghost use Rattle.heap_laws.specs.CopyingStands.{CopiesStand};
-ghost use Rattle.heap_laws.specs.Lifting.{StepsAreSeen, StandingIsReady, StepsStand, LawsAreLifted, CyclesAreLifted};
+ghost use Rattle.heap_laws.specs.Lifting.{StepsAreSeen, StandingIsReady, StepsStand, LawsAreLifted, CyclesAreLifted, StepsAreLifted, PlainStepsAreLifted};
 
 /// A row that is written and a worker that becomes another are seen in what the configuration says.
 pub fn steps_are_seen()
@@ -31,4 +31,10 @@ pub fn copies_stand()
 /// What a cycle keeps of the table and the team after a step it keeps of the configuration.
 pub fn cycles_are_lifted()
     ensures { CyclesAreLifted }
+{}
+
+/// What a law says of a step is so of each configuration that stands, and the row that is written is one of the table.
+pub fn steps_are_lifted()
+    ensures kept { StepsAreLifted }
+    ensures plain { PlainStepsAreLifted }
 {}

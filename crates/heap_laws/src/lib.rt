@@ -26,7 +26,7 @@ pub use laws_copying::{
     words_are_copied,
 };
 pub use laws_fields::{
-    board_is_stored, mutators_go_on, mutators_stand, mutators_step, mutators_store,
+    board_is_stored, mutators_end, mutators_go_on, mutators_stand, mutators_step, mutators_store,
     mutators_store_on_board, words_are_loaded, words_are_stored,
 };
 pub use laws_flipping::{epochs_are_flipped, flips_are_made_ready, registers_are_forwarded};

@@ -253,4 +253,4 @@ stocks = record { stocked = by_number; apart = λ j k l m n p q e f d o. absurd 
     by_number (suc k) l q e n = absurd (omega arith)
 
 pub numbered : Numbered 1 size identity workers.worker
-numbered = record { maker = λ a st. omega arith; first = λ a st. omega arith; last = λ a st. omega arith }
+numbered = record { maker = λ a st. omega arith; last = λ a st. omega arith }

@@ -43,7 +43,7 @@ module _ (worker : ℕ → Worker) (k : ℕ) (w : Worker) where
 
   -- the account of each mutator has as many records
   pub numbered_put : {mutators : ℕ} {size : ℕ → ℕ} {identity : ℕ → Identity} → w.account.serial ≡ (worker k).account.serial → Numbered mutators size identity worker → Numbered mutators size identity after
-  numbered_put {identity = identity} same n = record { maker = n.maker; first = n.first; last = λ a st. rw (proj_put (λ u. u.account.serial) worker k w (identity a).mutator same) (n.last a st) }
+  numbered_put {identity = identity} same n = record { maker = n.maker; last = λ a st. rw (proj_put (λ u. u.account.serial) worker k w (identity a).mutator same) (n.last a st) }
 
   -- the worker keeps its stock or gives it up
   pub stocks_put : {E : Era} {low count : ℕ} {size heap : ℕ → ℕ} {page : ℕ → PageWord} → ((q : Stock) → w.stock ≡ Some q → (worker k).stock ≡ Some q)

@@ -1,11 +1,10 @@
 -- A configuration that keeps the invariant and shows a plain state represents it.
-use Rattle.std.proofs.Common.{◌≡◌, ℕ, ◌+◌, ◌-◌, ◌<◌, ◌≤◌, true, Some, None, refl, sym, ap, ◌∙◌, arith, ⊎_elim, ◌⊎◌, inl}
+use Rattle.std.proofs.Common.{◌≡◌, ℕ, ◌+◌, ◌-◌, ◌<◌, true, Some, None, refl, sym, ap, ◌∙◌, arith, ⊎_elim, ◌⊎◌, inl}
 use Rattle.std.specs.List.{Contains}
 use Rattle.std.specs.Prelude.{slice_get}
 use Rattle.std.proofs.lemmas.Bool.{lt-ltb}
 use Rattle.std.proofs.lemmas.Option.{slice_get_within}
 use Rattle.plain_state.specs.declared.kind.Kind.{Kind}
-use Rattle.plain_state.specs.declared.value.Identity.{Identity}
 use Rattle.plain_state.specs.State as plain
 use Rattle.plain_state.specs.Layout.{is_raw, word_of}
 use Rattle.heap_state.specs.Configuration.{Configuration, table, era, memory, team}
@@ -52,12 +51,11 @@ module _ (c : Configuration) (g : Ghost) (inv : Invariant (era c) (memory c) (te
   -- ---- records
 
   records_show : (w : Walked) (kind : Kind) (len serial mutator : ℕ) → IsOwn (dump_of c) w kind len serial mutator
-      → (w.size ≡ len + 1) × (1 ≤ serial) × ((r : plain.Record) × (plain.record_of p.heap (record { mutator = mutator; serial = serial }) ≡ Some r) × Shows (denoted c) (table c).heap w.at kind w.size r)
+      → (w.size ≡ len + 1) × ((r : plain.Record) × (plain.record_of p.heap (record { mutator = mutator; serial = serial }) ≡ Some r) × Shows (denoted c) (table c).heap w.at kind w.size r)
   records_show w kind len serial mutator is =
       let o = owns c g inv w kind len serial mutator is in
       let s = shown.objects.shows w.at (omega (arith, o.known.sized)) o.known.written o.own in
-      let n : serial ≡ (g.identity w.at).serial = ap (λ (i : Identity). i.serial) o.named in
-      (sym o.long, rw n (inv.numbered.first w.at (omega (arith, o.known.sized))), (s.0, ap (plain.record_of p.heap) o.named ∙ s.1, shows o s.0 s.2))
+      (sym o.long, (s.0, ap (plain.record_of p.heap) o.named ∙ s.1, shows o s.0 s.2))
     where
       shows : Owns c g inv w kind len serial mutator → (r : plain.Record) → Shows (value_of g.identity) m.heap w.at (g.kind w.at) (g.size w.at) r → Shows (denoted c) m.heap w.at kind w.size r
       shows o r s = record {

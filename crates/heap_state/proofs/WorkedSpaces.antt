@@ -165,6 +165,5 @@ stocks = record { stocked = by_number; apart = by_numbers }
 pub numbered : Numbered 1 size identity workers.worker
 numbered = record {
   maker = each_place (λ a. (identity a).mutator < 1) (omega arith) (omega arith) (omega arith) (omega arith);
-  first = each_place (λ a. 1 ≤ (identity a).serial) (omega arith) (omega arith) (omega arith) (omega arith);
   last = each_place (λ a. (identity a).serial ≤ (workers.worker (identity a).mutator).account.serial) (omega arith) (omega arith) (omega arith) (omega arith);
 }

@@ -14,7 +14,4 @@ mod word;
 pub use kind::Kind;
 pub use laws::words_are_unambiguous;
 pub use tag::Tag;
-pub use word::Word;
-
-#[cfg(test)]
-mod tests;
+pub use word::{NUMBERS_END, Word};

@@ -13,6 +13,3 @@ pub use access::Access;
 pub use page_words::{pack, read};
 pub use protection::{check, protect_all, second_map, unprotect};
 pub use space_map::PageWord;
-
-#[cfg(test)]
-mod tests;

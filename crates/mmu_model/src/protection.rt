@@ -1,7 +1,7 @@
 ghost use Rattle.std.specs.Prelude.{◌≡◌, ◌≢◌, ℕ, ◌+◌, ◌*◌, ◌<◌, ◌≤◌, ◌↔◌, Some};
 ghost use Rattle.space_map.specs.declared.page_word.PageWord.{PageWord};
 ghost use Rattle.space_map.specs.PageWord.{IsEarlier, decode_page, encode_page};
-ghost use Rattle.space_map.specs.Table.{HeapWord, place_of, table_length};
+ghost use Rattle.space_map.specs.Table.{HeapWord, IsRow, place_of, table_length};
 ghost use Rattle.mmu_model.specs.Access.{access_of};
 
 use crate::access::Access;
@@ -40,7 +40,7 @@ pub fn unprotect(epoch: u32) -> u64
 
 /// Where the collector reaches a heap word, whatever the protection of its page.
 pub fn second_map(spaces: Spaces, addr: u32) -> usize
-    requires { addr ≤ 128 * spaces.pages + 63 }
+    requires { IsRow spaces.pages (HeapWord addr) }
     ensures place { result ≡ place_of spaces.pages (HeapWord addr) }
     ensures in_table { result < table_length spaces.pages }
 {

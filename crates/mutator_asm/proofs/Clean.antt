@@ -1,6 +1,5 @@
 -- Lines without an error, one after another.
 use Rattle.std.proofs.Common.{◌≡◌, ℕ, ◌+◌, ◌<◌, List, ◌∷◌, ◌++◌, length, get_or, take, drop, Option, Some, None, refl, sym, ap, subst, ◌∙◌, inl, inr, ◌⊎◌, arith, add-one, drop-cons}
-use Rattle.std.specs.Prelude.{option_map}
 use Rattle.std.proofs.Math.Seq.{take-append_seam, get_or-append_seam, drop-append-add}
 use Rattle.std.proofs.lemmas.Bool.{cases_lt}
 use Rattle.std.proofs.lemmas.List.{take-append-drop, length-take-le}
@@ -47,9 +46,10 @@ pub clean_more : (lines : List Line) (i : ℕ) (d : Line) → error_at lines i d
 clean_more lines i d none clean = record { no_error = λ before line after cut lt. clean_cases lines i d none clean before line after cut (below_cases (length before) i lt) }
 
 -- behind lines without an error, the first that has one
-pub first_error : (lines : List Line) (i : ℕ) (d : Line) (mistake : Mistake) → i < length lines → error_at lines i d ≡ Some mistake → IsCleanUpTo i lines → IsFirstError lines (number_of_mistake mistake) (i + 1)
+pub first_error : (lines : List Line) (i : ℕ) (d : Line) (mistake : Mistake) (number line : ℕ) → number ≡ number_of_mistake mistake → line ≡ i + 1
+    → i < length lines → error_at lines i d ≡ Some mistake → IsCleanUpTo i lines → IsFirstError lines number line
 unfolding error_at
-first_error lines i d mistake lt some clean =
+first_error lines i d mistake number line number_is line_is lt some clean =
     let place : length (take i lines) ≡ i = length-take-le i lines (omega arith) in
     record {
       before = take i lines;
@@ -57,8 +57,8 @@ first_error lines i d mistake lt some clean =
       after = drop (i + 1) lines;
       cut = cut_at lines i d lt;
       clean = subst (λ (n : ℕ). IsCleanUpTo n lines) (sym place) clean;
-      error = ap (option_map number_of_mistake) some;
-      place = ap (λ (n : ℕ). n + 1) (sym place);
+      error = rw (some, number_is) refl;
+      place = omega arith;
     }
 
 -- a line among those without an error has none

@@ -56,7 +56,7 @@ Searched lines n = IsCleanUpTo n lines ⊎ ((number : ℕ) × (line : ℕ) × Is
 search_more : (lines : List Line) (n : ℕ) (o : Option Mistake) → n < length lines → error_at lines n (plain Nothing) ≡ o → IsCleanUpTo n lines → Searched lines (n + 1)
 unfolding Searched
 search_more lines n None lt e clean = inl (clean_more lines n (plain Nothing) e clean)
-search_more lines n (Some mistake) lt e clean = inr (number_of_mistake mistake, n + 1, first_error lines n (plain Nothing) mistake lt e clean)
+search_more lines n (Some mistake) lt e clean = inr (number_of_mistake mistake, n + 1, first_error lines n (plain Nothing) mistake (number_of_mistake mistake) (n + 1) refl refl lt e clean)
 
 search_step : (lines : List Line) (n : ℕ) → n < length lines → Searched lines n → Searched lines (n + 1)
 unfolding Searched

@@ -38,6 +38,3 @@ pub use program::Program;
 pub use schedule::Schedule;
 pub use section::Section;
 pub use text::assemble;
-
-#[cfg(test)]
-mod tests;

@@ -1,3 +1,4 @@
 pub mod Claim
 pub mod Open
 pub mod Soundness
+pub mod Rows

@@ -15,7 +15,7 @@ use std::marker::Model;
 const LAST_WORKER: u8 = 23;
 
 /// The claim of a page, to scan it, by one worker in one epoch.
-#[derive(Clone, Copy, Debug)]
+#[derive(Clone, Copy, Debug, PartialEq, Eq)]
 pub struct Claim {
     spaces: Spaces,
     page: u32,
@@ -71,6 +71,19 @@ impl Claim {
             in_place,
             stage,
         }
+    }
+
+    pub fn page(&self) -> u32
+        ensures { result ≡ self.now.page }
+    {
+        self.page
+    }
+
+    /// Whether the page is claimed as the filling one.
+    pub fn is_in_place(&self) -> bool
+        ensures { result ≡ self.now.in_place }
+    {
+        self.in_place
     }
 
     /// The next step.

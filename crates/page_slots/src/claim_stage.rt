@@ -1,7 +1,7 @@
 use crate::claimed::Claimed;
 
 /// What a claim is about to do.
-#[derive(Clone, Copy, Debug)]
+#[derive(Clone, Copy, Debug, PartialEq, Eq)]
 pub enum ClaimStage {
     /// Load the place that this worker has announced, where a copy of its may come to lie.
     LooksAtPlace(u8),

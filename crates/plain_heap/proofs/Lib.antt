@@ -8,3 +8,4 @@ pub mod Apart
 pub mod Moving
 pub mod Ordering
 mod Examples
+pub mod Stories

@@ -1,5 +1,6 @@
 -- An order, and the plain machine run by it.
-use Rattle.std.specs.Prelude.{ℕ, Bool, false, List, [], ◌∷◌, map, Option, Some, None, ◌==◌, if◌then◌else◌, slice_get, replicate}
+use Rattle.std.specs.Prelude.{◌≡◌, ℕ, Bool, true, false, List, [], ◌∷◌, ◌++◌, map, Option, Some, None, ◌==◌, if◌then◌else◌, slice_get, replicate}
+use Rattle.std.specs.List.{list_any}
 use Rattle.std.specs.Option.{option_map_or}
 use Rattle.plain_state.specs.declared.end.End.TheVariants.{HeapFull}
 use Rattle.plain_state.specs.declared.value.Value.TheVariants.{Number}
@@ -43,3 +44,39 @@ state_after code turns s (mark ∷ marks) = state_after code turns (marked code 
 -- the plain machine executing a program in an order, each mutator making at most so many turns
 abbrev pub plain : List (List Instr) → ℕ → List Mark → Plain
 plain code turns order = state_after code turns (opening code) order
+
+-- ---- the state at the last flip
+
+-- The plain state at the last flip, or the opening where there was none, and the present one.
+pub record Story : Type 0 where
+  pub flip : Plain
+  pub now : Plain
+
+-- a flip keeps the present state as that of the last flip; any other mark changes the present one
+abbrev pub turned : List (List Instr) → ℕ → Story → Mark → Story
+turned code turns s (Step m) = record { flip = s.flip; now = marked code turns s.now (Step m) }
+turned code turns s (Flip asked) = record { flip = s.now; now = s.now }
+turned code turns s (Full m asked room live) = record { flip = s.flip; now = marked code turns s.now (Full m asked room live) }
+
+-- the story after the marks of an order, one after another
+abbrev pub story_after : List (List Instr) → ℕ → Story → List Mark → Story
+story_after code turns s [] = s
+story_after code turns s (mark ∷ marks) = story_after code turns (turned code turns s mark) marks
+
+-- the story of a program that is run by an order
+abbrev pub story : List (List Instr) → ℕ → List Mark → Story
+story code turns order = story_after code turns (record { flip = opening code; now = opening code }) order
+
+abbrev pub is_flip : Mark → Bool
+is_flip (Step m) = false
+is_flip (Flip asked) = true
+is_flip (Full m asked room live) = false
+
+-- the present state of a story is what the plain machine comes to
+abbrev pub StoryIsPlain : Type 0
+StoryIsPlain = (code : List (List Instr)) (turns : ℕ) (order : List Mark) → (story code turns order).now ≡ plain code turns order
+
+-- the other is what it came to at the last flip
+abbrev pub StoryHasLastFlip : Type 0
+StoryHasLastFlip = (code : List (List Instr)) (turns asked : ℕ) (before after : List Mark) → list_any is_flip after ≡ false
+    → (story code turns (before ++ Flip asked ∷ after)).flip ≡ plain code turns before

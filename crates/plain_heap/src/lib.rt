@@ -20,7 +20,7 @@ mod step;
 mod stop;
 mod values;
 
-pub use laws::alone_mutators_are_independent;
+pub use laws::{alone_mutators_are_independent, stories_keep_the_last_flip};
 pub use mark::Mark;
 pub use order::plain_run;
 pub use plain_state::{End, NoMemory};

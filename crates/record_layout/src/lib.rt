@@ -17,6 +17,3 @@ pub use heap_words::Kind;
 pub use laws::first_words_are_distinct;
 pub use packing::{pack, pack_busy, pack_forward};
 pub use reading::{read, read_busy, read_forward};
-
-#[cfg(test)]
-mod tests;

@@ -1,5 +1,6 @@
 -- The two spaces of n pages each and the board after them: where their pages and words lie.
 use Rattle.std.specs.Prelude.{ℕ, ◌+◌, ◌*◌, ◌/◌, ◌%◌, ◌<◌, ◌≤◌}
+use Rattle.space_map.specs.declared.spaces.TheConstants.{PAGE_WORDS}
 
 -- the layout of a heap: how many pages a space has
 pub record Layout : Type 0 where
@@ -11,11 +12,11 @@ IsPageCount n = (4 ≤ n) × (n ≤ 2048)
 
 -- the page that a word lies on
 abbrev pub page_of : ℕ → ℕ
-page_of addr = addr / 64
+page_of addr = addr / PAGE_WORDS
 
 -- the first word of a page
 abbrev pub first_word : ℕ → ℕ
-first_word page = 64 * page
+first_word page = PAGE_WORDS * page
 
 -- the space into which records are copied in an epoch
 abbrev pub to_space : ℕ → ℕ
@@ -27,7 +28,7 @@ space_start n space = first_word (n * space)
 
 -- the word is one of a space's own
 abbrev pub IsInSpace : ℕ → ℕ → ℕ → Type 0
-IsInSpace n addr space = (space < 2) × (space_start n space ≤ addr) × (addr < space_start n space + 64 * n)
+IsInSpace n addr space = (space < 2) × (space_start n space ≤ addr) × (addr < space_start n space + PAGE_WORDS * n)
 
 -- the board's page, the one after both spaces
 abbrev pub board_page : ℕ → ℕ

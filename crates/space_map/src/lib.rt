@@ -21,6 +21,3 @@ pub use laws::{
 };
 pub use page_word::PageWord;
 pub use spaces::{PAGE_WORDS, Spaces};
-
-#[cfg(test)]
-mod tests;

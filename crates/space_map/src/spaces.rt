@@ -1,6 +1,6 @@
 ghost use Rattle.std.specs.Prelude.{◌≡◌, ◌<◌, ◌≤◌, ◌+◌, ◌*◌, ◌↔◌, IsTrue, IsOk, IfOk};
 ghost use Rattle.space_map.specs.Spaces.{IsPageCount, IsInSpace, board_page, first_word, page_of, space_start, to_space};
-ghost use Rattle.space_map.specs.Table.{Gate, Traced, Area, Page, Cross, HeapWord, Announce, place_of, table_length};
+ghost use Rattle.space_map.specs.Table.{Gate, Traced, Area, Page, Cross, HeapWord, Announce, IsRow, place_of, table_length};
 
 use crate::bad_pages::BadPages;
 use std::marker::Model;
@@ -165,7 +165,7 @@ impl Spaces {
 
     /// The place of a heap word, or of a word of the board's page.
     pub fn word_place(self, addr: u32) -> usize
-        requires { addr ≤ 128 * self.pages + 63 }
+        requires { IsRow self.pages (HeapWord addr) }
         ensures place { result ≡ place_of self.pages (HeapWord addr) }
         ensures in_table { result < table_length self.pages }
     {
@@ -174,7 +174,7 @@ impl Spaces {
 
     /// The place of the word in which a worker announces where it is about to reserve room for a copy.
     pub fn announce_place(self, k: u8) -> usize
-        requires { k ≤ 23 }
+        requires { IsRow self.pages (Announce k) }
         ensures place { result ≡ place_of self.pages (Announce k) }
         ensures in_table { result < table_length self.pages }
     {

@@ -27,8 +27,7 @@ pub record Stocks (E : Era) (low count : ℕ) (size heap : ℕ → ℕ) (page : 
   pub apart : (j k : ℕ) → j < count → k < count → j ≢ k → (p q : Stock) → (worker j).stock ≡ Some p → (worker k).stock ≡ Some q
       → p.epoch ≡ E.epoch → q.epoch ≡ E.epoch → (p.end ≤ q.at) ⊎ (q.end ≤ p.at)
 
--- a record has a serial among those of the mutator that made it
+-- a record is of a mutator that there is, which has made as many records as its serial says, or more
 pub record Numbered (mutators : ℕ) (size : ℕ → ℕ) (identity : ℕ → Identity) (worker : ℕ → Worker) : Type 0 where
   pub maker : (a : ℕ) → 0 < size a → (identity a).mutator < mutators
-  pub first : (a : ℕ) → 0 < size a → 1 ≤ (identity a).serial
   pub last : (a : ℕ) → 0 < size a → (identity a).serial ≤ (worker (identity a).mutator).account.serial

@@ -1,4 +1,4 @@
-use Rattle.heap_laws.proofs.MutatorStores.{mutators_place}
+use Rattle.heap_laws.proofs.MutatorPlaces.{mutators_place}
 use Rattle.heap_laws.proofs.laws_allocating.mutators_place.Goals as goal
 
 pub returns : goal.returns

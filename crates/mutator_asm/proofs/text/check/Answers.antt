@@ -23,7 +23,7 @@ returns-in-Some-clause-fault c =
     let lines = lines_view c.args.lines.now in
     let inside = length-map c.args.lines.now line_view in
     let error = error_here c.args.lines.now c.args.parts.now c.loop-i.i c.index-lines-i.result c.index-parts-before.result c.loop-i.before _ c.loop-i-test.true c.index-lines-i.is c.loop-i.invariant.before c.requires.parts c.index-parts-before.is c.in-Some.ensures in
-    inl (subst (λ (n : ℕ). IsFirstError lines n (c.loop-i.i + 1)) (sym c.number.ensures) (first_error lines c.loop-i.i (line_view c.index-lines-i.result) c.in-Some.mistake (omega arith) error c.loop-i.invariant.clean))
+    inl (first_error lines c.loop-i.i (line_view c.index-lines-i.result) c.in-Some.mistake _ _ c.number.ensures (omega arith) (omega arith) error c.loop-i.invariant.clean)
 
 pub and-before-requires : goal.and-before-requires
 and-before-requires c =

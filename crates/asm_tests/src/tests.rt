@@ -1,0 +1,299 @@
+use mutator_asm::{AsmError, Instr, Item, Operand, Program, assemble, list};
+use std::test::Fail;
+
+/// The number and the line of a text's error, or 0 and 0 where it has none.
+fn fault_of(rt: &HostRuntime, text: &str) -> (u8, u32) {
+    if text.len() >= 1 << 31 {
+        return (254, 0);
+    }
+    match assemble(rt.alloc(), text.as_bytes()) {
+        Ok(_) => (0, 0),
+        Err(AsmError::Text { no, line }) => (no, line),
+        Err(AsmError::NoMemory) => (255, 0),
+    }
+}
+
+/// The program of a text that has one.
+fn program_of(rt: &HostRuntime, text: &str) -> Result<Program, Fail> {
+    if text.len() >= 1 << 31 {
+        return Err("it is too long".into());
+    }
+    Ok(
+        assemble(rt.alloc(), text.as_bytes())
+            .ok()
+            .ok_or("it has an error")?,
+    )
+}
+
+#[test]
+fn a_text_gives_its_instructions(rt: HostRuntime) -> Result<(), Fail> {
+    let all =
+        ".mutator\nli r1 7\nmov r2 r1\nadd r0 r1 r2\nsub r0 r1 r2\nmul r0 r1 r2\ndiv r0 r1 r2\nrem r0 r1 r2\nlt r0 r1 r2\neq r0 r1 r2\njmp end\njz r1 end\njal r7 end\njr r3\nnew r0 2\nraw r0 r1\nld r2 r0 1\nst r0 1 r7\nlen r1 r0\nisp r1 r0\nget r1 15\nput r2 r1\nswap r1 0\nend: out r2\nhalt\n";
+    let wanted = [
+        Instr::Li(1, 7),
+        Instr::Mov(2, 1),
+        Instr::Add(0, 1, 2),
+        Instr::Sub(0, 1, 2),
+        Instr::Mul(0, 1, 2),
+        Instr::Div(0, 1, 2),
+        Instr::Rem(0, 1, 2),
+        Instr::Lt(0, 1, 2),
+        Instr::Eq(0, 1, 2),
+        Instr::Jmp(22),
+        Instr::Jz(1, 22),
+        Instr::Jal(7, 22),
+        Instr::Jr(3),
+        Instr::New(0, Operand::Number(2)),
+        Instr::Raw(0, Operand::Reg(1)),
+        Instr::Ld(2, 0, Operand::Number(1)),
+        Instr::St(0, Operand::Number(1), 7),
+        Instr::Len(1, 0),
+        Instr::Isp(1, 0),
+        Instr::Get(1, Operand::Number(15)),
+        Instr::Put(Operand::Reg(2), 1),
+        Instr::Swap(1, Operand::Number(0)),
+        Instr::Out(2),
+        Instr::Halt,
+    ];
+    let program = program_of(&rt, all)?;
+    assert_eq!(rt; program.code.sections()[0].as_slice(), wanted.as_slice());
+    assert_eq!(rt; program.instr(0, 9), Some(Instr::Jmp(22)));
+    Ok(())
+}
+
+#[test]
+fn a_label_is_the_number_of_the_next_instruction(rt: HostRuntime) -> Result<(), Fail> {
+    let rows: [(&str, &[Instr]); 7] = [
+        (".mutator", &[]),
+        (".mutator\r\n\tli r0 0007\r\n", &[Instr::Li(0, 7)]),
+        (
+            "\n .mutator ; first\nli r7 4611686018427387903",
+            &[Instr::Li(7, (1 << 62) - 1)],
+        ),
+        (".mutator\nl: jmp l ; x", &[Instr::Jmp(0)]),
+        (
+            ".mutator\njmp l\n\n; l: no\nl:\n\nhalt\n",
+            &[Instr::Jmp(1), Instr::Halt],
+        ),
+        (
+            ".mutator\njmp end\nhalt;x\nend:",
+            &[Instr::Jmp(2), Instr::Halt],
+        ),
+        (
+            ".mutator\nr1: jz r1 r1\nhalt: jal r0 halt\n_9a: jmp _9a",
+            &[Instr::Jz(1, 0), Instr::Jal(0, 1), Instr::Jmp(2)],
+        ),
+    ];
+    for (text, wanted) in rows {
+        let program = program_of(&rt, text)?;
+        assert_eq!(rt; program.code.len(), 1, "{text}");
+        assert_eq!(rt; program.code.sections()[0].as_slice(), wanted, "{text}");
+        assert!(rt; program.schedule.is_empty(), "{text}");
+    }
+    Ok(())
+}
+
+#[test]
+fn sections_have_labels_of_their_own(rt: HostRuntime) -> Result<(), Fail> {
+    let text =
+        ".schedule 1 023*001000000\n.mutator\nl: jmp l\n.schedule 0*2\n.mutator\nhalt\nl: jmp l\n.schedule 5";
+    let program = program_of(&rt, text)?;
+    assert_eq!(rt; program.code.len(), 2);
+    assert_eq!(rt; program.code.instr(0, 0), Some(Instr::Jmp(0)));
+    assert_eq!(rt; program.code.instr(1, 1), Some(Instr::Jmp(1)));
+    let wanted = [(1, 1), (23, 1_000_000), (0, 2), (5, 1)];
+    for (item, (worker, times)) in program.schedule.as_slice().iter().zip(wanted) {
+        assert_eq!(rt; *item, Item { worker, times });
+    }
+    Ok(())
+}
+
+#[test]
+fn each_error_has_its_place(rt: HostRuntime) {
+    let rows = [
+        (".mutat", 1, 1),
+        (".mutator\nhalt\0", 1, 2),
+        (".mutator\na :", 1, 2),
+        (".mutator\n1x:", 1, 2),
+        (".mutator\na: b:", 1, 2),
+        (".mutator\n:", 1, 2),
+        ("x: .mutator", 1, 1),
+        ("x: .schedule 1", 1, 1),
+        (".mutator\nli r1", 2, 2),
+        (".mutator\nli r1 4611686018427387904 5", 2, 2),
+        (".mutator\nli r8 1", 2, 2),
+        (".mutator\nli r0 r1", 2, 2),
+        (".mutator\nst 4611686018427387904 0 r1", 2, 2),
+        (".mutator\nst r0 4611686018427387904 5", 2, 2),
+        (".mutator\njmp 5", 2, 2),
+        (".mutator\njz r1 a b", 2, 2),
+        (".mutator x", 2, 1),
+        (".mutator\njmp x", 3, 2),
+        ("jmp x", 3, 1),
+        ("l: jmp l", 3, 1),
+        (".mutator\nl:\n.mutator\njmp l", 3, 4),
+        (".mutator\njmp l\n.mutator x\nl:", 3, 2),
+        (".mutator\nl:\nl: halt", 4, 3),
+        ("l:\n.mutator", 5, 1),
+        ("halt\n.mutator", 5, 1),
+        ("", 5, 1),
+        ("\n \n; no more", 5, 1),
+        (".schedule 1\n", 5, 1),
+        (".schedule 24\n.mutator", 8, 1),
+        (".schedule 0*0\n.mutator", 8, 1),
+        (".schedule 0*1000001", 8, 1),
+        (".schedule 0*18446744073709551616", 8, 1),
+        (".schedule 0*1*1", 8, 1),
+        (".schedule *1", 8, 1),
+        (".schedule", 8, 1),
+        (".mutator\nli r0 4611686018427387904", 9, 2),
+    ];
+    for (text, number, line) in rows {
+        assert_eq!(rt; fault_of(&rt, text), (number, line), "{text}");
+    }
+}
+
+#[test]
+fn the_first_line_counts_and_then_the_lowest_number(rt: HostRuntime) {
+    let rows = [
+        (".mutator\nfoo\nli r1", 1, 2),
+        (".mutator\nli r1\nfoo", 2, 2),
+        (".mutator\njmp x\nbad", 3, 2),
+        (".mutator\njmp x\nx: bad", 1, 3),
+        (".mutator\na:\na: foo", 1, 3),
+        (".mutator\na:\na: li r1", 2, 3),
+        (".mutator\na:\na: jmp b", 3, 3),
+        (".mutator\na:\na: li r0 4611686018427387904", 4, 3),
+        (".mutator\na:\na:\nfoo", 4, 3),
+        ("li r0 4611686018427387904", 5, 1),
+        ("jmp x\n.mutator\nx:", 3, 1),
+        ("halt\n.mutator x", 5, 1),
+        (".schedule 24\nfoo", 8, 1),
+        (".mutator\nli r0 4611686018427387904\nfoo", 9, 2),
+    ];
+    for (text, number, line) in rows {
+        assert_eq!(rt; fault_of(&rt, text), (number, line), "{text}");
+    }
+}
+
+/// A text of a first line, a line that is repeated, and a last one.
+fn repeated(
+    rt: &HostRuntime,
+    first: &str,
+    line: &str,
+    times: u32,
+    last: &str,
+) -> Result<String, Fail> {
+    let mut text = String::new(rt.alloc());
+    text.push_str(first)?;
+    for _ in 0..times {
+        text.push_str(line)?;
+    }
+    text.push_str(last)?;
+    Ok(text)
+}
+
+#[test]
+fn limits_are_those_of_the_whole_text(rt: HostRuntime) -> Result<(), Fail> {
+    let rows = [
+        ("", ".mutator\n", 16, "", (0, 0)),
+        ("", ".mutator\n", 16, ".mutator", (6, 17)),
+        ("", ".mutator\n", 17, "foo", (6, 17)),
+        ("", ".mutator\n", 16, ".mutator x", (2, 17)),
+        (".mutator\n", "halt\n", 65536, "", (0, 0)),
+        (".mutator\n", "halt\n", 65537, "", (7, 65538)),
+        (".mutator\n", "halt\n", 65537, "foo", (7, 65538)),
+        (".mutator\n", "halt\n", 65536, ".mutator\nhalt", (7, 65539)),
+        (
+            ".mutator\n",
+            "halt\n",
+            65536,
+            "li r0 4611686018427387904",
+            (7, 65538),
+        ),
+        (".mutator\n.schedule", " 0", 65536, "", (0, 0)),
+        (
+            ".schedule",
+            " 0",
+            65535,
+            "\n.mutator\n.schedule 1 2",
+            (8, 3),
+        ),
+    ];
+    for (first, line, times, last, wanted) in rows {
+        let text = repeated(&rt, first, line, times, last)?;
+        assert_eq!(rt; fault_of(&rt, &text), wanted, "{line}{last}");
+    }
+    Ok(())
+}
+
+#[test]
+fn an_error_has_its_text(rt: HostRuntime) -> Result<(), Fail> {
+    let rows = [
+        (1, "line 20: error 1: unknown instruction"),
+        (2, "line 20: error 2: bad operand"),
+        (3, "line 20: error 3: unknown label"),
+        (4, "line 20: error 4: label twice"),
+        (5, "line 20: error 5: no mutator"),
+        (6, "line 20: error 6: too many mutators"),
+        (7, "line 20: error 7: code too long"),
+        (8, "line 20: error 8: bad schedule"),
+        (9, "line 20: error 9: number too big"),
+    ];
+    for (no, wanted) in rows {
+        let text = AsmError::Text { no, line: 20 }.to_string(rt.alloc())?;
+        assert_eq!(rt; text.as_str(), wanted);
+    }
+    Ok(())
+}
+
+/// The listing of a text that has a program.
+fn listing_of(rt: &HostRuntime, text: &str) -> Result<String, Fail> {
+    let listing = list(rt.alloc(), &program_of(rt, text)?)?;
+    Ok(String::from_utf8(listing).ok().ok_or("it is no UTF-8")?)
+}
+
+#[test]
+fn a_listing_is_laid_out_in_one_way(rt: HostRuntime) -> Result<(), Fail> {
+    let rows = [
+        (".mutator\nl: jmp l ; x", ".mutator\nL0: jmp L0\n"),
+        (
+            ".mutator\n\tli\tr1   007\r\nunused: jz r1 end\nend:\n.schedule 0 0*1 07 3*1000000",
+            ".schedule 0 0 7 3*1000000\n.mutator\nli r1 7\njz r1 L2\nL2:\n",
+        ),
+        (
+            ".mutator\na:\nb: put 1 r2\njal r7 a\njmp b\n.mutator\n.mutator\nc: st r0 r1 r2\njmp c",
+            ".mutator\nL0: put 1 r2\njal r7 L0\njmp L0\n.mutator\n.mutator\nL0: st r0 r1 r2\njmp L0\n",
+        ),
+    ];
+    for (text, wanted) in rows {
+        assert_eq!(rt; listing_of(&rt, text)?.as_str(), wanted);
+        assert_eq!(rt; listing_of(&rt, wanted)?.as_str(), wanted);
+    }
+    Ok(())
+}
+
+/// So many instructions, each of which jumps to itself.
+fn loops(rt: &HostRuntime, instrs: u32) -> Result<String, Fail> {
+    let mut text = String::from_str(rt.alloc(), ".mutator\n")?;
+    for k in 0..instrs {
+        writeln!(text, "L{k}: jmp L{k}")?;
+    }
+    Ok(text)
+}
+
+#[test]
+fn texts_at_the_limits_list_themselves(rt: HostRuntime) -> Result<(), Fail> {
+    let rows = [
+        ("", ".mutator\n", 16, ""),
+        (".mutator\n", "halt\n", 65536, ""),
+        (".schedule", " 0", 65536, "\n.mutator\n"),
+    ];
+    for (first, line, times, last) in rows {
+        let text = repeated(&rt, first, line, times, last)?;
+        assert!(rt; listing_of(&rt, &text)? == text, "{line}");
+    }
+    let text = loops(&rt, 65536)?;
+    assert!(rt; listing_of(&rt, &text)? == text);
+    Ok(())
+}

@@ -1,0 +1,104 @@
+//! The end of the copied area, once no page is left to choose.
+
+ghost use Rattle.std.specs.Prelude.{◌≡◌, ◌≤◌};
+ghost use Rattle.space_map.specs.AreaWord.{decode_area};
+ghost use Rattle.space_map.specs.GateWord.{decode_gate};
+ghost use Rattle.space_map.specs.PageWord.{decode_page};
+ghost use Rattle.space_map.specs.Spaces.{board_page};
+ghost use Rattle.fault_duty.specs.Duty as round;
+ghost use Rattle.fault_duty.specs.Duty.{told, at_stage};
+ghost use Rattle.fault_duty.specs.Soundness.{IsSoundRound};
+
+use super::{Duty, is_full};
+use crate::duty_stage::DutyStage;
+use crate::end_look::EndLook;
+use crate::page_state::PageState;
+use crate::round_end::RoundEnd;
+use atom_store::Turn;
+use mmu_model::{read, unprotect};
+use space_map::{AreaWord, GateWord, PAGE_WORDS, PageWord};
+
+impl Duty {
+    pub(super) fn end_at_gate(&mut self, traced: u64, word: u64) -> Turn<RoundEnd>
+        ensures state { self.new ≡ at_stage self.old (round.ended_gate self.old traced word (decode_gate word)) }
+        ensures tells { result ≡ told self.new }
+    {
+        match GateWord::read(word) {
+            Some(gate) if gate.epoch == self.epoch && gate.behind == 0 => {
+                self.go_to(DutyStage::EndArea(traced))
+            }
+            Some(_) => self.end(RoundEnd::NothingNow(word)),
+            None => self.go_to(DutyStage::EndGate(traced)),
+        }
+    }
+
+    pub(super) fn end_at_area(&mut self, traced: u64, word: u64) -> Turn<RoundEnd>
+        requires { IsSoundRound (at_stage self.old (round.ended_area self.old traced (decode_area word))) }
+        ensures state { self.new ≡ at_stage self.old (round.ended_area self.old traced (decode_area word)) }
+        ensures tells { result ≡ told self.new }
+    {
+        let Some(area) = AreaWord::read(word) else {
+            return self.go_to(DutyStage::EndArea(traced));
+        };
+        let front = self.front_of(area);
+        let board = self.spaces.board_page();
+        self.go_to(DutyStage::EndPage(EndLook { traced, front }, board))
+    }
+
+    pub(super) fn end_at_page(&mut self, look: EndLook, page: u32, word: u64) -> Turn<RoundEnd>
+        requires page { page ≤ board_page self.old.layout.pages }
+        requires allowed { IsSoundRound (at_stage self.old (round.ended_page self.old look page word)) }
+        ensures state { self.new ≡ at_stage self.old (round.ended_page self.old look page word) }
+        ensures tells { result ≡ told self.new }
+    {
+        if word != unprotect(self.epoch) {
+            return self.end(RoundEnd::NothingNow(word));
+        }
+        let next = self.page_after(page);
+        if is_full(look.front, next) {
+            self.go_to(DutyStage::EndPage(look, next))
+        } else if look.front % PAGE_WORDS == 0 {
+            self.go_to(DutyStage::EndAreaAgain(look, PageWord::Open(self.epoch)))
+        } else {
+            self.go_to(DutyStage::EndFilling(look))
+        }
+    }
+
+    pub(super) fn end_at_filling(&mut self, look: EndLook, word: u64) -> Turn<RoundEnd>
+        requires { IsSoundRound (at_stage self.old (round.looked_at_filling self.old look word (decode_page word))) }
+        ensures state { self.new ≡ at_stage self.old (round.looked_at_filling self.old look word (decode_page word)) }
+        ensures tells { result ≡ told self.new }
+    {
+        let Some(says) = read(word) else {
+            return self.go_to(DutyStage::EndFilling(look));
+        };
+        match self.state_of(says) {
+            PageState::Scanned => self.end(RoundEnd::NothingNow(word)),
+            PageState::Opened | PageState::Waits | PageState::Past => {
+                self.go_to(DutyStage::EndAreaAgain(look, says))
+            }
+        }
+    }
+
+    pub(super) fn end_at_area_again(
+        &mut self,
+        look: EndLook,
+        filling: PageWord,
+        word: u64,
+    ) -> Turn<RoundEnd>
+        requires { IsSoundRound (at_stage self.old (round.ended_area_again self.old look filling word (decode_area word))) }
+        ensures state { self.new ≡ at_stage self.old (round.ended_area_again self.old look filling word (decode_area word)) }
+        ensures tells { result ≡ told self.new }
+    {
+        let Some(area) = AreaWord::read(word) else {
+            return self.go_to(DutyStage::EndAreaAgain(look, filling));
+        };
+        if self.front_of(area) != look.front {
+            return self.end(RoundEnd::NothingNow(word));
+        }
+        match self.state_of(filling) {
+            PageState::Opened => self.go_to(DutyStage::Traces(look.traced)),
+            _ => self.claim(self.spaces.page_of(look.front), filling, true),
+        }
+    }
+}

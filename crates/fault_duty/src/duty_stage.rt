@@ -1,0 +1,40 @@
+use crate::choice::Choice;
+use crate::end_look::EndLook;
+use crate::round_end::RoundEnd;
+use crate::seen::Seen;
+use crate::wanted_page::WantedPage;
+use page_slots::Claim;
+use space_map::PageWord;
+
+/// What a round is about to do.
+#[derive(Clone, Copy, Debug)]
+pub enum DutyStage {
+    /// Load the gate: its epoch must be the round's, and a scanner takes it from there.
+    LoadsGate,
+    /// Load TRACED, whether the epoch is traced already. This is the gate's word, where a mutator is behind.
+    LoadsTraced(Option<u64>),
+    /// Load the word of the page that a mutator faulted on.
+    LoadsWanted(Seen, u32),
+    /// Load the area, whether that page is full.
+    LoadsFrontFor(Seen, WantedPage),
+    /// Load the area, below whose FRONT a page is to be chosen.
+    LoadsFront(Seen),
+    /// Load the word of this page: the first that nobody has opened or scanned is claimed.
+    LoadsPage(Choice, u32),
+    /// Make the next step of the claim.
+    Claims(Claim),
+    /// All pages are open. Load the gate again: nobody may be behind. This is the word of TRACED.
+    EndGate(u64),
+    /// Load the area again: this is the word of TRACED.
+    EndArea(u64),
+    /// Load the word of this page again: it must be open.
+    EndPage(EndLook, u32),
+    /// Load the word of the filling page.
+    EndFilling(EndLook),
+    /// Load the area once more: FRONT must still be there. The filling page's word says this, or there is none.
+    EndAreaAgain(EndLook, PageWord),
+    /// Exchange TRACED from this word.
+    Traces(u64),
+    /// Nothing more: it has come to this.
+    Ended(RoundEnd),
+}

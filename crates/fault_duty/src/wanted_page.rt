@@ -1,0 +1,8 @@
+use space_map::PageWord;
+
+/// The page that a mutator faulted on, and what its word says.
+#[derive(Clone, Copy, Debug)]
+pub struct WantedPage {
+    pub page: u32,
+    pub says: PageWord,
+}

@@ -1,0 +1,108 @@
+-- What holds of each stage that a reply can lead to holds of the one that it leads to.
+use Rattle.std.proofs.Common.{◌≡◌, ℕ, ◌+◌, Bool, true, false, Option, Some, None, refl, if◌then◌else◌, ◌==◌}
+use Rattle.std.specs.Prelude.{nat_lt}
+use Rattle.std.proofs.lemmas.Bool.{eqb-true}
+use Rattle.atom_store.specs.declared.reply.Reply.{Reply}
+use Rattle.atom_store.specs.declared.reply.Reply.TheVariants.{Value, Done, Won, Lost}
+use Rattle.heap_words.specs.declared.kind.Kind.{Kind}
+use Rattle.heap_words.specs.Decoded.{Decoded, NumberWord, PointerWord, HeaderWord, ForwardWord, BusyWord, Malformed, decode}
+use Rattle.space_map.specs.declared.area_word.AreaWord.{AreaWord}
+use Rattle.space_map.specs.AreaWord.{decode_area}
+use Rattle.space_map.specs.Spaces.{Layout, first_word}
+use Rattle.forwarding.specs.declared.evac_stage.EvacStage.{EvacStage}
+use Rattle.forwarding.specs.declared.evac_stage.EvacStage.TheVariants.{LoadsHeader, TakesHeader, LoadsArea, Announces, Reserves, StoresHeader, LoadsWord, StoresWord, StoresCross, StoresForward, Clears, Ended}
+use Rattle.forwarding.specs.declared.kept_header.KeptHeader.{KeptHeader}
+use Rattle.forwarding.specs.declared.reserved.Reserved.{Reserved}
+use Rattle.forwarding.specs.Evacuation.{size_of}
+use Rattle.forwarding.specs.Taken.{by_first_word, by_area, by_other_area, crossed, copied, first_page, reserved_at, stage_after}
+
+module _ (P : EvacStage → Type 0) where
+  either : (b : Bool) (x y : EvacStage) → P x → P y → P (if b then x else y)
+  either true x y here there = here
+  either false x y here there = there
+
+  pub of_word : (w : ℕ) (d : Decoded)
+      → ((len to : ℕ) → d ≡ ForwardWord len to → P (Ended to))
+      → ((kind : Kind) (len serial mutator : ℕ) → d ≡ HeaderWord kind len serial mutator → P (TakesHeader (record { word = w; len = len })))
+      → P LoadsHeader → P (by_first_word w d)
+  of_word w (ForwardWord len to) forward header other = forward len to refl
+  of_word w (HeaderWord kind len serial mutator) forward header other = header kind len serial mutator refl
+  of_word w (NumberWord n) forward header other = other
+  of_word w (PointerWord a) forward header other = other
+  of_word w (BusyWord len worker) forward header other = other
+  of_word w Malformed forward header other = other
+
+  pub of_area : (kept : KeptHeader) (o : Option AreaWord) → ((area : AreaWord) → P (Announces kept area)) → P (LoadsArea kept) → P (by_area kept o)
+  of_area kept (Some area) announces loads = announces area
+  of_area kept None announces loads = loads
+
+  same_front : (kept : KeptHeader) (other : AreaWord) (front : ℕ) (b : Bool) → (other.front == front) ≡ b
+      → (other.front ≡ front → P (Reserves kept other)) → P (Announces kept other)
+      → P (if b then Reserves kept other else Announces kept other)
+  same_front kept other front true is reserves announces = reserves (eqb-true other.front front is)
+  same_front kept other front false is reserves announces = announces
+
+  pub of_other_area : (kept : KeptHeader) (area : AreaWord) (o : Option AreaWord)
+      → ((other : AreaWord) → other.front ≡ area.front → P (Reserves kept other))
+      → ((other : AreaWord) → P (Announces kept other)) → P (Reserves kept area) → P (by_other_area kept area o)
+  of_other_area kept area (Some other) reserves announces stays =
+      same_front kept other area.front (other.front == area.front) refl (reserves other) (announces other)
+  of_other_area kept area None reserves announces stays = stays
+
+  pub of_crossed : (r : Reserved) (page : ℕ) → P (StoresCross r page) → P (StoresForward r) → P (crossed r page)
+  of_crossed r page crosses forwards = either (nat_lt (first_word page) (r.to + size_of r.kept)) (StoresCross r page) (StoresForward r) crosses forwards
+
+  pub of_copied : (r : Reserved) (count : ℕ) → P (LoadsWord r count) → P (StoresCross r (first_page r)) → P (StoresForward r) → P (copied r count)
+  of_copied r count loads crosses forwards =
+      either (nat_lt count (size_of r.kept)) (LoadsWord r count) (crossed r (first_page r)) loads (of_crossed r (first_page r) crosses forwards)
+
+-- a stage between the won exchange of the area and the clear
+abbrev pub IsCopying : Reserved → EvacStage → Type 0
+IsCopying r (StoresHeader of) = of ≡ r
+IsCopying r (LoadsWord of i) = of ≡ r
+IsCopying r (StoresWord of w) = of ≡ r
+IsCopying r (StoresCross of page) = of ≡ r
+IsCopying r (StoresForward of) = of ≡ r
+IsCopying r _ = ⊥
+
+-- what holds of each way from a stage by a reply to the next stage
+pub record OfEachWay (l : Layout) (e : ℕ) (P : EvacStage → Reply → EvacStage → Type 0) : Type 0 where
+  pub stays : (x : EvacStage) (reply : Reply) → P x reply x
+  pub follows : (w len to : ℕ) → decode w ≡ ForwardWord len to → P LoadsHeader (Value w) (Ended to)
+  pub finds : (w : ℕ) (kind : Kind) (len serial mutator : ℕ) → decode w ≡ HeaderWord kind len serial mutator
+      → P LoadsHeader (Value w) (TakesHeader (record { word = w; len = len }))
+  pub takes : (kept : KeptHeader) → P (TakesHeader kept) Won (LoadsArea kept)
+  pub is_late : (kept : KeptHeader) (w : ℕ) → P (TakesHeader kept) (Lost w) LoadsHeader
+  pub aims : (kept : KeptHeader) (w : ℕ) (area : AreaWord) → P (LoadsArea kept) (Value w) (Announces kept area)
+  pub announces : (kept : KeptHeader) (area : AreaWord) → P (Announces kept area) Done (Reserves kept area)
+  pub reserves : (kept : KeptHeader) (area : AreaWord) → P (Reserves kept area) Won (StoresHeader (reserved_at l e kept area))
+  pub tries_again : (kept : KeptHeader) (area : AreaWord) (w : ℕ) (other : AreaWord) → other.front ≡ area.front
+      → P (Reserves kept area) (Lost w) (Reserves kept other)
+  pub aims_again : (kept : KeptHeader) (area : AreaWord) (w : ℕ) (other : AreaWord) → P (Reserves kept area) (Lost w) (Announces kept other)
+  pub copies : (r : Reserved) (x : EvacStage) (reply : Reply) (z : EvacStage) → IsCopying r x → IsCopying r z → P x reply z
+  pub forwards : (r : Reserved) → P (StoresForward r) Done (Clears r.to)
+  pub clears : (to : ℕ) → P (Clears to) Done (Ended to)
+
+pub of_each_way : (l : Layout) (e : ℕ) (P : EvacStage → Reply → EvacStage → Type 0) → OfEachWay l e P
+    → (x : EvacStage) (reply : Reply) → P x reply (stage_after l e x reply)
+of_each_way l e P each LoadsHeader (Value w) =
+    of_word (P LoadsHeader (Value w)) w (decode w) (each.follows w) (each.finds w) (each.stays LoadsHeader (Value w))
+of_each_way l e P each (TakesHeader kept) Won = each.takes kept
+of_each_way l e P each (TakesHeader kept) (Lost w) = each.is_late kept w
+of_each_way l e P each (LoadsArea kept) (Value w) =
+    of_area (P (LoadsArea kept) (Value w)) kept (decode_area w) (each.aims kept w) (each.stays (LoadsArea kept) (Value w))
+of_each_way l e P each (Announces kept area) Done = each.announces kept area
+of_each_way l e P each (Reserves kept area) Won = each.reserves kept area
+of_each_way l e P each (Reserves kept area) (Lost w) =
+    of_other_area (P (Reserves kept area) (Lost w)) kept area (decode_area w)
+    (each.tries_again kept area w) (each.aims_again kept area w) (each.stays (Reserves kept area) (Lost w))
+of_each_way l e P each (StoresHeader r) Done =
+    of_copied (P (StoresHeader r) Done) r 1 (each.copies r _ _ _ refl refl) (each.copies r _ _ _ refl refl) (each.copies r _ _ _ refl refl)
+of_each_way l e P each (LoadsWord r i) (Value w) = each.copies r _ _ _ refl refl
+of_each_way l e P each (StoresWord r w) Done =
+    of_copied (P (StoresWord r w) Done) r (w.number + 1) (each.copies r _ _ _ refl refl) (each.copies r _ _ _ refl refl) (each.copies r _ _ _ refl refl)
+of_each_way l e P each (StoresCross r page) Done =
+    of_crossed (P (StoresCross r page) Done) r (page + 1) (each.copies r _ _ _ refl refl) (each.copies r _ _ _ refl refl)
+of_each_way l e P each (StoresForward r) Done = each.forwards r
+of_each_way l e P each (Clears to) Done = each.clears to
+of_each_way l e P each x reply = each.stays x reply

@@ -1,0 +1,6 @@
+use Rattle.page_scan.proofs.Boards.{boards}
+use Rattle.page_scan.proofs.Pages.{pages}
+use Rattle.page_scan.proofs.laws.pages_are_scanned.Goals as goal
+
+pub returns : goal.returns
+returns c = record { pages = pages; boards = boards }
