@@ -27,7 +27,7 @@ use Rattle.heap_laws.specs.Opening.{opening_mutator}
 use Rattle.heap_laws.specs.Steps.{Ready}
 use Rattle.heap_laws.proofs.FieldShown.{headers_are_read, registers_are_held, numbers_are_held}
 use Rattle.heap_laws.proofs.FieldStore.{accesses_are_allowed, words_are_loaded, board_is_loaded}
-use Rattle.heap_laws.proofs.MutatorSteps.{runs}
+use Rattle.heap_laws.proofs.MutatorSteps.{runs, timely}
 use Rattle.heap_laws.proofs.Words.{value_from_pointer}
 
 -- ---- words
@@ -67,7 +67,7 @@ registers_hold E m team g p k q j ready runner running no_end small =
       y,
       is,
       record {
-        holds = record { held = registers_are_held E m team g k j ready running no_end small; denotes = denotes };
+        holds = record { held = registers_are_held E m team g k j ready (runs (team.worker k).post running).mutator (timely E (team.worker k) running (ready.invariant.workers k ready.member).timely.running) no_end small; denotes = denotes };
         number = λ n e. some_same (sym denotes ∙ value_of_number g.identity w n e);
         reference = λ a e. some_same (sym denotes ∙ value_from_pointer g.identity w a e);
       },

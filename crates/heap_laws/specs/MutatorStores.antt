@@ -18,7 +18,7 @@ use Rattle.heap_state.specs.Ghost.{Ghost}
 use Rattle.heap_state.specs.Values.{Shown, Shows, Accounts, RegistersShow, value_of}
 use Rattle.heap_state.specs.Worker.{Worker, Team, Stock, is_running}
 use Rattle.heap_state.specs.Functions.{put}
-use Rattle.heap_laws.specs.Allocating.{HasRoom}
+use Rattle.heap_laws.specs.Allocating.{SeesRoom}
 use Rattle.heap_laws.specs.Fields.{IsWordOf, MayStore, StandsFor}
 use Rattle.heap_laws.specs.MutatorSteps.{with_mutator, HoldsValue, GoesOn}
 use Rattle.heap_laws.specs.Placing.{PlacesNext, born, next_identity}
@@ -102,5 +102,5 @@ pub record EndsFull (E : Era) (m : Memory) (team : Team) (g : Ghost) (p : plain.
 abbrev pub MutatorsFindNoRoom : Type 0
 MutatorsFindNoRoom = (E : Era) (m : Memory) (team : Team) (g : Ghost) (p : plain.Plain) (k asked : ℕ) (q : plain.Mutator) (area : AreaWord) → Ready E m team g k
     → is_running (team.worker k).post ≡ true → Shown E m team g p → slice_get p.mutators k ≡ Some q
-    → IsAreaNow E m area → (team.worker k).traced_seen ≡ true → ¬ (HasRoom true area asked)
+    → IsAreaNow E m area → (team.worker k).traced_seen ≡ true → ¬ (SeesRoom true area asked)
     → EndsFull E m team g p k q (HeapFull asked (area.low - area.front) area.front)
