@@ -3,7 +3,7 @@ use Rattle.std.proofs.Common.{◌≡◌, ℕ, ◌+◌, ◌-◌, ◌*◌, ◌/◌
 use Rattle.std.proofs.lemmas.Bool.{cases_lt}
 use Rattle.space_map.specs.declared.gate_word.GateWord.{GateWord}
 use Rattle.heap_state.specs.Era.{Era, IsLaidOut, Memory}
-use Rattle.heap_state.specs.Functions.{one_if}
+use Rattle.heap_state.specs.Functions.{count_one}
 use Rattle.heap_state.specs.Ghost.{Ghost}
 use Rattle.heap_state.specs.Inductive.{Invariant, Knows}
 use Rattle.heap_state.specs.Parts.Copies.{Room}
@@ -25,8 +25,8 @@ use Rattle.heap_laws.proofs.ScanningWho.{open_age}
 
 pub runs_counted : (gate : GateWord) (count : ℕ) (worker : ℕ → Worker) (k : ℕ) → Counted gate count worker → k < count → is_running (worker k).post ≡ true → 0 < gate.running
 runs_counted gate count worker k c l r =
-    let t = sum_below-term count (λ j. one_if (is_running (worker j).post)) k l in
-    let e : one_if (is_running (worker k).post) ≡ 1 = rw r refl in
+    let t = sum_below-term count (λ j. count_one (is_running (worker j).post)) k l in
+    let e : count_one (is_running (worker k).post) ≡ 1 = rw r refl in
     let n = c.running in
     omega arith
 

@@ -14,14 +14,14 @@ use Rattle.heap_state.specs.Values.{value_of}
 use Rattle.heap_state.specs.Worker.{Worker, Team, Stock}
 use Rattle.heap_state.proofs.Frames.{counted_put, staffed_put, scanned_put, stocks_anew}
 use Rattle.heap_state.proofs.Puts.{put_at, put_other, put_same, each_put, team_put, some_same}
-use Rattle.heap_laws.specs.Placing.{next_identity, born}
+use Rattle.heap_laws.specs.Placing.{next_identity, allocated}
 use Rattle.heap_laws.specs.MutatorSteps.{HoldsValue}
 use Rattle.heap_laws.proofs.AllocStock.{Places}
 use Rattle.plain_state.specs.declared.value.Value.TheVariants.{Reference}
 use Rattle.heap_laws.specs.Steps.{with_word, with_worker}
 use Rattle.heap_laws.proofs.AllocFree.{IsFree, headed_free, raw_free, opened_free, landing_free, older_free, old_space_free, worker_free}
-use Rattle.heap_laws.proofs.BirthParts.{Cradle, was, is, same_size, laid_born, kept_born, room_born, area_born, old_space_born, new_written_born, shut_born, crossing_born, opened_born, landing_born, older_born, raw_born, headed_born, copied_born, once_born}
-use Rattle.heap_laws.proofs.BirthWorkers.{worker_born}
+use Rattle.heap_laws.proofs.BirthParts.{NewPlace, was, is, same_size, laid_allocated, kept_allocated, room_allocated, area_allocated, old_space_allocated, new_written_allocated, shut_allocated, crossing_allocated, opened_allocated, landing_allocated, older_allocated, raw_allocated, headed_allocated, copied_allocated, once_allocated}
+use Rattle.heap_laws.proofs.BirthWorkers.{worker_allocated}
 use Rattle.heap_laws.proofs.MutatorSteps.{runs}
 
 -- worker k has one record more, and its run begins behind it
@@ -39,7 +39,7 @@ module _ (E : Era) (m : Memory) (team : Team) (g : Ghost) (k : ℕ) (q : Stock) 
   heap = put m.heap q.at v
 
   abbrev g' : Ghost
-  g' = born g q.at z c i
+  g' = allocated g q.at z c i
 
   abbrev next : Stock
   next = record q { at = q.at + z }
@@ -63,8 +63,8 @@ module _ (E : Era) (m : Memory) (team : Team) (g : Ghost) (k : ℕ) (q : Stock) 
       by_size (inl e) = e
       by_size (inr d) = absurd (let e = none q.at (omega arith) in omega (arith, e, d))
 
-  pub cradle : Cradle E m.front m.low g.size g.copy g.keeper q.at z
-  cradle = record {
+  pub new_place : NewPlace E m.front m.low g.size g.copy g.keeper q.at z
+  new_place = record {
     lay = lay;
     laid = inv.laid;
     above = ok.lies.0;
@@ -109,7 +109,7 @@ module _ (E : Era) (m : Memory) (team : Team) (g : Ghost) (k : ℕ) (q : Stock) 
     aligned = ok.aligned;
     empty = λ b st. ⊎_elim
         (λ (e : b ≡ q.at). inl (let y = put_at g.size q.at z b e in omega (arith, y, e)))
-        (λ (d : b ≢ q.at). rw (same_size cradle b d) (⊎_elim (λ y. inl (omega (arith, y))) (λ y. inr y) (ok.empty b (was cradle b d st))))
+        (λ (d : b ≢ q.at). rw (same_size new_place b d) (⊎_elim (λ y. inl (omega (arith, y))) (λ y. inr y) (ok.empty b (was new_place b d st))))
         (cases_eq b q.at);
     zeros = λ x l u. let s = places.some in rw (put_other m.heap q.at v x (omega (arith, l, s))) (ok.zeros x (omega (arith, l)) u);
     shut = ok.shut;
@@ -130,10 +130,10 @@ module _ (E : Era) (m : Memory) (team : Team) (g : Ghost) (k : ℕ) (q : Stock) 
     whole = y.whole;
     empty = λ b st. ⊎_elim
         (λ (e : b ≡ q.at). let t = put_at g.size q.at z b e in let f = places.fits in ⊎_elim (λ o. inr (omega (arith, o, e))) (λ o. inl (omega (arith, o, e, t, f))) beside)
-        (λ (d : b ≢ q.at). rw (same_size cradle b d) (y.empty b (was cradle b d st)))
+        (λ (d : b ≢ q.at). rw (same_size new_place b d) (y.empty b (was new_place b d st)))
         (cases_eq b q.at);
     zeros = λ x l u. let f = places.fits in let n = places.some in rw (put_other m.heap q.at v x (omega (arith, l, u, beside, y.so_far, f, n))) (y.zeros x l u);
-    after = ⊎_elim (λ t. inl t) (λ (t : (a : ℕ) × (0 < g.size a) × (a + g.size a ≡ s.at)). inr (t.0, is cradle t.0 t.1, rw (same_size cradle t.0 (not_here t.0 t.1)) t.2)) y.after;
+    after = ⊎_elim (λ t. inl t) (λ (t : (a : ℕ) × (0 < g.size a) × (a + g.size a ≡ s.at)). inr (t.0, is new_place t.0 t.1, rw (same_size new_place t.0 (not_here t.0 t.1)) t.2)) y.after;
   }
     where
       not_here : (b : ℕ) → 0 < g.size b → b ≢ q.at
@@ -153,11 +153,11 @@ module _ (E : Era) (m : Memory) (team : Team) (g : Ghost) (k : ℕ) (q : Stock) 
   numbered = record {
     maker = λ b st. ⊎_elim
         (λ (e : b ≡ q.at). rw (put_at g.identity q.at i b e) mutator)
-        (λ (d : b ≢ q.at). rw (put_other g.identity q.at i b d) (inv.numbered.maker b (was cradle b d st)))
+        (λ (d : b ≢ q.at). rw (put_other g.identity q.at i b d) (inv.numbered.maker b (was new_place b d st)))
         (cases_eq b q.at);
     last = λ b st. ⊎_elim
         (λ (e : b ≡ q.at). rw (put_at g.identity q.at i b e) (rw (put_same team.worker k w) (omega arith)))
-        (λ (d : b ≢ q.at). rw (put_other g.identity q.at i b d) (let y = inv.numbered.last b (was cradle b d st) in let o = more (g.identity b).mutator in omega (arith, y, o)))
+        (λ (d : b ≢ q.at). rw (put_other g.identity q.at i b d) (let y = inv.numbered.last b (was new_place b d st) in let o = more (g.identity b).mutator in omega (arith, y, o)))
         (cases_eq b q.at);
   }
     where
@@ -172,7 +172,7 @@ module _ (E : Era) (m : Memory) (team : Team) (g : Ghost) (k : ℕ) (q : Stock) 
   -- what a worker knows of the heap, before and after
   known : (j : ℕ) (u : Worker) → Knows E m.gate m.traced m.front m.low m.old_front m.old_low m.old_owed g m.page m.cross m.announced m.heap j u
       → Knows E m.gate m.traced m.front m.low m.old_front m.old_low m.old_owed g' m.page m.cross m.announced heap j u
-  known j u p = worker_born E m g q.at z c i heap j u cradle zeros (worker_free E m g q.at v j u free p)
+  known j u p = worker_allocated E m g q.at z c i heap j u new_place zeros (worker_free E m g q.at v j u free p)
 
   -- worker k itself
   own : Knows E m.gate m.traced m.front m.low m.old_front m.old_low m.old_owed g' m.page m.cross m.announced heap k w
@@ -185,27 +185,27 @@ module _ (E : Era) (m : Memory) (team : Team) (g : Ghost) (k : ℕ) (q : Stock) 
   records_are_placed = record {
     counted = counted_put team.worker k w refl refl inv.counted;
     staffed = staffed_put team.worker k w refl inv.staffed;
-    laid = laid_born cradle;
-    headed = headed_born cradle g.writer g.kind c g.identity i heap (rw (put_same m.heap q.at v) places.header) (headed_free free g.writer g.kind m.heap v g.copy g.keeper g.identity inv.headed);
-    copied = copied_born cradle g.writer g.kind c g.identity i g.kept inv.copied;
-    once = once_born cradle g.writer g.kind c g.identity i unused inv.once;
-    kept = kept_born cradle team.count inv.kept;
-    room = room_born cradle m.traced m.owed inv.room;
-    raw_words = raw_born cradle g.writer g.kind c heap zeros (raw_free free g.writer g.kind m.heap v inv.raw_words);
-    shut = shut_born cradle g.writer m.page inv.shut;
+    laid = laid_allocated new_place;
+    headed = headed_allocated new_place g.writer g.kind c g.identity i heap (rw (put_same m.heap q.at v) places.header) (headed_free free g.writer g.kind m.heap v g.copy g.keeper g.identity inv.headed);
+    copied = copied_allocated new_place g.writer g.kind c g.identity i g.kept inv.copied;
+    once = once_allocated new_place g.writer g.kind c g.identity i unused inv.once;
+    kept = kept_allocated new_place team.count inv.kept;
+    room = room_allocated new_place m.traced m.owed inv.room;
+    raw_words = raw_allocated new_place g.writer g.kind c heap zeros (raw_free free g.writer g.kind m.heap v inv.raw_words);
+    shut = shut_allocated new_place g.writer m.page inv.shut;
     filling = inv.filling;
     tracing = inv.tracing;
     aged = inv.aged;
     scanned = scanned_put team.worker k w refl inv.scanned;
-    opened = opened_born cradle g.writer g.kind c heap zeros m.page (opened_free free g.writer g.kind m.heap v m.page inv.opened);
-    landing = landing_born cradle g.writer g.kind c heap zeros (landing_free free g.writer g.kind m.heap v inv.landing);
-    older = older_born cradle g.writer g.kind c heap zeros (older_free free g.writer g.kind m.heap v inv.older);
-    new = area_born cradle E.epoch m.heap heap m.page (λ x d. put_other m.heap q.at v x d) opens ok.after inv.new;
-    new_written = new_written_born cradle g.writer inv.new_written;
-    old_space = old_space_born cradle m.traced m.old_front m.old_low heap m.page (old_space_free free g.writer g.kind m.heap v m.traced m.old_front m.old_low m.page lay inside.0 inside.1 inv.old_space);
+    opened = opened_allocated new_place g.writer g.kind c heap zeros m.page (opened_free free g.writer g.kind m.heap v m.page inv.opened);
+    landing = landing_allocated new_place g.writer g.kind c heap zeros (landing_free free g.writer g.kind m.heap v inv.landing);
+    older = older_allocated new_place g.writer g.kind c heap zeros (older_free free g.writer g.kind m.heap v inv.older);
+    new = area_allocated new_place E.epoch m.heap heap m.page (λ x d. put_other m.heap q.at v x d) opens ok.after inv.new;
+    new_written = new_written_allocated new_place g.writer inv.new_written;
+    old_space = old_space_allocated new_place m.traced m.old_front m.old_low heap m.page (old_space_free free g.writer g.kind m.heap v m.traced m.old_front m.old_low m.page lay inside.0 inside.1 inv.old_space);
     old_area = inv.old_area;
     old_pages = inv.old_pages;
-    crossing = crossing_born cradle g.writer m.cross inv.crossing;
+    crossing = crossing_allocated new_place g.writer m.cross inv.crossing;
     stocks = stocks;
     numbered = numbered;
     workers = team_put team.count (Knows E m.gate m.traced m.front m.low m.old_front m.old_low m.old_owed g' m.page m.cross m.announced heap) team.worker k w (λ j l d. known j (team.worker j) (inv.workers j l)) own;

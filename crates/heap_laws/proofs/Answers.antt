@@ -8,7 +8,7 @@ use Rattle.space_map.specs.Spaces.{to_space}
 use Rattle.space_map.specs.AreaWord.{AreaFits}
 use Rattle.heap_state.specs.Configuration.{Configuration, Stands, table, era, team}
 use Rattle.heap_state.specs.Era.{Era, Memory, from_space}
-use Rattle.heap_state.specs.Functions.{one_if}
+use Rattle.heap_state.specs.Functions.{count_one}
 use Rattle.heap_state.specs.Ghost.{Ghost, header_kind}
 use Rattle.heap_state.specs.Parts.Knowledge.{Passes}
 use Rattle.heap_state.specs.Worker.{Team, Post, Outside, Stopped, Passage, Enter, Park, Request, Forwarded, Resume, Leave, Scan, is_live, is_running, is_late, is_gone, Flipping, Gone, Running, Scanner}
@@ -116,13 +116,13 @@ module _ (E : Era) (m : Memory) (team : Team) (g : Ghost) (k : ℕ) (ready : Rea
   now = fits E m team g ready.invariant
 
   live_some : is_live (team.worker k).post ≡ true → 0 < m.gate.live
-  live_some e = let t = sum_below-term team.count (λ j. one_if (is_live (team.worker j).post)) k ready.member in let o = one_of (is_live (team.worker k).post) e in let c = counted.live in omega (arith, t, o, c)
+  live_some e = let t = sum_below-term team.count (λ j. count_one (is_live (team.worker j).post)) k ready.member in let o = one_of (is_live (team.worker k).post) e in let c = counted.live in omega (arith, t, o, c)
 
   running_some : is_running (team.worker k).post ≡ true → 0 < m.gate.running
-  running_some e = let t = sum_below-term team.count (λ j. one_if (is_running (team.worker j).post)) k ready.member in let o = one_of (is_running (team.worker k).post) e in let c = counted.running in omega (arith, t, o, c)
+  running_some e = let t = sum_below-term team.count (λ j. count_one (is_running (team.worker j).post)) k ready.member in let o = one_of (is_running (team.worker k).post) e in let c = counted.running in omega (arith, t, o, c)
 
   behind_some : is_late m.gate.epoch (team.worker k) ≡ true → 0 < m.gate.behind
-  behind_some e = let t = sum_below-term team.count (λ j. one_if (is_late m.gate.epoch (team.worker j))) k ready.member in let o = one_of (is_late m.gate.epoch (team.worker k)) e in let c = counted.behind in omega (arith, t, o, c)
+  behind_some e = let t = sum_below-term team.count (λ j. count_one (is_late m.gate.epoch (team.worker j))) k ready.member in let o = one_of (is_late m.gate.epoch (team.worker k)) e in let c = counted.behind in omega (arith, t, o, c)
 
   -- no count is above 24
   few : (m.gate.live ≤ 24) × (m.gate.running ≤ 24) × (m.gate.left ≤ 24)

@@ -9,7 +9,7 @@ use Rattle.space_map.specs.declared.page_word.PageWord.TheVariants.{Open}
 use Rattle.heap_state.specs.Era.{Era, IsLaidOut}
 use Rattle.heap_state.specs.Functions.{put, sum_below}
 use Rattle.heap_state.specs.Ghost.{Lands, IsField, Here, header_kind}
-use Rattle.heap_state.specs.Parts.Copies.{Copied, Once, Kept, Room, owing}
+use Rattle.heap_state.specs.Parts.Copies.{Copied, Once, Keepers, Room, owing}
 use Rattle.heap_state.specs.Parts.Crossing.{Crossing}
 use Rattle.heap_state.specs.Parts.Leading.{Opened, Landing, Older}
 use Rattle.heap_state.specs.Parts.OldSpace.{OldSpace}
@@ -19,7 +19,7 @@ use Rattle.heap_state.proofs.Puts.{put_at, put_other, put_cases, sum_below-same}
 use Rattle.heap_laws.proofs.Words.{zero_clean, zero_lands}
 
 -- where it is to stand: a place in the new area, free for its whole size, without a copy or a keeper
-pub record Cradle (E : Era) (front low : ℕ) (size copy keeper : ℕ → ℕ) (a z : ℕ) : Type 0 where
+pub record NewPlace (E : Era) (front low : ℕ) (size copy keeper : ℕ → ℕ) (a z : ℕ) : Type 0 where
   pub lay : IsLaidOut E
   pub laid : Laid E front low size
   pub above : low ≤ a
@@ -28,7 +28,7 @@ pub record Cradle (E : Era) (front low : ℕ) (size copy keeper : ℕ → ℕ) (
   pub empty : (b : ℕ) → 0 < size b → (b + size b ≤ a) ⊎ (a + z ≤ b)
   pub blank : (copy a ≡ 0) × (keeper a ≡ 0)
 
-module _ {E : Era} {front low : ℕ} {size copy keeper : ℕ → ℕ} {a z : ℕ} (cr : Cradle E front low size copy keeper a z) where
+module _ {E : Era} {front low : ℕ} {size copy keeper : ℕ → ℕ} {a z : ℕ} (cr : NewPlace E front low size copy keeper a z) where
   -- ---- the records before are others
 
   pub unused : size a ≡ 0
@@ -63,8 +63,8 @@ module _ {E : Era} {front low : ℕ} {size copy keeper : ℕ → ℕ} {a z : ℕ
 
   -- ---- parts that read sizes alone
 
-  pub laid_born : Laid E front low (put size a z)
-  laid_born = record {
+  pub laid_allocated : Laid E front low (put size a z)
+  laid_allocated = record {
     aligned = cr.laid.aligned;
     order = cr.laid.order;
     apart = λ x y sx sy l. grind (arith, put_cases size a z x, put_cases size a z y, cr.laid.apart x y, cr.empty x, cr.empty y);
@@ -76,11 +76,11 @@ module _ {E : Era} {front low : ℕ} {size copy keeper : ℕ → ℕ} {a z : ℕ
     next = λ x p q sx. let d = below_other x q in rw (same_size x d) (⊎_elim (λ y. inl y) (λ y. inr (is (x + size x) y)) (cr.laid.next x p q (was x d sx)));
   }
 
-  pub kept_born : (count : ℕ) → Kept size keeper count → Kept (put size a z) keeper count
-  kept_born count p = record { kept = λ b k st y. p.kept b k (was b (keeper_old b k y) st) y }
+  pub kept_allocated : (count : ℕ) → Keepers size keeper count → Keepers (put size a z) keeper count
+  kept_allocated count p = record { kept = λ b k st y. p.kept b k (was b (keeper_old b k y) st) y }
 
-  pub room_born : (traced owed : ℕ) → Room E traced front low owed size copy → Room E traced front low owed (put size a z) copy
-  room_born traced owed p = record {
+  pub room_allocated : (traced owed : ℕ) → Room E traced front low owed size copy → Room E traced front low owed (put size a z) copy
+  room_allocated traced owed p = record {
     needs = λ t.
         let e : sum_below E.old_span (λ x. owing size copy (E.old_start + x)) ≡ sum_below E.old_span (λ x. owing (put size a z) copy (E.old_start + x)) =
         sum_below-same E.old_span (λ x. owing size copy (E.old_start + x)) (λ x. owing (put size a z) copy (E.old_start + x)) (λ x l. rw (same_size (E.old_start + x) (old_other (E.old_start + x) (omega arith) (omega arith))) refl) in
@@ -89,9 +89,9 @@ module _ {E : Era} {front low : ℕ} {size copy keeper : ℕ → ℕ} {a z : ℕ
     small = p.small;
   }
 
-  pub area_born : (epoch : ℕ) (heap heap' : ℕ → ℕ) (page : ℕ → PageWord) → ((x : ℕ) → x ≢ a → heap' x ≡ heap x) → ((x : ℕ) → a ≤ x → x < a + z → page (x / 64) ≡ Open epoch)
+  pub area_allocated : (epoch : ℕ) (heap heap' : ℕ → ℕ) (page : ℕ → PageWord) → ((x : ℕ) → x ≢ a → heap' x ≡ heap x) → ((x : ℕ) → a ≤ x → x < a + z → page (x / 64) ≡ Open epoch)
       → ((a % 64 ≡ 0) ⊎ ((b : ℕ) × (0 < size b) × (b + size b ≡ a))) → NewArea low (E.start + E.span) epoch size heap page → NewArea low (E.start + E.span) epoch (put size a z) heap' page
-  area_born epoch heap heap' page same opens after p = record {
+  area_allocated epoch heap heap' page same opens after p = record {
     opened = λ b x st l u f e. ⊎_elim
         (λ (y : b ≡ a). opens x (omega (arith, y, f)) (let q = put_at size a z b y in omega (arith, q, y, e)))
         (λ (d : b ≢ a). p.opened b x (was b d st) l u f (rw (same_size b d) at e))
@@ -108,8 +108,8 @@ module _ {E : Era} {front low : ℕ} {size copy keeper : ℕ → ℕ} {a z : ℕ
         rw (same x d) (p.blank x l u o (λ b st. let q = none b (is b st) in rw (same_size b (not_new b st)) at q));
   }
 
-  pub old_space_born : (traced old_front old_low : ℕ) (heap : ℕ → ℕ) (page : ℕ → PageWord) → OldSpace E traced old_front old_low size heap page → OldSpace E traced old_front old_low (put size a z) heap page
-  old_space_born traced old_front old_low heap page p = record { walks = λ t epoch e. space epoch (p.walks t epoch e) }
+  pub old_space_allocated : (traced old_front old_low : ℕ) (heap : ℕ → ℕ) (page : ℕ → PageWord) → OldSpace E traced old_front old_low size heap page → OldSpace E traced old_front old_low (put size a z) heap page
+  old_space_allocated traced old_front old_low heap page p = record { walks = λ t epoch e. space epoch (p.walks t epoch e) }
     where
       space : (epoch : ℕ) → SpaceOf E.old_start old_front old_low (E.old_start + E.old_span) epoch size heap page → SpaceOf E.old_start old_front old_low (E.old_start + E.old_span) epoch (put size a z) heap page
       space epoch s = record {
@@ -137,18 +137,18 @@ module _ {E : Era} {front low : ℕ} {size copy keeper : ℕ → ℕ} {a z : ℕ
     pub same_writer : (b : ℕ) → b ≢ a → writer' b ≡ writer b
     same_writer b d = put_other writer a 0 b d
 
-    pub new_written_born : NewWritten E low size writer → NewWritten E low (put size a z) writer'
-    new_written_born p = record { written = λ b st l u. ⊎_elim (λ (e : b ≡ a). put_at writer a 0 b e) (λ (d : b ≢ a). rw (same_writer b d) (p.written b (was b d st) l u)) (cases_eq b a) }
+    pub new_written_allocated : NewWritten E low size writer → NewWritten E low (put size a z) writer'
+    new_written_allocated p = record { written = λ b st l u. ⊎_elim (λ (e : b ≡ a). put_at writer a 0 b e) (λ (d : b ≢ a). rw (same_writer b d) (p.written b (was b d st) l u)) (cases_eq b a) }
 
-    pub shut_born : (page : ℕ → PageWord) → Shut E front low size writer page → Shut E front low (put size a z) writer' page
-    shut_born page p = record {
+    pub shut_allocated : (page : ℕ → PageWord) → Shut E front low size writer page → Shut E front low (put size a z) writer' page
+    shut_allocated page p = record {
       free = p.free;
       held = λ b x st w l u. let d = written_old b w in p.held b x (was b d st) (rw (same_writer b d) at w) l (rw (same_size b d) at u);
       by = λ b x k st w l u e. let d = written_old b w in rw (same_writer b d) (p.by b x k (was b d st) (rw (same_writer b d) at w) l (rw (same_size b d) at u) e);
     }
 
-    pub crossing_born : (cross : ℕ → ℕ) → Crossing E front size writer cross → Crossing E front (put size a z) writer' cross
-    crossing_born cross p = record { crossing = λ r b s f st l u w. let d : b ≢ a = (λ e. let n = cr.above in let o = cr.laid.order in omega (arith, e, l, f, n, o)) in p.crossing r b s f (was b d st) l (rw (same_size b d) at u) (rw (same_writer b d) at w) }
+    pub crossing_allocated : (cross : ℕ → ℕ) → Crossing E front size writer cross → Crossing E front (put size a z) writer' cross
+    crossing_allocated cross p = record { crossing = λ r b s f st l u w. let d : b ≢ a = (λ e. let n = cr.above in let o = cr.laid.order in omega (arith, e, l, f, n, o)) in p.crossing r b s f (was b d st) l (rw (same_size b d) at u) (rw (same_writer b d) at w) }
 
     pub lands_on : (w : ℕ) → Lands size writer w → Lands (put size a z) writer' w
     unfolding Lands
@@ -184,20 +184,20 @@ module _ {E : Era} {front low : ℕ} {size copy keeper : ℕ → ℕ} {a z : ℕ
             (λ (d : u.a ≢ a). inl (inl (record { a = u.a; i = u.i; field = field_was u.a u.i d f; inside = u.inside; at = u.at })))
             (cases_eq u.a a)
 
-        pub opened_born : (page : ℕ → PageWord) → Opened E size writer kind heap page → Opened E (put size a z) writer' kind' heap page
-        opened_born page p = record { opened = λ x u o. ⊎_elim (λ y. p.opened x y o) (λ y. zero_clean E (heap x) y) (here_was x u) }
+        pub opened_allocated : (page : ℕ → PageWord) → Opened E size writer kind heap page → Opened E (put size a z) writer' kind' heap page
+        opened_allocated page p = record { opened = λ x u o. ⊎_elim (λ y. p.opened x y o) (λ y. zero_clean E (heap x) y) (here_was x u) }
 
-        pub landing_born : Landing E size writer kind heap → Landing E (put size a z) writer' kind' heap
-        landing_born p = record { lands = λ x u. ⊎_elim (λ y. lands_on (heap x) (p.lands x y)) (λ y. zero_lands (put size a z) writer' (heap x) y) (here_was x u) }
+        pub landing_allocated : Landing E size writer kind heap → Landing E (put size a z) writer' kind' heap
+        landing_allocated p = record { lands = λ x u. ⊎_elim (λ y. lands_on (heap x) (p.lands x y)) (λ y. zero_lands (put size a z) writer' (heap x) y) (here_was x u) }
 
-        pub older_born : Older E size writer kind heap → Older E (put size a z) writer' kind' heap
-        older_born p = record {
+        pub older_allocated : Older E size writer kind heap → Older E (put size a z) writer' kind' heap
+        older_allocated p = record {
           older = λ b j x f l u e. let q = p.older b j x (field_was b j (old_other b l u) f) l u e in (is x q.0, q.1, q.2);
           written = λ b l u. rw (same_writer b (old_other b l u)) (p.written b l u);
         }
 
-        pub raw_born : RawWords size writer kind heap → RawWords (put size a z) writer' kind' heap
-        raw_born p = record {
+        pub raw_allocated : RawWords size writer kind heap → RawWords (put size a z) writer' kind' heap
+        raw_allocated p = record {
           raw = λ b j st w f l n. ⊎_elim
               (λ (e : b ≡ a). let q : heap (b + j) ≡ 0 = rw e (zeros j f (let s = put_at size a z b e in omega (arith, s, l))) in omega arith)
               (λ (d : b ≢ a). p.raw b j (was b d st) (rw (same_writer b d) at w) f (rw (same_size b d) at l) (rw (same_kind b d) at n))
@@ -213,8 +213,8 @@ module _ {E : Era} {front low : ℕ} {size copy keeper : ℕ → ℕ} {a z : ℕ
         pub same_identity : (b : ℕ) → b ≢ a → identity' b ≡ identity b
         same_identity b d = put_other identity a i b d
 
-        pub headed_born : (heap : ℕ → ℕ) → decode (heap a) ≡ HeaderWord (header_kind c) (z - 1) i.serial i.mutator → Headed size writer copy keeper kind identity heap → Headed (put size a z) writer' copy keeper kind' identity' heap
-        headed_born heap head p = record {
+        pub headed_allocated : (heap : ℕ → ℕ) → decode (heap a) ≡ HeaderWord (header_kind c) (z - 1) i.serial i.mutator → Headed size writer copy keeper kind identity heap → Headed (put size a z) writer' copy keeper kind' identity' heap
+        headed_allocated heap head p = record {
           own = λ b st w y u. ⊎_elim
               (λ (e : b ≡ a). rw (put_at size a z b e, put_at kind a c b e, put_at identity a i b e, e) head)
               (λ (d : b ≢ a). rw (same_size b d, same_kind b d, same_identity b d) (p.own b (was b d st) (rw (same_writer b d) at w) y u))
@@ -223,8 +223,8 @@ module _ {E : Era} {front low : ℕ} {size copy keeper : ℕ → ℕ} {a z : ℕ
           gone = λ b x st y u. let d = copy_old b x y in rw (same_size b d) (p.gone b x (was b d st) y u);
         }
 
-        pub copied_born : (kept : ℕ → ℕ) → Copied E front size writer copy keeper kind identity kept → Copied E front (put size a z) writer' copy keeper kind' identity' kept
-        copied_born kept p = record {
+        pub copied_allocated : (kept : ℕ → ℕ) → Copied E front size writer copy keeper kind identity kept → Copied E front (put size a z) writer' copy keeper kind' identity' kept
+        copied_allocated kept p = record {
           target = λ b x st y.
               let d = copy_old b x y in
               let t = p.target b x (was b d st) y in
@@ -235,8 +235,8 @@ module _ {E : Era} {front low : ℕ} {size copy keeper : ℕ → ℕ} {a z : ℕ
           keeper_of = λ b k st y. p.keeper_of b k (was b (keeper_old b k y) st) y;
         }
 
-        pub once_born : ((b : ℕ) → 0 < size b → identity b ≢ i) → Once size copy identity → Once (put size a z) copy identity'
-        once_born new p = record {
+        pub once_allocated : ((b : ℕ) → 0 < size b → identity b ≢ i) → Once size copy identity → Once (put size a z) copy identity'
+        once_allocated new p = record {
           once = λ b d sb sd e. ⊎_elim
               (λ (x : b ≡ a). ⊎_elim
               (λ (y : d ≡ a). inl (x ∙ sym y))

@@ -16,13 +16,13 @@ use Rattle.heap_state.specs.Values.{value_of, Shows, ShowsAll, Accounts, Registe
 use Rattle.heap_state.specs.Worker.{Worker, Team, Stock}
 use Rattle.heap_state.proofs.Puts.{put_at, put_other, put_same, proj_put}
 use Rattle.heap_laws.specs.Opening.{opening_mutator}
-use Rattle.heap_laws.specs.Placing.{next_identity, born, ZerosShow}
+use Rattle.heap_laws.specs.Placing.{next_identity, allocated, ZerosShow}
 use Rattle.heap_laws.proofs.AllocStock.{Places, places_of}
 use Rattle.heap_laws.specs.Steps.{with_word, with_worker}
 use Rattle.heap_laws.proofs.AllocFree.{IsFree, word_same, board_same}
-use Rattle.heap_laws.proofs.AllocHeader.{placed, cradle, free, mutator, zeros}
-use Rattle.heap_laws.proofs.BirthParts.{Cradle, unused as unused_place, was, same_size, same_writer}
-use Rattle.heap_laws.proofs.BirthValues.{field_lands, value_born}
+use Rattle.heap_laws.proofs.AllocHeader.{placed, new_place, free, mutator, zeros}
+use Rattle.heap_laws.proofs.BirthParts.{NewPlace, unused as unused_place, was, same_size, same_writer}
+use Rattle.heap_laws.proofs.BirthValues.{field_lands, value_allocated}
 use Rattle.heap_laws.proofs.PlainGains.{gained_there, gained_elsewhere, gained_serial, gained_serial_other, gained_makers}
 use Rattle.plain_state.proofs.Lists.{slice_get-of_replicate}
 use Rattle.heap_laws.proofs.Words.{board_here, zero_value}
@@ -35,7 +35,7 @@ module _ (E : Era) (m : Memory) (team : Team) (g : Ghost) (p : plain.Plain) (k :
   heap = put m.heap q.at v
 
   abbrev g' : Ghost
-  g' = born g q.at z c i
+  g' = allocated g q.at z c i
 
   abbrev w : Worker
   w = placed team k q z
@@ -46,8 +46,8 @@ module _ (E : Era) (m : Memory) (team : Team) (g : Ghost) (p : plain.Plain) (k :
   is_free : IsFree E g.size q.at
   is_free = free E m team g k q c z v lay inv places
 
-  is_cradle : Cradle E m.front m.low g.size g.copy g.keeper q.at z
-  is_cradle = cradle E m team g k q c z v lay inv places
+  is_new_place : NewPlace E m.front m.low g.size g.copy g.keeper q.at z
+  is_new_place = new_place E m team g k q c z v lay inv places
 
   pub within : k < length p.heap.records
   within = let u = mutator E m team g k q c z v lay inv places in let n = s.makers in omega arith
@@ -61,7 +61,7 @@ module _ (E : Era) (m : Memory) (team : Team) (g : Ghost) (p : plain.Plain) (k :
 
   -- what leads to a record before denotes what it denoted
   value_on : (x : ℕ) → Lands g.size g.writer x → value_of g'.identity x ≡ value_of g.identity x
-  value_on x lands = value_born g.size g.writer g.identity q.at i x (unused_place is_cradle) lands
+  value_on x lands = value_allocated g.size g.writer g.identity q.at i x (unused_place is_new_place) lands
 
   -- ---- values
 
@@ -107,8 +107,8 @@ module _ (E : Era) (m : Memory) (team : Team) (g : Ghost) (p : plain.Plain) (k :
     shows = λ b st w o. ⊎_elim
         (λ (e : b ≡ q.at). rw (put_at g.size q.at z b e, put_at g.kind q.at c b e, put_at g.identity q.at i b e, e)
         (new, gained_there p.heap k new within i refl (let n = serial in omega arith), shows_new))
-        (λ (d : b ≢ q.at). rw (same_size is_cradle b d, put_other g.kind q.at c b d, put_other g.identity q.at i b d)
-        (shows_old b (was is_cradle b d st) (rw (same_writer is_cradle g.writer b d) at w) o))
+        (λ (d : b ≢ q.at). rw (same_size is_new_place b d, put_other g.kind q.at c b d, put_other g.identity q.at i b d)
+        (shows_old b (was is_new_place b d st) (rw (same_writer is_new_place g.writer b d) at w) o))
         (cases_eq b q.at);
   }
 

@@ -25,9 +25,9 @@ field_lands E m team g b j inv st w t f l = ⊎_elim
     (inv.laid.lies b st))
 
 -- where nothing stood at a, what leads to a record denotes what it denoted
-pub value_born : (size writer : ℕ → ℕ) (identity : ℕ → Identity) (a : ℕ) (i : Identity) (w : ℕ) → size a ≡ 0 → Lands size writer w → value_of (put identity a i) w ≡ value_of identity w
+pub value_allocated : (size writer : ℕ → ℕ) (identity : ℕ → Identity) (a : ℕ) (i : Identity) (w : ℕ) → size a ≡ 0 → Lands size writer w → value_of (put identity a i) w ≡ value_of identity w
 unfolding value_of Lands
-value_born size writer identity a i w blank lands = by_word (decode w) lands
+value_allocated size writer identity a i w blank lands = by_word (decode w) lands
   where
     by_word : (u : Decoded) → ((b : ℕ) → u ≡ PointerWord b → (0 < size b) × (writer b ≡ 0)) → value_said (put identity a i) u ≡ value_said identity u
     by_word (NumberWord n) f = refl

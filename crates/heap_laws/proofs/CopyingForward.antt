@@ -8,7 +8,7 @@ use Rattle.heap_state.specs.Era.{Era, Memory}
 use Rattle.heap_state.specs.Functions.{put}
 use Rattle.heap_state.specs.Ghost.{Ghost, IsField, Here, Lands, header_kind}
 use Rattle.heap_state.specs.Inductive.{Invariant, Knows}
-use Rattle.heap_state.specs.Parts.Copies.{Copied, Kept}
+use Rattle.heap_state.specs.Parts.Copies.{Copied, Keepers}
 use Rattle.heap_state.specs.Parts.Copying.{IsOrigin, Seeks, Copies, Licensed, Keeps}
 use Rattle.heap_state.specs.Parts.Crossing.{Crossing}
 use Rattle.heap_state.specs.Parts.Knowledge.{Clean, Accesses}
@@ -21,8 +21,8 @@ use Rattle.heap_state.proofs.Frames.{counted_put, staffed_put, scanned_put, stoc
 use Rattle.heap_state.proofs.Puts.{put_at, put_other, put_same, team_put, each_put, some_same, none≢some}
 use Rattle.heap_laws.specs.Copying.{published}
 use Rattle.heap_laws.specs.Steps.{Ready, with_worker, with_word}
-use Rattle.heap_laws.proofs.CopyingSpot.{Spot, opened_spot, landing_spot, older_spot, new_spot, space_spot, raw_spot, stocks_spot, origin_spot, scans_spot}
-use Rattle.heap_laws.proofs.CopyingWord.{knows_spot}
+use Rattle.heap_laws.proofs.CopyingSpot.{UnreadWord, opened_unread, landing_unread, older_unread, new_unread, space_unread, raw_unread, stocks_unread, origin_unread, scans_unread}
+use Rattle.heap_laws.proofs.CopyingWord.{knows_unread}
 
 -- a whole copy, and the forward to it
 pub record Publishing (E : Era) (m : Memory) (team : Team) (g : Ghost) (k : ℕ) (c : Copy) (q : Quest) (v : ℕ) : Type 0 where
@@ -64,8 +64,8 @@ module _ {E : Era} {m : Memory} {team : Team} {g : Ghost} {k : ℕ} {c : Copy} {
   pub from_written : g.writer c.from ≡ 0
   from_written = inv.older.written c.from (omega (arith, mine.old)) (omega (arith, mine.old))
 
-  pub spot : Spot E m.front m.low g.size g.writer k c.from 0
-  spot = record { laid_out = ready.laid_out; laid = inv.laid; inside = omega (arith, mine.old); hidden = inl refl; own = inl from_written }
+  pub unread_word : UnreadWord E m.front m.low g.size g.writer k c.from 0
+  unread_word = record { laid_out = ready.laid_out; laid = inv.laid; inside = omega (arith, mine.old); hidden = inl refl; own = inl from_written }
 
   pub twin : (E.old_start ≤ c.from) × (c.from < E.old_start + E.old_span) × (E.start ≤ c.to) × (c.to < m.front) × (g.size c.to ≡ g.size c.from) × (g.identity c.to ≡ g.identity c.from) × (g.kind c.to ≡ g.kind c.from) × (g.writer c.to ≡ g.keeper c.from)
   twin = inv.copied.target c.from c.to (omega (arith, mine.old)) placed.1
@@ -164,11 +164,11 @@ module _ {E : Era} {m : Memory} {team : Team} {g : Ghost} {k : ℕ} {c : Copy} {
           (λ (d : b ≢ c.from). let n : x ≢ c.to = (λ e. let p : g.writer x ≡ g.writer c.to = ap g.writer e in let u : g.keeper b ≡ k + 1 = omega (arith, placed.2) in let r = inv.copied.keeper_of b k st u in d (omega (arith, r.0, mine.old.3))) in rw (put_other g.writer c.to 0 x n, put_other g.keeper c.from 0 b d) t)
           (cases_eq b c.from)
 
-  kept : Kept g'.size g'.keeper team.count
+  kept : Keepers g'.size g'.keeper team.count
   kept = record { kept = λ b j st y. inv.kept.kept b j st (keeps_on b j y).1 }
 
   raw_words : RawWords g'.size g'.writer g'.kind heap'
-  raw_words = let p = raw_spot spot m.heap v g.kind inv.raw_words in record {
+  raw_words = let p = raw_unread unread_word m.heap v g.kind inv.raw_words in record {
     raw = λ b i st w f l n. ⊎_elim
         (λ (e : b ≡ c.to). rw e (of_copy i f (let z : i < g.size c.to = rw e at l in z) (let z : is_field (g.kind c.to) i ≡ false = rw e at n in z)))
         (λ (d : b ≢ c.to). p.raw b i st (was_written b w d) f l n)
@@ -180,21 +180,21 @@ module _ {E : Era} {m : Memory} {team : Team} {g : Ghost} {k : ℕ} {c : Copy} {
           (inv.raw_words.raw c.from i (omega (arith, mine.old)) from_written f (omega (arith, l, twin.4)) (ap (λ z. is_field z i) (sym twin.6) ∙ n))
 
   opened : Opened E g'.size g'.writer g'.kind heap' m.page
-  opened = let p = opened_spot spot m.heap v g.kind m.page inv.opened in record {
+  opened = let p = opened_unread unread_word m.heap v g.kind m.page inv.opened in record {
     opened = λ x u o. ⊎_elim (λ y. p.opened x y o)
         (λ y. absurd (inv.shut.held c.to x (omega (arith, placed.3, mine.old)) (omega (arith, placed.2)) (omega (arith, y.1)) (omega (arith, y.1, y.3, placed.3)) o))
         (here_cases x u);
   }
 
   landing : Landing E g'.size g'.writer g'.kind heap'
-  landing = let p = landing_spot spot m.heap v g.kind inv.landing in record {
+  landing = let p = landing_unread unread_word m.heap v g.kind inv.landing in record {
     lands = λ x u. ⊎_elim (λ y. lands_on (heap' x) (p.lands x y))
         (λ y. rw (y.1, copied_word y.0 y.2 y.3) (old_lands y.0 y.2 y.3 y.4))
         (here_cases x u);
   }
 
   older : Older E g'.size g'.writer g'.kind heap'
-  older = let p = older_spot spot m.heap v g.kind inv.older in record {
+  older = let p = older_unread unread_word m.heap v g.kind inv.older in record {
     older = λ b i x f l n d. let y : b ≢ c.to = (λ e. omega (arith, ready.laid_out.apart, placed.4, placed.5, mine.old, l, n, e, inv.laid.order)) in p.older b i x (record { stands = f.stands; written = was_written b f.written y; field = f.field; first = f.first; last = f.last }) l n d;
     written = λ b l n. written_on b (inv.older.written b l n);
   }
@@ -267,14 +267,14 @@ module _ {E : Era} {m : Memory} {team : Team} {g : Ghost} {k : ℕ} {c : Copy} {
       let u = inv.workers j l in
       let o1 = λ (i : is_mutator (team.worker j).post ≡ true) (e : (team.worker j).account.end ≡ None). registers (is_late E.epoch (team.worker j)) (team.worker j).done (team.worker j).registers (u.registers i e) in
       let o2 = λ (f : Access) (e : (team.worker j).access ≡ Some f). accesses f (u.access f e) in
-      let o3 = λ (s : Scan) (e : (team.worker j).scan ≡ Some s). scans j s (scans_spot spot m.heap v g.kind m.page j s (u.scan s e)) in
+      let o3 = λ (s : Scan) (e : (team.worker j).scan ≡ Some s). scans j s (scans_unread unread_word m.heap v g.kind m.page j s (u.scan s e)) in
       let o4 = λ (s : Scan) (e : (team.worker j).scan ≡ Some s). stepping s (u.stepping s e) in
       let o5 = λ (x : Claim) (e : (team.worker j).claim ≡ Some x). claims (team.worker j).epoch x (u.claim x e) in
       assumption
 
   others : (j : ℕ) → j < team.count → j ≢ k → Knows E m.gate m.traced m.front m.low m.old_front m.old_low m.old_owed g' m.page m.cross m.announced heap' j (team.worker j)
   others j l d =
-      let u = knows_spot E m.gate m.traced m.front m.low m.old_front m.old_low m.old_owed g m.page m.cross m.announced m.heap k c.from 0 v spot j (team.worker j) d inv.older (inv.workers j l) in
+      let u = knows_unread E m.gate m.traced m.front m.low m.old_front m.old_low m.old_owed g m.page m.cross m.announced m.heap k c.from 0 v unread_word j (team.worker j) d inv.older (inv.workers j l) in
       stays j l (team.worker j).quest (team.worker j).copy
       (λ x e. origin (is_late E.epoch (team.worker j)) (team.worker j).done (team.worker j).registers (team.worker j).scan x.old x.origin (u.origin x e))
       (λ x e. seeks x (u.quest x e))
@@ -299,7 +299,7 @@ module _ {E : Era} {m : Memory} {team : Team} {g : Ghost} {k : ℕ} {c : Copy} {
 
   own : Knows E m.gate m.traced m.front m.low m.old_front m.old_low m.old_owed g' m.page m.cross m.announced heap' k w'
   own = stays k ready.member w'.quest w'.copy
-      (λ x e. rw (← some_same e) (origin _ (team.worker k).done (team.worker k).registers (team.worker k).scan q.old q.origin (origin_spot spot m.heap v g.kind _ (team.worker k).done (team.worker k).registers (team.worker k).scan q.old q.origin (me.origin q asks))))
+      (λ x e. rw (← some_same e) (origin _ (team.worker k).done (team.worker k).registers (team.worker k).scan q.old q.origin (origin_unread unread_word m.heap v g.kind _ (team.worker k).done (team.worker k).registers (team.worker k).scan q.old q.origin (me.origin q asks))))
       (λ x e. rw (← some_same e) (record { old = (me.quest q asks).old; found = λ b i. let z : c.to ≡ b = some_same i in rw (← z) at_copy }))
       (record { licensed = λ x e. none≢some e; asked = λ x e. none≢some e; counted = me.licensed.counted; idle = λ e. put_same g.kept k 0 })
       (λ x e. none≢some e)
@@ -331,13 +331,13 @@ module _ {E : Era} {m : Memory} {team : Team} {g : Ghost} {k : ℕ} {c : Copy} {
     opened = opened;
     landing = landing;
     older = older;
-    new = new_spot spot m.heap v m.low (E.start + E.span) E.epoch m.page inv.new;
+    new = new_unread unread_word m.heap v m.low (E.start + E.span) E.epoch m.page inv.new;
     new_written = record { written = λ b st l n. written_on b (inv.new_written.written b st l n) };
-    old_space = record { walks = λ t d e. space_spot spot m.heap v E.old_start m.old_front m.old_low (E.old_start + E.old_span) d m.page (inv.old_space.walks t d e) };
+    old_space = record { walks = λ t d e. space_unread unread_word m.heap v E.old_start m.old_front m.old_low (E.old_start + E.old_span) d m.page (inv.old_space.walks t d e) };
     old_area = inv.old_area;
     old_pages = inv.old_pages;
     crossing = crossing;
-    stocks = stocks_put team.worker k w' (λ _ e. e) (stocks_spot spot m.heap v team.count m.page team.worker inv.stocks);
+    stocks = stocks_put team.worker k w' (λ _ e. e) (stocks_unread unread_word m.heap v team.count m.page team.worker inv.stocks);
     numbered = numbered_put team.worker k w' refl inv.numbered;
     workers = team_put team.count (Knows E m.gate m.traced m.front m.low m.old_front m.old_low m.old_owed g' m.page m.cross m.announced heap') team.worker k w' others own;
   }

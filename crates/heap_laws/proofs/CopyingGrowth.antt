@@ -17,7 +17,7 @@ use Rattle.heap_laws.specs.Copying.{reserved}
 use Rattle.heap_laws.proofs.Words.{value_agrees}
 
 -- worker k keeps the header of the record at a, of size z, which has no copy, and is given the place f, at FRONT
-pub record Growth (E : Era) (front low : ℕ) (g : Ghost) (k a f z : ℕ) : Type 0 where
+pub record Reservation (E : Era) (front low : ℕ) (g : Ghost) (k a f z : ℕ) : Type 0 where
   pub laid_out : IsLaidOut E
   pub laid : Laid E front low g.size
   pub copied : Copied E front g.size g.writer g.copy g.keeper g.kind g.identity g.kept
@@ -29,8 +29,8 @@ pub record Growth (E : Era) (front low : ℕ) (g : Ghost) (k a f z : ℕ) : Type
   pub uncopied : g.copy a ≡ 0
   pub taken : g.keeper a ≡ k + 1
 
-module _ {E : Era} {front low : ℕ} {g : Ghost} {k a f z : ℕ} (growth : Growth E front low g k a f z) where
-  open growth use {laid_out, laid, copied, here, room, some, old, below, uncopied, taken}
+module _ {E : Era} {front low : ℕ} {g : Ghost} {k a f z : ℕ} (reservation : Reservation E front low g k a f z) where
+  open reservation use {laid_out, laid, copied, here, room, some, old, below, uncopied, taken}
 
   abbrev g' : Ghost
   g' = reserved g k a f z
@@ -59,8 +59,8 @@ module _ {E : Era} {front low : ℕ} {g : Ghost} {k a f z : ℕ} (growth : Growt
   pub beyond : (b : ℕ) → 0 < g.size b → f ≤ b → f + z ≤ b
   beyond b st l = omega (arith, laid.lies b st, laid_out.apart, laid.order, here, room)
 
-  pub laid_grown : Laid E (f + z) low g'.size
-  laid_grown = record {
+  pub laid_reserved : Laid E (f + z) low g'.size
+  laid_reserved = record {
     aligned = laid.aligned;
     apart = λ x y sx sy l. grind (arith, put_cases g.size f z x, put_cases g.size f z y, laid.apart x y, beside x, beside y);
     lies = λ x sx. ⊎_elim
@@ -68,15 +68,15 @@ module _ {E : Era} {front low : ℕ} {g : Ghost} {k a f z : ℕ} (growth : Growt
         (λ (n : x ≢ f). rw (put_other g.size f z x n) (before x (was x n sx)))
         (cases_eq x f);
     order = record { 0 = omega (arith, laid.order, here); 1 = room; 2 = laid.order.2 };
-    start = inr start_grown;
-    next = λ x p q sx. next_grown x p q sx;
+    start = inr start_reserved;
+    next = λ x p q sx. next_reserved x p q sx;
   }
     where
-      start_grown : 0 < put g.size f z (E.start)
-      start_grown = grind (arith, put_cases g.size f z (E.start), laid.start, here, some)
+      start_reserved : 0 < put g.size f z (E.start)
+      start_reserved = grind (arith, put_cases g.size f z (E.start), laid.start, here, some)
 
-      next_grown : (x : ℕ) → E.start ≤ x → x < f + z → 0 < put g.size f z x → (x + put g.size f z x ≡ f + z) ⊎ (0 < put g.size f z (x + put g.size f z x))
-      next_grown x p q sx = grind (arith, put_cases g.size f z x, put_cases g.size f z (x + put g.size f z x), laid.next x, here, beside x)
+      next_reserved : (x : ℕ) → E.start ≤ x → x < f + z → 0 < put g.size f z x → (x + put g.size f z x ≡ f + z) ⊎ (0 < put g.size f z (x + put g.size f z x))
+      next_reserved x p q sx = grind (arith, put_cases g.size f z x, put_cases g.size f z (x + put g.size f z x), laid.next x, here, beside x)
 
       before : (x : ℕ) → 0 < g.size x → ((E.start ≤ x) × (x + g.size x ≤ f + z)) ⊎ (((low ≤ x) × (x + g.size x ≤ E.start + E.span)) ⊎ ((E.old_start ≤ x) × (x + g.size x ≤ E.old_start + E.old_span)))
       before x st = ⊎_elim (λ y. inl (y.0, omega (arith, y, here))) (λ y. inr y) (laid.lies x st)
@@ -93,8 +93,8 @@ module _ {E : Era} {front low : ℕ} {g : Ghost} {k a f z : ℕ} (growth : Growt
   copied_new : (b : ℕ) → g'.copy b ≡ 0 → b ≢ a
   copied_new b w e = let q = put_at g.copy a (f + 1) b e in omega arith
 
-  pub headed_grown : (heap : ℕ → ℕ) → Headed g.size g.writer g.copy g.keeper g.kind g.identity heap → Headed g'.size g'.writer g'.copy g'.keeper g'.kind g'.identity heap
-  headed_grown heap p = record {
+  pub headed_reserved : (heap : ℕ → ℕ) → Headed g.size g.writer g.copy g.keeper g.kind g.identity heap → Headed g'.size g'.writer g'.copy g'.keeper g'.kind g'.identity heap
+  headed_reserved heap p = record {
     own = λ b st w y u. let n = written_new b w in let x = copied_new b y in
         rw (put_other g.size f z b n, put_other g.kind f (g.kind a) b n, put_other g.identity f (g.identity a) b n) (p.own b (was b n st) (was_written b w) (rw (put_other g.copy a (f + 1) b x) at y) u);
     kept = λ b j st y. let n : b ≢ f = kept_old b j y in rw (put_other g.size f z b n) (p.kept b j (was b n st) y);
@@ -105,8 +105,8 @@ module _ {E : Era} {front low : ℕ} {g : Ghost} {k a f z : ℕ} (growth : Growt
       kept_old : (b j : ℕ) → g.keeper b ≡ j + 1 → b ≢ f
       kept_old b j y e = let q : g.keeper b ≡ g.keeper f = ap g.keeper e in omega (arith, (copied.blank f empty).1)
 
-  pub copied_grown : Copied E (f + z) g'.size g'.writer g'.copy g'.keeper g'.kind g'.identity g'.kept
-  copied_grown = record {
+  pub copied_reserved : Copied E (f + z) g'.size g'.writer g'.copy g'.keeper g'.kind g'.identity g'.kept
+  copied_reserved = record {
     target = λ b x st y. ⊎_elim (λ (e : b ≡ a). of_a b x e y) (λ (d : b ≢ a). of_other b x d st y) (cases_eq b a);
     blank = λ b y. let n : b ≢ f = (λ e. let q = put_at g.size f z b e in omega (arith, some)) in let l : g.size b ≡ 0 = rw (put_other g.size f z b n) at y in
         let d : b ≢ a = (λ e. let q : g.size b ≡ g.size a = ap g.size e in omega (arith, old, some)) in rw (put_other g.copy a (f + 1) b d) (copied.blank b l);
@@ -133,8 +133,8 @@ module _ {E : Era} {front low : ℕ} {g : Ghost} {k a f z : ℕ} (growth : Growt
           rw (put_other g.size f z b n, put_other g.identity f (g.identity a) b n, put_other g.kind f (g.kind a) b n, put_other g.size f z x u, put_other g.identity f (g.identity a) x u, put_other g.kind f (g.kind a) x u, put_other g.writer f (k + 1) x u)
           (t.0, t.1, t.2, omega (arith, t.3, here), t.4, t.5, t.6, t.7)
 
-  pub once_grown : Once g.size g.copy g.identity → Once g'.size g'.copy g'.identity
-  once_grown p = record {
+  pub once_reserved : Once g.size g.copy g.identity → Once g'.size g'.copy g'.identity
+  once_reserved p = record {
     once = λ b d sb sd e. ⊎_elim
         (λ (x : b ≡ f). ⊎_elim (λ (y : d ≡ f). inl (x ∙ sym y)) (λ (y : d ≢ f). inr (inr (new b d x y sd e))) (cases_eq d f))
         (λ (x : b ≢ f). ⊎_elim (λ (y : d ≡ f). inr (inl (new d b y x sb (sym e)))) (λ (y : d ≢ f). both b d x y (was b x sb) (was d y sd) (rw (put_other g.identity f (g.identity a) b x, put_other g.identity f (g.identity a) d y) at e)) (cases_eq d f))
@@ -174,62 +174,62 @@ module _ {E : Era} {front low : ℕ} {g : Ghost} {k a f z : ℕ} (growth : Growt
   here_on x (inr b) = inr b
   here_on x (inl u) = inl (record { a = u.a; i = u.i; inside = u.inside; at = u.at; field = field_on u.a u.i u.field })
 
-  pub lands_grown : (w : ℕ) → Lands g.size g.writer w → Lands g'.size g'.writer w
+  pub lands_reserved : (w : ℕ) → Lands g.size g.writer w → Lands g'.size g'.writer w
   unfolding Lands
-  lands_grown w q b e = let u = q b e in (is b u.0, written_on b u.0 u.1)
+  lands_reserved w q b e = let u = q b e in (is b u.0, written_on b u.0 u.1)
 
-  pub opened_grown : (heap : ℕ → ℕ) (page : ℕ → PageWord) → Opened E g.size g.writer g.kind heap page → Opened E g'.size g'.writer g'.kind heap page
-  opened_grown heap page p = record { opened = λ x u o. p.opened x (here_back x u) o }
+  pub opened_reserved : (heap : ℕ → ℕ) (page : ℕ → PageWord) → Opened E g.size g.writer g.kind heap page → Opened E g'.size g'.writer g'.kind heap page
+  opened_reserved heap page p = record { opened = λ x u o. p.opened x (here_back x u) o }
 
-  pub landing_grown : (heap : ℕ → ℕ) → Landing E g.size g.writer g.kind heap → Landing E g'.size g'.writer g'.kind heap
-  landing_grown heap p = record { lands = λ x u. lands_grown (heap x) (p.lands x (here_back x u)) }
+  pub landing_reserved : (heap : ℕ → ℕ) → Landing E g.size g.writer g.kind heap → Landing E g'.size g'.writer g'.kind heap
+  landing_reserved heap p = record { lands = λ x u. lands_reserved (heap x) (p.lands x (here_back x u)) }
 
   -- no old place is the new one
   pub old_side : (b : ℕ) → E.old_start ≤ b → b < E.old_start + E.old_span → b ≢ f
   old_side b l n e = omega (arith, laid_out.apart, laid.order, room, some, here, l, n, e)
 
-  pub older_grown : (heap : ℕ → ℕ) → Older E g.size g.writer g.kind heap → Older E g'.size g'.writer g'.kind heap
-  older_grown heap p = record {
+  pub older_reserved : (heap : ℕ → ℕ) → Older E g.size g.writer g.kind heap → Older E g'.size g'.writer g'.kind heap
+  older_reserved heap p = record {
     older = λ b i x y l n e. let q = p.older b i x (field_back b i y) l n e in (is x q.0, q.1, q.2);
     written = λ b l n. rw (put_other g.writer f (k + 1) b (old_side b l n)) (p.written b l n);
   }
 
-  pub raw_grown : (heap : ℕ → ℕ) → RawWords g.size g.writer g.kind heap → RawWords g'.size g'.writer g'.kind heap
-  raw_grown heap p = record { raw = λ b i st w l n y. let d = written_new b w in p.raw b i (was b d st) (was_written b w) l (rw (put_other g.size f z b d) at n) (rw (put_other g.kind f (g.kind a) b d) at y) }
+  pub raw_reserved : (heap : ℕ → ℕ) → RawWords g.size g.writer g.kind heap → RawWords g'.size g'.writer g'.kind heap
+  raw_reserved heap p = record { raw = λ b i st w l n y. let d = written_new b w in p.raw b i (was b d st) (was_written b w) l (rw (put_other g.size f z b d) at n) (rw (put_other g.kind f (g.kind a) b d) at y) }
 
   -- ---- areas
 
-  pub new_grown : (start end epoch : ℕ) (heap : ℕ → ℕ) (page : ℕ → PageWord) → ((b : ℕ) → start ≤ b → b < end → b ≢ f) → NewArea start end epoch g.size heap page → NewArea start end epoch g'.size heap page
-  new_grown start end epoch heap page off p = record {
+  pub new_reserved : (start end epoch : ℕ) (heap : ℕ → ℕ) (page : ℕ → PageWord) → ((b : ℕ) → start ≤ b → b < end → b ≢ f) → NewArea start end epoch g.size heap page → NewArea start end epoch g'.size heap page
+  new_reserved start end epoch heap page off p = record {
     opened = λ b x st l n i j. let d = off b l n in p.opened b x (was b d st) l n i (rw (put_other g.size f z b d) at j);
     prior = λ b st l n al. let d = off b l n in let y = p.prior b (was b d st) l n al in (y.0, is y.0 y.1, rw (put_other g.size f z (y.0) (not_new y.0 y.1)) (y.2));
     blank = λ x l n o free. p.blank x l n o (λ b st. rw (put_other g.size f z b (not_new b st)) at (free b (is b st)));
   }
 
-  pub written_grown : NewWritten E low g.size g.writer → NewWritten E low g'.size g'.writer
-  written_grown p = record { written = λ b st l n. let d : b ≢ f = omega (arith, room, some) in rw (put_other g.writer f (k + 1) b d) (p.written b (was b d st) l n) }
+  pub written_reserved : NewWritten E low g.size g.writer → NewWritten E low g'.size g'.writer
+  written_reserved p = record { written = λ b st l n. let d : b ≢ f = omega (arith, room, some) in rw (put_other g.writer f (k + 1) b d) (p.written b (was b d st) l n) }
 
-  pub space_grown : (begun free epoch : ℕ) (heap : ℕ → ℕ) (page : ℕ → PageWord) → SpaceOf E.old_start begun free (E.old_start + E.old_span) epoch g.size heap page
+  pub space_reserved : (begun free epoch : ℕ) (heap : ℕ → ℕ) (page : ℕ → PageWord) → SpaceOf E.old_start begun free (E.old_start + E.old_span) epoch g.size heap page
       → SpaceOf E.old_start begun free (E.old_start + E.old_span) epoch g'.size heap page
-  space_grown begun free epoch heap page p = record {
+  space_reserved begun free epoch heap page p = record {
     lies = λ b st l n. let d = old_side b l n in rw (put_other g.size f z b d) (p.lies b (was b d st) l n);
     order = p.order;
     aligned = p.aligned;
     first = ⊎_elim (λ e. inl e) (λ y. inr (is E.old_start y)) p.first;
     next = λ b l n st. let d = old_side b l (omega (arith, n, p.order)) in rw (put_other g.size f z b d) (⊎_elim (λ e. inl e) (λ y. inr (is (b + g.size b) y)) (p.next b l n (was b d st)));
-    new = new_grown free (E.old_start + E.old_span) epoch heap page (λ b l n. old_side b (omega (arith, l, p.order)) n) p.new;
+    new = new_reserved free (E.old_start + E.old_span) epoch heap page (λ b l n. old_side b (omega (arith, l, p.order)) n) p.new;
   }
 
-  pub crossing_grown : (cross : ℕ → ℕ) → Crossing E front g.size g.writer cross → Crossing E (f + z) g'.size g'.writer cross
-  crossing_grown cross p = record {
+  pub crossing_reserved : (cross : ℕ → ℕ) → Crossing E front g.size g.writer cross → Crossing E (f + z) g'.size g'.writer cross
+  crossing_reserved cross p = record {
     crossing = λ q b s l st n i w. let d = written_new b w in let st' = was b d st in let i' : 64 * q < b + g.size b = rw (put_other g.size f z b d) at i in
         p.crossing q b s (let y = beside b st' (omega arith) in omega (arith, y, here, i')) st' n i' (was_written b w);
   }
 
   -- ---- stocks
 
-  pub stocked_grown : (heap : ℕ → ℕ) (page : ℕ → PageWord) (q : Stock) → Stocked E low g.size heap page q → Stocked E low g'.size heap page q
-  stocked_grown heap page q p = record {
+  pub stocked_reserved : (heap : ℕ → ℕ) (page : ℕ → PageWord) (q : Stock) → Stocked E low g.size heap page q → Stocked E low g'.size heap page q
+  stocked_reserved heap page q p = record {
     lies = p.lies;
     so_far = p.so_far;
     aligned = p.aligned;
@@ -245,11 +245,11 @@ module _ {E : Era} {front low : ℕ} {g : Ghost} {k a f z : ℕ} (growth : Growt
     after = ⊎_elim (λ e. inl e) (λ (y : (b : ℕ) × (0 < g.size b) × (b + g.size b ≡ q.at)). inr (y.0, is y.0 y.1, rw (put_other g.size f z (y.0) (not_new y.0 y.1)) (y.2))) p.after;
   }
 
-  pub stocks_grown : (count : ℕ) (heap : ℕ → ℕ) (page : ℕ → PageWord) (worker : ℕ → Worker) → Stocks E low count g.size heap page worker → Stocks E low count g'.size heap page worker
-  stocks_grown count heap page worker p = record { stocked = λ j l q e n. stocked_grown heap page q (p.stocked j l q e n); apart = p.apart }
+  pub stocks_reserved : (count : ℕ) (heap : ℕ → ℕ) (page : ℕ → PageWord) (worker : ℕ → Worker) → Stocks E low count g.size heap page worker → Stocks E low count g'.size heap page worker
+  stocks_reserved count heap page worker p = record { stocked = λ j l q e n. stocked_reserved heap page q (p.stocked j l q e n); apart = p.apart }
 
-  pub numbered_grown : (mutators : ℕ) (worker : ℕ → Worker) → Numbered mutators g.size g.identity worker → Numbered mutators g'.size g'.identity worker
-  numbered_grown mutators worker p = record {
+  pub numbered_reserved : (mutators : ℕ) (worker : ℕ → Worker) → Numbered mutators g.size g.identity worker → Numbered mutators g'.size g'.identity worker
+  numbered_reserved mutators worker p = record {
     maker = λ b st. ⊎_elim
         (λ (e : b ≡ f). rw (put_at g.identity f (g.identity a) b e) (p.maker a source))
         (λ (d : b ≢ f). rw (put_other g.identity f (g.identity a) b d) (p.maker b (was b d st)))
@@ -265,6 +265,6 @@ module _ {E : Era} {front low : ℕ} {g : Ghost} {k a f z : ℕ} (growth : Growt
 
   -- ---- what words denote
 
-  pub value_grown : (w : ℕ) → Lands g.size g.writer w → value_of g'.identity w ≡ value_of g.identity w
+  pub value_reserved : (w : ℕ) → Lands g.size g.writer w → value_of g'.identity w ≡ value_of g.identity w
   unfolding Lands
-  value_grown w q = value_agrees g.identity g'.identity w (λ b e. put_other g.identity f (g.identity a) b (not_new b (q b e).0))
+  value_reserved w q = value_agrees g.identity g'.identity w (λ b e. put_other g.identity f (g.identity a) b (not_new b (q b e).0))

@@ -9,7 +9,7 @@ use Rattle.heap_state.specs.Era.{Era, Memory}
 use Rattle.heap_state.specs.Functions.{put}
 use Rattle.heap_state.specs.Ghost.{Ghost, header_kind}
 use Rattle.heap_state.specs.Inductive.{Invariant, Knows}
-use Rattle.heap_state.specs.Parts.Copies.{Copied, Kept}
+use Rattle.heap_state.specs.Parts.Copies.{Copied, Keepers}
 use Rattle.heap_state.specs.Parts.Copying.{IsOrigin, Copies, Licensed, Keeps}
 use Rattle.heap_state.specs.Parts.OldSpace.{OldSpace}
 use Rattle.heap_state.specs.Parts.Records.{Headed}
@@ -21,8 +21,8 @@ use Rattle.heap_state.proofs.Puts.{put_at, put_other, put_same, team_put, some_s
 use Rattle.heap_laws.specs.Copying.{copying, begun, taken}
 use Rattle.heap_laws.specs.Steps.{Ready, with_worker, with_word, Preserves}
 use Rattle.heap_laws.proofs.CopyingRoots.{asked_reachable}
-use Rattle.heap_laws.proofs.CopyingSpot.{Spot, opened_spot, landing_spot, older_spot, new_spot, space_spot, raw_spot, stocks_spot, origin_spot, scans_spot, objects_spot, board_spot}
-use Rattle.heap_laws.proofs.CopyingWord.{knows_spot, copying_spot, rooted_spot}
+use Rattle.heap_laws.proofs.CopyingSpot.{UnreadWord, opened_unread, landing_unread, older_unread, new_unread, space_unread, raw_unread, stocks_unread, origin_unread, scans_unread, objects_unread, board_unread}
+use Rattle.heap_laws.proofs.CopyingWord.{knows_unread, copying_unread, rooted_unread}
 
 -- a record whose own header stands in its place was not copied, and nobody keeps its header
 record Untaken (g : Ghost) (a len : ℕ) : Type 0 where
@@ -75,8 +75,8 @@ module _ (E : Era) (m : Memory) (team : Team) (g : Ghost) (k : ℕ) (q : Quest) 
   ends : a + g.size a ≤ E.old_start + E.old_span
   ends = let y = inv.laid.lies a old.0 in omega (arith, y, ready.laid_out.apart, old, inv.laid.order)
 
-  spot : Spot E m.front m.low g.size g.writer k a 0
-  spot = record { laid_out = ready.laid_out; laid = inv.laid; inside = old.0; hidden = inl refl; own = inl walked }
+  unread_word : UnreadWord E m.front m.low g.size g.writer k a 0
+  unread_word = record { laid_out = ready.laid_out; laid = inv.laid; inside = old.0; hidden = inl refl; own = inl walked }
 
   unkept : g.kept k ≡ 0
   unkept = me.licensed.idle idle
@@ -108,7 +108,7 @@ module _ (E : Era) (m : Memory) (team : Team) (g : Ghost) (k : ℕ) (q : Quest) 
         (cases_eq b a);
   }
 
-  kept : Kept g.size g'.keeper team.count
+  kept : Keepers g.size g'.keeper team.count
   kept = record {
     kept = λ b j st y. ⊎_elim
         (λ (e : b ≡ a). let p = put_at g.keeper a (k + 1) b e in omega (arith, ready.member))
@@ -120,7 +120,7 @@ module _ (E : Era) (m : Memory) (team : Team) (g : Ghost) (k : ℕ) (q : Quest) 
 
   others : (j : ℕ) → j < team.count → j ≢ k → Knows E m.gate m.traced m.front m.low m.old_front m.old_low m.old_owed g' m.page m.cross m.announced heap' j (team.worker j)
   others j l d =
-      let u = knows_spot E m.gate m.traced m.front m.low m.old_front m.old_low m.old_owed g m.page m.cross m.announced m.heap k a 0 v spot j (team.worker j) d inv.older (inv.workers j l) in
+      let u = knows_unread E m.gate m.traced m.front m.low m.old_front m.old_low m.old_owed g m.page m.cross m.announced m.heap k a 0 v unread_word j (team.worker j) d inv.older (inv.workers j l) in
       let n : put g.kept k (a + 1) j ≡ g.kept j = put_other g.kept k (a + 1) j d in
       let x = λ (c : Copy) (y : (team.worker j).copy ≡ Some c). copies c (u.copy c y) n in
       let z : Licensed m.gate.behind g'.kept j (is_late E.epoch (team.worker j)) (team.worker j).copy (team.worker j).quest (team.worker j).scan =
@@ -146,7 +146,7 @@ module _ (E : Era) (m : Memory) (team : Team) (g : Ghost) (k : ℕ) (q : Quest) 
   own : Knows E m.gate m.traced m.front m.low m.old_front m.old_low m.old_owed g' m.page m.cross m.announced heap' k w'
   own =
       let u = me in
-      let o1 = λ (q : Quest) (e : (team.worker k).quest ≡ Some q). origin_spot spot m.heap v g.kind _ (team.worker k).done (team.worker k).registers (team.worker k).scan q.old q.origin (me.origin q e) in
+      let o1 = λ (q : Quest) (e : (team.worker k).quest ≡ Some q). origin_unread unread_word m.heap v g.kind _ (team.worker k).done (team.worker k).registers (team.worker k).scan q.old q.origin (me.origin q e) in
       let o2 : Licensed m.gate.behind g'.kept k (is_late E.epoch (team.worker k)) w'.copy (team.worker k).quest (team.worker k).scan = record {
         licensed = λ x n. licence;
         asked = λ x n. (q, asks, ap (λ (y : Copy). y.from) (some_same n), seeks);
@@ -165,7 +165,7 @@ module _ (E : Era) (m : Memory) (team : Team) (g : Ghost) (k : ℕ) (q : Quest) 
         crossings = λ e. absurd (cc);
       }) in
       let o4 : (x : Copy) → w'.copy ≡ Some x → Keeps g.kind g.identity heap' x = λ x n. rw (← some_same n) (record { head = λ l. absurd (omega arith); keeps = let s : len + 1 - 1 ≡ g.size a - 1 = omega (arith, found.sized) in rw s is }) in
-      let o5 = λ (s : Scan) (e : (team.worker k).scan ≡ Some s). scans_spot spot m.heap v g.kind m.page k s (me.scan s e) in
+      let o5 = λ (s : Scan) (e : (team.worker k).scan ≡ Some s). scans_unread unread_word m.heap v g.kind m.page k s (me.scan s e) in
       assumption
 
   invariant : Invariant E (with_word m (a + 0) v) (with_worker team k w') g'
@@ -175,14 +175,14 @@ module _ (E : Era) (m : Memory) (team : Team) (g : Ghost) (k : ℕ) (q : Quest) 
       let p3 = headed in
       let p4 = copied in
       let p5 = kept in
-      let p6 = raw_spot spot m.heap v g.kind inv.raw_words in
+      let p6 = raw_unread unread_word m.heap v g.kind inv.raw_words in
       let p7 = scanned_put team.worker k w' refl inv.scanned in
-      let p8 = opened_spot spot m.heap v g.kind m.page inv.opened in
-      let p9 = landing_spot spot m.heap v g.kind inv.landing in
-      let p10 = older_spot spot m.heap v g.kind inv.older in
-      let p11 = new_spot spot m.heap v m.low (E.start + E.span) E.epoch m.page inv.new in
-      let p12 : OldSpace E m.traced m.old_front m.old_low g.size heap' m.page = record { walks = λ t d e. space_spot spot m.heap v E.old_start m.old_front m.old_low (E.old_start + E.old_span) d m.page (inv.old_space.walks t d e) } in
-      let p13 = stocks_put team.worker k w' (λ _ e. e) (stocks_spot spot m.heap v team.count m.page team.worker inv.stocks) in
+      let p8 = opened_unread unread_word m.heap v g.kind m.page inv.opened in
+      let p9 = landing_unread unread_word m.heap v g.kind inv.landing in
+      let p10 = older_unread unread_word m.heap v g.kind inv.older in
+      let p11 = new_unread unread_word m.heap v m.low (E.start + E.span) E.epoch m.page inv.new in
+      let p12 : OldSpace E m.traced m.old_front m.old_low g.size heap' m.page = record { walks = λ t d e. space_unread unread_word m.heap v E.old_start m.old_front m.old_low (E.old_start + E.old_span) d m.page (inv.old_space.walks t d e) } in
+      let p13 = stocks_put team.worker k w' (λ _ e. e) (stocks_unread unread_word m.heap v team.count m.page team.worker inv.stocks) in
       let p14 = numbered_put team.worker k w' refl inv.numbered in
       let p15 = team_put team.count (Knows E m.gate m.traced m.front m.low m.old_front m.old_low m.old_owed g' m.page m.cross m.announced heap') team.worker k w' others own in
       assumption
@@ -209,13 +209,13 @@ module _ (E : Era) (m : Memory) (team : Team) (g : Ghost) (k : ℕ) (q : Quest) 
     invariant = invariant;
     ages = λ page. omega arith;
     shown = λ p s. record {
-      objects = let o = objects_spot spot m.heap v g.copy g.keeper g.kind g.identity p.heap s.objects in record {
+      objects = let o = objects_unread unread_word m.heap v g.copy g.keeper g.kind g.identity p.heap s.objects in record {
         shows = λ b st w y. ⊎_elim
             (λ (e : b ≡ a). o.shows b st w (inl (rw e (found.copy))))
             (λ (d : b ≢ a). o.shows b st w (rw (put_other g.keeper a (k + 1) b d) at y))
             (cases_eq b a);
       };
-      board = board_spot spot m.heap v g.identity p.heap s.board;
+      board = board_unread unread_word m.heap v g.identity p.heap s.board;
       as_many = s.as_many;
       makers = s.makers;
       accounts = λ j q e. accounts_put team.worker k w' refl j q (s.accounts j q e);
@@ -223,9 +223,9 @@ module _ (E : Era) (m : Memory) (team : Team) (g : Ghost) (k : ℕ) (q : Quest) 
     };
     cycle = λ p cy. record {
       copying = cycle_taken p (asked_reachable E m team g k inv ready.member q p asks cy)
-          (copying_spot E m.gate m.traced m.front m.low m.old_front m.old_low m.old_owed g m.page m.cross m.announced m.heap k a 0 v spot p inv.older cy.copying);
+          (copying_unread E m.gate m.traced m.front m.low m.old_front m.old_low m.old_owed g m.page m.cross m.announced m.heap k a 0 v unread_word p inv.older cy.copying);
       rooted = rooted_put team.worker k w' refl refl refl (λ _ _ a b. (a, b))
-          (rooted_spot E m.gate m.traced m.front m.low m.old_front m.old_low m.old_owed g m.page m.cross m.announced m.heap k a 0 v spot team.count team.worker p cy.rooted);
+          (rooted_unread E m.gate m.traced m.front m.low m.old_front m.old_low m.old_owed g m.page m.cross m.announced m.heap k a 0 v unread_word team.count team.worker p cy.rooted);
     };
   }
 

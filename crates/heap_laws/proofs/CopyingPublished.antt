@@ -19,9 +19,9 @@ use Rattle.heap_state.proofs.Frames.{accounts_put, registers_put, rooted_put}
 use Rattle.heap_state.proofs.Puts.{put_at, put_other, some_same}
 use Rattle.heap_laws.specs.Copying.{published}
 use Rattle.heap_laws.specs.Steps.{with_worker, with_word, Preserves, Ready}
-use Rattle.heap_laws.proofs.CopyingForward.{Publishing, mine, placed, from_written, spot, twin, copied_word, was_written, written_on, here_cases, old_target, invariant}
-use Rattle.heap_laws.proofs.CopyingSpot.{here_same, inner_same, shows_spot, objects_spot, board_spot}
-use Rattle.heap_laws.proofs.CopyingWord.{rooted_spot}
+use Rattle.heap_laws.proofs.CopyingForward.{Publishing, mine, placed, from_written, unread_word, twin, copied_word, was_written, written_on, here_cases, old_target, invariant}
+use Rattle.heap_laws.proofs.CopyingSpot.{here_same, inner_same, shows_unread, objects_unread, board_unread}
+use Rattle.heap_laws.proofs.CopyingWord.{rooted_unread}
 use Rattle.heap_laws.proofs.Words.{pointer_from_value, value_from_pointer, copied_within}
 
 module _ {E : Era} {m : Memory} {team : Team} {g : Ghost} {k : ℕ} {c : Copy} {q : Quest} {v : ℕ} (publishing : Publishing E m team g k c q v) where
@@ -56,7 +56,7 @@ module _ {E : Era} {m : Memory} {team : Team} {g : Ghost} {k : ℕ} {c : Copy} {
   })
 
   objects : (records : plain.Heap) → ShowsAll g.size g.writer g.copy g.keeper g.kind g.identity m.heap records → ShowsAll g'.size g'.writer g'.copy g'.keeper g'.kind g'.identity heap' records
-  objects records p = let o = objects_spot (spot publishing) m.heap v g.copy g.keeper g.kind g.identity records p in record {
+  objects records p = let o = objects_unread (unread_word publishing) m.heap v g.copy g.keeper g.kind g.identity records p in record {
     shows = λ b st w y. ⊎_elim
         (λ (e : b ≡ c.to). rw e of_copy)
         (λ (d : b ≢ c.to). o.shows b st (was_written publishing b w d) (unkept b y))
@@ -89,7 +89,7 @@ module _ {E : Era} {m : Memory} {team : Team} {g : Ghost} {k : ℕ} {c : Copy} {
 
     sound : (x : ℕ) (i : Identity) → Here E g'.size g'.writer g'.kind x → StillLeads E g'.identity (heap' x) i → Reachable p i
     sound x i u t = ⊎_elim
-        (λ (y : Here E g.size g.writer g.kind x). cy.sound x i y (rw (here_same (spot publishing) m.heap v g.kind x y) at t))
+        (λ (y : Here E g.size g.writer g.kind x). cy.sound x i y (rw (here_same (unread_word publishing) m.heap v g.kind x y) at t))
         (λ (y : (n : ℕ) × (x ≡ c.to + n) × (0 < n) × (n < c.size) × (is_field (g.kind c.from) n ≡ true)).
         let w : heap' x ≡ m.heap (c.from + y.0) = ap heap' (y.1) ∙ copied_word publishing y.0 y.2 y.3 in
         let d : decode (m.heap (c.from + y.0)) ≡ PointerWord (t.at) = ap decode (sym w) ∙ t.points in
@@ -127,14 +127,14 @@ module _ {E : Era} {m : Memory} {team : Team} {g : Ghost} {k : ℕ} {c : Copy} {
 
     pub copying : Copying E m.front g'.size g'.writer g'.copy g'.keeper g'.kind g'.identity heap' p
     copying = record {
-      old = λ b st l n y. let z = cy.old b st l n (unkept b y) in (z.0, z.1, shows_spot (spot publishing) m.heap v g.identity b (g.kind b) (g.size b) z.0 (inv.older.written b l n) refl z.2);
+      old = λ b st l n y. let z = cy.old b st l n (unkept b y) in (z.0, z.1, shows_unread (unread_word publishing) m.heap v g.identity b (g.kind b) (g.size b) z.0 (inv.older.written b l n) refl z.2);
       sound = sound;
       reached = λ b st l n y. cy.reached b st l n (⊎_elim (λ z. inl z) (λ z. inr (let d : b ≢ c.from = (λ e. let u = put_at g.keeper c.from 0 b e in omega arith) in rw (put_other g.keeper c.from 0 b d) at z)) y);
       sizes = cy.sizes;
       complete = λ b x r i st w l u of f refers. ⊎_elim
           (λ (y : b ≡ c.to). inr (rw y (still x r i (ap (λ z. plain.record_of p.heap (g.identity z)) (sym y) ∙ of) (rw (y, (twin publishing).6) at f) refers)))
           (λ (d : b ≢ c.to). ⊎_elim (λ y. inl (copied_on i y))
-          (λ y. inr (rw (inner_same (spot publishing) m.heap v b (x + 1) (was_written publishing b w d) (omega arith) (copied_within cy b x r (Reference i) st l u of refers)) y))
+          (λ y. inr (rw (inner_same (unread_word publishing) m.heap v b (x + 1) (was_written publishing b w d) (omega arith) (copied_within cy b x r (Reference i) st l u of refers)) y))
           (cy.complete b x r i st (was_written publishing b w d) l u of f refers))
           (cases_eq b c.to);
       from = cy.from;
@@ -143,7 +143,7 @@ module _ {E : Era} {m : Memory} {team : Team} {g : Ghost} {k : ℕ} {c : Copy} {
     pub rooted : Rooted E m.front team.count g.size g.writer g.identity m.heap team.worker p → Rooted E m.front team.count g'.size g'.writer g'.identity heap' (put team.worker k w') p
     rooted r =
         let s = rooted_put team.worker k w' refl refl refl (λ _ _ a b. (a, b))
-        (rooted_spot E m.gate m.traced m.front m.low m.old_front m.old_low m.old_owed g m.page m.cross m.announced m.heap k c.from 0 v (spot publishing) team.count team.worker p r) in
+        (rooted_unread E m.gate m.traced m.front m.low m.old_front m.old_low m.old_owed g m.page m.cross m.announced m.heap k c.from 0 v (unread_word publishing) team.count team.worker p r) in
         record { roots = λ i y. ⊎_elim (λ z. inl (copied_on i z)) (λ z. inr z) (s.roots i y); sound = s.sound }
 
   preserves : Preserves E m (with_word m (c.from + 0) v) team (with_worker team k w') g g'
@@ -152,7 +152,7 @@ module _ {E : Era} {m : Memory} {team : Team} {g : Ghost} {k : ℕ} {c : Copy} {
     ages = λ page. omega arith;
     shown = λ p s. record {
       objects = objects p.heap s.objects;
-      board = board_spot (spot publishing) m.heap v g.identity p.heap s.board;
+      board = board_unread (unread_word publishing) m.heap v g.identity p.heap s.board;
       as_many = s.as_many;
       makers = s.makers;
       accounts = λ j x e. accounts_put team.worker k w' refl j x (s.accounts j x e);

@@ -7,7 +7,7 @@ use Rattle.heap_state.specs.Era.{Era, Memory}
 use Rattle.heap_state.specs.Functions.{sum_below}
 use Rattle.heap_state.specs.Ghost.{Ghost}
 use Rattle.heap_state.specs.Inductive.{Invariant, Knows}
-use Rattle.heap_state.specs.Parts.Copies.{Kept, Room, owing}
+use Rattle.heap_state.specs.Parts.Copies.{Keepers, Room, owing}
 use Rattle.heap_state.specs.Parts.Copying.{IsOrigin, Seeks, Copies, Keeps, Licensed}
 use Rattle.heap_state.specs.Parts.Knowledge.{Clean, Accesses, Resets}
 use Rattle.heap_state.specs.Parts.Pages.{Shut, Quiet, Filling, Tracing}
@@ -18,7 +18,7 @@ use Rattle.heap_state.proofs.Puts.{put_at, put_other, put_same, team_put, some_s
 use Rattle.heap_state.proofs.Still.{open_scanning, still}
 use Rattle.heap_laws.specs.Copying.{copying, reserved}
 use Rattle.heap_laws.specs.Steps.{Ready, with_worker, with_area}
-use Rattle.heap_laws.proofs.CopyingGrowth.{Growth, empty, not_new, was, is, source_other, old_side, laid_grown, headed_grown, copied_grown, once_grown, written_on, here_back, here_on, lands_grown, opened_grown, landing_grown, older_grown, raw_grown, new_grown, written_grown, space_grown, crossing_grown, stocks_grown, numbered_grown}
+use Rattle.heap_laws.proofs.CopyingGrowth.{Reservation, empty, not_new, was, is, source_other, old_side, laid_reserved, headed_reserved, copied_reserved, once_reserved, written_on, here_back, here_on, lands_reserved, opened_reserved, landing_reserved, older_reserved, raw_reserved, new_reserved, written_reserved, space_reserved, crossing_reserved, stocks_reserved, numbered_reserved}
 use Rattle.heap_laws.proofs.CopyingRoom.{untraced, alone, goes_on, at_source, has_room}
 use Rattle.heap_laws.proofs.ScanningWho.{open_age, scan_age, scan_scan}
 
@@ -56,8 +56,8 @@ module _ {E : Era} {m : Memory} {team : Team} {g : Ghost} {k : ℕ} {c : Copy} (
   enough : c.size ≤ m.owed
   enough = (has_room E m team g k c ready has loose).owed
 
-  pub growth : Growth E m.front m.low g k c.from c.to c.size
-  growth = record {
+  pub reservation : Reservation E m.front m.low g k c.from c.to c.size
+  reservation = record {
     laid_out = ready.laid_out;
     laid = inv.laid;
     copied = inv.copied;
@@ -81,7 +81,7 @@ module _ {E : Era} {m : Memory} {team : Team} {g : Ghost} {k : ℕ} {c : Copy} (
       new_source = let q : E.old_start + (c.from - E.old_start) ≡ c.from = omega (arith, mine.old) in rw (q, put_same g.copy c.from (c.to + 1), ne_eqb (c.to + 1) 0 (omega arith)) refl
 
       other_term : (b : ℕ) → E.old_start ≤ b → b < E.old_start + E.old_span → b ≢ c.from → owing g.size g.copy b ≡ owing g'.size g'.copy b
-      other_term b l n d = rw (put_other g.size c.to c.size b (old_side growth b l n), put_other g.copy c.from (c.to + 1) b d) refl
+      other_term b l n d = rw (put_other g.size c.to c.size b (old_side reservation b l n), put_other g.copy c.from (c.to + 1) b d) refl
 
       change : sum_below E.old_span (λ x. owing g'.size g'.copy (E.old_start + x)) + owing g.size g.copy (E.old_start + (c.from - E.old_start))
           ≡ sum_below E.old_span (λ x. owing g.size g.copy (E.old_start + x)) + owing g'.size g'.copy (E.old_start + (c.from - E.old_start))
@@ -99,7 +99,7 @@ module _ {E : Era} {m : Memory} {team : Team} {g : Ghost} {k : ℕ} {c : Copy} (
       let z : x / 64 ≡ r.page_number = omega (arith, r.begun, r.filling, y, l, at_front) in inr (ap m.page z ∙ r.scanned))
       (λ (d : age_of (m.page (x / 64)) ≢ E.epoch + 1). inl (let y = inv.aged.young (x / 64) in omega (arith, d, y)))
       (cases_eq (age_of (m.page (x / 64))) (E.epoch + 1)))
-      (λ (y : m.front ≤ 64 * (x / 64)). inl (inv.shut.free (x / 64) y (omega (arith, inv.laid.aligned, growth.room, n))))
+      (λ (y : m.front ≤ 64 * (x / 64)). inl (inv.shut.free (x / 64) y (omega (arith, inv.laid.aligned, reservation.room, n))))
       (cases_lt (64 * (x / 64)) m.front)
 
   shut : Shut E (c.to + c.size) m.low g'.size g'.writer m.page
@@ -107,11 +107,11 @@ module _ {E : Era} {m : Memory} {team : Team} {g : Ghost} {k : ℕ} {c : Copy} (
     free = λ p l n. inv.shut.free p (omega (arith, at_front, l)) n;
     held = λ b x st w l n. ⊎_elim
         (λ (e : b ≡ c.to). let sz = put_at g.size c.to c.size b e in not_open x (page_of x (omega (arith, e, l)) (omega (arith, e, n, sz))))
-        (λ (d : b ≢ c.to). inv.shut.held b x (was growth b d st) (rw (put_other g.writer c.to (k + 1) b d) at w) l (rw (put_other g.size c.to c.size b d) at n))
+        (λ (d : b ≢ c.to). inv.shut.held b x (was reservation b d st) (rw (put_other g.writer c.to (k + 1) b d) at w) l (rw (put_other g.size c.to c.size b d) at n))
         (cases_eq b c.to);
     by = λ b x j st w l n y. ⊎_elim
         (λ (e : b ≡ c.to). let sz = put_at g.size c.to c.size b e in rw (put_at g.writer c.to (k + 1) b e) (by_me x j y (page_of x (omega (arith, e, l)) (omega (arith, e, n, sz)))))
-        (λ (d : b ≢ c.to). rw (put_other g.writer c.to (k + 1) b d) (inv.shut.by b x j (was growth b d st) (rw (put_other g.writer c.to (k + 1) b d) at w) l (rw (put_other g.size c.to c.size b d) at n) y))
+        (λ (d : b ≢ c.to). rw (put_other g.writer c.to (k + 1) b d) (inv.shut.by b x j (was reservation b d st) (rw (put_other g.writer c.to (k + 1) b d) at w) l (rw (put_other g.size c.to c.size b d) at n) y))
         (cases_eq b c.to);
   }
     where
@@ -127,7 +127,7 @@ module _ {E : Era} {m : Memory} {team : Team} {g : Ghost} {k : ℕ} {c : Copy} (
   filling = record {
     filling = λ p l n e. ⊎_elim
         (λ (y : 64 * p < m.front). let q = inv.filling.filling p y (omega (arith, at_front, n)) e in record { none = q.none; board = q.board; full = λ r u v. q.full r u (omega (arith, y, v, n)) })
-        (λ (y : m.front ≤ 64 * p). absurd (let q = inv.shut.free p y (omega (arith, inv.laid.aligned, growth.room, l)) in omega (arith, q, e)))
+        (λ (y : m.front ≤ 64 * p). absurd (let q = inv.shut.free p y (omega (arith, inv.laid.aligned, reservation.room, l)) in omega (arith, q, e)))
         (cases_lt (64 * p) m.front);
   }
 
@@ -143,7 +143,7 @@ module _ {E : Era} {m : Memory} {team : Team} {g : Ghost} {k : ℕ} {c : Copy} (
     full = λ e i. ⊎_elim (λ y. inl (y.0, omega (arith, at_front, y.1))) (λ y. inr y) (p.full e i);
     clear = λ e i b j st w l. ⊎_elim
         (λ (y : b ≡ c.to). ⊎_elim (λ z. inl (omega (arith, z.1, y, at_front))) (λ z. inr z) (p.full e i))
-        (λ (y : b ≢ c.to). p.clear e i b j (was growth b y st) (rw (put_other g.writer c.to (k + 1) b y) at w) l)
+        (λ (y : b ≢ c.to). p.clear e i b j (was reservation b y st) (rw (put_other g.writer c.to (k + 1) b y) at w) l)
         (cases_eq b c.to);
     last = λ e i. let v = p.last e i in (v.0, omega (arith, at_front, v.1), inl (⊎_elim (λ y. y) (λ y. in_place q v.1 y.0 y.1) v.2));
     late = p.late;
@@ -170,24 +170,24 @@ module _ {E : Era} {m : Memory} {team : Team} {g : Ghost} {k : ℕ} {c : Copy} (
   rounds d r p = record { traced_then = p.traced_then; front_then = λ f e n. let y = p.front_then f e n in omega (arith, y, at_front) }
 
   accesses : (f : Access) → Accesses E g.size g.writer g.kind f → Accesses E g'.size g'.writer g'.kind f
-  accesses f p = let n = not_new growth f.at p.stands in record {
-    stands = is growth f.at p.stands;
-    written = written_on growth f.at p.stands p.written;
+  accesses f p = let n = not_new reservation f.at p.stands in record {
+    stands = is reservation f.at p.stands;
+    written = written_on reservation f.at p.stands p.written;
     inside = p.inside;
     word = rw (put_other g.size c.to c.size (f.at) n) (p.word);
     role = rw (put_other g.kind c.to (g.kind c.from) (f.at) n) (p.role);
   }
 
   registers : (late : Bool) (done : ℕ) (r : ℕ → ℕ) → Clean E g.size g.writer late done r → Clean E g'.size g'.writer late done r
-  registers late done r p = record { clean = p.clean; lands = λ j l. lands_grown growth (r j) (p.lands j l); old = p.old }
+  registers late done r p = record { clean = p.clean; lands = λ j l. lands_reserved reservation (r j) (p.lands j l); old = p.old }
 
   origin : (late : Bool) (done : ℕ) (r : ℕ → ℕ) (scan : Option Scan) (old : ℕ) (o : Origin) → IsOrigin E g.size g.writer g.kind m.heap late done r scan old o → IsOrigin E g'.size g'.writer g'.kind m.heap late done r scan old o
   origin late done r scan old (Register x) p = p
-  origin late done r scan old (Scanned x) p = (p.0, here_on growth x p.1, p.2)
+  origin late done r scan old (Scanned x) p = (p.0, here_on reservation x p.1, p.2)
 
   seeks : (x : Quest) → Seeks E g.size g.writer g.copy x → Seeks E g'.size g'.writer g'.copy x
   seeks x p = record {
-    old = (is growth x.old p.old.0, p.old.1, p.old.2);
+    old = (is reservation x.old p.old.0, p.old.1, p.old.2);
     found = λ b e.
         let y = p.found b e in
         let d : x.old ≢ c.from = (λ i. let z : g.copy x.old ≡ g.copy c.from = ap g.copy i in omega (arith, z, y.0, no_copy)) in
@@ -200,25 +200,25 @@ module _ {E : Era} {m : Memory} {team : Team} {g : Ghost} {k : ℕ} {c : Copy} (
   scans j s p = record {
     claimed = p.claimed;
     place = ⊎_elim (λ y. inl y) (λ y. inr (y.0, omega (arith, y, at_front))) (p.place);
-    passed = λ x u n l. p.passed x (here_back growth x u) n l;
+    passed = λ x u n l. p.passed x (here_back reservation x u) n l;
     cursor = ⊎_elim (λ y. inl y) (λ y. inr (omega (arith, y, at_front))) (p.cursor);
     above = λ b x st w l n q. ⊎_elim
         (λ (y : b ≡ c.to). ⊎_elim
-        (λ (z : s.page ≡ E.board / 64). absurd (let u = put_at g.size c.to c.size b y in omega (arith, z, q, l, n, u, y, growth.room, inv.laid.order, ready.laid_out.below, ready.laid_out.board)))
+        (λ (z : s.page ≡ E.board / 64). absurd (let u = put_at g.size c.to c.size b y in omega (arith, z, q, l, n, u, y, reservation.room, inv.laid.order, ready.laid_out.below, ready.laid_out.board)))
         (λ z. omega (arith, z, y, l, at_front)) (p.cursor))
-        (λ (y : b ≢ c.to). p.above b x (was growth b y st) (rw (put_other g.writer c.to (k + 1) b y) at w) l (rw (put_other g.size c.to c.size b y) at n) q)
+        (λ (y : b ≢ c.to). p.above b x (was reservation b y st) (rw (put_other g.writer c.to (k + 1) b y) at w) l (rw (put_other g.size c.to c.size b y) at n) q)
         (cases_eq b c.to);
   }
 
   stepping : (j : ℕ) (s : Scan) → (team.worker j).scan ≡ Some s → Scans E m.front g.size g.writer g.kind m.heap m.page j s → Stepping E m.front g.size g.writer g.kind s → Stepping E (c.to + c.size) g'.size g'.writer g'.kind s
   stepping j s e sc p = record {
-    over = λ a i. let y = p.over a i in let n = not_new growth a y.0 in (is growth a y.0, written_on growth a y.0 y.1, y.2, rw (put_other g.size c.to c.size a n) (y.3));
+    over = λ a i. let y = p.over a i in let n = not_new reservation a y.0 in (is reservation a y.0, written_on reservation a y.0 y.1, y.2, rw (put_other g.size c.to c.size a n) (y.3));
     current = λ r i.
         let y = p.current r i in
-        let n = not_new growth r.at y.stands in
+        let n = not_new reservation r.at y.stands in
         record {
           stands = rw (put_other g.size c.to c.size r.at n) y.stands;
-          written = written_on growth r.at y.stands y.written;
+          written = written_on reservation r.at y.stands y.written;
           fields = rw (put_other g.kind c.to (g.kind c.from) r.at n, put_other g.size c.to c.size r.at n) y.fields;
           whole = rw (put_other g.size c.to c.size r.at n) y.whole;
           inside = (y.inside.0, let q = y.inside.1 in omega (arith, q, at_front));
@@ -280,7 +280,7 @@ module _ {E : Era} {m : Memory} {team : Team} {g : Ghost} {k : ℕ} {c : Copy} (
       not_source x p e = let y : g.keeper x.from ≡ g.keeper c.from = ap g.keeper e in d (omega (arith, p.old.2, mine.old.2))
 
       from_other : (x : Copy) → Copies E m.front g.size g.writer g.copy g.keeper g.kept m.announced m.cross m.heap j x → x.from ≢ c.to
-      from_other x p = not_new growth x.from (omega (arith, p.old))
+      from_other x p = not_new reservation x.from (omega (arith, p.old))
 
       copies : (x : Copy) → Copies E m.front g.size g.writer g.copy g.keeper g.kept m.announced m.cross m.heap j x → Copies E (c.to + c.size) g'.size g'.writer g'.copy g'.keeper g'.kept m.announced m.cross m.heap j x
       copies x p = record {
@@ -303,7 +303,7 @@ module _ {E : Era} {m : Memory} {team : Team} {g : Ghost} {k : ℕ} {c : Copy} (
       }
 
   own_copies : Copies E (c.to + c.size) g'.size g'.writer g'.copy g'.keeper g'.kept m.announced m.cross m.heap k got
-  own_copies = let n : c.from ≢ c.to = source_other growth in let nm = mine.named ann in let dn = (mine.loose loose).1 in record {
+  own_copies = let n : c.from ≢ c.to = source_other reservation in let nm = mine.named ann in let dn = (mine.loose loose).1 in record {
     old = rw (put_other g.size c.to c.size c.from n) (mine.old);
     loose = λ e. absurd (cc);
     aimed = λ e. (nm.1, omega (arith, nm.2));
@@ -316,7 +316,7 @@ module _ {E : Era} {m : Memory} {team : Team} {g : Ghost} {k : ℕ} {c : Copy} (
   }
 
   own_keeps : Keeps g'.kind g'.identity m.heap got
-  own_keeps = let n : c.from ≢ c.to = source_other growth in let dn = (mine.loose loose).1 in record {
+  own_keeps = let n : c.from ≢ c.to = source_other reservation in let dn = (mine.loose loose).1 in record {
     head = λ l. absurd (omega (arith, dn, l));
     keeps = rw (put_other g.kind c.to (g.kind c.from) c.from n, put_other g.identity c.to (g.identity c.from) c.from n) ((me.keeps c has).keeps);
   }
@@ -332,35 +332,35 @@ module _ {E : Era} {m : Memory} {team : Team} {g : Ghost} {k : ℕ} {c : Copy} (
       (λ x e. rw (← some_same e) own_copies)
       (λ x e. rw (← some_same e) own_keeps)
 
-  kept : Kept g'.size g'.keeper team.count
-  kept = record { kept = λ b j st y. inv.kept.kept b j (was growth b (λ e. let q : g.keeper b ≡ g.keeper c.to = ap g.keeper e in let z = (inv.copied.blank c.to (empty growth)).1 in omega (arith, q, z, y)) st) y }
+  kept : Keepers g'.size g'.keeper team.count
+  kept = record { kept = λ b j st y. inv.kept.kept b j (was reservation b (λ e. let q : g.keeper b ≡ g.keeper c.to = ap g.keeper e in let z = (inv.copied.blank c.to (empty reservation)).1 in omega (arith, q, z, y)) st) y }
 
   pub invariant : Invariant E (with_area m (c.to + c.size) m.low (m.owed - c.size)) (with_worker team k w') g'
   invariant = record {
     counted = counted_put team.worker k w' refl refl inv.counted;
     staffed = staffed_put team.worker k w' refl inv.staffed;
-    laid = laid_grown growth;
-    headed = headed_grown growth m.heap inv.headed;
-    copied = copied_grown growth;
-    once = once_grown growth inv.once;
+    laid = laid_reserved reservation;
+    headed = headed_reserved reservation m.heap inv.headed;
+    copied = copied_reserved reservation;
+    once = once_reserved reservation inv.once;
     kept = kept;
     room = room;
-    raw_words = raw_grown growth m.heap inv.raw_words;
+    raw_words = raw_reserved reservation m.heap inv.raw_words;
     shut = shut;
     filling = filling;
     tracing = tracing;
     aged = inv.aged;
     scanned = scanned_put team.worker k w' refl inv.scanned;
-    opened = opened_grown growth m.heap m.page inv.opened;
-    landing = landing_grown growth m.heap inv.landing;
-    older = older_grown growth m.heap inv.older;
-    new = new_grown growth m.low (E.start + E.span) E.epoch m.heap m.page (λ b l n e. omega (arith, l, e, growth.room, growth.some)) inv.new;
-    new_written = written_grown growth inv.new_written;
-    old_space = record { walks = λ t d e. space_grown growth m.old_front m.old_low d m.heap m.page (inv.old_space.walks t d e) };
+    opened = opened_reserved reservation m.heap m.page inv.opened;
+    landing = landing_reserved reservation m.heap inv.landing;
+    older = older_reserved reservation m.heap inv.older;
+    new = new_reserved reservation m.low (E.start + E.span) E.epoch m.heap m.page (λ b l n e. omega (arith, l, e, reservation.room, reservation.some)) inv.new;
+    new_written = written_reserved reservation inv.new_written;
+    old_space = record { walks = λ t d e. space_reserved reservation m.old_front m.old_low d m.heap m.page (inv.old_space.walks t d e) };
     old_area = inv.old_area;
     old_pages = inv.old_pages;
-    crossing = crossing_grown growth m.cross inv.crossing;
-    stocks = stocks_put team.worker k w' (λ _ e. e) (stocks_grown growth team.count m.heap m.page team.worker inv.stocks);
-    numbered = numbered_put team.worker k w' refl (numbered_grown growth team.mutators team.worker inv.numbered);
+    crossing = crossing_reserved reservation m.cross inv.crossing;
+    stocks = stocks_put team.worker k w' (λ _ e. e) (stocks_reserved reservation team.count m.heap m.page team.worker inv.stocks);
+    numbered = numbered_put team.worker k w' refl (numbered_reserved reservation team.mutators team.worker inv.numbered);
     workers = team_put team.count (Knows E m.gate m.traced (c.to + c.size) m.low m.old_front m.old_low m.old_owed g' m.page m.cross m.announced m.heap) team.worker k w' others own;
   }

@@ -18,8 +18,8 @@ use Rattle.heap_state.proofs.Frames.{accounts_put, registers_put, rooted_put}
 use Rattle.heap_state.proofs.Puts.{put_at, put_other, put_same}
 use Rattle.heap_laws.specs.Copying.{reserved, copying as in_progress}
 use Rattle.heap_laws.specs.Steps.{with_worker, with_area, Preserves, Ready}
-use Rattle.heap_laws.proofs.CopyingGrowth.{not_new, was, is, was_written, written_on, here_back, old_side, value_grown}
-use Rattle.heap_laws.proofs.CopyingReserve.{Reserving, w', g', mine, growth, invariant}
+use Rattle.heap_laws.proofs.CopyingGrowth.{not_new, was, is, was_written, written_on, here_back, old_side, value_reserved}
+use Rattle.heap_laws.proofs.CopyingReserve.{Reserving, w', g', mine, reservation, invariant}
 
 module _ {E : Era} {m : Memory} {team : Team} {g : Ghost} {k : ℕ} {c : Copy} (reserving : Reserving E m team g k c) where
   abbrev inv : Invariant E m team g
@@ -64,7 +64,7 @@ module _ {E : Era} {m : Memory} {team : Team} {g : Ghost} {k : ℕ} {c : Copy} (
     numbers = p.numbers;
     fields = λ x l y.
         let z = p.size in
-        value_grown (growth reserving) (m.heap (b + (x + 1))) (field_lands b (x + 1) (record { stands = st; written = w; field = y; first = omega arith; last = omega (arith, l, z) })) ∙ p.fields x l y;
+        value_reserved (reservation reserving) (m.heap (b + (x + 1))) (field_lands b (x + 1) (record { stands = st; written = w; field = y; first = omega arith; last = omega (arith, l, z) })) ∙ p.fields x l y;
   }
 
   -- it has the identity, kind and size that it had
@@ -78,15 +78,15 @@ module _ {E : Era} {m : Memory} {team : Team} {g : Ghost} {k : ℕ} {c : Copy} (
   objects records p = record {
     shows = λ b st w y.
         let d : b ≢ c.to = (λ e. let q = put_at g.writer c.to (k + 1) b e in omega (arith, q, w)) in
-        let st' = was (growth reserving) b d st in
-        let w' = was_written (growth reserving) b w in
+        let st' = was (reservation reserving) b d st in
+        let w' = was_written (reservation reserving) b w in
         same_record records b d st' w' (p.shows b st' w' (uncopied b y));
   }
 
   shown : (p : plain.Plain) → Shown E m team g p → Shown E (with_area m (c.to + c.size) m.low (m.owed - c.size)) (with_worker team k (w' reserving)) after p
   shown p s = record {
     objects = objects p.heap s.objects;
-    board = record { sixteen = s.board.sixteen; board = λ x l. value_grown (growth reserving) (m.heap (E.board + x)) (board_lands x l) ∙ s.board.board x l };
+    board = record { sixteen = s.board.sixteen; board = λ x l. value_reserved (reservation reserving) (m.heap (E.board + x)) (board_lands x l) ∙ s.board.board x l };
     as_many = s.as_many;
     makers = s.makers;
     accounts = λ j q e. accounts_put team.worker k (w' reserving) refl j q (s.accounts j q e);
@@ -102,21 +102,21 @@ module _ {E : Era} {m : Memory} {team : Team} {g : Ghost} {k : ℕ} {c : Copy} (
           let l : j < team.count = omega (arith, few, staffed) in
           record {
             eight = r.eight;
-            registers_show = λ n i b. value_grown (growth reserving) ((team.worker j).registers i) (late_lands j i l (inv.staffed.posts j l ∙ lt-ltb j team.mutators few) ((s.accounts j q e).end ∙ n) b) ∙ r.registers_show n i b;
+            registers_show = λ n i b. value_reserved (reservation reserving) ((team.worker j).registers i) (late_lands j i l (inv.staffed.posts j l ∙ lt-ltb j team.mutators few) ((s.accounts j q e).end ∙ n) b) ∙ r.registers_show n i b;
           }
 
   -- ---- what the cycle keeps
 
   leads_back : (w : ℕ) (i : Identity) → StillLeads E after.identity w i → StillLeads E g.identity w i
-  leads_back w i t = record { at = t.at; points = t.points; old = t.old; named = rw (put_other g.identity c.to (g.identity c.from) (t.at) (old_side (growth reserving) t.at t.old.0 t.old.1)) at (t.named) }
+  leads_back w i t = record { at = t.at; points = t.points; old = t.old; named = rw (put_other g.identity c.to (g.identity c.from) (t.at) (old_side (reservation reserving) t.at t.old.0 t.old.1)) at (t.named) }
 
   leads_on : (w : ℕ) (i : Identity) → StillLeads E g.identity w i → StillLeads E after.identity w i
-  leads_on w i t = record { at = t.at; points = t.points; old = t.old; named = rw (put_other g.identity c.to (g.identity c.from) (t.at) (old_side (growth reserving) t.at t.old.0 t.old.1)) (t.named) }
+  leads_on w i t = record { at = t.at; points = t.points; old = t.old; named = rw (put_other g.identity c.to (g.identity c.from) (t.at) (old_side (reservation reserving) t.at t.old.0 t.old.1)) (t.named) }
 
   copied_on : (i : Identity) → IsCopied E m.front g.size g.writer g.identity i → IsCopied E (c.to + c.size) after.size after.writer after.identity i
-  copied_on i y = let d = not_new (growth reserving) y.at y.stands.0 in record {
+  copied_on i y = let d = not_new (reservation reserving) y.at y.stands.0 in record {
     at = y.at;
-    stands = (is (growth reserving) y.at y.stands.0, written_on (growth reserving) y.at y.stands.0 y.stands.1);
+    stands = (is (reservation reserving) y.at y.stands.0, written_on (reservation reserving) y.at y.stands.0 y.stands.1);
     below = (y.below.0, let f = reserving.at_front in let b = y.below.1 in omega (arith, f, b));
     named = rw (put_other g.identity c.to (g.identity c.from) (y.at) d) (y.named);
   }
@@ -124,7 +124,7 @@ module _ {E : Era} {m : Memory} {team : Team} {g : Ghost} {k : ℕ} {c : Copy} (
   -- a copy that was there before lies below FRONT as it was
   below_front : (b : ℕ) → b ≢ c.to → 0 < g.size b → E.start ≤ b → b < c.to + c.size → b < m.front
   below_front b d st s l =
-      let y = inv.laid.lies b st in let o = inv.laid.order in let a = reserving.ready.laid_out.apart in let r = (growth reserving).room in let f = reserving.at_front in
+      let y = inv.laid.lies b st in let o = inv.laid.order in let a = reserving.ready.laid_out.apart in let r = (reservation reserving).room in let f = reserving.at_front in
       omega (arith, y, o, a, r, f, st, s, l, d)
 
   module _ (p : plain.Plain) (cy : Copying E m.front g.size g.writer g.copy g.keeper g.kind g.identity m.heap p) where
@@ -138,7 +138,7 @@ module _ {E : Era} {m : Memory} {team : Team} {g : Ghost} {k : ℕ} {c : Copy} (
         (o.0, o.1, s.size ∙ (mine reserving).old.1, s.kind)
 
     no_copy : g.copy c.from ≡ 0
-    no_copy = (growth reserving).uncopied
+    no_copy = (reservation reserving).uncopied
 
     complete : (b x : ℕ) (r : plain.Record) (i : Identity) → b ≢ c.to → 0 < g.size b → g.writer b ≡ 0 → E.start ≤ b → b < c.to + c.size
         → plain.record_of p.heap (g.identity b) ≡ Some r → is_field (g.kind b) (word_of (g.kind b) x) ≡ true → slice_get r.values x ≡ Some (Reference i)
@@ -149,25 +149,25 @@ module _ {E : Era} {m : Memory} {team : Team} {g : Ghost} {k : ℕ} {c : Copy} (
 
     copying : Copying E (c.to + c.size) after.size after.writer after.copy after.keeper after.kind after.identity m.heap p
     copying = record {
-      old = λ b st l n y. let d = old_side (growth reserving) b l n in let st' = was (growth reserving) b d st in
+      old = λ b st l n y. let d = old_side (reservation reserving) b l n in let st' = was (reservation reserving) b d st in
           same_record p.heap b d st' (inv.older.written b l n) (cy.old b st' l n (uncopied b y));
-      sound = λ x i u t. cy.sound x i (here_back (growth reserving) x u) (leads_back (m.heap x) i t);
-      reached = λ b st l n y. let d = old_side (growth reserving) b l n in rw (put_other g.identity c.to (g.identity c.from) b d) (⊎_elim
-          (λ (e : b ≡ c.from). cy.reached b (was (growth reserving) b d st) l n (inr (let z : g.keeper b ≡ g.keeper c.from = ap g.keeper e in let o = from_old.3 in omega (arith, z, o))))
-          (λ (e : b ≢ c.from). cy.reached b (was (growth reserving) b d st) l n (⊎_elim (λ z. inl (rw (put_other g.copy c.from (c.to + 1) b e) at z)) (λ z. inr z) y))
+      sound = λ x i u t. cy.sound x i (here_back (reservation reserving) x u) (leads_back (m.heap x) i t);
+      reached = λ b st l n y. let d = old_side (reservation reserving) b l n in rw (put_other g.identity c.to (g.identity c.from) b d) (⊎_elim
+          (λ (e : b ≡ c.from). cy.reached b (was (reservation reserving) b d st) l n (inr (let z : g.keeper b ≡ g.keeper c.from = ap g.keeper e in let o = from_old.3 in omega (arith, z, o))))
+          (λ (e : b ≢ c.from). cy.reached b (was (reservation reserving) b d st) l n (⊎_elim (λ z. inl (rw (put_other g.copy c.from (c.to + 1) b e) at z)) (λ z. inr z) y))
           (cases_eq b c.from));
       sizes = λ b st l n. ⊎_elim
           (λ (e : b ≡ c.to). rw (put_at g.identity c.to (g.identity c.from) b e, put_at g.kind c.to (g.kind c.from) b e, put_at g.size c.to c.size b e) new_size)
-          (λ (d : b ≢ c.to). let st' = was (growth reserving) b d st in
+          (λ (d : b ≢ c.to). let st' = was (reservation reserving) b d st in
           rw (put_other g.identity c.to (g.identity c.from) b d, put_other g.kind c.to (g.kind c.from) b d, put_other g.size c.to c.size b d) (cy.sizes b st' l (below_front b d st' l n)))
           (cases_eq b c.to);
       complete = λ b x r i st w s l of f refers.
           let d : b ≢ c.to = (λ e. let z = put_at g.writer c.to (k + 1) b e in omega (arith, z, w)) in
-          complete b x r i d (was (growth reserving) b d st) (was_written (growth reserving) b w) s l (rw (put_other g.identity c.to (g.identity c.from) b d) at of) (rw (put_other g.kind c.to (g.kind c.from) b d) at f) refers;
+          complete b x r i d (was (reservation reserving) b d st) (was_written (reservation reserving) b w) s l (rw (put_other g.identity c.to (g.identity c.from) b d) at of) (rw (put_other g.kind c.to (g.kind c.from) b d) at f) refers;
       from = λ b st l n. ⊎_elim
-          (λ (e : b ≡ c.to). (c.from, is (growth reserving) c.from from_old.0, (let q : after.copy c.from ≡ c.to + 1 = put_same g.copy c.from (c.to + 1) in let z : c.to + 1 ≡ b + 1 = omega (arith, e) in q ∙ z)))
-          (λ (d : b ≢ c.to). let st' = was (growth reserving) b d st in let o = cy.from b st' l (below_front b d st' l n) in
-          let e : o.0 ≢ c.from = (λ e. let z : g.copy (o.0) ≡ g.copy c.from = ap g.copy e in omega (arith, z, o.2, no_copy)) in (o.0, is (growth reserving) o.0 o.1, rw (put_other g.copy c.from (c.to + 1) (o.0) e) (o.2)))
+          (λ (e : b ≡ c.to). (c.from, is (reservation reserving) c.from from_old.0, (let q : after.copy c.from ≡ c.to + 1 = put_same g.copy c.from (c.to + 1) in let z : c.to + 1 ≡ b + 1 = omega (arith, e) in q ∙ z)))
+          (λ (d : b ≢ c.to). let st' = was (reservation reserving) b d st in let o = cy.from b st' l (below_front b d st' l n) in
+          let e : o.0 ≢ c.from = (λ e. let z : g.copy (o.0) ≡ g.copy c.from = ap g.copy e in omega (arith, z, o.2, no_copy)) in (o.0, is (reservation reserving) o.0 o.1, rw (put_other g.copy c.from (c.to + 1) (o.0) e) (o.2)))
           (cases_eq b c.to);
     }
 

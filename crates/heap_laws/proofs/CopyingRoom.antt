@@ -11,7 +11,7 @@ use Rattle.heap_state.specs.Parts.Pages.{Quiet}
 use Rattle.heap_state.specs.Worker.{Team, Copy, Scan, Origin, Register, Scanned, is_late}
 use Rattle.heap_state.proofs.Puts.{some_same}
 use Rattle.heap_state.proofs.Still.{still, nobody_copies}
-use Rattle.heap_laws.specs.Copying.{HasRoom, CopiesHaveRoom}
+use Rattle.heap_laws.specs.Copying.{HasRoomForCopy, CopiesHaveRoom}
 use Rattle.heap_laws.specs.Steps.{Ready}
 use Rattle.heap_laws.proofs.FlippingSums.{sum_below-term}
 use Rattle.heap_laws.proofs.ScanningWho.{scan_scan}
@@ -50,7 +50,7 @@ module _ (E : Era) (m : Memory) (team : Team) (g : Ghost) (k : ℕ) (c : Copy) (
     pub at_source : owing g.size g.copy (E.old_start + (c.from - E.old_start)) ≡ c.size
     at_source = let o = (known.copy c has).old in let q : E.old_start + (c.from - E.old_start) ≡ c.from = omega (arith, o) in let y = ((known.copy c has).loose loose).0 in rw (q, y) (o.1)
 
-    pub has_room : HasRoom m c
+    pub has_room : HasRoomForCopy m c
     has_room =
         let o = (known.copy c has).old in
         let q = sum_below-term E.old_span (λ x. owing g.size g.copy (E.old_start + x)) (c.from - E.old_start) (omega (arith, o)) in

@@ -21,14 +21,14 @@ use Rattle.heap_laws.proofs.OtherWords.{has_place, area_same, stocked_same, scan
 use Rattle.heap_laws.proofs.Words.{one_place}
 
 -- Word i of the record at a is its first, or one of a place that is still written; and nobody but worker k writes there.
-pub record Spot (E : Era) (front low : ℕ) (size writer : ℕ → ℕ) (k a i : ℕ) : Type 0 where
+pub record UnreadWord (E : Era) (front low : ℕ) (size writer : ℕ → ℕ) (k a i : ℕ) : Type 0 where
   pub laid_out : IsLaidOut E
   pub laid : Laid E front low size
   pub inside : i < size a
   pub hidden : (i ≡ 0) ⊎ (0 < writer a)
   pub own : (writer a ≡ 0) ⊎ (writer a ≡ k + 1)
 
-module _ {E : Era} {front low : ℕ} {size writer : ℕ → ℕ} {k a0 i0 : ℕ} (sp : Spot E front low size writer k a0 i0) (heap : ℕ → ℕ) (v : ℕ) where
+module _ {E : Era} {front low : ℕ} {size writer : ℕ → ℕ} {k a0 i0 : ℕ} (sp : UnreadWord E front low size writer k a0 i0) (heap : ℕ → ℕ) (v : ℕ) where
   open sp use {laid_out, laid, inside, hidden, own}
 
   abbrev stored : ℕ → ℕ
@@ -66,39 +66,39 @@ module _ {E : Era} {front low : ℕ} {size writer : ℕ → ℕ} {k a0 i0 : ℕ}
 
   -- ---- the parts
 
-  pub opened_spot : (kind : ℕ → Kind) (page : ℕ → PageWord) → Opened E size writer kind heap page → Opened E size writer kind stored page
-  opened_spot kind page p = record { opened = λ x u o. rw (here_same kind x u) (p.opened x u o) }
+  pub opened_unread : (kind : ℕ → Kind) (page : ℕ → PageWord) → Opened E size writer kind heap page → Opened E size writer kind stored page
+  opened_unread kind page p = record { opened = λ x u o. rw (here_same kind x u) (p.opened x u o) }
 
-  pub landing_spot : (kind : ℕ → Kind) → Landing E size writer kind heap → Landing E size writer kind stored
-  landing_spot kind p = record { lands = λ x u. rw (here_same kind x u) (p.lands x u) }
+  pub landing_unread : (kind : ℕ → Kind) → Landing E size writer kind heap → Landing E size writer kind stored
+  landing_unread kind p = record { lands = λ x u. rw (here_same kind x u) (p.lands x u) }
 
-  pub older_spot : (kind : ℕ → Kind) → Older E size writer kind heap → Older E size writer kind stored
-  older_spot kind p = record { older = λ a i b f l m d. p.older a i b f l m (rw (inner_same a i f.written f.first f.last) at d); written = p.written }
+  pub older_unread : (kind : ℕ → Kind) → Older E size writer kind heap → Older E size writer kind stored
+  older_unread kind p = record { older = λ a i b f l m d. p.older a i b f l m (rw (inner_same a i f.written f.first f.last) at d); written = p.written }
 
-  pub new_spot : (start end epoch : ℕ) (page : ℕ → PageWord) → NewArea start end epoch size heap page → NewArea start end epoch size stored page
-  new_spot start end epoch page p = area_same (λ x l m n. outside_same x n) p
+  pub new_unread : (start end epoch : ℕ) (page : ℕ → PageWord) → NewArea start end epoch size heap page → NewArea start end epoch size stored page
+  new_unread start end epoch page p = area_same (λ x l m n. outside_same x n) p
 
-  pub space_spot : (start begun free end epoch : ℕ) (page : ℕ → PageWord) → SpaceOf start begun free end epoch size heap page → SpaceOf start begun free end epoch size stored page
-  space_spot start begun free end epoch page p = record { lies = p.lies; order = p.order; aligned = p.aligned; first = p.first; next = p.next; new = new_spot free end epoch page p.new }
+  pub space_unread : (start begun free end epoch : ℕ) (page : ℕ → PageWord) → SpaceOf start begun free end epoch size heap page → SpaceOf start begun free end epoch size stored page
+  space_unread start begun free end epoch page p = record { lies = p.lies; order = p.order; aligned = p.aligned; first = p.first; next = p.next; new = new_unread free end epoch page p.new }
 
-  pub raw_spot : (kind : ℕ → Kind) → RawWords size writer kind heap → RawWords size writer kind stored
-  raw_spot kind p = record { raw = λ a i st w f l n. rw (inner_same a i w f l) (p.raw a i st w f l n) }
+  pub raw_unread : (kind : ℕ → Kind) → RawWords size writer kind heap → RawWords size writer kind stored
+  raw_unread kind p = record { raw = λ a i st w f l n. rw (inner_same a i w f l) (p.raw a i st w f l n) }
 
-  pub stocked_spot : (page : ℕ → PageWord) (q : Stock) → Stocked E low size heap page q → Stocked E low size stored page q
-  stocked_spot page q p = stocked_same q (λ x l m. put_other heap (a0 + i0) v x (λ e. let y = p.empty a0 (omega (arith, inside)) in omega (arith, y, inside, e, p.so_far, l, m))) p
+  pub stocked_unread : (page : ℕ → PageWord) (q : Stock) → Stocked E low size heap page q → Stocked E low size stored page q
+  stocked_unread page q p = stocked_same q (λ x l m. put_other heap (a0 + i0) v x (λ e. let y = p.empty a0 (omega (arith, inside)) in omega (arith, y, inside, e, p.so_far, l, m))) p
 
-  pub stocks_spot : (count : ℕ) (page : ℕ → PageWord) (worker : ℕ → Worker) → Stocks E low count size heap page worker → Stocks E low count size stored page worker
-  stocks_spot count page worker p = record { stocked = λ j l q e n. stocked_spot page q (p.stocked j l q e n); apart = p.apart }
+  pub stocks_unread : (count : ℕ) (page : ℕ → PageWord) (worker : ℕ → Worker) → Stocks E low count size heap page worker → Stocks E low count size stored page worker
+  stocks_unread count page worker p = record { stocked = λ j l q e n. stocked_unread page q (p.stocked j l q e n); apart = p.apart }
 
   -- ---- what other workers know
 
-  pub origin_spot : (kind : ℕ → Kind) (late : Bool) (done : ℕ) (registers : ℕ → ℕ) (scan : Option Scan) (old : ℕ) (o : Origin)
+  pub origin_unread : (kind : ℕ → Kind) (late : Bool) (done : ℕ) (registers : ℕ → ℕ) (scan : Option Scan) (old : ℕ) (o : Origin)
       → IsOrigin E size writer kind heap late done registers scan old o → IsOrigin E size writer kind stored late done registers scan old o
-  origin_spot kind late done registers scan old (Register r) p = p
-  origin_spot kind late done registers scan old (Scanned x) p = (p.0, p.1, ap decode (here_same kind x p.1) ∙ p.2)
+  origin_unread kind late done registers scan old (Register r) p = p
+  origin_unread kind late done registers scan old (Scanned x) p = (p.0, p.1, ap decode (here_same kind x p.1) ∙ p.2)
 
-  pub scans_spot : (kind : ℕ → Kind) (page : ℕ → PageWord) (j : ℕ) (r : Scan) → Scans E front size writer kind heap page j r → Scans E front size writer kind stored page j r
-  scans_spot kind page j r p = scans_same j r (here_same kind) p
+  pub scans_unread : (kind : ℕ → Kind) (page : ℕ → PageWord) (j : ℕ) (r : Scan) → Scans E front size writer kind heap page j r → Scans E front size writer kind stored page j r
+  scans_unread kind page j r p = scans_same j r (here_same kind) p
 
   module _ (copy keeper kept announced cross : ℕ → ℕ) (kind : ℕ → Kind) (j : ℕ) (c : Copy) (other : j ≢ k) (older : Older E size writer kind heap)
       (p : Copies E front size writer copy keeper kept announced cross heap j c) where
@@ -108,11 +108,11 @@ module _ {E : Era} {front low : ℕ} {size writer : ℕ → ℕ} {k a0 i0 : ℕ}
     copy_same : c.reserved ≡ true → (i : ℕ) → i < c.size → stored (c.to + i) ≡ heap (c.to + i)
     copy_same reserved i l = let r = p.place reserved in put_other heap (a0 + i0) v (c.to + i) (off_written j c.to i other r.2 (omega (arith, r.3)))
 
-    pub copies_spot : Copies E front size writer copy keeper kept announced cross stored j c
-    copies_spot = copies_same j c source_same (λ r i f l. copy_same r i l) p
+    pub copies_unread : Copies E front size writer copy keeper kept announced cross stored j c
+    copies_unread = copies_same j c source_same (λ r i f l. copy_same r i l) p
 
-    pub keeps_spot : (identity : ℕ → Identity) → Keeps kind identity heap c → Keeps kind identity stored c
-    keeps_spot identity q = record { keeps = q.keeps; head = λ d. rw (first_same d) (q.head d) }
+    pub keeps_unread : (identity : ℕ → Identity) → Keeps kind identity heap c → Keeps kind identity stored c
+    keeps_unread identity q = record { keeps = q.keeps; head = λ d. rw (first_same d) (q.head d) }
       where
         first_same : 0 < c.done → stored c.to ≡ heap c.to
         first_same d =
@@ -122,12 +122,12 @@ module _ {E : Era} {front low : ℕ} {size writer : ℕ → ℕ} {k a0 i0 : ℕ}
 
   -- ---- what is shown
 
-  pub shows_spot : (identity : ℕ → Identity) (a : ℕ) (l : Kind) (z : ℕ) (r : plain.Record) → writer a ≡ 0 → z ≡ size a → Shows (value_of identity) heap a l z r → Shows (value_of identity) stored a l z r
-  shows_spot identity a l z r w e p = shows_same r (λ i f m. inner_same a i w f (omega arith)) p
+  pub shows_unread : (identity : ℕ → Identity) (a : ℕ) (l : Kind) (z : ℕ) (r : plain.Record) → writer a ≡ 0 → z ≡ size a → Shows (value_of identity) heap a l z r → Shows (value_of identity) stored a l z r
+  shows_unread identity a l z r w e p = shows_same r (λ i f m. inner_same a i w f (omega arith)) p
 
-  pub objects_spot : (copy keeper : ℕ → ℕ) (kind : ℕ → Kind) (identity : ℕ → Identity) (records : plain.Heap)
+  pub objects_unread : (copy keeper : ℕ → ℕ) (kind : ℕ → Kind) (identity : ℕ → Identity) (records : plain.Heap)
       → ShowsAll size writer copy keeper kind identity heap records → ShowsAll size writer copy keeper kind identity stored records
-  objects_spot copy keeper kind identity records p = record { shows = λ a st w y. let o = p.shows a st w y in (o.0, o.1, shows_spot identity a (kind a) (size a) o.0 w refl o.2) }
+  objects_unread copy keeper kind identity records p = record { shows = λ a st w y. let o = p.shows a st w y in (o.0, o.1, shows_unread identity a (kind a) (size a) o.0 w refl o.2) }
 
-  pub board_spot : (identity : ℕ → Identity) (records : plain.Heap) → BoardShows E (value_of identity) heap records → BoardShows E (value_of identity) stored records
-  board_spot identity records p = record { sixteen = p.sixteen; board = λ x l. ap (value_of identity) (board_same x) ∙ p.board x l }
+  pub board_unread : (identity : ℕ → Identity) (records : plain.Heap) → BoardShows E (value_of identity) heap records → BoardShows E (value_of identity) stored records
+  board_unread identity records p = record { sixteen = p.sixteen; board = λ x l. ap (value_of identity) (board_same x) ∙ p.board x l }

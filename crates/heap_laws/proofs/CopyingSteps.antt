@@ -6,7 +6,7 @@ use Rattle.heap_state.specs.Era.{Era, Memory}
 use Rattle.heap_state.specs.Ghost.{Ghost}
 use Rattle.heap_state.specs.Parts.Copying.{Copies}
 use Rattle.heap_state.specs.Worker.{Copy, Team}
-use Rattle.heap_laws.specs.Copying.{IsNextWord, moved_by, HasRoom, HeadersAreTaken, ForwardsAreFound, PlacesAreAimed, PlacesAreAnnounced, PlacesAreReserved, AnnouncesAreCleared, OldWordsAreLoaded, WordsAreCopied, CrossingsAreStored, CopiesArePublished}
+use Rattle.heap_laws.specs.Copying.{IsNextWord, moved_by, HasRoomForCopy, HeadersAreTaken, ForwardsAreFound, PlacesAreAimed, PlacesAreAnnounced, PlacesAreReserved, AnnouncesAreCleared, OldWordsAreLoaded, WordsAreCopied, CrossingsAreStored, CopiesArePublished}
 use Rattle.heap_laws.specs.Steps.{Ready, IsAreaNow, NoRow, InArea, InCross, InWord, InAnnounce, with_area, with_word, with_crossing, with_announced, KnowledgeChangesAlone, NothingChanges}
 use Rattle.heap_laws.proofs.CopyingHeader.{header_taken}
 use Rattle.heap_laws.proofs.CopyingKnown.{learns_alone, nothing_changes, forward_found, place_aimed, place_announced, word_loaded, crossing_stored, announce_cleared}
@@ -50,7 +50,7 @@ pub announces_are_cleared : AnnouncesAreCleared
 announces_are_cleared E m team g k ready idle = record { later = with_announced m k 0; writes = InAnnounce k 0 (few ready); keeps = announce_cleared E m team g k ready idle }
 
 -- the area after the copy's place was reserved fits its word
-moved_fits : (E : Era) (m : Memory) (c : Copy) (area : AreaWord) → HasRoom m c → IsAreaNow E m area → AreaFits (moved_by c.size area)
+moved_fits : (E : Era) (m : Memory) (c : Copy) (area : AreaWord) → HasRoomForCopy m c → IsAreaNow E m area → AreaFits (moved_by c.size area)
 moved_fits E m c area room now =
     let f = now.fits in
     record {

@@ -23,26 +23,26 @@ use Rattle.heap_state.proofs.Puts.{put_at, put_other, team_put, none≢some}
 use Rattle.heap_laws.specs.Copying.{copying, IsNextWord}
 use Rattle.heap_laws.specs.Steps.{Ready, with_worker, with_word, Preserves}
 use Rattle.heap_laws.proofs.CopyingOn.{knows_copying}
-use Rattle.heap_laws.proofs.CopyingSpot.{Spot, opened_spot, landing_spot, older_spot, new_spot, space_spot, raw_spot, stocks_spot, origin_spot, scans_spot, copies_spot, keeps_spot, shows_spot, objects_spot, board_spot, here_same, inner_same, board_same}
+use Rattle.heap_laws.proofs.CopyingSpot.{UnreadWord, opened_unread, landing_unread, older_unread, new_unread, space_unread, raw_unread, stocks_unread, origin_unread, scans_unread, copies_unread, keeps_unread, shows_unread, objects_unread, board_unread, here_same, inner_same, board_same}
 use Rattle.heap_laws.proofs.Words.{one_place, copied_within}
 
--- ---- any write at a spot
+-- ---- any write at a unread_word
 
-module _ (E : Era) (gate : GateWord) (traced front low old_front old_low old_owed : ℕ) (g : Ghost) (page : ℕ → PageWord) (cross announced heap : ℕ → ℕ) (k a0 i0 v : ℕ) (sp : Spot E front low g.size g.writer k a0 i0) where
+module _ (E : Era) (gate : GateWord) (traced front low old_front old_low old_owed : ℕ) (g : Ghost) (page : ℕ → PageWord) (cross announced heap : ℕ → ℕ) (k a0 i0 v : ℕ) (sp : UnreadWord E front low g.size g.writer k a0 i0) where
   -- another worker knows what it knew
-  pub knows_spot : (j : ℕ) (w : Worker) → j ≢ k → Older E g.size g.writer g.kind heap → Knows E gate traced front low old_front old_low old_owed g page cross announced heap j w
+  pub knows_unread : (j : ℕ) (w : Worker) → j ≢ k → Older E g.size g.writer g.kind heap → Knows E gate traced front low old_front old_low old_owed g page cross announced heap j w
       → Knows E gate traced front low old_front old_low old_owed g page cross announced (put heap (a0 + i0) v) j w
-  knows_spot j w n older u =
-      let a = λ (q : Quest) (e : w.quest ≡ Some q). origin_spot sp heap v g.kind _ w.done w.registers w.scan q.old q.origin (u.origin q e) in
-      let b = λ (c : Copy) (e : w.copy ≡ Some c). copies_spot sp heap v g.copy g.keeper g.kept announced cross g.kind j c n older (u.copy c e) in
-      let d = λ (c : Copy) (e : w.copy ≡ Some c). keeps_spot sp heap v g.copy g.keeper g.kept announced cross g.kind j c n older (u.copy c e) g.identity (u.keeps c e) in
-      let f = λ (s : Scan) (e : w.scan ≡ Some s). scans_spot sp heap v g.kind page j s (u.scan s e) in
+  knows_unread j w n older u =
+      let a = λ (q : Quest) (e : w.quest ≡ Some q). origin_unread sp heap v g.kind _ w.done w.registers w.scan q.old q.origin (u.origin q e) in
+      let b = λ (c : Copy) (e : w.copy ≡ Some c). copies_unread sp heap v g.copy g.keeper g.kept announced cross g.kind j c n older (u.copy c e) in
+      let d = λ (c : Copy) (e : w.copy ≡ Some c). keeps_unread sp heap v g.copy g.keeper g.kept announced cross g.kind j c n older (u.copy c e) g.identity (u.keeps c e) in
+      let f = λ (s : Scan) (e : w.scan ≡ Some s). scans_unread sp heap v g.kind page j s (u.scan s e) in
       assumption
 
-  pub copying_spot : (p : plain.Plain) → Older E g.size g.writer g.kind heap → Copying E front g.size g.writer g.copy g.keeper g.kind g.identity heap p
+  pub copying_unread : (p : plain.Plain) → Older E g.size g.writer g.kind heap → Copying E front g.size g.writer g.copy g.keeper g.kind g.identity heap p
       → Copying E front g.size g.writer g.copy g.keeper g.kind g.identity (put heap (a0 + i0) v) p
-  copying_spot p older cy = record {
-    old = λ a st l m y. let o = cy.old a st l m y in (o.0, o.1, shows_spot sp heap v g.identity a (g.kind a) (g.size a) o.0 (older.written a l m) refl o.2);
+  copying_unread p older cy = record {
+    old = λ a st l m y. let o = cy.old a st l m y in (o.0, o.1, shows_unread sp heap v g.identity a (g.kind a) (g.size a) o.0 (older.written a l m) refl o.2);
     sound = λ x i u t. cy.sound x i u (rw (here_same sp heap v g.kind x u) at t);
     reached = cy.reached;
     sizes = cy.sizes;
@@ -50,8 +50,8 @@ module _ (E : Era) (gate : GateWord) (traced front low old_front old_low old_owe
     from = cy.from;
   }
 
-  pub rooted_spot : (count : ℕ) (worker : ℕ → Worker) (p : plain.Plain) → Rooted E front count g.size g.writer g.identity heap worker p → Rooted E front count g.size g.writer g.identity (put heap (a0 + i0) v) worker p
-  rooted_spot count worker p r = record { roots = λ i y. ⊎_elim (λ c. inl c) (λ l. inr (leads i l)) (r.roots i y); sound = r.sound }
+  pub rooted_unread : (count : ℕ) (worker : ℕ → Worker) (p : plain.Plain) → Rooted E front count g.size g.writer g.identity heap worker p → Rooted E front count g.size g.writer g.identity (put heap (a0 + i0) v) worker p
+  rooted_unread count worker p r = record { roots = λ i y. ⊎_elim (λ c. inl c) (λ l. inr (leads i l)) (r.roots i y); sound = r.sound }
     where
       leads : (i : Identity) → RootLeads E count g.identity heap worker i → RootLeads E count g.identity (put heap (a0 + i0) v) worker i
       leads i (ByBoard x l s) = ByBoard x l (rw (board_same sp heap v x) s)
@@ -59,7 +59,7 @@ module _ (E : Era) (gate : GateWord) (traced front low old_front old_low old_owe
 
 -- ---- into a reserved place
 
-headed_inside : (E : Era) (front low k a0 i0 : ℕ) (g : Ghost) (heap : ℕ → ℕ) (v : ℕ) → Spot E front low g.size g.writer k a0 i0 → 0 < g.writer a0 → E.start ≤ a0 → a0 < E.start + E.span
+headed_inside : (E : Era) (front low k a0 i0 : ℕ) (g : Ghost) (heap : ℕ → ℕ) (v : ℕ) → UnreadWord E front low g.size g.writer k a0 i0 → 0 < g.writer a0 → E.start ≤ a0 → a0 < E.start + E.span
     → Copied E front g.size g.writer g.copy g.keeper g.kind g.identity g.kept → Headed g.size g.writer g.copy g.keeper g.kind g.identity heap
     → Headed g.size g.writer g.copy g.keeper g.kind g.identity (put heap (a0 + i0) v)
 headed_inside E front low k a0 i0 g heap v sp held t1 t2 cp p = record {
@@ -96,8 +96,8 @@ module _ (E : Era) (m : Memory) (team : Team) (g : Ghost) (k : ℕ) (c : Copy) (
   more : c.done < c.size
   more = ⊎_elim (λ (q : (c.done ≡ 0) × (v ≡ c.header)). omega (arith, q.0, mine.old)) (λ (q : c.word ≡ Some v). (mine.loaded v q).1) next
 
-  spot : Spot E m.front m.low g.size g.writer k c.to c.done
-  spot = record { laid_out = ready.laid_out; laid = inv.laid; inside = omega (arith, placed.3, more); hidden = inr (omega (arith, placed.2)); own = inr placed.2 }
+  unread_word : UnreadWord E m.front m.low g.size g.writer k c.to c.done
+  unread_word = record { laid_out = ready.laid_out; laid = inv.laid; inside = omega (arith, placed.3, more); hidden = inr (omega (arith, placed.2)); own = inr placed.2 }
 
   old_same : (i : ℕ) → i < c.size → heap' (c.from + i) ≡ m.heap (c.from + i)
   old_same i l = put_other m.heap (c.to + c.done) v (c.from + i) (λ e. omega (arith, e, ready.laid_out.apart, placed.4, placed.5, mine.old, inv.laid.order, more))
@@ -134,19 +134,19 @@ module _ (E : Era) (m : Memory) (team : Team) (g : Ghost) (k : ℕ) (c : Copy) (
       let p1 = counted_put team.worker k w' refl refl inv.counted in
       let p2 = staffed_put team.worker k w' refl inv.staffed in
       let p3 = scanned_put team.worker k w' refl inv.scanned in
-      let p4 = stocks_put team.worker k w' (λ _ e. e) (stocks_spot spot m.heap v team.count m.page team.worker inv.stocks) in
+      let p4 = stocks_put team.worker k w' (λ _ e. e) (stocks_unread unread_word m.heap v team.count m.page team.worker inv.stocks) in
       let p5 = numbered_put team.worker k w' refl inv.numbered in
-      let q1 = headed_inside E m.front m.low k c.to c.done g m.heap v spot (omega (arith, placed.2)) placed.4 (omega (arith, placed.5, mine.old, inv.laid.order)) inv.copied inv.headed in
-      let q2 = opened_spot spot m.heap v g.kind m.page inv.opened in
-      let q3 = landing_spot spot m.heap v g.kind inv.landing in
-      let q4 = older_spot spot m.heap v g.kind inv.older in
-      let q5 = raw_spot spot m.heap v g.kind inv.raw_words in
-      let q6 = new_spot spot m.heap v m.low (E.start + E.span) E.epoch m.page inv.new in
-      let q7 : OldSpace E m.traced m.old_front m.old_low g.size heap' m.page = record { walks = λ t d e. space_spot spot m.heap v E.old_start m.old_front m.old_low (E.old_start + E.old_span) d m.page (inv.old_space.walks t d e) } in
-      let others = λ (j : ℕ) (l : j < team.count) (d : j ≢ k). knows_spot E m.gate m.traced m.front m.low m.old_front m.old_low m.old_owed g m.page m.cross m.announced m.heap k c.to c.done v spot j (team.worker j) d inv.older (inv.workers j l) in
+      let q1 = headed_inside E m.front m.low k c.to c.done g m.heap v unread_word (omega (arith, placed.2)) placed.4 (omega (arith, placed.5, mine.old, inv.laid.order)) inv.copied inv.headed in
+      let q2 = opened_unread unread_word m.heap v g.kind m.page inv.opened in
+      let q3 = landing_unread unread_word m.heap v g.kind inv.landing in
+      let q4 = older_unread unread_word m.heap v g.kind inv.older in
+      let q5 = raw_unread unread_word m.heap v g.kind inv.raw_words in
+      let q6 = new_unread unread_word m.heap v m.low (E.start + E.span) E.epoch m.page inv.new in
+      let q7 : OldSpace E m.traced m.old_front m.old_low g.size heap' m.page = record { walks = λ t d e. space_unread unread_word m.heap v E.old_start m.old_front m.old_low (E.old_start + E.old_span) d m.page (inv.old_space.walks t d e) } in
+      let others = λ (j : ℕ) (l : j < team.count) (d : j ≢ k). knows_unread E m.gate m.traced m.front m.low m.old_front m.old_low m.old_owed g m.page m.cross m.announced m.heap k c.to c.done v unread_word j (team.worker j) d inv.older (inv.workers j l) in
       let mine = knows_copying E m.gate m.traced m.front m.low m.old_front m.old_low m.old_owed g m.page m.cross m.announced m.heap m.cross m.announced heap' k (team.worker k) c further has refl me own head
-      (λ q e. origin_spot spot m.heap v g.kind _ (team.worker k).done (team.worker k).registers (team.worker k).scan q.old q.origin (me.origin q e))
-      (λ s e. scans_spot spot m.heap v g.kind m.page k s (me.scan s e)) in
+      (λ q e. origin_unread unread_word m.heap v g.kind _ (team.worker k).done (team.worker k).registers (team.worker k).scan q.old q.origin (me.origin q e))
+      (λ s e. scans_unread unread_word m.heap v g.kind m.page k s (me.scan s e)) in
       let p6 = team_put team.count (Knows E m.gate m.traced m.front m.low m.old_front m.old_low m.old_owed g m.page m.cross m.announced heap') team.worker k w' others mine in
       assumption
 
@@ -155,16 +155,16 @@ module _ (E : Era) (m : Memory) (team : Team) (g : Ghost) (k : ℕ) (c : Copy) (
     invariant = invariant;
     ages = λ page. omega arith;
     shown = λ p s. record {
-      objects = objects_spot spot m.heap v g.copy g.keeper g.kind g.identity p.heap s.objects;
-      board = board_spot spot m.heap v g.identity p.heap s.board;
+      objects = objects_unread unread_word m.heap v g.copy g.keeper g.kind g.identity p.heap s.objects;
+      board = board_unread unread_word m.heap v g.identity p.heap s.board;
       as_many = s.as_many;
       makers = s.makers;
       accounts = λ j q e. accounts_put team.worker k w' refl j q (s.accounts j q e);
       registers = λ j q e. registers_put team.worker k w' refl j q (s.registers j q e);
     };
     cycle = λ p cy. record {
-      copying = copying_spot E m.gate m.traced m.front m.low m.old_front m.old_low m.old_owed g m.page m.cross m.announced m.heap k c.to c.done v spot p inv.older cy.copying;
+      copying = copying_unread E m.gate m.traced m.front m.low m.old_front m.old_low m.old_owed g m.page m.cross m.announced m.heap k c.to c.done v unread_word p inv.older cy.copying;
       rooted = rooted_put team.worker k w' refl refl refl (λ _ _ a b. (a, b))
-          (rooted_spot E m.gate m.traced m.front m.low m.old_front m.old_low m.old_owed g m.page m.cross m.announced m.heap k c.to c.done v spot team.count team.worker p cy.rooted);
+          (rooted_unread E m.gate m.traced m.front m.low m.old_front m.old_low m.old_owed g m.page m.cross m.announced m.heap k c.to c.done v unread_word team.count team.worker p cy.rooted);
     };
   }

@@ -6,7 +6,7 @@ use Rattle.space_map.specs.PageWord.{age_of}
 use Rattle.heap_state.specs.Era.{Era, Memory, IsLaidOut}
 use Rattle.heap_state.specs.Ghost.{Ghost, IsField, OnBoard, Here, Leads, Lands}
 use Rattle.heap_state.specs.Inductive.{Invariant}
-use Rattle.heap_state.specs.Parts.Copies.{Copied, Once, Kept, Room}
+use Rattle.heap_state.specs.Parts.Copies.{Copied, Once, Keepers, Room}
 use Rattle.heap_state.specs.Parts.Crossing.{Crossing}
 use Rattle.heap_state.specs.Parts.Leading.{Opened, Landing, Older}
 use Rattle.heap_state.specs.Parts.OldSpace.{OldSpace, OldArea}
@@ -22,7 +22,7 @@ use Rattle.heap_laws.proofs.TracingWon.{leads_nowhere}
 use Rattle.heap_laws.proofs.Words.{pointer_lands}
 
 -- the heap is ready for a flip: the epoch is traced, nobody runs or is behind, and the other space's area is that of an empty one
-pub record Ready (E : Era) (m : Memory) (team : Team) (g : Ghost) : Type 0 where
+pub record ReadyToFlip (E : Era) (m : Memory) (team : Team) (g : Ghost) : Type 0 where
   pub out : IsLaidOut E
   pub inv : Invariant E m team g
   pub traced : m.traced ≡ E.epoch + 1
@@ -34,7 +34,7 @@ pub record Ready (E : Era) (m : Memory) (team : Team) (g : Ghost) : Type 0 where
   pub large : E.span ≤ E.old_span
 
 -- where a pointer lands a record stands
-module _ {E : Era} {m : Memory} {team : Team} {g : Ghost} (ready : Ready E m team g) where
+module _ {E : Era} {m : Memory} {team : Team} {g : Ghost} (ready : ReadyToFlip E m team g) where
   abbrev E1 : Era
   E1 = next_era E
 
@@ -85,7 +85,7 @@ module _ {E : Era} {m : Memory} {team : Team} {g : Ghost} (ready : Ready E m tea
         ⊎_elim (λ y. inl y) (λ y. absurd (⊎_elim (λ y. omega (arith, y, ca.0)) (λ y. omega (arith, y, cb.0)) y)) (ready.inv.once.once a b u.0 v.0 e);
   }
 
-  pub kept : Kept size' zeros team.count
+  pub kept : Keepers size' zeros team.count
   kept = record { kept = λ a k st y. absurd (omega (arith, y)) }
 
   pub room : Room E1 m.traced m.old_front m.old_low m.old_owed size' zeros

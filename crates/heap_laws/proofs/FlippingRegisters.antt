@@ -19,8 +19,7 @@ use Rattle.heap_state.specs.Worker.{Worker, Team, Post, Passage, Outside, Enter,
 use Rattle.heap_state.proofs.Frames.{counted_put, staffed_put, scanned_put, stocks_put, numbered_put, accounts_put}
 use Rattle.heap_state.proofs.Puts.{put_at, put_other, put_same, each_put, team_put, none≢some, some_same, put_is}
 use Rattle.heap_laws.specs.Flipping.{forwarded, HasRegister, PassingRegisterKeeps, asking_for, AskingForRegisterKeeps, HasFoundCopy, past_register}
-use Rattle.heap_laws.specs.Keeping.{Keeps}
-use Rattle.heap_laws.specs.Steps.{with_worker, Ready, Steps}
+use Rattle.heap_laws.specs.Steps.{with_worker, Ready, Steps, Preserves}
 use Rattle.heap_laws.proofs.CopyingRoots.{late_lives, late_mutator, late_unended}
 use Rattle.heap_laws.proofs.FoundCopy.{found_copy}
 use Rattle.heap_laws.proofs.Learning.{learns, learnt}
@@ -142,7 +141,7 @@ module _ (E : Era) (m : Memory) (team : Team) (g : Ghost) (k : ℕ) (inv : Invar
         by_root i (ByBoard x l t) = inr (ByBoard x l t)
         by_root i (ByRegister j n l s late d t) = by_register j n i l s late d t (cases_eq j k)
 
-    pub register_keeps : Keeps E m m team (with_worker team k w') g
+    pub register_keeps : Preserves E m m team (with_worker team k w') g g
     register_keeps = record { invariant = invariant; shown = shown; cycle = λ p c. record { copying = c.copying; rooted = rooted p c.rooted }; ages = λ p. omega arith }
 
 -- ---- the laws

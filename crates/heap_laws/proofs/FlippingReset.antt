@@ -2,7 +2,7 @@
 use Rattle.std.proofs.Common.{◌≡◌, ◌≢◌, ℕ, ◌+◌, ◌<◌, true, false, Some, None, refl, sym, ◌∙◌, arith, ⊎_elim}
 use Rattle.std.proofs.lemmas.Bool.{cases_eq}
 use Rattle.heap_state.specs.Era.{Era, Memory, IsLaidOut}
-use Rattle.heap_state.specs.Functions.{one_if}
+use Rattle.heap_state.specs.Functions.{count_one}
 use Rattle.heap_state.specs.Ghost.{Ghost}
 use Rattle.heap_state.specs.Inductive.{Invariant, Knows}
 use Rattle.heap_state.specs.Parts.Knowledge.{Resets}
@@ -12,8 +12,7 @@ use Rattle.heap_state.specs.Worker.{Worker, Team, Reset, is_flipper}
 use Rattle.heap_state.proofs.Frames.{counted_put, staffed_put, scanned_put, stocks_put, numbered_put, rooted_put}
 use Rattle.heap_state.proofs.Puts.{team_put, some_same, none≢some}
 use Rattle.heap_laws.specs.FlippingReset.{resetting, FindingStillKeeps, ReadingUsedKeeps, StoringAreaKeeps, whole_area}
-use Rattle.heap_laws.specs.Keeping.{Keeps}
-use Rattle.heap_laws.specs.Steps.{with_worker, with_old_area, InOldArea}
+use Rattle.heap_laws.specs.Steps.{with_worker, with_old_area, InOldArea, Preserves}
 use Rattle.heap_laws.proofs.FlippingSums.{sum_below-two, one_of, at_most_one}
 use Rattle.heap_laws.proofs.Learning.{shown_put, learns, learnt}
 
@@ -22,7 +21,7 @@ pub one_flipper : (E : Era) (m : Memory) (team : Team) (g : Ghost) → Invariant
     → is_flipper (team.worker j).post ≡ true → is_flipper (team.worker k).post ≡ true → j ≡ k
 one_flipper E m team g inv j k lj lk a b = ⊎_elim (λ e. e)
     (λ (d : j ≢ k). absurd (
-    let t = sum_below-two team.count (λ i. one_if (is_flipper (team.worker i).post)) j k lj lk d in
+    let t = sum_below-two team.count (λ i. count_one (is_flipper (team.worker i).post)) j k lj lk d in
     let p = one_of (is_flipper (team.worker j).post) a in let q = one_of (is_flipper (team.worker k).post) b in
     let r = inv.counted.request in let s = at_most_one m.gate.request in omega (arith, t, p, q, r, s)))
     (cases_eq j k)
@@ -30,7 +29,7 @@ one_flipper E m team g inv j k lj lk a b = ⊎_elim (λ e. e)
 -- a flipper that knows more of its flip
 module _ (E : Era) (m : Memory) (team : Team) (g : Ghost) (k : ℕ) (r : Reset) (inv : Invariant E m team g) (below : k < team.count) (flips : is_flipper (team.worker k).post ≡ true)
     (new : Resets E m.gate m.front m.low m.old_front m.old_low m.old_owed r) where
-  pub resets_more : Keeps E m m team (with_worker team k (resetting (team.worker k) r)) g
+  pub resets_more : Preserves E m m team (with_worker team k (resetting (team.worker k) r)) g g
   resets_more = learns E m team g k (resetting (team.worker k) r) inv (assumption) (λ s e. (s, e, refl))
       (let me = inv.workers k below in
       let a : (q : Reset) → Some r ≡ Some q → is_flipper (team.worker k).post ≡ true = λ q e. flips in
@@ -93,7 +92,7 @@ module _ (E : Era) (m : Memory) (team : Team) (g : Ghost) (k : ℕ) (r : Reset) 
       let p8 = team_put team.count KnowsNow team.worker k w' others own in
       assumption
 
-  pub stores_area : Keeps E m (with_old_area m front low u) team (with_worker team k w') g
+  pub stores_area : Preserves E m (with_old_area m front low u) team (with_worker team k w') g g
   stores_area = record {
     invariant = invariant;
     shown = λ p s. shown_put E m (with_old_area m front low u) team g k w' p refl refl refl s;

@@ -10,7 +10,7 @@ use Rattle.plain_state.specs.State as plain
 use Rattle.space_map.specs.declared.gate_word.GateWord.{GateWord}
 use Rattle.heap_state.specs.Cycle.{Cycle, Copying, Rooted, RootLeads, ByBoard, ByRegister, IsRoot, InRegister, OnTheBoard, StillLeads}
 use Rattle.heap_state.specs.Era.{Era, Memory, IsLaidOut}
-use Rattle.heap_state.specs.Functions.{put, sum_below, one_if}
+use Rattle.heap_state.specs.Functions.{put, sum_below, count_one}
 use Rattle.heap_state.specs.Ghost.{Ghost, Here, OnBoard, Lands, Leads}
 use Rattle.heap_state.specs.Inductive.{Invariant, Knows}
 use Rattle.heap_state.specs.Parts.Gate.{Counted, Staffed}
@@ -25,7 +25,7 @@ use Rattle.heap_state.proofs.Puts.{each_put, proj_put, team_put, sum_below-same}
 use Rattle.heap_laws.specs.Steps as laws
 use Rattle.heap_laws.specs.Flipping.{next_era, next_memory, next_ghost, flipped_gate, after_flip, Flips, FlipKeeps, TableFlips}
 use Rattle.heap_laws.specs.Steps.{with_worker}
-use Rattle.heap_laws.proofs.FlippingParts.{Ready, nothing, was, laid, headed, copied, once, kept, room, raw_words, shut, filling, tracing, aged, scanned, old_area, old_pages, lands_on, here_board, board_here, opened, landing, older, new, new_written, crossing, old_space}
+use Rattle.heap_laws.proofs.FlippingParts.{ReadyToFlip, nothing, was, laid, headed, copied, once, kept, room, raw_words, shut, filling, tracing, aged, scanned, old_area, old_pages, lands_on, here_board, board_here, opened, landing, older, new, new_written, crossing, old_space}
 use Rattle.heap_laws.proofs.FlippingReset.{one_flipper}
 use Rattle.heap_laws.proofs.FlippingSums.{sum_below-none}
 use Rattle.heap_laws.proofs.FlippingWorkers.{late_is, done_none, other, flipper, none_true, not_live}
@@ -55,7 +55,7 @@ module _ (E : Era) (m : Memory) (team : Team) (g : Ghost) (k : ℕ) (r : Reset) 
   won : m.gate ≡ r.read
   won = (me.reset r flips.reset).unmoved
 
-  ready : Ready E m team g
+  ready : ReadyToFlip E m team g
   ready = let t = me.reset r flips.reset in let s = t.stored flips.stored in record {
     out = out;
     inv = inv;
@@ -73,16 +73,16 @@ module _ (E : Era) (m : Memory) (team : Team) (g : Ghost) (k : ℕ) (r : Reset) 
 
   -- ---- the gate
 
-  count_same : (is : Post → Bool) → is Stopped ≡ is (team.worker k).post → sum_below team.count (λ j. one_if (is (team.worker j).post)) ≡ sum_below team.count (λ j. one_if (is (put team.worker k w' j).post))
-  count_same is e = sum_below-same _ _ _ (λ j l. ap one_if (sym (proj_put (λ u. is u.post) team.worker k w' j e)))
+  count_same : (is : Post → Bool) → is Stopped ≡ is (team.worker k).post → sum_below team.count (λ j. count_one (is (team.worker j).post)) ≡ sum_below team.count (λ j. count_one (is (put team.worker k w' j).post))
+  count_same is e = sum_below-same _ _ _ (λ j l. ap count_one (sym (proj_put (λ u. is u.post) team.worker k w' j e)))
 
   counted : Counted (flipped_gate m.gate) team.count (put team.worker k w')
   counted = record {
     live = inv.counted.live ∙ count_same is_live (sym (ap is_live flips.post));
     running = inv.counted.running ∙ count_same is_running (sym (ap is_running flips.post));
-    behind = inv.counted.live ∙ sum_below-same _ _ _ (λ j l. ap one_if (behind j l));
+    behind = inv.counted.live ∙ sum_below-same _ _ _ (λ j l. ap count_one (behind j l));
     left = inv.counted.left ∙ count_same is_gone (sym (ap is_gone flips.post));
-    request = sym (sum_below-none team.count (λ j. one_if (is_flipper (put team.worker k w' j).post)) (λ j l. no_flipper j l));
+    request = sym (sum_below-none team.count (λ j. count_one (is_flipper (put team.worker k w' j).post)) (λ j l. no_flipper j l));
     still = λ b. (ready.still, refl);
     epoch_fits = let a = start.at_gate in let f = flips.fits in omega (arith, a, f);
   }
@@ -96,8 +96,8 @@ module _ (E : Era) (m : Memory) (team : Team) (g : Ghost) (k : ℕ) (r : Reset) 
           let b : is_late (m.gate.epoch + 1) (team.worker j) ≡ is_live (team.worker j).post = rw a (late_is ready j l) in
           sym b ∙ sym (proj_put (is_late (m.gate.epoch + 1)) team.worker k w' j late_now)
 
-      no_flipper : (j : ℕ) → j < team.count → one_if (is_flipper (put team.worker k w' j).post) ≡ 0
-      no_flipper j l = each_put (λ i u. i < team.count → one_if (is_flipper u.post) ≡ 0) team.worker k w' j (λ d b. rw (not_flipper j b d) refl) (λ e b. refl) l
+      no_flipper : (j : ℕ) → j < team.count → count_one (is_flipper (put team.worker k w' j).post) ≡ 0
+      no_flipper j l = each_put (λ i u. i < team.count → count_one (is_flipper u.post) ≡ 0) team.worker k w' j (λ d b. rw (not_flipper j b d) refl) (λ e b. refl) l
 
   staffed : Staffed team.mutators team.count (put team.worker k w')
   staffed = record { few = inv.staffed.few; posts = λ j l. proj_put (λ u. is_mutator u.post) team.worker k w' j (sym (ap is_mutator flips.post)) ∙ inv.staffed.posts j l }

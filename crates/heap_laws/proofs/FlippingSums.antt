@@ -1,7 +1,7 @@
 -- Sums over workers, and over the records of a space.
 use Rattle.std.proofs.Common.{◌≡◌, ◌≢◌, ℕ, zero, suc, ◌+◌, ◌-◌, ◌<◌, ◌≤◌, Bool, true, false, refl, sym, arith, ⊎_elim, ◌⊎◌, inl, inr}
 use Rattle.std.proofs.lemmas.Bool.{cases_eq, cases_lt, lt-ltb, le-ltb, lt-leb, le-leb}
-use Rattle.heap_state.specs.Functions.{put, sum_below, one_if}
+use Rattle.heap_state.specs.Functions.{put, sum_below, count_one}
 use Rattle.heap_state.specs.Parts.Copies.{owing}
 use Rattle.heap_state.proofs.Puts.{put_at, put_other, sum_below-same, sum_below-change}
 use Rattle.heap_state.proofs.Walking.{sum_below-from}
@@ -27,10 +27,10 @@ unfolding sum_below
 sum_below-none zero f h = refl
 sum_below-none (suc n) f h = let a : f n ≡ 0 = h n (omega arith) in let b : sum_below n f ≡ 0 = sum_below-none n f (λ x l. h x (omega arith)) in omega arith
 
-pub one_of : (b : Bool) → b ≡ true → one_if b ≡ 1
+pub one_of : (b : Bool) → b ≡ true → count_one b ≡ 1
 one_of b e = rw e refl
 
-pub at_most_one : (b : Bool) → one_if b ≤ 1
+pub at_most_one : (b : Bool) → count_one b ≤ 1
 at_most_one true = omega arith
 at_most_one false = omega arith
 

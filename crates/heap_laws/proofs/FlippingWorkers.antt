@@ -4,7 +4,7 @@ use Rattle.std.proofs.lemmas.Bool.{cases_eq, cases_Bool, eq-eqb}
 use Rattle.space_map.specs.declared.gate_word.GateWord.{GateWord}
 use Rattle.space_map.specs.PageWord.{age_of}
 use Rattle.heap_state.specs.Era.{Era, Memory}
-use Rattle.heap_state.specs.Functions.{one_if}
+use Rattle.heap_state.specs.Functions.{count_one}
 use Rattle.heap_state.specs.Ghost.{Ghost}
 use Rattle.heap_state.specs.Inductive.{Knows}
 use Rattle.heap_state.specs.Parts.Copying.{IsOrigin, Licensed}
@@ -13,7 +13,7 @@ use Rattle.heap_state.specs.Parts.Scanning.{Rounds, Claims, Looks, LastLooks}
 use Rattle.heap_state.specs.Worker.{Worker, Team, Post, Scanner, Outside, Running, Stopped, Flipping, Gone, Passage, Enter, Park, Request, Forwarded, Resume, Leave, Origin, Register, Scanned, Quest, Round, Claim, Look, LastLook, GateStep, is_mutator, is_live, is_running, is_flipper, is_gone, is_behind, is_late}
 use Rattle.heap_state.proofs.Puts.{none≢some, true_false}
 use Rattle.heap_laws.specs.Flipping.{next_era, next_ghost, flipped_gate, after_flip}
-use Rattle.heap_laws.proofs.FlippingParts.{Ready, nothing, lands_on, leads_inside, page_age, board_age}
+use Rattle.heap_laws.proofs.FlippingParts.{ReadyToFlip, nothing, lands_on, leads_inside, page_age, board_age}
 use Rattle.heap_laws.proofs.FlippingSums.{sum_below-term, one_of}
 use Rattle.heap_laws.proofs.ScanningWho.{open_age}
 use Rattle.heap_laws.proofs.Words.{zero_clean, zero_lands}
@@ -62,7 +62,7 @@ flipper_passes asked epoch done ended seen read Forwarded q = absurd (let y = q.
 flipper_passes asked epoch done ended seen read Resume q = absurd (let y = q.0 in cc)
 flipper_passes asked epoch done ended seen read Leave q = absurd (let y = q.0 in cc)
 
-module _ {E : Era} {m : Memory} {team : Team} {g : Ghost} (ready : Ready E m team g) where
+module _ {E : Era} {m : Memory} {team : Team} {g : Ghost} (ready : ReadyToFlip E m team g) where
   abbrev E1 : Era
   E1 = next_era E
 
@@ -76,7 +76,7 @@ module _ {E : Era} {m : Memory} {team : Team} {g : Ghost} (ready : Ready E m tea
   knows = ready.inv.workers
 
   pub idle : (j : ℕ) → j < team.count → is_running (team.worker j).post ≡ true → ⊥
-  idle j l e = let q = sum_below-term team.count (λ k. one_if (is_running (team.worker k).post)) j l in let t = one_of (is_running (team.worker j).post) e in let c = ready.inv.counted.running in let s = ready.still in omega (arith, q, t, c, s)
+  idle j l e = let q = sum_below-term team.count (λ k. count_one (is_running (team.worker k).post)) j l in let t = one_of (is_running (team.worker j).post) e in let c = ready.inv.counted.running in let s = ready.still in omega (arith, q, t, c, s)
 
   pub none_late : (j : ℕ) → j < team.count → is_late E.epoch (team.worker j) ≡ true → ⊥
   none_late j l e = let q = (knows j l).licensed.counted e in let n = ready.none in omega (arith, q, n)
@@ -180,7 +180,7 @@ module _ {E : Era} {m : Memory} {team : Team} {g : Ghost} (ready : Ready E m tea
       licensed = λ c e. absurd ((nothing ready).none_copies j c l e);
       asked = λ c e. absurd ((nothing ready).none_copies j c l e);
       counted = λ e. let live : is_live u.post ≡ true = sym same ∙ behind_live (E.epoch + 1) u.epoch post e in
-          let q = sum_below-term team.count (λ k. one_if (is_live (team.worker k).post)) j l in let t = one_of (is_live u.post) live in let c = ready.inv.counted.live in omega (arith, q, t, c);
+          let q = sum_below-term team.count (λ k. count_one (is_live (team.worker k).post)) j l in let t = one_of (is_live u.post) live in let c = ready.inv.counted.live in omega (arith, q, t, c);
       idle = λ e. refl;
     }
 

@@ -4,7 +4,7 @@ use Rattle.std.proofs.lemmas.Bool.{eq-eqb}
 use Rattle.space_map.specs.declared.gate_word.GateWord.{GateWord}
 use Rattle.space_map.specs.declared.page_word.PageWord.TheVariants.{Open}
 use Rattle.heap_state.specs.Era.{Era, Memory}
-use Rattle.heap_state.specs.Functions.{one_if}
+use Rattle.heap_state.specs.Functions.{count_one}
 use Rattle.heap_state.specs.Ghost.{Ghost}
 use Rattle.heap_state.specs.Inductive.{Invariant, Knows}
 use Rattle.heap_state.specs.Parts.Copying.{IsOrigin, Licensed}
@@ -15,8 +15,7 @@ use Rattle.heap_state.specs.Worker.{Worker, Team, Post, Scanner, Outside, Runnin
 use Rattle.heap_state.proofs.Puts.{none≢some, true_false}
 use Rattle.heap_state.specs.Entries.{GateIs}
 use Rattle.heap_laws.specs.Gating.{gate_after, worker_after, WinsGate, PassingGateKeeps}
-use Rattle.heap_laws.specs.Keeping.{Keeps}
-use Rattle.heap_laws.specs.Steps.{with_worker, Ready, Steps, InGate, with_gate}
+use Rattle.heap_laws.specs.Steps.{with_worker, Ready, Steps, InGate, with_gate, Preserves}
 use Rattle.heap_laws.proofs.FlippingSums.{sum_below-term, sum_below-two, one_of}
 use Rattle.heap_laws.proofs.GatingCounts.{counted_moves, fits}
 use Rattle.heap_laws.proofs.GatingTeam.{passing_keeps, usual}
@@ -46,10 +45,10 @@ module _ (E : Era) (m : Memory) (team : Team) (g : Ghost) (k : ℕ) (s : GateSte
 
   -- one that runs is counted
   running_some : is_running w.post ≡ true → 0 < m.gate.running
-  running_some e = let t = sum_below-term team.count (λ j. one_if (is_running (team.worker j).post)) k ready.member in let a = one_of (is_running w.post) e in let c = inv.counted.running in omega (arith, t, a, c)
+  running_some e = let t = sum_below-term team.count (λ j. count_one (is_running (team.worker j).post)) k ready.member in let a = one_of (is_running w.post) e in let c = inv.counted.running in omega (arith, t, a, c)
 
   live_some : is_live w.post ≡ true → 0 < m.gate.live
-  live_some e = let t = sum_below-term team.count (λ j. one_if (is_live (team.worker j).post)) k ready.member in let a = one_of (is_live w.post) e in let c = inv.counted.live in omega (arith, t, a, c)
+  live_some e = let t = sum_below-term team.count (λ j. count_one (is_live (team.worker j).post)) k ready.member in let a = one_of (is_live w.post) e in let c = inv.counted.live in omega (arith, t, a, c)
 
   -- one of the current epoch has forwarded nothing
   done_none : w.epoch ≡ E.epoch → w.done ≡ 0
@@ -70,7 +69,7 @@ module _ (E : Era) (m : Memory) (team : Team) (g : Ghost) (k : ℕ) (s : GateSte
 
   -- ---- in
 
-  enters : w.post ≡ Outside → s.read.request ≡ false → s.read.behind ≡ 0 → Keeps E m (with_gate m (gate_after Enter m.gate)) team (with_worker team k (worker_after m.gate.epoch Enter w)) g
+  enters : w.post ≡ Outside → s.read.request ≡ false → s.read.behind ≡ 0 → Preserves E m (with_gate m (gate_after Enter m.gate)) team (with_worker team k (worker_after m.gate.epoch Enter w)) g g
   enters at request behind =
       let q = request_read false request in
       let b = behind_read behind in
@@ -113,14 +112,13 @@ module _ (E : Era) (m : Memory) (team : Team) (g : Ghost) (k : ℕ) (s : GateSte
   -- a mutator goes from post p to post q: what the gate counts, and what the worker still knows
   stays : (p q : Post) (access : Option Access) (opened : Option ℕ) (seen : Bool) (live running left : ℕ) (request : Bool) → w.epoch ≡ E.epoch → w.post ≡ p → is_mutator p ≡ true → is_mutator q ≡ true
       → (m.gate.request ≡ false) ⊎ ((0 < m.gate.running) ⊎ (0 < m.gate.behind))
-      → live + one_if (is_live p) ≡ m.gate.live + one_if (is_live q) → running + one_if (is_running p) ≡ m.gate.running + one_if (is_running q)
-      → left + one_if (is_gone p) ≡ m.gate.left + one_if (is_gone q) → one_if request + one_if (is_flipper p) ≡ one_if m.gate.request + one_if (is_flipper q)
+      → live + count_one (is_live p) ≡ m.gate.live + count_one (is_live q) → running + count_one (is_running p) ≡ m.gate.running + count_one (is_running q)
+      → left + count_one (is_gone p) ≡ m.gate.left + count_one (is_gone q) → count_one request + count_one (is_flipper p) ≡ count_one m.gate.request + count_one (is_flipper q)
       → (0 < m.gate.behind → (running ≡ 0) × (request ≡ false)) → q ≢ Outside → Ends q (is_some w.account.end)
       → ((f : Access) → access ≡ Some f → (is_running q ≡ true) × Accesses E g.size g.writer g.kind f)
       → ((x : ℕ) → opened ≡ Some x → (is_running q ≡ true) × (m.page x ≡ Open E.epoch))
       → (seen ≡ true → ((is_running q ≡ true) ⊎ (is_flipper q ≡ true)) × (m.traced ≡ E.epoch + 1)) → (is_flipper q ≡ true → seen ≡ true)
-      → Keeps E m (with_gate m (record m.gate { live = live; running = running; left = left; request = request })) team
-      (with_worker team k (record w { post = q; access = access; opened = opened; traced_seen = seen; gate_step = None })) g
+      → Preserves E m (with_gate m (record m.gate { live = live; running = running; left = left; request = request })) team (with_worker team k (record w { post = q; access = access; opened = opened; traced_seen = seen; gate_step = None })) g g
   stays p q access opened seen live running left request now at mutator mutates busy lives runs leaves asks still inside ends accesses opens sees flips =
       let w' : Worker = record w { post = q; access = access; opened = opened; traced_seen = seen; gate_step = None } in
       let gate' : GateWord = record m.gate { live = live; running = running; left = left; request = request } in
@@ -159,7 +157,7 @@ module _ (E : Era) (m : Memory) (team : Team) (g : Ghost) (k : ℕ) (s : GateSte
         flips = flips;
       }))
 
-  resumes : w.post ≡ Stopped → s.read.epoch ≡ w.epoch → s.read.request ≡ false → s.read.behind ≡ 0 → Keeps E m (with_gate m (gate_after Resume m.gate)) team (with_worker team k (worker_after m.gate.epoch Resume w)) g
+  resumes : w.post ≡ Stopped → s.read.epoch ≡ w.epoch → s.read.request ≡ false → s.read.behind ≡ 0 → Preserves E m (with_gate m (gate_after Resume m.gate)) team (with_worker team k (worker_after m.gate.epoch Resume w)) g g
   resumes at epoch request behind =
       let q = request_read false request in
       let b = behind_read behind in
@@ -176,19 +174,19 @@ module _ (E : Era) (m : Memory) (team : Team) (g : Ghost) (k : ℕ) (s : GateSte
     none_behind : {A : Type 0} → 0 < m.gate.behind → A
     none_behind y = absurd (let c = inv.counted.still y in let z = some in omega (arith, c.0, z))
 
-    parks : is_some w.account.end ≡ false → Keeps E m (with_gate m (gate_after Park m.gate)) team (with_worker team k (worker_after m.gate.epoch Park w)) g
+    parks : is_some w.account.end ≡ false → Preserves E m (with_gate m (gate_after Park m.gate)) team (with_worker team k (worker_after m.gate.epoch Park w)) g g
     parks ended = stays Running Stopped None None false m.gate.live (m.gate.running - 1) m.gate.left m.gate.request (me.timely.running running) (runs w.post running) refl refl (inr (inl some))
         refl (let z = some in omega (arith, z)) refl refl (λ y. none_behind y) (λ e. absurd (cc)) (record { stays = λ e. true_false ended e; gone = λ e. absurd (cc) })
         (λ f e. none≢some e) (λ x e. none≢some e) (λ e. absurd (cc)) (λ e. absurd (cc))
 
-    requests : (asked : ℕ) → is_some w.account.end ≡ false → s.read.request ≡ false → w.traced_seen ≡ true → Keeps E m (with_gate m (gate_after (Request asked) m.gate)) team (with_worker team k (worker_after m.gate.epoch (Request asked) w)) g
+    requests : (asked : ℕ) → is_some w.account.end ≡ false → s.read.request ≡ false → w.traced_seen ≡ true → Preserves E m (with_gate m (gate_after (Request asked) m.gate)) team (with_worker team k (worker_after m.gate.epoch (Request asked) w)) g g
     requests asked ended request seen =
-        let q : one_if m.gate.request ≡ 0 = ap one_if (request_read false request) in
+        let q : count_one m.gate.request ≡ 0 = ap count_one (request_read false request) in
         stays Running (Flipping asked) None None w.traced_seen m.gate.live (m.gate.running - 1) m.gate.left true (me.timely.running running) (runs w.post running) refl refl (inr (inl some))
         refl (let z = some in omega (arith, z)) refl (omega (arith, q)) (λ y. none_behind y) (λ e. absurd (cc)) (record { stays = λ e. true_false ended e; gone = λ e. absurd (cc) })
         (λ f e. none≢some e) (λ x e. none≢some e) (λ e. (inr refl, (me.seen_traced e).1)) (λ e. seen)
 
-    leaves : is_some w.account.end ≡ true → Keeps E m (with_gate m (gate_after Leave m.gate)) team (with_worker team k (worker_after m.gate.epoch Leave w)) g
+    leaves : is_some w.account.end ≡ true → Preserves E m (with_gate m (gate_after Leave m.gate)) team (with_worker team k (worker_after m.gate.epoch Leave w)) g g
     leaves ended =
         let alive = live_some (ap is_live (runs w.post running)) in
         stays Running Gone None None false (m.gate.live - 1) (m.gate.running - 1) (m.gate.left + 1) m.gate.request (me.timely.running running) (runs w.post running) refl refl (inr (inl some))
@@ -233,7 +231,7 @@ module _ (E : Era) (m : Memory) (team : Team) (g : Ghost) (k : ℕ) (s : GateSte
           licensed = u.licensed.licensed;
           asked = u.licensed.asked;
           idle = u.licensed.idle;
-          counted = λ e. let t = sum_below-two team.count (λ i. one_if (is_late m.gate.epoch (team.worker i))) j k l ready.member d in
+          counted = λ e. let t = sum_below-two team.count (λ i. count_one (is_late m.gate.epoch (team.worker i))) j k l ready.member d in
               let x = one_of (is_late m.gate.epoch (team.worker j)) (rw ready.at_gate e) in let y = one_of (is_late m.gate.epoch w) (late m.gate.epoch gate_next) in
               let c = inv.counted.behind in omega (arith, t, x, y, c);
         } in
@@ -252,7 +250,7 @@ module _ (E : Era) (m : Memory) (team : Team) (g : Ghost) (k : ℕ) (s : GateSte
         last_looks : (d : ℕ) (q : LastLook) → LastLooks E m.traced m.gate.behind m.front m.page d q → LastLooks E m.traced (m.gate.behind - 1) m.front m.page d q
         last_looks d q p = record { earlier = p.earlier; late = p.late; now = λ e t. unquiet (p.now e t).0 }
 
-    pub forwards : Keeps E m (with_gate m (gate_after Forwarded m.gate)) team (with_worker team k (worker_after m.gate.epoch Forwarded w)) g
+    pub forwards : Preserves E m (with_gate m (gate_after Forwarded m.gate)) team (with_worker team k (worker_after m.gate.epoch Forwarded w)) g g
     forwards = passing_keeps
         (record {
           inv = inv;
@@ -289,7 +287,7 @@ module _ (E : Era) (m : Memory) (team : Team) (g : Ghost) (k : ℕ) (s : GateSte
           flips = me.flips;
         }))
 
-  by_passage : (p : Passage) → Passes w.post w.epoch w.done (is_some w.account.end) w.traced_seen s.read p → Keeps E m (with_gate m (gate_after p m.gate)) team (with_worker team k (worker_after m.gate.epoch p w)) g
+  by_passage : (p : Passage) → Passes w.post w.epoch w.done (is_some w.account.end) w.traced_seen s.read p → Preserves E m (with_gate m (gate_after p m.gate)) team (with_worker team k (worker_after m.gate.epoch p w)) g g
   by_passage Enter y = enters y.0 y.1 y.2
   by_passage Park y = parks y.0 y.1
   by_passage (Request asked) y = requests y.0 asked y.1 y.2 y.3

@@ -7,8 +7,7 @@ use Rattle.heap_state.specs.Parts.Copying.{IsOrigin}
 use Rattle.heap_state.specs.Worker.{Worker, Team, Scanner, Origin, Register, Scanned, Quest, is_mutator, is_running, is_flipper, is_late}
 use Rattle.heap_state.proofs.Puts.{none≢some, true_false}
 use Rattle.heap_laws.specs.Gating.{TakingEpochKeeps, into_epoch}
-use Rattle.heap_laws.specs.Keeping.{Keeps}
-use Rattle.heap_laws.specs.Steps.{with_worker}
+use Rattle.heap_laws.specs.Steps.{with_worker, Preserves}
 use Rattle.heap_laws.proofs.GatingCounts.{counted_moves}
 use Rattle.heap_laws.proofs.GatingTeam.{passing_keeps}
 use Rattle.heap_laws.proofs.GatingWorker.{knows_then}
@@ -38,7 +37,7 @@ module _ (E : Era) (m : Memory) (team : Team) (g : Ghost) (k : ℕ) (inv : Invar
       by_origin (Register r) y = true_false (not_late E.epoch) y.0
       by_origin (Scanned x) y = none≢some (sym idle ∙ y.0.1)
 
-  takes_epoch : Keeps E m m team (with_worker team k (into_epoch w m.gate.epoch)) g
+  takes_epoch : Preserves E m m team (with_worker team k (into_epoch w m.gate.epoch)) g g
   takes_epoch = passing_keeps
       (record {
         inv = inv;

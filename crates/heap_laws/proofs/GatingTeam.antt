@@ -11,8 +11,7 @@ use Rattle.heap_state.specs.Parts.Pages.{Filling, Tracing}
 use Rattle.heap_state.specs.Worker.{Worker, Team, Stock, Reset, is_mutator, is_late}
 use Rattle.heap_state.proofs.Frames.{staffed_put, scanned_put, stocks_put, numbered_put, rooted_put}
 use Rattle.heap_state.proofs.Puts.{team_put}
-use Rattle.heap_laws.specs.Keeping.{Keeps}
-use Rattle.heap_laws.specs.Steps.{with_worker, with_gate}
+use Rattle.heap_laws.specs.Steps.{with_worker, with_gate, Preserves}
 use Rattle.heap_laws.proofs.GatingWorker.{no_reset}
 use Rattle.heap_laws.proofs.Learning.{shown_put}
 
@@ -35,7 +34,7 @@ module _ {E : Era} {m : Memory} {team : Team} {g : Ghost} {k : ℕ} {w' : Worker
   pub passing_keeps : Counted gate' team.count (put team.worker k w') → Filling E gate'.behind m.front m.page → Tracing E m.traced gate'.behind m.front m.page
       → ((j : ℕ) → j < team.count → j ≢ k → Knows E gate' m.traced m.front m.low m.old_front m.old_low m.old_owed g m.page m.cross m.announced m.heap j (team.worker j))
       → Knows E gate' m.traced m.front m.low m.old_front m.old_low m.old_owed g m.page m.cross m.announced m.heap k w'
-      → Keeps E m (with_gate m gate') team (with_worker team k w') g
+      → Preserves E m (with_gate m gate') team (with_worker team k w') g g
   passing_keeps counted filling tracing others own = record {
     invariant =
         let p1 = staffed_put team.worker k w' passing.mutator inv.staffed in
@@ -53,7 +52,7 @@ module _ {E : Era} {m : Memory} {team : Team} {g : Ghost} {k : ℕ} {w' : Worker
 pub usual : (E : Era) (m : Memory) (team : Team) (g : Ghost) (k : ℕ) (w' : Worker) (live running left : ℕ) (request : Bool) → Passing E m team g k w' → (m.gate.request ≡ false) ⊎ ((0 < m.gate.running) ⊎ (0 < m.gate.behind))
     → Counted (record m.gate { live = live; running = running; left = left; request = request }) team.count (put team.worker k w')
     → Knows E (record m.gate { live = live; running = running; left = left; request = request }) m.traced m.front m.low m.old_front m.old_low m.old_owed g m.page m.cross m.announced m.heap k w'
-    → Keeps E m (with_gate m (record m.gate { live = live; running = running; left = left; request = request })) team (with_worker team k w') g
+    → Preserves E m (with_gate m (record m.gate { live = live; running = running; left = left; request = request })) team (with_worker team k w') g g
 usual E m team g k w' live running left request passing busy counted own = passing_keeps passing (record m.gate { live = live; running = running; left = left; request = request })
     counted passing.inv.filling passing.inv.tracing (λ j l d. others j l) own
   where

@@ -3,7 +3,7 @@ use Rattle.std.proofs.Common.{◌≡◌, ℕ, ◌+◌, ◌<◌, Bool, true, fals
 use Rattle.space_map.specs.declared.gate_word.GateWord.{GateWord}
 use Rattle.space_map.specs.declared.page_word.PageWord.TheVariants.{Open}
 use Rattle.heap_state.specs.Era.{Era, Memory}
-use Rattle.heap_state.specs.Functions.{one_if}
+use Rattle.heap_state.specs.Functions.{count_one}
 use Rattle.heap_state.specs.Ghost.{Ghost}
 use Rattle.heap_state.specs.Inductive.{Invariant, Knows}
 use Rattle.heap_state.specs.Parts.Copying.{IsOrigin}
@@ -22,12 +22,12 @@ module _ (E : Era) (m : Memory) (team : Team) (g : Ghost) (inv : Invariant E m t
       u : Knows E m.gate m.traced m.front m.low m.old_front m.old_low m.old_owed g m.page m.cross m.announced m.heap j (team.worker j)
       u = inv.workers j l
 
-      none_of : (b : Bool) → b ≡ false → one_if b ≡ 0
+      none_of : (b : Bool) → b ≡ false → count_one b ≡ 0
       none_of b e = rw e refl
 
       by_gate : (m.gate.request ≡ false) ⊎ ((0 < m.gate.running) ⊎ (0 < m.gate.behind)) → ⊥
       by_gate (inl q) =
-          let t = sum_below-term team.count (λ i. one_if (is_flipper (team.worker i).post)) j l in
+          let t = sum_below-term team.count (λ i. count_one (is_flipper (team.worker i).post)) j l in
           let a = one_of (is_flipper (team.worker j).post) (u.resets r e) in
           let b = none_of m.gate.request q in let c = inv.counted.request in omega (arith, t, a, b, c)
       by_gate (inr (inl q)) = let o = u.reset r e in let z = ap (λ (w : GateWord). w.running) o.unmoved in omega (arith, o.stopped, z, q)

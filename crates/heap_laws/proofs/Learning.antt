@@ -14,8 +14,7 @@ use Rattle.heap_state.specs.Values.{Shown}
 use Rattle.heap_state.specs.Worker.{Worker, Team, Copy, Scan, is_mutator}
 use Rattle.heap_state.proofs.Frames.{counted_put, staffed_put, stocks_put, numbered_put, accounts_put, registers_put, rooted_put}
 use Rattle.heap_state.proofs.Puts.{put_at, put_other, team_put}
-use Rattle.heap_laws.specs.Keeping.{Keeps}
-use Rattle.heap_laws.specs.Steps.{with_worker, NoRow, Steps}
+use Rattle.heap_laws.specs.Steps.{with_worker, NoRow, Steps, Preserves}
 
 -- what is shown by the same words is shown by the team after the change
 pub shown_put : (E : Era) (m n : Memory) (team : Team) (g : Ghost) (k : ℕ) (w : Worker) (p : plain.Plain) → w.account ≡ (team.worker k).account → w.registers ≡ (team.worker k).registers → n.heap ≡ m.heap
@@ -46,7 +45,7 @@ scanned_on {E} {count} {page} worker k w on s = record {
     here j y p r e f = let z : (worker k).scan ≡ Some r = rw y at e in let t = on r z in (t.0, ap (λ u. u.scan) (put_at worker k w j y) ∙ t.1, t.2 ∙ f)
 
 -- w stands at the post of worker k in the same epoch, with the same account, registers and stock, and has forwarded as many registers
-pub record Alike (worker : ℕ → Worker) (k : ℕ) (w : Worker) : Type 0 where
+pub record StandsAlike (worker : ℕ → Worker) (k : ℕ) (w : Worker) : Type 0 where
   pub post : w.post ≡ (worker k).post
   pub epoch : w.epoch ≡ (worker k).epoch
   pub account : w.account ≡ (worker k).account
@@ -54,7 +53,7 @@ pub record Alike (worker : ℕ → Worker) (k : ℕ) (w : Worker) : Type 0 where
   pub done : w.done ≡ (worker k).done
   pub stock : w.stock ≡ (worker k).stock
 
-module _ (E : Era) (m : Memory) (team : Team) (g : Ghost) (k : ℕ) (w : Worker) (inv : Invariant E m team g) (like : Alike team.worker k w)
+module _ (E : Era) (m : Memory) (team : Team) (g : Ghost) (k : ℕ) (w : Worker) (inv : Invariant E m team g) (like : StandsAlike team.worker k w)
     (on : (s : Scan) → (team.worker k).scan ≡ Some s → (t : Scan) × (w.scan ≡ Some t) × (t.page ≡ s.page)) where
   -- with other crossings and announced places
   module _ (crossed claimed : ℕ → ℕ) (crossing : Crossing E m.front g.size g.writer crossed)
@@ -74,7 +73,7 @@ module _ (E : Era) (m : Memory) (team : Team) (g : Ghost) (k : ℕ) (w : Worker)
         let p6 = team_put team.count (Knows E m.gate m.traced m.front m.low m.old_front m.old_low m.old_owed g m.page crossed claimed m.heap) team.worker k w knows own in
         assumption
 
-    pub marks : Keeps E m (record m { cross = crossed; announced = claimed }) team (with_worker team k w) g
+    pub marks : Preserves E m (record m { cross = crossed; announced = claimed }) team (with_worker team k w) g g
     marks = record {
       invariant = kept;
       shown = λ p s. shown_put E m (record m { cross = crossed; announced = claimed }) team g k w p like.account like.registers refl s;
@@ -82,9 +81,9 @@ module _ (E : Era) (m : Memory) (team : Team) (g : Ghost) (k : ℕ) (w : Worker)
       ages = λ p. omega arith;
     }
 
-  pub learns : Knows E m.gate m.traced m.front m.low m.old_front m.old_low m.old_owed g m.page m.cross m.announced m.heap k w → Keeps E m m team (with_worker team k w) g
+  pub learns : Knows E m.gate m.traced m.front m.low m.old_front m.old_low m.old_owed g m.page m.cross m.announced m.heap k w → Preserves E m m team (with_worker team k w) g g
   learns own = marks m.cross m.announced inv.crossing (λ j c l d e. (inv.workers j l).copy c e) own
 
 -- a step that writes no row
-pub learnt : {E : Era} {m : Memory} {team : Team} {g : Ghost} {k : ℕ} {w : Worker} → Keeps E m m team (with_worker team k w) g → Steps E m team g k None w g
+pub learnt : {E : Era} {m : Memory} {team : Team} {g : Ghost} {k : ℕ} {w : Worker} → Preserves E m m team (with_worker team k w) g g → Steps E m team g k None w g
 learnt {m = m} keeps = record { later = m; writes = NoRow; keeps = keeps }

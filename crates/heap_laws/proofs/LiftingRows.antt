@@ -18,7 +18,7 @@ use Rattle.heap_laws.proofs.GatingCounts.{fits}
 -- ---- the row
 
 -- the table has the row, its era stays, and the epoch sees this memory
-record Seen (c : Configuration) (e : Option Entry) (later : Memory) : Type 0 where
+record RowSeen (c : Configuration) (e : Option Entry) (later : Memory) : Type 0 where
   fits : RowFits c.pages e
   era_stays : era_of (table_after (table c) e) ≡ era c
   memory_is : memory_of (table_after (table c) e) ≡ later
@@ -40,7 +40,7 @@ memory_at t gate epoch = record {
   announced = t.announced;
 }
 
-row_seen : (c : Configuration) (e : Option Entry) (later : Memory) → Writes (era c) (memory c) e later → Seen c e later
+row_seen : (c : Configuration) (e : Option Entry) (later : Memory) → Writes (era c) (memory c) e later → RowSeen c e later
 row_seen c _ _ NoRow = record { fits = tt; era_stays = refl; memory_is = refl }
 row_seen c _ _ (InGate gate fits same) = record {
   fits = fits;

@@ -15,15 +15,15 @@ use Rattle.heap_state.specs.Worker.{Worker, Team, Stock}
 use Rattle.heap_state.proofs.Puts.{put_at, put_other, put_same, put_twice}
 use Rattle.heap_laws.specs.MutatorSteps.{MayHold, HoldsValue, GoesOn}
 use Rattle.heap_laws.specs.MutatorStores.{IsAs, MutatorsPlace, with_record, with_reference, plain_next}
-use Rattle.heap_laws.specs.Placing.{born, next_identity}
+use Rattle.heap_laws.specs.Placing.{allocated, next_identity}
 use Rattle.heap_laws.specs.Steps.{Ready, with_word, with_worker, InWord}
-use Rattle.heap_laws.proofs.AllocHeader.{placed, cradle, records_are_placed, placed_is_held}
+use Rattle.heap_laws.proofs.AllocHeader.{placed, new_place, records_are_placed, placed_is_held}
 use Rattle.heap_laws.proofs.BirthCycle.{placing_keeps_cycle}
-use Rattle.heap_laws.proofs.BirthParts.{Cradle, lands_on, unused}
+use Rattle.heap_laws.proofs.BirthParts.{NewPlace, lands_on, unused}
 use Rattle.heap_laws.proofs.BirthShown.{placing_shows, within as maker_there}
 use Rattle.heap_laws.proofs.AllocStock.{Places, places_of}
-use Rattle.heap_laws.proofs.BirthValues.{value_born}
-use Rattle.heap_laws.proofs.BirthWorkers.{accesses_born}
+use Rattle.heap_laws.proofs.BirthValues.{value_allocated}
+use Rattle.heap_laws.proofs.BirthWorkers.{accesses_allocated}
 use Rattle.heap_laws.proofs.MutatorStores.{both, goes_as}
 use Rattle.heap_laws.proofs.PlainGains.{gained_serial}
 use Rattle.plain_state.proofs.Lists.{slice_get-set_same, slice_get-set_other}
@@ -35,7 +35,7 @@ module _ (E : Era) (m : Memory) (team : Team) (g : Ghost) (p : plain.Plain) (k :
   i = next_identity team k
 
   abbrev g' : Ghost
-  g' = born g s.at z c i
+  g' = allocated g s.at z c i
 
   abbrev m' : Memory
   m' = with_word m s.at v
@@ -43,8 +43,8 @@ module _ (E : Era) (m : Memory) (team : Team) (g : Ghost) (p : plain.Plain) (k :
   abbrev taken : Worker
   taken = with_record next s z d pointer
 
-  cr : Cradle E m.front m.low g.size g.copy g.keeper s.at z
-  cr = cradle E m team g k s c z v ready.laid_out ready.invariant places
+  cr : NewPlace E m.front m.low g.size g.copy g.keeper s.at z
+  cr = new_place E m team g k s c z v ready.laid_out ready.invariant places
 
   new : HoldsValue E g' pointer (Reference i)
   new = placed_is_held E m team g k s c z v ready.laid_out ready.invariant places pointer points
@@ -54,7 +54,7 @@ module _ (E : Era) (m : Memory) (team : Team) (g : Ghost) (p : plain.Plain) (k :
   held_on w h = record { clean = h.clean; lands = lands_on cr g.writer w h.lands }
 
   value_on : (w : ℕ) → MayHold E g.size g.writer w → value_of g'.identity w ≡ value_of g.identity w
-  value_on w h = value_born g.size g.writer g.identity s.at i w (unused cr) h.lands
+  value_on w h = value_allocated g.size g.writer g.identity s.at i w (unused cr) h.lands
 
   -- its serial is the next one of the plain heap
   serial : (team.worker k).account.serial ≡ plain.serial_of p.heap k
@@ -77,7 +77,7 @@ module _ (E : Era) (m : Memory) (team : Team) (g : Ghost) (p : plain.Plain) (k :
     last_look = goes.last_look;
     traced_seen = goes.traced_seen;
     reset = goes.reset;
-    access = λ f e. accesses_born cr g.writer g.kind c f (goes.access f e);
+    access = λ f e. accesses_allocated cr g.writer g.kind c f (goes.access f e);
     opened = goes.opened;
     registers = λ n j l. ⊎_elim
         (λ (e : j ≡ d). rw (put_at next.registers d pointer j e) new.held)

@@ -6,7 +6,7 @@ use Rattle.std.proofs.Math.ListN.{get_or-append}
 use Rattle.std.specs.Prelude.{nat_lt}
 use Rattle.space_map.specs.declared.gate_word.GateWord.{GateWord}
 use Rattle.heap_state.specs.Configuration.{team_of}
-use Rattle.heap_state.specs.Functions.{sum_below, one_if}
+use Rattle.heap_state.specs.Functions.{sum_below, count_one}
 use Rattle.heap_state.specs.Parts.Gate.{Counted, Staffed}
 use Rattle.heap_state.specs.Worker.{Worker, Team, Outside, Scanner, fresh, is_live, is_running, is_gone, is_flipper, is_late, is_mutator}
 use Rattle.heap_laws.specs.Opening.{opening_workers}
@@ -62,11 +62,11 @@ sum-zero (suc n) f z = let e = sum-zero n f z in let q = z n in omega arith
 pub counted : (mutators scanners : ℕ) (gate : GateWord) → gate ≡ record { epoch = 0; live = 0; running = 0; behind = 0; request = false; left = 0 }
     → Counted gate (opening_team mutators scanners).count (opening_team mutators scanners).worker
 counted mutators scanners gate e = rw e (record {
-  live = sum-zero _ _ (λ k. each_fresh mutators scanners k (λ w. one_if (is_live w.post) ≡ 0) refl refl);
-  running = sum-zero _ _ (λ k. each_fresh mutators scanners k (λ w. one_if (is_running w.post) ≡ 0) refl refl);
-  behind = sum-zero _ _ (λ k. each_fresh mutators scanners k (λ w. one_if (is_late 0 w) ≡ 0) refl refl);
-  left = sum-zero _ _ (λ k. each_fresh mutators scanners k (λ w. one_if (is_gone w.post) ≡ 0) refl refl);
-  request = sum-zero _ _ (λ k. each_fresh mutators scanners k (λ w. one_if (is_flipper w.post) ≡ 0) refl refl);
+  live = sum-zero _ _ (λ k. each_fresh mutators scanners k (λ w. count_one (is_live w.post) ≡ 0) refl refl);
+  running = sum-zero _ _ (λ k. each_fresh mutators scanners k (λ w. count_one (is_running w.post) ≡ 0) refl refl);
+  behind = sum-zero _ _ (λ k. each_fresh mutators scanners k (λ w. count_one (is_late 0 w) ≡ 0) refl refl);
+  left = sum-zero _ _ (λ k. each_fresh mutators scanners k (λ w. count_one (is_gone w.post) ≡ 0) refl refl);
+  request = sum-zero _ _ (λ k. each_fresh mutators scanners k (λ w. count_one (is_flipper w.post) ≡ 0) refl refl);
   still = λ b. absurd (omega (arith, b));
   epoch_fits = omega arith;
 })

@@ -15,14 +15,13 @@ use Rattle.heap_state.proofs.Puts.{put_same, team_put, some_same, none≢some}
 use Rattle.heap_state.specs.FieldSpan.{next_in, next_from}
 use Rattle.heap_state.proofs.FieldSpans.{passes_no_field, next_within, span-within, field-span}
 use Rattle.heap_state.specs.Entries.{WordIs}
-use Rattle.heap_laws.specs.Keeping.{Keeps}
 use Rattle.heap_laws.specs.ScanningWords.{scanning, on_to, AtField, PassingFieldKeeps, asking, AskingKeeps, HasFound, past_word}
-use Rattle.heap_laws.specs.Steps.{with_worker, with_word, Ready, Steps, InWord}
+use Rattle.heap_laws.specs.Steps.{with_worker, with_word, Ready, Steps, InWord, Preserves}
 use Rattle.heap_laws.proofs.FieldCycle.{slot_keeps_cycle}
 use Rattle.heap_laws.proofs.FieldSlot.{Slot, here_slot, headed_slot, raw_slot, opened_slot, landing_slot, older_slot, new_slot, old_space_slot, stocks_slot, scans_slot, copies_slot, keeps_slot, origin_slot, objects_slot, board_slot, here_field}
 use Rattle.heap_laws.proofs.FoundCopy.{FoundCopy, found_copy}
 use Rattle.heap_laws.proofs.Learning.{shown_put, scanned_on, learns, learnt}
-use Rattle.heap_laws.proofs.ScanningOn.{GoesOn, stepping_on, knows_on, goes_on, same_page, no_copy}
+use Rattle.heap_laws.proofs.ScanningOn.{ScanGoesOn, stepping_on, knows_on, goes_on, same_page, no_copy}
 use Rattle.heap_laws.proofs.ScanningWho.{scan_scan}
 use Rattle.heap_laws.proofs.Words.{pointer_lands}
 use Rattle.heap_laws.proofs.Rows.{here_below}
@@ -54,16 +53,16 @@ module _ (E : Era) (m : Memory) (team : Team) (g : Ghost) (k : ℕ) (s : Scan) (
           }
 
   -- past the word at the cursor, once it is clean
-  next : (heap : ℕ → ℕ) → ¬ (Leads E (heap s.cursor)) → GoesOn E m.front g.size g.writer g.kind heap s (past_word E s)
+  next : (heap : ℕ → ℕ) → ¬ (Leads E (heap s.cursor)) → ScanGoesOn E m.front g.size g.writer g.kind heap s (past_word E s)
   next heap fine = ⊎_elim
       (λ b. gone_on None b.1 (on_board b.0 b.1))
       (λ y. gone_on (Some y.0) y.1 (in_record y.0 y.1 y.2))
       at.place
     where
-      gone_on : (o : Option Seen) → s.current ≡ o → GoesOn E m.front g.size g.writer g.kind heap s (on_to E s (next_from o (s.cursor + 1))) → GoesOn E m.front g.size g.writer g.kind heap s (past_word E s)
-      gone_on o e goes = subst (λ (y : ℕ). GoesOn E m.front g.size g.writer g.kind heap s (on_to E s y)) (ap (λ (c : Option Seen). next_from c (s.cursor + 1)) (sym e)) goes
+      gone_on : (o : Option Seen) → s.current ≡ o → ScanGoesOn E m.front g.size g.writer g.kind heap s (on_to E s (next_from o (s.cursor + 1))) → ScanGoesOn E m.front g.size g.writer g.kind heap s (past_word E s)
+      gone_on o e goes = subst (λ (y : ℕ). ScanGoesOn E m.front g.size g.writer g.kind heap s (on_to E s y)) (ap (λ (c : Option Seen). next_from c (s.cursor + 1)) (sym e)) goes
 
-      on_board : OnBoard E s.cursor → s.current ≡ None → GoesOn E m.front g.size g.writer g.kind heap s (on_to E s (s.cursor + 1))
+      on_board : OnBoard E s.cursor → s.current ≡ None → ScanGoesOn E m.front g.size g.writer g.kind heap s (on_to E s (s.cursor + 1))
       on_board b none = record {
         page = refl;
         clean = λ x u e l n. let y : x ≡ s.cursor = omega arith in rw y fine;
@@ -71,7 +70,7 @@ module _ (E : Era) (m : Memory) (team : Team) (g : Ghost) (k : ℕ) (s : Scan) (
         stepping = stepping_on E m.front g.size g.writer g.kind s (s.cursor + 1) (omega arith) (λ r e. none≢some (sym none ∙ e)) steps;
       }
 
-      in_record : (r : Seen) → s.current ≡ Some r → s.cursor < r.fields_end → GoesOn E m.front g.size g.writer g.kind heap s (on_to E s (next_in r (s.cursor + 1)))
+      in_record : (r : Seen) → s.current ≡ Some r → s.cursor < r.fields_end → ScanGoesOn E m.front g.size g.writer g.kind heap s (on_to E s (next_in r (s.cursor + 1)))
       in_record r is l =
           let c = steps.current r is in
           let z = span-within (g.kind r.at) (g.size r.at) c.stands in
@@ -153,7 +152,7 @@ module _ (E : Era) (m : Memory) (team : Team) (g : Ghost) (k : ℕ) (s : Scan) (
   slot : Slot E m.front m.low g.size g.writer g.kind s.cursor v
   slot = here_slot out inv.laid h (record { clean = copy.clean; lands = copy.lands })
 
-  on : GoesOn E m.front g.size g.writer g.kind heap' s t
+  on : ScanGoesOn E m.front g.size g.writer g.kind heap' s t
   on = next E m team g k s out inv ready.member has.scans has.at heap' (rw (put_same m.heap s.cursor v) copy.clean)
 
   abbrev KnowsNow : ℕ → Worker → Type 0
@@ -192,7 +191,7 @@ module _ (E : Era) (m : Memory) (team : Team) (g : Ghost) (k : ℕ) (s : Scan) (
       let p13 = team_put team.count KnowsNow team.worker k w' others own in
       assumption
 
-  keeps : Keeps E m (with_word m s.cursor v) team (with_worker team k w') g
+  keeps : Preserves E m (with_word m s.cursor v) team (with_worker team k w') g g
   keeps = record {
     invariant = invariant;
     shown = λ p y. shown_put E (with_word m s.cursor v) (with_word m s.cursor v) team g k w' p refl refl refl (record {

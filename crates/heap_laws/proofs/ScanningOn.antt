@@ -15,7 +15,7 @@ use Rattle.heap_laws.specs.Steps.{with_worker, Preserves}
 use Rattle.heap_laws.proofs.Learning.{learns}
 
 -- from s the scan may go on as t over these words
-pub record GoesOn (E : Era) (front : ℕ) (size writer : ℕ → ℕ) (kind : ℕ → Kind) (heap : ℕ → ℕ) (s t : Scan) : Type 0 where
+pub record ScanGoesOn (E : Era) (front : ℕ) (size writer : ℕ → ℕ) (kind : ℕ → Kind) (heap : ℕ → ℕ) (s t : Scan) : Type 0 where
   pub page : t.page ≡ s.page
   pub clean : (x : ℕ) → Here E size writer kind x → x / 64 ≡ s.page → s.cursor ≤ x → x < t.cursor → ¬ (Leads E (heap x))
   pub top : (s.page ≡ E.board / 64) ⊎ (t.cursor ≤ front)
@@ -49,7 +49,7 @@ module _ (E : Era) (m : Memory) (team : Team) (g : Ghost) (k : ℕ) (s : Scan) (
   me = inv.workers k below
 
   -- what the worker knows of its scan after it went on
-  scans_on : (heap : ℕ → ℕ) (t : Scan) → GoesOn E m.front g.size g.writer g.kind heap s t → Scans E m.front g.size g.writer g.kind heap m.page k s → Scans E m.front g.size g.writer g.kind heap m.page k t
+  scans_on : (heap : ℕ → ℕ) (t : Scan) → ScanGoesOn E m.front g.size g.writer g.kind heap s t → Scans E m.front g.size g.writer g.kind heap m.page k s → Scans E m.front g.size g.writer g.kind heap m.page k t
   scans_on heap t on p = record {
     claimed = rw on.page p.claimed;
     place = rw on.page p.place;
@@ -62,7 +62,7 @@ module _ (E : Era) (m : Memory) (team : Team) (g : Ghost) (k : ℕ) (s : Scan) (
   same_page t e r f = let z : s ≡ r = some_same (sym scans ∙ f) in (t, refl, e ∙ ap (λ (y : Scan). y.page) z)
 
   -- what the worker knows after it went on
-  pub knows_on : (heap : ℕ → ℕ) (t : Scan) → GoesOn E m.front g.size g.writer g.kind heap s t → Scans E m.front g.size g.writer g.kind heap m.page k s → KnowsThen heap (scanning (team.worker k) t)
+  pub knows_on : (heap : ℕ → ℕ) (t : Scan) → ScanGoesOn E m.front g.size g.writer g.kind heap s t → Scans E m.front g.size g.writer g.kind heap m.page k s → KnowsThen heap (scanning (team.worker k) t)
   knows_on heap t on sc =
       let u = me in
       let o1 : (q : Quest) → None ≡ Some q → IsOrigin E g.size g.writer g.kind heap (is_late E.epoch (team.worker k)) (team.worker k).done (team.worker k).registers (Some t) q.old q.origin = λ q e. none≢some e in
@@ -77,7 +77,7 @@ module _ (E : Era) (m : Memory) (team : Team) (g : Ghost) (k : ℕ) (s : Scan) (
       assumption
 
   -- a load after which the scan goes on
-  pub goes_on : (t : Scan) → GoesOn E m.front g.size g.writer g.kind m.heap s t → Preserves E m m team (with_worker team k (scanning (team.worker k) t)) g g
+  pub goes_on : (t : Scan) → ScanGoesOn E m.front g.size g.writer g.kind m.heap s t → Preserves E m m team (with_worker team k (scanning (team.worker k) t)) g g
   goes_on t on = learns E m team g k (scanning (team.worker k) t) inv (assumption) (same_page t on.page) (knows_on m.heap t on (me.scan s scans))
 
 -- who asks for nothing copies nothing

@@ -8,15 +8,14 @@ use Rattle.heap_state.specs.Parts.Scanning.{Claims}
 use Rattle.heap_state.specs.Worker.{Team, Claim}
 use Rattle.heap_state.proofs.Holding.{writer}
 use Rattle.heap_state.proofs.Puts.{some_same}
-use Rattle.heap_laws.specs.Keeping.{Keeps}
 use Rattle.heap_laws.specs.Scanning.{claiming, claim_of, BeginningClaimKeeps, LookingAtPlaceKeeps, LookingAtGateKeeps}
-use Rattle.heap_laws.specs.Steps.{with_worker}
+use Rattle.heap_laws.specs.Steps.{with_worker, Preserves}
 use Rattle.heap_laws.proofs.Learning.{learns, learnt}
 
 -- a worker that knows what its new claim says
 module _ (E : Era) (m : Memory) (team : Team) (g : Ghost) (k : ℕ) (q : Claim) (inv : Invariant E m team g) (below : k < team.count)
     (new : Claims E m.front m.gate.behind g.size g.writer m.page (team.worker k).epoch q) where
-  pub claims_more : Keeps E m m team (with_worker team k (claiming (team.worker k) q)) g
+  pub claims_more : Preserves E m m team (with_worker team k (claiming (team.worker k) q)) g g
   claims_more = learns E m team g k (claiming (team.worker k) q) inv
       (assumption)
       (λ s e. (s, e, refl))

@@ -15,9 +15,8 @@ use Rattle.heap_state.proofs.Puts.{some_same, none≢some}
 use Rattle.heap_state.proofs.Headers.{said_kind-header_kind}
 use Rattle.heap_state.specs.FieldSpan.{seen_at, entry_of}
 use Rattle.heap_state.proofs.FieldSpans.{enters_within, enters_past_no_field}
-use Rattle.heap_laws.specs.Keeping.{Keeps}
 use Rattle.heap_laws.specs.ScanningWords.{scanning, in_record, IsScanning, ReadingCrossingKeeps, ReadingFirstHeaderKeeps, ReadingFrontKeeps, ReadingNextHeaderKeeps}
-use Rattle.heap_laws.specs.Steps.{with_worker}
+use Rattle.heap_laws.specs.Steps.{with_worker, Preserves}
 use Rattle.heap_laws.proofs.FieldSlot.{here_field}
 use Rattle.heap_laws.proofs.ScanningOn.{past, goes_on, no_copy}
 use Rattle.heap_laws.proofs.Learning.{learnt}
@@ -75,7 +74,7 @@ module _ (E : Era) (m : Memory) (team : Team) (g : Ghost) (k : ℕ) (s : Scan) (
       let c : m.cross s.page ≡ o.0 = inv.crossing.crossing s.page o.0 place.0 place.1 o.1 o.2 o.3 w in
       rw c (o.1, w, o.2, o.3)
 
-  pub crosses : Keeps E m m team (with_worker team k (scanning (team.worker k) (record s { over = Some (m.cross s.page) }))) g
+  pub crosses : Preserves E m m team (with_worker team k (scanning (team.worker k) (record s { over = Some (m.cross s.page) }))) g g
   crosses = goes_on E m team g k s inv below is.scans idle (record s { over = Some (m.cross s.page) }) (record {
     page = refl;
     clean = λ x u e l n. absurd (omega (arith, l, n));
@@ -107,7 +106,7 @@ module _ (E : Era) (m : Memory) (team : Team) (g : Ghost) (k : ℕ) (s : Scan) (
 
   -- the scan enters the record at a
   enters : (a len serial mutator : ℕ) (head : HeaderKind) → 0 < g.size a → g.writer a ≡ 0 → E.start ≤ a → a + g.size a ≤ m.front → a ≤ s.cursor → s.cursor < a + g.size a
-      → decode (m.heap a) ≡ HeaderWord head len serial mutator → Keeps E m m team (with_worker team k (scanning (team.worker k) (in_record E s a (kind_at head a) (len + 1)))) g
+      → decode (m.heap a) ≡ HeaderWord head len serial mutator → Preserves E m m team (with_worker team k (scanning (team.worker k) (in_record E s a (kind_at head a) (len + 1)))) g g
   enters a len serial mutator head st w l n c d e =
       let h = header a len serial mutator head st w l n e in
       let seen : Seen = seen_at a (kind_at head a) (len + 1) in
@@ -144,7 +143,7 @@ module _ (E : Era) (m : Memory) (team : Team) (g : Ghost) (k : ℕ) (s : Scan) (
 
   -- its header
   pub enters_first : (a len serial mutator : ℕ) (head : HeaderKind) → s.over ≡ Some a → s.cursor ≡ 64 * s.page → decode (m.heap a) ≡ HeaderWord head len serial mutator
-      → Keeps E m m team (with_worker team k (scanning (team.worker k) (in_record E s a (kind_at head a) (len + 1)))) g
+      → Preserves E m m team (with_worker team k (scanning (team.worker k) (in_record E s a (kind_at head a) (len + 1)))) g g
   enters_first a len serial mutator head e c d =
       let o = steps.over a e in
       let w = first_lies a e in
@@ -172,19 +171,19 @@ module _ (E : Era) (m : Memory) (team : Team) (g : Ghost) (k : ℕ) (s : Scan) (
 
   -- its header
   pub enters_next : (r : Seen) (len serial mutator : ℕ) (head : HeaderKind) → s.current ≡ Some r → s.cursor ≡ r.next → s.cursor < 64 * s.page + 64 → (s.inner ≡ true) ⊎ (s.in_place ≡ false)
-      → decode (m.heap s.cursor) ≡ HeaderWord head len serial mutator → Keeps E m m team (with_worker team k (scanning (team.worker k) (in_record E s s.cursor (kind_at head s.cursor) (len + 1)))) g
+      → decode (m.heap s.cursor) ≡ HeaderWord head len serial mutator → Preserves E m m team (with_worker team k (scanning (team.worker k) (in_record E s s.cursor (kind_at head s.cursor) (len + 1)))) g g
   enters_next r len serial mutator head e c p i d =
       let y = next_lies r e c p i in
       enters s.cursor len serial mutator head y.0 y.1 y.2 y.3 (omega arith) (let st = y.0 in omega (arith, st)) d
 
   -- FRONT is read at a record's end
-  pub sees_front : Keeps E m m team (with_worker team k (scanning (team.worker k) (cond (eqb s.cursor m.front) (record s { ended = true }) (record s { inner = true })))) g
+  pub sees_front : Preserves E m m team (with_worker team k (scanning (team.worker k) (cond (eqb s.cursor m.front) (record s { ended = true }) (record s { inner = true })))) g g
   sees_front = ⊎_elim
       (λ (e : s.cursor ≡ m.front). rw (eq-eqb s.cursor m.front e) (at_front e))
       (λ (n : s.cursor ≢ m.front). rw (ne_eqb s.cursor m.front n) (before n))
       (cases_eq s.cursor m.front)
     where
-      at_front : s.cursor ≡ m.front → Keeps E m m team (with_worker team k (scanning (team.worker k) (record s { ended = true }))) g
+      at_front : s.cursor ≡ m.front → Preserves E m m team (with_worker team k (scanning (team.worker k) (record s { ended = true }))) g g
       at_front e = goes_on E m team g k s inv below is.scans idle (record s { ended = true }) (record {
         page = refl;
         clean = λ x u p l n. absurd (omega (arith, l, n));
@@ -192,7 +191,7 @@ module _ (E : Era) (m : Memory) (team : Team) (g : Ghost) (k : ℕ) (s : Scan) (
         stepping = record { over = steps.over; current = steps.current; inner = steps.inner; begun = steps.begun; full = steps.full; ended = λ i. inr (inr (before_board, e)) };
       })
 
-      before : s.cursor ≢ m.front → Keeps E m m team (with_worker team k (scanning (team.worker k) (record s { inner = true }))) g
+      before : s.cursor ≢ m.front → Preserves E m m team (with_worker team k (scanning (team.worker k) (record s { inner = true }))) g g
       before n = goes_on E m team g k s inv below is.scans idle (record s { inner = true }) (record {
         page = refl;
         clean = λ x u p l o. absurd (omega (arith, l, o));

@@ -10,8 +10,7 @@ use Rattle.heap_state.specs.Parts.Pages.{Quiet}
 use Rattle.heap_state.specs.Parts.Scanning.{Rounds, Claims, Looks, LastLooks}
 use Rattle.heap_state.specs.Worker.{Team, Round, Claim, Look, LastLook}
 use Rattle.heap_state.proofs.Puts.{some_same, none≢some}
-use Rattle.heap_laws.specs.Keeping.{Keeps}
-use Rattle.heap_laws.specs.Steps.{with_worker}
+use Rattle.heap_laws.specs.Steps.{with_worker, Preserves}
 use Rattle.heap_laws.specs.Tracing.{in_round, ReadingTracedKeeps, ReadingRoundFrontKeeps, looking, first_look, BeginningLookKeeps, LookingAtFrontKeeps, LookingAtBoardKeeps, LookingAtPageKeeps, LookingAtFillingPageKeeps, LooksAgain, about_to_trace, LookingAgainKeeps, filling_claim, about_to_fill, ClaimingFillingPageKeeps}
 use Rattle.heap_laws.proofs.Learning.{learns, learnt}
 use Rattle.heap_laws.proofs.ScanningWho.{open_age}
@@ -21,7 +20,7 @@ module _ (E : Era) (m : Memory) (team : Team) (g : Ghost) (k : ℕ) (inv : Invar
   me = inv.workers k below
 
   -- a worker that knows what its new round says
-  pub rounds_more : (r : Round) → Rounds E m.traced m.front (team.worker k).epoch r → Keeps E m m team (with_worker team k (in_round (team.worker k) r)) g
+  pub rounds_more : (r : Round) → Rounds E m.traced m.front (team.worker k).epoch r → Preserves E m m team (with_worker team k (in_round (team.worker k) r)) g g
   rounds_more r new = learns E m team g k (in_round (team.worker k) r) inv
       (assumption) (λ s e. (s, e, refl))
       (let c : (q : Round) → Some r ≡ Some q → Rounds E m.traced m.front (team.worker k).epoch q = λ q e. rw (← some_same e) new in
@@ -29,7 +28,7 @@ module _ (E : Era) (m : Memory) (team : Team) (g : Ghost) (k : ℕ) (inv : Invar
       assumption)
 
   -- its new look
-  pub looks_more : (l : Look) → Looks E m.gate.behind m.front m.page (team.worker k).epoch l → Keeps E m m team (with_worker team k (looking (team.worker k) l)) g
+  pub looks_more : (l : Look) → Looks E m.gate.behind m.front m.page (team.worker k).epoch l → Preserves E m m team (with_worker team k (looking (team.worker k) l)) g g
   looks_more l new = learns E m team g k (looking (team.worker k) l) inv
       (assumption) (λ s e. (s, e, refl))
       (let c : (q : Look) → Some l ≡ Some q → Looks E m.gate.behind m.front m.page (team.worker k).epoch q = λ q e. rw (← some_same e) new in

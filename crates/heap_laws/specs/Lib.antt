@@ -1,7 +1,6 @@
 pub mod Steps
 pub mod Copying
 pub mod Lifting
-pub mod Keeping
 pub mod Scanning
 pub mod ScanningWords
 pub mod Tracing

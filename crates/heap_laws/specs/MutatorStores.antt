@@ -22,7 +22,7 @@ use Rattle.heap_state.specs.Functions.{put}
 use Rattle.heap_laws.specs.Allocating.{SeesRoom}
 use Rattle.heap_laws.specs.Fields.{IsWordOf, MayStore, StandsFor}
 use Rattle.heap_laws.specs.MutatorSteps.{with_mutator, HoldsValue, GoesOn}
-use Rattle.heap_laws.specs.Placing.{PlacesNext, born, next_identity}
+use Rattle.heap_laws.specs.Placing.{PlacesNext, allocated, next_identity}
 use Rattle.heap_laws.specs.Steps.{Ready, IsAreaNow, StepsTo, Steps}
 
 -- the worker has what the plain mutator has, with this plain heap
@@ -83,7 +83,7 @@ MutatorsPlace = (E : Era) (m : Memory) (team : Team) (g : Ghost) (p : plain.Plai
     → Ready E m team g k → Shown E m team g p → PlacesNext team k s c z v → Shows (value_of g.identity) m.heap s.at c z r
     → d < 8 → decode pointer ≡ PointerWord s.at
     → GoesOn E m g (team.worker k) next → IsAs g p.heap k next q
-    → StepsTo E m team g k (Some (WordIs s.at v)) (with_record next s z d pointer) (born g s.at z c (next_identity team k))
+    → StepsTo E m team g k (Some (WordIs s.at v)) (with_record next s z d pointer) (allocated g s.at z c (next_identity team k))
     (with_mutator (with_heap p (gained p.heap k r)) k (with_reference p.heap k q d))
 
 -- ---- ends

@@ -19,8 +19,8 @@ abbrev pub next_identity : Team → ℕ → Identity
 next_identity team k = record { mutator = k; serial = (team.worker k).account.serial + 1 }
 
 -- a record of this size, kind and identity stands at a
-abbrev pub born : Ghost → (a size : ℕ) → Kind → Identity → Ghost
-born g a z c i = record g { size = put g.size a z; writer = put g.writer a 0; kind = put g.kind a c; identity = put g.identity a i }
+abbrev pub allocated : Ghost → (a size : ℕ) → Kind → Identity → Ghost
+allocated g a z c i = record g { size = put g.size a z; writer = put g.writer a 0; kind = put g.kind a c; identity = put g.identity a i }
 
 -- ---- the law
 
