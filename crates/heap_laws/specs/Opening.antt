@@ -3,13 +3,12 @@ use Rattle.std.specs.Prelude.{ℕ, ◌+◌, ◌*◌, ◌≤◌, List, [], ◌∷
 use Rattle.plain_state.specs.declared.value.Value.TheVariants.{Number}
 use Rattle.plain_state.specs.State as plain
 use Rattle.space_map.specs.Spaces.{IsPageCount, board_page}
-use Rattle.space_map.specs.declared.area_word.AreaWord.{AreaWord}
 use Rattle.space_map.specs.declared.page_word.PageWord.TheVariants.{Open}
 use Rattle.heap_state.specs.Configuration.{Configuration, Stands, era, memory, team}
 use Rattle.heap_state.specs.Cycle.{Cycle}
 use Rattle.heap_state.specs.Entries.{Entry, TracedIs, AreaIs, PageIs, written}
 use Rattle.heap_state.specs.Worker.{Worker, Outside, Scanner, fresh}
-use Rattle.heap_laws.specs.FlippingReset.{whole_area}
+use Rattle.heap_laws.specs.Flipping.Reset.{whole_area}
 
 -- ---- the table
 
