@@ -5,7 +5,4 @@ pub mod Seeing
 pub mod Simulating
 pub mod Staying
 pub mod Plainly
-pub mod NoFault
-pub mod Values
-pub mod Getters
 pub mod Parsed

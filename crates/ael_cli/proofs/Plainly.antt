@@ -23,18 +23,19 @@ use Rattle.ael_cli.proofs.Staying.{plain_count}
 
 module _ (one : MeansOneProgram) (no_fault : HasNoFault) (job : Job) (bytes : List ℕ) (items : List Item) (program : List (List Instr)) (text : IsText bytes program items) where
   -- what is answered of a program
-  ran : (output : List ℕ) (status : Status) → IsJobDone job (Some bytes) output status → IsPerformed job items program output status
-  ran output status r =
-      let its_text : IsText bytes r.code r.items = subst (λ bs. IsText bs r.code r.items) r.whole.all r.text in
+  ran : (source : Drawn) (output : List ℕ) (status : Status) → source.left ≡ Some bytes → IsJobDone job source output status → IsPerformed job items program output status
+  ran source output status given r =
+      let all : r.bytes ≡ bytes = rw given at r.whole.all in
+      let its_text : IsText bytes r.code r.items = subst (λ bs. IsText bs r.code r.items) all r.text in
       let same = one bytes r.code program r.items items its_text text in
       rw (← same.0, ← same.1) r.performed
 
   -- what any answer is, where nothing failed
   caused : (source : Drawn) (output : List ℕ) (status : Status) → source.left ≡ Some bytes → length bytes ≤ MAX_INPUT → IsFaultless source.before source.after
       → IsCaused job source output status → IsPerformed job items program output status ⊎ (status ≡ NoMemory)
-  caused source output Done given within sound is = inl (ran output Done (rw given at is))
-  caused source output Ended given within sound is = inl (ran output Ended (rw given at is))
-  caused source output StepsOut given within sound is = inl (ran output StepsOut (rw given at is))
+  caused source output Done given within sound is = inl (ran source output Done given is)
+  caused source output Ended given within sound is = inl (ran source output Ended given is)
+  caused source output StepsOut given within sound is = inl (ran source output StepsOut given is)
   caused source output (Text number line) given within sound is =
       let its = rw given at is.1.whole.all in
       absurd (no_fault bytes program items number line text (subst (λ bs. IsFault bs number line) its is.1.fault))

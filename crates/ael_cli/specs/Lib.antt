@@ -10,6 +10,7 @@ pub mod Schedule
 pub mod Scheduler
 pub mod Seen
 pub mod Simulation
+pub mod Standard
 pub mod Status
 pub mod Stream
 pub mod Words

@@ -21,6 +21,11 @@ Reads old (got.Bytes n) buf new = (0 < n) × (n ≤ length buf) × Gives old n b
 Reads old got.End buf new = (new ≡ old) × IfSome old (λ bytes. bytes ≡ [])
 Reads old got.Failed buf new = new ≡ old
 
+-- Where a reader is known to have these bytes left, they are what a read gives, and what is still to
+-- come after it: there is an end only where none of them is left.
+abbrev pub ReadsKnown : Option (List ℕ) → Got → List ℕ → Option (List ℕ) → Type 0
+ReadsKnown old got buf new = IfSome old (λ bytes. Reads (Some bytes) got buf new)
+
 -- the bytes held grow by these at their end, where they are told
 abbrev pub Grows : Option (List ℕ) → List ℕ → Option (List ℕ) → Type 0
 Grows old bytes new = new ≡ option_map (λ held. held ++ bytes) old
@@ -29,6 +34,10 @@ Grows old bytes new = new ≡ option_map (λ held. held ++ bytes) old
 abbrev pub Writes : Option (List ℕ) → Put → List ℕ → Option (List ℕ) → Type 0
 Writes old (put.Took n) piece new = (0 < n) × (n ≤ length piece) × Grows old (take n piece) new
 Writes old put.Failed piece new = new ≡ old
+
+-- where a writer is known to hold these bytes, they grow by what a write takes
+abbrev pub WritesKnown : Option (List ℕ) → Put → List ℕ → Option (List ℕ) → Type 0
+WritesKnown old put piece new = IfSome old (λ held. Writes (Some held) put piece new)
 
 -- the bytes held grow by some of these from the front
 abbrev pub GrowsByPrefix : Option (List ℕ) → List ℕ → Option (List ℕ) → Type 0

@@ -1,13 +1,16 @@
 //! Sources and sinks in memory, which fail where they are told to.
 
-ghost use Rattle.std.specs.Prelude.{◌≡◌, ◌≤◌, [], Some, IfOk};
-ghost use Rattle.ael_cli.specs.Stream.{Rose};
-ghost use Rattle.ael_cli.specs.declared.sink.Put.TheVariants.{Failed};
+ghost use Rattle.std.specs.Prelude.{◌≡◌, ◌≢◌, ◌<◌, ◌≤◌, ◌↔◌, [], Some, IfOk, IsTrue, length, min};
+ghost use Rattle.ael_cli.specs.Memory.{is_listed, is_to_fail, next_call, room_left};
+ghost use Rattle.ael_cli.specs.Stream.{Reads, Rose, Writes};
+ghost use Rattle.ael_cli.specs.declared.source.Got.TheVariants as got;
+ghost use Rattle.ael_cli.specs.declared.sink.Put.TheVariants as put;
 
 use crate::sink::{Put, Sink};
 use crate::source::{Got, Source};
 use crate::sure::SureSource;
-use std::alloc::{AllocError, Global};
+use plain_heap::NoMemory;
+use std::alloc::Global;
 use std::marker::Model;
 
 /// Gives the bytes of a list, as many at a time as the buffer has room for.
@@ -46,7 +49,16 @@ impl Source for MemSource {
 
     ghost faults = { λ s. s.faults };
 
-    fn read(&mut self, buf: &mut [u8]) -> Got {
+    fn read(&mut self, buf: &mut [u8]) -> Got
+        requires { 0 < length buf.old }
+        ensures bytes { Reads (Some self.old.left) result buf.new (Some self.new.left) }
+        ensures never_falls { self.old.faults ≤ self.new.faults }
+        ensures fails_only_if_the_count_rose { result ≡ got.Failed → Rose self.old.faults self.new.faults }
+        ensures counts_failures_alone { result ≢ got.Failed → self.new.faults ≡ self.old.faults }
+        ensures counts_the_call { self.new.calls ≡ next_call self.old.calls }
+        ensures fails_exactly_where_listed { (result ≡ got.Failed) ↔ IsTrue (is_listed self.old.fails self.new.calls) }
+        ensures keeps_its_list { self.new.fails ≡ self.old.fails }
+    {
         self.calls = self.calls.saturating_add(1);
         if self.fails.contains(&self.calls) {
             self.faults = self.faults.saturating_add(1);
@@ -80,7 +92,7 @@ impl Model for MemSink {
 impl MemSink {
     /// Takes its room at once. The calls of `write` that `fails` lists are to fail, numbered from 1;
     /// a write with no room left fails too.
-    pub fn new(alloc: Global, room: usize, fails: Vec<u64>) -> Result<MemSink, AllocError>
+    pub fn new(alloc: Global, room: usize, fails: Vec<u64>) -> Result<MemSink, NoMemory>
         ensures { IfOk result (λ sink. sink ≡ record { held = []; room = room; fails = fails.items; calls = 0; faults = 0 }) }
     {
         Ok(MemSink {
@@ -99,11 +111,18 @@ impl MemSink {
         self.bytes.as_slice()
     }
 
+    /// Whether the call that was counted last is to fail.
+    fn is_to_fail(&self) -> bool
+        ensures { result ≡ is_to_fail self.now self.now.calls }
+    {
+        self.fails.contains(&self.calls) || self.room - self.bytes.len() == 0
+    }
+
     /// Counts a fault.
     fn fail(&mut self) -> Put
-        ensures answer { result ≡ Failed }
+        ensures answer { result ≡ put.Failed }
         ensures counted { Rose self.old.faults self.new.faults × (self.old.faults ≤ self.new.faults) }
-        ensures held { self.new.held ≡ self.old.held }
+        ensures rest { self.new ≡ record self.old { faults = self.new.faults } }
     {
         self.faults = self.faults.saturating_add(1);
         Put::Failed
@@ -115,12 +134,22 @@ impl Sink for MemSink {
 
     ghost faults = { λ s. s.faults };
 
-    fn write(&mut self, piece: &[u8]) -> Put {
+    fn write(&mut self, piece: &[u8]) -> Put
+        requires { 0 < length piece.now }
+        ensures bytes { Writes (Some self.old.held) result piece.now (Some self.new.held) }
+        ensures never_falls { self.old.faults ≤ self.new.faults }
+        ensures fails_only_if_the_count_rose { result ≡ put.Failed → Rose self.old.faults self.new.faults }
+        ensures counts_failures_alone { result ≢ put.Failed → self.new.faults ≡ self.old.faults }
+        ensures counts_the_call { self.new.calls ≡ next_call self.old.calls }
+        ensures fails_exactly_where_listed_or_full { (result ≡ put.Failed) ↔ IsTrue (is_to_fail self.old self.new.calls) }
+        ensures takes_all_that_fits { result ≢ put.Failed → result ≡ put.Took (min (length piece.now) (room_left self.old)) }
+        ensures keeps_its_list_and_room { (self.new.fails ≡ self.old.fails) × (self.new.room ≡ self.old.room) }
+    {
         self.calls = self.calls.saturating_add(1);
-        let count = piece.len().min(self.room - self.bytes.len());
-        if count == 0 || self.fails.contains(&self.calls) {
+        if self.is_to_fail() {
             return self.fail();
         }
+        let count = piece.len().min(self.room - self.bytes.len());
         match self.bytes.extend_from_slice(&piece[..count]) {
             Ok(()) => Put::Took(count),
             Err(_) => unreachable!("the room was taken at the start"),

@@ -35,7 +35,7 @@ impl From<AllocError> for ReadError {
 
 /// Reads all that a source gives, or at most one byte more than an input may have.
 pub fn read_all<S: Source>(alloc: Global, src: &mut S) -> Result<Vec<u8>, ReadError>
-    ensures whole { IfOk result (λ bytes. IsWhole (S.left src.old) bytes.items) }
+    ensures whole { IfOk result (λ bytes. IsWhole (S.left src.old) (S.left src.new) bytes.items) }
     ensures too_long { result ≡ Err TooLong → IsPastLimit (S.left src.old) }
     ensures bounded { IsBounded (S.left src.old) (S.left src.new) }
     ensures never_falls { S.faults src.old ≤ S.faults src.new }

@@ -1,11 +1,12 @@
 //! A source and a sink that never fail.
 
-ghost use Rattle.std.specs.Prelude.{◌≡◌, ◌≤◌, ◌⊎◌, List, None, Some, length, map, string_bytes};
+ghost use Rattle.std.specs.Prelude.{◌≡◌, ◌<◌, ◌≤◌, ◌⊎◌, List, None, Some, length, map, string_bytes};
 ghost use Rattle.mutator_asm.specs.declared.instr.Instr.{Instr};
 ghost use Rattle.mutator_asm.specs.declared.item.Item.{Item};
 ghost use Rattle.mutator_asm.specs.Text.{IsText};
 ghost use Rattle.ael_cli.specs.declared.job.Job.{Job};
 ghost use Rattle.ael_cli.specs.declared.reading.TheConstants.{MAX_INPUT};
+ghost use Rattle.ael_cli.specs.declared.sink.Put.TheVariants as put;
 ghost use Rattle.ael_cli.specs.Performing.{status_for};
 ghost use Rattle.ael_cli.specs.Status.{code_of};
 ghost use Rattle.ael_cli.specs.Words.{job_of};
@@ -66,7 +67,10 @@ impl Sink for SureSink {
 
     ghost faults = { λ _. 0 };
 
-    fn write(&mut self, piece: &[u8]) -> Put {
+    fn write(&mut self, piece: &[u8]) -> Put
+        requires { 0 < length piece.now }
+        ensures takes_all { result ≡ put.Took (length piece.now) }
+    {
         Put::Took(piece.len())
     }
 }

@@ -17,10 +17,11 @@ use crate::sim::sim;
 use crate::sink::Sink;
 use crate::source::Source;
 use crate::status::Status;
-use crate::words::{WordsError, read_words};
+use crate::words::read_words;
 use crate::writing::emit;
 use mutator_asm::{Program, assemble, listing_is_a_text, never_both, one_program};
 use plain_heap::{NoMemory, alone_mutators_are_independent};
+use simple_commands::WordsError;
 use std::alloc::Global;
 
 /// Runs the command that the words after the program's name ask for, and answers the exit status.

@@ -3,6 +3,7 @@
 
 mod allocated;
 mod fitting;
+mod laws;
 mod new_pages;
 mod place;
 mod place_stage;
@@ -11,6 +12,7 @@ mod shortage;
 
 pub use allocated::Allocated;
 pub use fitting::Fitting;
+pub use laws::rows_are_worked_out;
 pub use new_pages::NewPages;
 pub use place::Place;
 pub use place_stage::PlaceStage;

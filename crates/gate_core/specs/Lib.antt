@@ -1,3 +1,4 @@
 pub mod Gate
 pub mod Flip
 pub mod Soundness
+pub mod Rows

@@ -1,3 +1,5 @@
 pub mod Claim
 pub mod Open
 pub mod Soundness
+pub mod Rows
+pub mod Theorems

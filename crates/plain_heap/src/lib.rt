@@ -20,7 +20,9 @@ mod step;
 mod stop;
 mod values;
 
-pub use laws::{alone_mutators_are_independent, stories_keep_the_last_flip};
+pub use laws::{
+    alone_mutators_are_independent, reached_states_are_consistent, stories_keep_the_last_flip,
+};
 pub use mark::Mark;
 pub use order::plain_run;
 pub use plain_state::{End, NoMemory};

@@ -1,4 +1,4 @@
--- The plain heap after a word was stored, or a record was made.
+-- The plain heap after a word was stored, or a record was allocated.
 use Rattle.std.specs.Prelude.{ℕ, ◌-◌, List, [], ◌∷◌, ◌++◌, slice_set}
 use Rattle.plain_state.specs.declared.value.Identity.{Identity}
 use Rattle.plain_state.specs.declared.value.Value.{Value}
@@ -21,6 +21,6 @@ stored heap i r x v = with_records heap i.mutator (slice_set (made_by heap i.mut
 abbrev pub with_board : Heap → ℕ → Value → Heap
 with_board heap x v = record heap { board = slice_set heap.board x v }
 
--- mutator m has made one more record
+-- mutator m has one more record
 abbrev pub gained : Heap → ℕ → Record → Heap
 gained heap m r = with_records heap m (made_by heap m ++ r ∷ [])

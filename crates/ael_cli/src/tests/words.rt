@@ -2,7 +2,8 @@
 
 use super::{same, words_of};
 use crate::job::{Job, SimOptions};
-use crate::words::{WordsError, read_words};
+use crate::words::read_words;
+use simple_commands::WordsError;
 use std::alloc::Global;
 use std::test::Fail;
 

@@ -1,7 +1,9 @@
-use Rattle.std.proofs.Common.{◌≡◌, ◌<◌, IsTrue}
-use Rattle.fault_duty.specs.Duty.{left, advances}
-use Rattle.fault_duty.proofs.Lowering.{lowers}
+use Rattle.std.proofs.Common.{◌≡◌, ◌<◌, IsTrue, subst}
+use Rattle.fault_duty.specs.Duty.{left, advances, taken}
+use Rattle.fault_duty.specs.Soundness.{IsSoundRound}
+use Rattle.fault_duty.proofs.Lowering.{left-taken}
 use Rattle.fault_duty.proofs.duty.Duty.take.Goals as goal
 
 pub returns-in-Value-clause-lowers : goal.returns-in-Value-clause-lowers
-returns-in-Value-clause-lowers c = ?
+returns-in-Value-clause-lowers c =
+    left-taken c.args.self.now c.read.new.self c.args.reply (subst IsSoundRound c.self.view_is c.self.invariant) (rw c.in-Value.is c.read.ensures.state)

@@ -1,0 +1,34 @@
+use Rattle.std.proofs.Common.{refl}
+use Rattle.heap_words.specs.Word.{header_word}
+use Rattle.space_map.specs.AreaWord.{decode_area, area_in, encode_area}
+use Rattle.space_map.specs.PageWord.{encode_page}
+use Rattle.space_map.specs.Table.{place_of}
+use Rattle.alloc_end.proofs.laws.rows_are_worked_out.Goals as goal
+
+pub returns-clause-first_pair_is_placed : goal.returns-clause-first_pair_is_placed
+unfolding header_word decode_area area_in encode_area encode_page place_of
+returns-clause-first_pair_is_placed c = record { steps = refl; ends = refl }
+
+pub returns-clause-next_record_is_placed : goal.returns-clause-next_record_is_placed
+unfolding header_word decode_area area_in encode_area encode_page place_of
+returns-clause-next_record_is_placed c = record { steps = refl; ends = refl }
+
+pub returns-clause-reserve_is_kept : goal.returns-clause-reserve_is_kept
+unfolding header_word decode_area area_in encode_area encode_page place_of
+returns-clause-reserve_is_kept c = record { steps = refl; ends = refl }
+
+pub returns-clause-reserve_is_free_once_traced : goal.returns-clause-reserve_is_free_once_traced
+unfolding header_word decode_area area_in encode_area encode_page place_of
+returns-clause-reserve_is_free_once_traced c = record { steps = refl; ends = refl }
+
+pub returns-clause-full_tells_its_numbers : goal.returns-clause-full_tells_its_numbers
+unfolding header_word decode_area area_in encode_area encode_page place_of
+returns-clause-full_tells_its_numbers c = record { steps = refl; ends = refl }
+
+pub returns-clause-longest_is_full : goal.returns-clause-longest_is_full
+unfolding header_word decode_area area_in encode_area encode_page place_of
+returns-clause-longest_is_full c = record { steps = refl; ends = refl }
+
+pub returns-clause-lost_claim_is_tried_again : goal.returns-clause-lost_claim_is_tried_again
+unfolding header_word decode_area area_in encode_area encode_page place_of
+returns-clause-lost_claim_is_tried_again c = record { steps = refl; ends = refl }

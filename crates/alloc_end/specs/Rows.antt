@@ -1,0 +1,85 @@
+-- Worked rows of allocation, in a heap of 4 pages a space: each step with its reply, words as numbers.
+use Rattle.std.proofs.Common.{zero, suc, lit≤, lit<}
+use Rattle.std.specs.Prelude.{ℕ, ◌+◌}
+use Rattle.std.specs.Prelude.{◌++◌, List, [], ◌∷◌, true, false}
+use Rattle.atom_store.specs.declared.step.Step.{Step}
+use Rattle.atom_store.specs.declared.step.Step.TheVariants.{Load, Store, Exchange}
+use Rattle.atom_store.specs.declared.reply.Reply.{Reply}
+use Rattle.atom_store.specs.declared.reply.Reply.TheVariants.{Value, Done, Won, Lost}
+use Rattle.atom_store.specs.Machine.{ComesTo}
+use Rattle.space_map.specs.Spaces.{Layout}
+use Rattle.heap_words.specs.declared.kind.Kind.{Kind}
+use Rattle.heap_words.specs.declared.kind.Kind.TheVariants.{Fields, Raw}
+use Rattle.record_layout.specs.declared.header.Header.{Header}
+use Rattle.alloc_end.specs.declared.run.Run.{Run}
+use Rattle.alloc_end.specs.declared.allocated.Allocated.{Allocated}
+use Rattle.alloc_end.specs.declared.allocated.Allocated.TheVariants.{Placed, Full}
+use Rattle.alloc_end.specs.Place.{Placing, begun, place_machine}
+
+abbrev pub four_pages : Layout
+four_pages = record { pages = 4 }
+
+abbrev pub no_run : Run
+no_run = record { at = 0; end = 0 }
+
+-- a record of two fields, the first of mutator 0
+abbrev pub pair : Header
+pair = record { kind = Fields; len = 2; serial = 1; mutator = 0; short = lit≤ tt; counted = lit< tt }
+
+-- a raw record of one word, the second
+abbrev pub one_word : Header
+one_word = record { kind = Raw; len = 1; serial = 2; mutator = 0; short = lit≤ tt; counted = lit< tt }
+
+-- a record of the greatest length
+abbrev pub longest : Header
+longest = record { kind = Fields; len = 4095; serial = 1; mutator = 0; short = lit≤ tt; counted = lit< tt }
+
+-- so many stores of 0 in a row, from this place on
+abbrev pub zeros_stored : (place count : ℕ) → List (Step × Reply)
+zeros_stored place zero = []
+zeros_stored place (suc count) = (Store place 0, Done) ∷ zeros_stored (place + 1) count
+
+-- the first record of a heap: a page is claimed at the end of the space, cleared and opened, and the record stands at its first word
+abbrev pub FirstPairIsPlaced : Type 0
+FirstPairIsPlaced =
+    ComesTo place_machine (begun four_pages no_run pair 0)
+    (((Load 2, Value 1) ∷ (Load 4, Value 0x0000_0000_0400_0000) ∷ (Exchange 4 0x0000_0000_0400_0000 0x0000_0000_0300_0000, Won) ∷ []) ++ zeros_stored 225 64 ++ ((Store 19 1, Done) ∷ (Store 225 65570, Done) ∷ [])) (Placed 192)
+
+-- the next record goes into the run behind it, by one store
+abbrev pub NextRecordIsPlaced : Type 0
+NextRecordIsPlaced =
+    ComesTo place_machine (begun four_pages (record { at = 195; end = 256 }) one_word 0) ((Store 228 0x0000_0000_0002_0016, Done) ∷ []) (Placed 195)
+
+-- with 64 words owed in an epoch that isn't traced, the page is claimed only where they are left
+abbrev pub ReserveIsKept : Type 0
+ReserveIsKept =
+    ComesTo place_machine (begun four_pages no_run pair 1)
+    ((Load 2, Value 1) ∷ (Load 5, Value 0x0000_0400_01fc_0000) ∷ [])
+    (Full (record { asked = 1; room = 127; owed = 64; traced = false; live = 0 }))
+
+-- once it is traced, nothing is owed any more
+abbrev pub ReserveIsFreeOnceTraced : Type 0
+ReserveIsFreeOnceTraced =
+    ComesTo place_machine (begun four_pages no_run pair 1)
+    (((Load 2, Value 2) ∷ (Load 5, Value 0x0000_0400_01fc_0000) ∷ (Exchange 5 0x0000_0400_01fc_0000 0x0000_0000_00fc_0000, Won) ∷ []) ++ zeros_stored 352 64 ++ ((Store 20 65537, Done) ∷ (Store 352 65570, Done) ∷ [])) (Placed 319)
+
+-- a heap that is full of live records tells its numbers
+abbrev pub FullTellsItsNumbers : Type 0
+FullTellsItsNumbers =
+    ComesTo place_machine (begun four_pages no_run pair 1)
+    ((Load 2, Value 2) ∷ (Load 5, Value 0x0000_0000_0400_00fc) ∷ [])
+    (Full (record { asked = 1; room = 4; owed = 0; traced = true; live = 252 }))
+
+-- the longest record asks for 64 pages
+abbrev pub LongestIsFull : Type 0
+LongestIsFull =
+    ComesTo place_machine (begun four_pages no_run longest 1)
+    ((Load 2, Value 2) ∷ (Load 5, Value 0x0000_0000_0400_0000) ∷ [])
+    (Full (record { asked = 64; room = 256; owed = 0; traced = true; live = 0 }))
+
+-- a claim that is lost to another mutator's looks at TRACED again
+abbrev pub LostClaimIsTriedAgain : Type 0
+LostClaimIsTriedAgain =
+    ComesTo place_machine (begun four_pages no_run pair 1)
+    ((Load 2, Value 1) ∷ (Load 5, Value 0x0000_0400_0200_0000) ∷ (Exchange 5 0x0000_0400_0200_0000 0x0000_0400_0100_0000, Lost 0x0000_0400_0100_0000) ∷ (Load 2, Value 1) ∷ (Load 5, Value 0x0000_0400_0100_0000) ∷ [])
+    (Full (record { asked = 1; room = 64; owed = 64; traced = false; live = 0 }))

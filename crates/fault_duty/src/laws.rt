@@ -1,0 +1,23 @@
+//! What holds of the machines. Each function here does nothing: its contract is what is proved.
+
+ghost use Rattle.fault_duty.specs.Rows.{BoardIsClaimed, FillingPageIsClaimed, EpochIsMarked, TracedEpochIsLeft, ScannerEndsWithMutators, LostMarkEnds, LostBoardEnds, LostFillingPageEnds, MovedFrontEnds, BehindForbidsEnd, ScannedBoardForbidsEnd, FullPageIsWanted, NextFullPageIsChosen, OpenPageIsLeft, FillingPageIsNotWanted, NoFillingPage};
+
+/// Rounds of the duty, worked out step by step with all words as numbers.
+pub fn rows_are_worked_out()
+    ensures board_is_claimed { BoardIsClaimed }
+    ensures filling_page_is_claimed { FillingPageIsClaimed }
+    ensures epoch_is_marked { EpochIsMarked }
+    ensures traced_epoch_is_left { TracedEpochIsLeft }
+    ensures scanner_ends_with_mutators { ScannerEndsWithMutators }
+    ensures lost_mark_ends { LostMarkEnds }
+    ensures lost_board_ends { LostBoardEnds }
+    ensures lost_filling_page_ends { LostFillingPageEnds }
+    ensures moved_front_ends { MovedFrontEnds }
+    ensures behind_forbids_end { BehindForbidsEnd }
+    ensures scanned_board_forbids_end { ScannedBoardForbidsEnd }
+    ensures full_page_is_wanted { FullPageIsWanted }
+    ensures next_full_page_is_chosen { NextFullPageIsChosen }
+    ensures open_page_is_left { OpenPageIsLeft }
+    ensures filling_page_is_not_wanted { FillingPageIsNotWanted }
+    ensures no_filling_page { NoFillingPage }
+{}

@@ -1,0 +1,31 @@
+-- The words that the scan of a page looks at, by the records that lie on the page.
+use Rattle.std.specs.Prelude.{ℕ, zero, suc, ◌+◌, ◌<◌, ◌≤◌, ⊤}
+use Rattle.heap_words.specs.Decoded.{Decoded, HeaderWord, decode}
+use Rattle.space_map.specs.Spaces.{first_word}
+use Rattle.heap_state.specs.FieldSpan.{fields_end}
+use Rattle.heap_state.specs.Ghost.{said_kind}
+use Rattle.heap_state.specs.Kept.{size_said}
+use Rattle.page_scan.specs.Taken.{board_words}
+
+-- the number of words of a record up to the end of its fields, by its header; 0 where the word is none
+abbrev pub fields_said : Decoded → ℕ
+fields_said (HeaderWord kind len serial mutator) = fields_end (said_kind kind 0) (len + 1)
+fields_said _ = 0
+
+-- where the record of this number begins, of those that lie packed from an address on
+unfoldable pub begins : (heap : ℕ → ℕ) → ℕ → ℕ → ℕ
+begins heap from zero = from
+begins heap from (suc n) = begins heap from n + size_said (decode (heap (begins heap from n)))
+
+-- the word is a field of a record that lies below FRONT
+abbrev pub IsField : (heap : ℕ → ℕ) (from front : ℕ) → ℕ → Type 0
+IsField heap from front x =
+    (n : ℕ) × (begins heap from n < front) × (begins heap from n < x) × (x < begins heap from n + fields_said (decode (heap (begins heap from n))))
+
+-- the word is such a field, on this page
+abbrev pub IsFieldOn : (page : ℕ) (heap : ℕ → ℕ) (from front : ℕ) → ℕ → Type 0
+IsFieldOn page heap from front x = IsField heap from front x × (first_word page ≤ x) × (x < first_word (page + 1))
+
+-- the word is one of the board
+abbrev pub IsOnBoard : (page : ℕ) → ℕ → Type 0
+IsOnBoard page x = (first_word page ≤ x) × (x < first_word page + board_words)

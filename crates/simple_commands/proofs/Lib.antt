@@ -1,0 +1,4 @@
+pub mod NoFault
+pub mod Values
+pub mod Getters
+pub mod Taking

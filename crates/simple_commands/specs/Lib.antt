@@ -1,0 +1,4 @@
+pub mod Exact
+pub mod Held
+pub mod Parsing
+pub mod Readers
