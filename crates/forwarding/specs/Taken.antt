@@ -1,5 +1,5 @@
 -- What a reply makes of the copy of a record, and what the machine then tells.
-use Rattle.std.specs.Prelude.{ℕ, ◌+◌, ◌-◌, ◌*◌, ◌/◌, ◌==◌, Option, Some, None, nat_lt, if◌then◌else◌}
+use Rattle.std.specs.Prelude.{ℕ, ◌+◌, ◌/◌, ◌==◌, Option, Some, None, nat_lt, if◌then◌else◌}
 use Rattle.atom_store.specs.declared.reply.Reply.{Reply}
 use Rattle.atom_store.specs.declared.reply.Reply.TheVariants.{Value, Done, Won, Lost}
 use Rattle.atom_store.specs.declared.turn.Turn.{Turn}
@@ -71,7 +71,7 @@ stage_after l e stage reply = stage
 
 -- the machine after a reply
 abbrev pub taken : Evacuation → Reply → Evacuation
-taken v reply = record v { stage = stage_after v.spaces v.epoch v.stage reply }
+taken v reply = record v { stage = stage_after v.layout v.epoch v.stage reply }
 
 -- what a machine tells that has come to this stage
 abbrev pub told : EvacStage → Turn To

@@ -15,8 +15,8 @@ use Rattle.heap_state.specs.Parts.Stocks.{Stocks, Stocked}
 use Rattle.heap_state.specs.Worker.{Worker, Team, Stock, is_running, Reset}
 use Rattle.heap_state.proofs.Frames.{counted_put, staffed_put, scanned_put, stocks_anew, numbered_put, rooted_put}
 use Rattle.heap_state.proofs.Puts.{team_put, some_same}
-use Rattle.heap_laws.specs.Allocating.{with_stock, claimed, with_low, HasRoom, StocksAreClaimed}
-use Rattle.heap_laws.proofs.AllocStock.{stocked_knows}
+use Rattle.heap_laws.specs.Steps.{Ready, Preserves}
+use Rattle.heap_laws.proofs.AllocStock.{stocked_knows, with_stock}
 use Rattle.heap_laws.proofs.FlippingSums.{sum_below-term}
 use Rattle.heap_laws.proofs.Learning.{shown_put}
 use Rattle.heap_laws.proofs.ScanningWho.{open_age}
@@ -32,12 +32,26 @@ runs_counted gate count worker k c l r =
 
 -- ---- the claim
 
-module _ (E : Era) (m : Memory) (team : Team) (g : Ghost) (k n owed : ℕ) (lay : IsLaidOut E) (inv : Invariant E m team g) (l : k < team.count) (run : is_running (team.worker k).post ≡ true) (has : HasRoom E m n owed) where
+-- n pages below LOW
+abbrev pub below_low : Era → Memory → ℕ → Stock
+below_low E m n = record { epoch = E.epoch; at = m.low - 64 * n; end = m.low; zeroed = m.low - 64 * n; opened = m.low - 64 * n }
+
+-- LOW and owed of the epoch's space are stored
+abbrev pub with_low : Memory → (low owed : ℕ) → Memory
+with_low m low owed = record m { low = low; owed = owed }
+
+-- There is room for n pages. While the epoch is not traced that is beside the words owed, and these stay.
+pub record Fits (E : Era) (m : Memory) (n owed : ℕ) : Type 0 where
+  pub room : m.front + 64 * n ≤ m.low
+  pub beside : m.traced ≤ E.epoch → (owed ≡ m.owed) × (m.front + 64 * n + owed ≤ m.low)
+  pub small : owed ≤ m.owed
+
+module _ (E : Era) (m : Memory) (team : Team) (g : Ghost) (k n owed : ℕ) (lay : IsLaidOut E) (inv : Invariant E m team g) (l : k < team.count) (run : is_running (team.worker k).post ≡ true) (has : Fits E m n owed) where
   abbrev low : ℕ
   low = m.low - 64 * n
 
   abbrev new : Stock
-  new = claimed E m n
+  new = below_low E m n
 
   -- no record lies between
   clear : (a : ℕ) → 0 < g.size a → (a + g.size a ≤ low) ⊎ (m.low ≤ a)
@@ -134,10 +148,11 @@ module _ (E : Era) (m : Memory) (team : Team) (g : Ghost) (k n owed : ℕ) (lay 
       (stocked_knows E (with_low m low owed) g k (team.worker k) new (sym (me.timely.running run)) (worker k (team.worker k) me)) in
       assumption
 
-pub stocks_are_claimed : StocksAreClaimed
+pub stocks_are_claimed : (E : Era) (m : Memory) (team : Team) (g : Ghost) (k n owed : ℕ) → Ready E m team g k → is_running (team.worker k).post ≡ true → Fits E m n owed
+    → Preserves E m (with_low m (m.low - 64 * n) owed) team (with_stock team k (below_low E m n)) g g
 stocks_are_claimed E m team g k n owed ready run has = record {
   invariant = keeps E m team g k n owed ready.laid_out ready.invariant ready.member run has;
-  shown = λ p s. shown_put E m (with_low m (m.low - 64 * n) owed) team g k (record (team.worker k) { stock = Some (claimed E m n) }) p refl refl refl s;
-  cycle = λ p cy. record { copying = cy.copying; rooted = rooted_put team.worker k (record (team.worker k) { stock = Some (claimed E m n) }) refl refl refl (λ _ _ a b. (a, b)) cy.rooted };
+  shown = λ p s. shown_put E m (with_low m (m.low - 64 * n) owed) team g k (record (team.worker k) { stock = Some (below_low E m n) }) p refl refl refl s;
+  cycle = λ p cy. record { copying = cy.copying; rooted = rooted_put team.worker k (record (team.worker k) { stock = Some (below_low E m n) }) refl refl refl (λ _ _ a b. (a, b)) cy.rooted };
   ages = λ p. omega arith;
 }

@@ -14,14 +14,24 @@ use Rattle.heap_state.specs.Values.{value_of}
 use Rattle.heap_state.specs.Worker.{Worker, Team, Stock}
 use Rattle.heap_state.proofs.Frames.{counted_put, staffed_put, scanned_put, stocks_anew}
 use Rattle.heap_state.proofs.Puts.{put_at, put_other, put_same, each_put, team_put, some_same}
-use Rattle.heap_laws.specs.Placing.{next_identity, born, placed, PlacesNext, RecordsArePlaced, IsPlaced, PlacedIsHeld}
+use Rattle.heap_laws.specs.Placing.{next_identity, born}
+use Rattle.heap_laws.specs.MutatorSteps.{HoldsValue}
+use Rattle.heap_laws.proofs.AllocStock.{Places}
+use Rattle.plain_state.specs.declared.value.Value.TheVariants.{Reference}
 use Rattle.heap_laws.specs.Steps.{with_word, with_worker}
 use Rattle.heap_laws.proofs.AllocFree.{IsFree, headed_free, raw_free, opened_free, landing_free, older_free, old_space_free, worker_free}
 use Rattle.heap_laws.proofs.BirthParts.{Cradle, was, is, same_size, laid_born, kept_born, room_born, area_born, old_space_born, new_written_born, shut_born, crossing_born, opened_born, landing_born, older_born, raw_born, headed_born, copied_born, once_born}
 use Rattle.heap_laws.proofs.BirthWorkers.{worker_born}
 use Rattle.heap_laws.proofs.MutatorSteps.{runs}
 
-module _ (E : Era) (m : Memory) (team : Team) (g : Ghost) (k : ℕ) (q : Stock) (c : Kind) (z v : ℕ) (lay : IsLaidOut E) (inv : Invariant E m team g) (places : PlacesNext E team k q c z v) where
+-- worker k has one record more, and its run begins behind it
+abbrev pub placed : Team → ℕ → Stock → ℕ → Worker
+placed team k q z = record (team.worker k) {
+  stock = Some (record q { at = q.at + z });
+  account = record (team.worker k).account { serial = (team.worker k).account.serial + 1 };
+}
+
+module _ (E : Era) (m : Memory) (team : Team) (g : Ghost) (k : ℕ) (q : Stock) (c : Kind) (z v : ℕ) (lay : IsLaidOut E) (inv : Invariant E m team g) (places : Places E team k q c z v) where
   abbrev i : Identity
   i = next_identity team k
 
@@ -171,8 +181,8 @@ module _ (E : Era) (m : Memory) (team : Team) (g : Ghost) (k : ℕ) (q : Stock) 
       let a : (s : Stock) → w.stock ≡ Some s → s.epoch ≡ w.epoch = λ s e. rw (← some_same e) (p.stock q places.own.has) in
       assumption
 
-  keeps : Invariant E (with_word m q.at v) (with_worker team k w) g'
-  keeps = record {
+  pub records_are_placed : Invariant E (with_word m q.at v) (with_worker team k w) g'
+  records_are_placed = record {
     counted = counted_put team.worker k w refl refl inv.counted;
     staffed = staffed_put team.worker k w refl inv.staffed;
     laid = laid_born cradle;
@@ -203,18 +213,12 @@ module _ (E : Era) (m : Memory) (team : Team) (g : Ghost) (k : ℕ) (q : Stock) 
 
   -- ---- its pointer
 
-  pointer : (x : ℕ) → decode x ≡ PointerWord q.at → IsPlaced E g' x i
+  pub placed_is_held : (x : ℕ) → decode x ≡ PointerWord q.at → HoldsValue E g' x (Reference i)
   unfolding Leads Lands value_of
-  pointer x e = record {
+  placed_is_held x e = record {
     held = record {
       clean = λ l. absurd (let d = sym e ∙ l.1 in let s : q.at ≡ l.0 = cc in omega (arith, s, l.2, l.3, inside, lay.apart));
       lands = λ b d. let t = sym d ∙ e in let s : b ≡ q.at = cc in rw (put_at g.size q.at z b s, put_at g.writer q.at 0 b s) (places.some, refl);
     };
     denotes = rw (e, put_same g.identity q.at i) refl;
   }
-
-pub records_are_placed : RecordsArePlaced
-records_are_placed = keeps
-
-pub placed_is_held : PlacedIsHeld
-placed_is_held E m team g k q c z v w lay inv places e = pointer E m team g k q c z v lay inv places w e

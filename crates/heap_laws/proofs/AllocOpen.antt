@@ -15,13 +15,14 @@ use Rattle.heap_state.specs.Parts.Stocks.{Stocks, Stocked}
 use Rattle.heap_state.specs.Worker.{Worker, Team, Stock}
 use Rattle.heap_state.proofs.Frames.{counted_put, staffed_put, scanned_put, stocks_anew, numbered_put, rooted_put}
 use Rattle.heap_state.proofs.Puts.{put_at, put_other, each_put, team_put, some_same}
-use Rattle.heap_laws.specs.Allocating.{with_stock, with_page, opened_further, OpensNext, StocksAreOpened}
-use Rattle.heap_laws.proofs.AllocStock.{stocked_knows}
+use Rattle.heap_laws.specs.Allocating.{opened_further}
+use Rattle.heap_laws.specs.Steps.{Ready, Preserves, with_page}
+use Rattle.heap_laws.proofs.AllocStock.{stocked_knows, Opens, with_stock}
 use Rattle.heap_laws.proofs.Learning.{shown_put}
 use Rattle.heap_laws.proofs.PageTurns.{Turns, stays, grows, quiet_turns, tracing_turns, aged_turns, old_pages_turn, old_space_turns, scans_beside, knows_turns}
 use Rattle.heap_laws.proofs.ScanningWho.{scan_age}
 
-module _ (E : Era) (m : Memory) (team : Team) (g : Ghost) (k p : ℕ) (q : Stock) (lay : IsLaidOut E) (inv : Invariant E m team g) (opens : OpensNext E team k q p) where
+module _ (E : Era) (m : Memory) (team : Team) (g : Ghost) (k p : ℕ) (q : Stock) (lay : IsLaidOut E) (inv : Invariant E m team g) (opens : Opens E team k q p) where
   abbrev page : ℕ → PageWord
   page = put m.page p (Open E.epoch)
 
@@ -136,7 +137,8 @@ module _ (E : Era) (m : Memory) (team : Team) (g : Ghost) (k p : ℕ) (q : Stock
       (stocked_knows E (with_page m p (Open E.epoch)) g k (team.worker k) next ((inv.workers k opens.own.worker).stock q opens.own.has) (known k (team.worker k) (inv.workers k opens.own.worker))) in
       assumption
 
-pub stocks_are_opened : StocksAreOpened
+pub stocks_are_opened : (E : Era) (m : Memory) (team : Team) (g : Ghost) (k page : ℕ) (q : Stock) → Ready E m team g k → Opens E team k q page
+    → Preserves E m (with_page m page (Open E.epoch)) team (with_stock team k (opened_further q)) g g
 stocks_are_opened E m team g k p q ready opens = record {
   invariant = keeps E m team g k p q ready.laid_out ready.invariant opens;
   shown = λ r s. shown_put E m (with_page m p (Open E.epoch)) team g k (record (team.worker k) { stock = Some (opened_further q) }) r refl refl refl s;

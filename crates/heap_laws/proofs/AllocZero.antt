@@ -10,13 +10,13 @@ use Rattle.heap_state.specs.Values.{value_of}
 use Rattle.heap_state.specs.Worker.{Team, Stock, Worker}
 use Rattle.heap_state.proofs.Frames.{counted_put, staffed_put, scanned_put, stocks_anew, numbered_put, rooted_put}
 use Rattle.heap_state.proofs.Puts.{each_put, team_put, some_same}
-use Rattle.heap_laws.specs.Allocating.{HasStock, with_stock, zeroed_further, StocksAreZeroed}
-use Rattle.heap_laws.specs.Steps.{with_word}
+use Rattle.heap_laws.specs.Allocating.{zeroed_further}
+use Rattle.heap_laws.specs.Steps.{Ready, Preserves, with_word}
 use Rattle.heap_laws.proofs.AllocFree.{IsFree, headed_free, raw_free, opened_free, landing_free, older_free, old_space_free, worker_free, objects_free, board_free, copying_free, rooted_free}
-use Rattle.heap_laws.proofs.AllocStock.{stocked_knows}
+use Rattle.heap_laws.proofs.AllocStock.{stocked_knows, Owns, with_stock}
 use Rattle.heap_laws.proofs.Learning.{shown_put}
 
-module _ (E : Era) (m : Memory) (team : Team) (g : Ghost) (k : ℕ) (q : Stock) (lay : IsLaidOut E) (inv : Invariant E m team g) (own : HasStock E team k q) (more : q.zeroed < q.end) where
+module _ (E : Era) (m : Memory) (team : Team) (g : Ghost) (k : ℕ) (q : Stock) (lay : IsLaidOut E) (inv : Invariant E m team g) (own : Owns E team k q) (more : q.zeroed < q.end) where
   abbrev next : Stock
   next = zeroed_further q
 
@@ -80,7 +80,8 @@ module _ (E : Era) (m : Memory) (team : Team) (g : Ghost) (k : ℕ) (q : Stock) 
       (stocked_knows E (with_word m q.zeroed 0) g k (team.worker k) next ((inv.workers k own.worker).stock q own.has) (worker_free E m g q.zeroed 0 k (team.worker k) free (inv.workers k own.worker))) in
       assumption
 
-pub stocks_are_zeroed : StocksAreZeroed
+pub stocks_are_zeroed : (E : Era) (m : Memory) (team : Team) (g : Ghost) (k : ℕ) (q : Stock) → Ready E m team g k → Owns E team k q → q.zeroed < q.end
+    → Preserves E m (with_word m q.zeroed 0) team (with_stock team k (zeroed_further q)) g g
 stocks_are_zeroed E m team g k q ready own more =
     let f = free E m team g k q ready.laid_out ready.invariant own more in
     record {

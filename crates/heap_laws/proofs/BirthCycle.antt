@@ -12,15 +12,16 @@ use Rattle.heap_state.specs.Inductive.{Invariant}
 use Rattle.heap_state.specs.Values.{value_of, Shows}
 use Rattle.heap_state.specs.Worker.{Worker, Team, Stock, is_mutator, is_late}
 use Rattle.heap_state.proofs.Puts.{put_other, proj_put}
-use Rattle.heap_laws.specs.Placing.{next_identity, born, placed, PlacesNext, PlacingKeepsCycle}
+use Rattle.heap_laws.specs.Placing.{next_identity, born}
+use Rattle.heap_laws.proofs.AllocStock.{Places}
 use Rattle.heap_laws.specs.Steps.{with_word, with_worker}
 use Rattle.heap_laws.proofs.AllocFree.{IsFree, word_same, copying_free, rooted_free}
-use Rattle.heap_laws.proofs.AllocHeader.{cradle, free, zeros}
+use Rattle.heap_laws.proofs.AllocHeader.{placed, cradle, free, zeros}
 use Rattle.heap_laws.proofs.BirthParts.{Cradle, unused, was, is, same_size, same_writer, old_other, below_other, here_was}
 use Rattle.heap_laws.proofs.BirthValues.{field_lands, value_born}
 use Rattle.heap_laws.proofs.Words.{still_leads, zero_clean}
 
-module _ (E : Era) (m : Memory) (team : Team) (g : Ghost) (p : plain.Plain) (k : ℕ) (q : Stock) (c : Kind) (z v : ℕ) (lay : IsLaidOut E) (inv : Invariant E m team g) (places : PlacesNext E team k q c z v) (cy : Cycle E m team g p) where
+module _ (E : Era) (m : Memory) (team : Team) (g : Ghost) (p : plain.Plain) (k : ℕ) (q : Stock) (c : Kind) (z v : ℕ) (lay : IsLaidOut E) (inv : Invariant E m team g) (places : Places E team k q c z v) (cy : Cycle E m team g p) where
   abbrev j : Identity
   j = next_identity team k
 
@@ -105,11 +106,8 @@ module _ (E : Era) (m : Memory) (team : Team) (g : Ghost) (p : plain.Plain) (k :
           (rw (proj_put (λ y. y.done) team.worker k w a refl) d)
           (rw (proj_put (λ y. y.registers) team.worker k w a refl) (still_on ((team.worker a).registers x) i s))
 
-  pub cycle_placed : Cycle E (with_word m q.at v) (with_worker team k w) g' p
-  cycle_placed = record {
+  pub placing_keeps_cycle : Cycle E (with_word m q.at v) (with_worker team k w) g' p
+  placing_keeps_cycle = record {
     copying = copying (copying_free is_free g.writer g.kind m.heap v m.front g.copy g.keeper g.identity p cy.copying);
     rooted = rooted (rooted_free is_free g.writer g.kind m.heap v m.front team.count g.identity team.worker p cy.rooted);
   }
-
-pub placing_keeps_cycle : PlacingKeepsCycle
-placing_keeps_cycle = cycle_placed

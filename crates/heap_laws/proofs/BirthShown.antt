@@ -16,17 +16,18 @@ use Rattle.heap_state.specs.Values.{value_of, Shows, ShowsAll, Accounts, Registe
 use Rattle.heap_state.specs.Worker.{Worker, Team, Stock}
 use Rattle.heap_state.proofs.Puts.{put_at, put_other, put_same, proj_put}
 use Rattle.heap_laws.specs.Opening.{opening_mutator}
-use Rattle.heap_laws.specs.Placing.{next_identity, born, placed, PlacesNext, PlacingShows, ZerosShow, zeros_of}
+use Rattle.heap_laws.specs.Placing.{next_identity, born, ZerosShow, zeros_of}
+use Rattle.heap_laws.proofs.AllocStock.{Places, places_of}
 use Rattle.heap_laws.specs.Steps.{with_word, with_worker}
 use Rattle.heap_laws.proofs.AllocFree.{IsFree, word_same, board_same}
-use Rattle.heap_laws.proofs.AllocHeader.{cradle, free, mutator, zeros}
+use Rattle.heap_laws.proofs.AllocHeader.{placed, cradle, free, mutator, zeros}
 use Rattle.heap_laws.proofs.BirthParts.{Cradle, unused as unused_place, was, same_size, same_writer}
 use Rattle.heap_laws.proofs.BirthValues.{field_lands, value_born}
 use Rattle.heap_laws.proofs.PlainGains.{gained_there, gained_elsewhere, gained_serial, gained_serial_other, gained_makers}
 use Rattle.plain_state.proofs.Lists.{slice_get-of_replicate}
 use Rattle.heap_laws.proofs.Words.{board_here, zero_value}
 
-module _ (E : Era) (m : Memory) (team : Team) (g : Ghost) (p : plain.Plain) (k : ℕ) (q : Stock) (c : Kind) (z v : ℕ) (new : plain.Record) (lay : IsLaidOut E) (inv : Invariant E m team g) (places : PlacesNext E team k q c z v) (behind : Shows (value_of g.identity) m.heap q.at c z new) (s : Shown E m team g p) where
+module _ (E : Era) (m : Memory) (team : Team) (g : Ghost) (p : plain.Plain) (k : ℕ) (q : Stock) (c : Kind) (z v : ℕ) (new : plain.Record) (lay : IsLaidOut E) (inv : Invariant E m team g) (places : Places E team k q c z v) (behind : Shows (value_of g.identity) m.heap q.at c z new) (s : Shown E m team g p) where
   abbrev i : Identity
   i = next_identity team k
 
@@ -154,8 +155,8 @@ module _ (E : Era) (m : Memory) (team : Team) (g : Ghost) (p : plain.Plain) (k :
               let d : j < team.count = omega arith in
               ((inv.workers j d).registers (inv.staffed.posts j d ∙ lt-ltb j team.mutators b) ((s.accounts j r e).end ∙ n)).lands x l
 
-  pub shows_placed : Shown E (with_word m q.at v) (with_worker team k w) g' (with_heap p after)
-  shows_placed = record {
+  pub placing_shows : Shown E (with_word m q.at v) (with_worker team k w) g' (with_heap p after)
+  placing_shows = record {
     objects = objects;
     board = board;
     as_many = s.as_many;
@@ -164,20 +165,20 @@ module _ (E : Era) (m : Memory) (team : Team) (g : Ghost) (p : plain.Plain) (k :
     registers = registers;
   }
 
-pub placing_shows : PlacingShows
-placing_shows E m team g p k q c z v r = shows_placed E m team g p k q c z v r
-
 pub zeros_show : ZerosShow
-zeros_show E m team g k q c z v lay inv places = record {
+zeros_show E m team g k q c z v ready places' = record {
   kind = refl;
   size = let n = length-replicate (z - 1) (Number 0) in let l = places.some in omega arith;
   fields = λ x l t. zero_value g.identity (m.heap (q.at + (x + 1))) (zero x l) ∙ sym (slice_get-of_replicate (z - 1) x (Number 0) (within x l));
   numbers = λ x l t. ap (λ y. Some (Number y)) (zero x l) ∙ sym (slice_get-of_replicate (z - 1) x (Number 0) (within x l));
 }
   where
+    places : Places E team k q c z v
+    places = places_of q c z v ready places'
+
     within : (x : ℕ) → x < length (zeros_of c (z - 1)).values → x < z - 1
     within x l = rw (length-replicate (z - 1) (Number 0)) at l
 
     zero : (x : ℕ) → x < length (zeros_of c (z - 1)).values → m.heap (q.at + (x + 1)) ≡ 0
     zero x l = let u = within x l in
-        sym (put_other m.heap q.at v (q.at + (x + 1)) (λ e. omega (arith, e))) ∙ zeros E m team g k q c z v lay inv places (x + 1) (omega arith) (omega (arith, u))
+        sym (put_other m.heap q.at v (q.at + (x + 1)) (λ e. omega (arith, e))) ∙ zeros E m team g k q c z v ready.laid_out ready.invariant places (x + 1) (omega arith) (omega (arith, u))

@@ -75,7 +75,15 @@ module _ {E : Era} {front low : ℕ} {size copy keeper : ℕ → ℕ} {a z : ℕ
     pub stepping_born : (s : Scan) → Stepping E front size writer kind s → Stepping E front size' writer' kind' s
     stepping_born s p = record {
       over = λ b e. let t = p.over b e in let d = not_new cr b t.0 in rw (same_size cr b d, same_writer cr writer b d) t;
-      current = λ r e. let t = p.current r e in let d = below_other cr r.at (omega (arith, t)) in rw (same_size cr r.at d, same_kind cr writer kind c r.at d, same_writer cr writer r.at d) t;
+      current = λ r e. let t = p.current r e in let d = below_other cr r.at (omega (arith, t)) in record {
+        stands = rw (same_size cr r.at d) t.stands;
+        written = rw (same_writer cr writer r.at d) t.written;
+        fields = rw (same_kind cr writer kind c r.at d, same_size cr r.at d) t.fields;
+        whole = rw (same_size cr r.at d) t.whole;
+        inside = t.inside;
+        entered = rw (same_kind cr writer kind c r.at d) t.entered;
+        cursor = t.cursor;
+      };
       inner = p.inner;
       begun = p.begun;
       full = p.full;

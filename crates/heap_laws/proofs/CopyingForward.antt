@@ -233,7 +233,8 @@ module _ {E : Era} {m : Memory} {team : Team} {g : Ghost} {k : ℕ} {c : Copy} {
   stepping : (s : Scan) → Stepping E m.front g.size g.writer g.kind s → Stepping E m.front g'.size g'.writer g'.kind s
   stepping s p = record {
     over = λ a e. let y = p.over a e in (y.0, written_on a y.1, y.2, y.3);
-    current = λ r e. let y = p.current r e in (y.0, y.1, y.2, written_on r.at y.3, y.4, y.5, y.6, y.7);
+    current = λ r e. let y = p.current r e in
+        record { stands = y.stands; written = written_on r.at y.written; fields = y.fields; whole = y.whole; inside = y.inside; entered = y.entered; cursor = y.cursor };
     inner = p.inner;
     begun = p.begun;
     full = p.full;

@@ -1,8 +1,8 @@
 -- What a forward to a whole copy leaves shown, and what the cycle keeps of it.
-use Rattle.std.proofs.Common.{◌≡◌, ◌≢◌, ℕ, ◌+◌, ◌-◌, ◌<◌, ◌≤◌, true, refl, sym, ap, ◌∙◌, arith, Some, None, ⊎_elim, ◌⊎◌, inl, inr, add-zero, slice_get, length}
+use Rattle.std.proofs.Common.{◌≡◌, ◌≢◌, ℕ, ◌+◌, ◌-◌, ◌<◌, ◌≤◌, true, refl, sym, ap, ◌∙◌, arith, Some, None, ⊎_elim, ◌⊎◌, inl, inr, add-zero, slice_get, length, ◌*◌}
 use Rattle.std.proofs.lemmas.Bool.{cases_eq}
 use Rattle.std.proofs.lemmas.Option.{slice_get_within}
-use Rattle.heap_words.specs.Decoded.{PointerWord, decode}
+use Rattle.heap_words.specs.Decoded.{PointerWord, decode, ForwardWord}
 use Rattle.plain_state.specs.State as plain
 use Rattle.plain_state.specs.declared.value.Identity.{Identity}
 use Rattle.plain_state.specs.declared.value.Value.TheVariants.{Reference}
@@ -17,8 +17,8 @@ use Rattle.heap_state.specs.Values.{ShowsAll, Shows, value_of}
 use Rattle.heap_state.specs.Worker.{Worker, Team, Quest, Copy}
 use Rattle.heap_state.proofs.Frames.{accounts_put, registers_put, rooted_put}
 use Rattle.heap_state.proofs.Puts.{put_at, put_other, some_same}
-use Rattle.heap_laws.specs.Copying.{published, CopiesArePublished}
-use Rattle.heap_laws.specs.Steps.{with_worker, with_word, Preserves}
+use Rattle.heap_laws.specs.Copying.{published}
+use Rattle.heap_laws.specs.Steps.{with_worker, with_word, Preserves, Ready}
 use Rattle.heap_laws.proofs.CopyingForward.{Publishing, mine, placed, from_written, spot, twin, copied_word, was_written, written_on, here_cases, old_target, invariant}
 use Rattle.heap_laws.proofs.CopyingSpot.{here_same, inner_same, shows_spot, objects_spot, board_spot}
 use Rattle.heap_laws.proofs.CopyingWord.{rooted_spot}
@@ -164,6 +164,9 @@ module _ {E : Era} {m : Memory} {team : Team} {g : Ghost} {k : ℕ} {c : Copy} {
   pub copy_published : Preserves E m (with_word m c.from v) team (with_worker team k w') g g'
   copy_published = rw (add-zero c.from) at preserves
 
-pub copies_published : CopiesArePublished
-copies_published E m team g k c q v ready has asks res full crossed word =
+pub copy_published_by : (E : Era) (m : Memory) (team : Team) (g : Ghost) (k : ℕ) (c : Copy) (q : Quest) (v : ℕ) → Ready E m team g k
+    → (team.worker k).copy ≡ Some c → (team.worker k).quest ≡ Some q → c.reserved ≡ true → c.done ≡ c.size → c.to + c.size ≤ 64 * c.crossed
+    → decode v ≡ ForwardWord (c.size - 1) c.to
+    → Preserves E m (with_word m c.from v) team (with_worker team k (record (team.worker k) { copy = None; quest = Some (record q { found = Some c.to }) })) g (published g k c.from c.to)
+copy_published_by E m team g k c q v ready has asks res full crossed word =
     copy_published (record { ready = ready; has = has; asks = asks; res = res; full = full; crossed = crossed; word = word })

@@ -215,9 +215,16 @@ module _ {E : Era} {m : Memory} {team : Team} {g : Ghost} {k : ℕ} {c : Copy} (
     over = λ a i. let y = p.over a i in let n = not_new growth a y.0 in (is growth a y.0, written_on growth a y.0 y.1, y.2, rw (put_other g.size c.to c.size a n) (y.3));
     current = λ r i.
         let y = p.current r i in
-        let st : 0 < g.size r.at = omega (arith, y.0, y.1) in
-        let n = not_new growth r.at st in
-        (y.0, rw (put_other g.size c.to c.size (r.at) n) (y.1), rw (put_other g.kind c.to (g.kind c.from) (r.at) n) (y.2), written_on growth r.at st y.3, y.4, omega (arith, y.5, at_front), y.6, y.7);
+        let n = not_new growth r.at y.stands in
+        record {
+          stands = rw (put_other g.size c.to c.size r.at n) y.stands;
+          written = written_on growth r.at y.stands y.written;
+          fields = rw (put_other g.kind c.to (g.kind c.from) r.at n, put_other g.size c.to c.size r.at n) y.fields;
+          whole = rw (put_other g.size c.to c.size r.at n) y.whole;
+          inside = (y.inside.0, let q = y.inside.1 in omega (arith, q, at_front));
+          entered = rw (put_other g.kind c.to (g.kind c.from) r.at n) y.entered;
+          cursor = y.cursor;
+        };
     inner = λ i. let y = p.inner i in omega (arith, y, at_front);
     begun = p.begun;
     full = λ i. ⊎_elim (λ y. inl y) (λ y. inr (omega (arith, y, at_front))) (p.full i);

@@ -1,5 +1,5 @@
 -- What a reserved place leaves shown, and what the cycle keeps of it.
-use Rattle.std.proofs.Common.{◌≡◌, ◌≢◌, ℕ, ◌+◌, ◌-◌, ◌<◌, ◌≤◌, true, refl, ap, ◌∙◌, arith, Some, None, ⊎_elim, ◌⊎◌, inl, inr, slice_get}
+use Rattle.std.proofs.Common.{◌≡◌, ◌≢◌, ℕ, ◌+◌, ◌-◌, ◌<◌, ◌≤◌, true, refl, ap, ◌∙◌, arith, Some, None, ⊎_elim, ◌⊎◌, inl, inr, slice_get, ◌/◌, false}
 use Rattle.std.specs.Prelude.{slice_get}
 use Rattle.std.proofs.lemmas.Bool.{cases_eq, lt-ltb}
 use Rattle.std.proofs.lemmas.Option.{slice_get_within}
@@ -16,8 +16,8 @@ use Rattle.heap_state.specs.Values.{Shown, ShowsAll, Shows, RegistersShow, value
 use Rattle.heap_state.specs.Worker.{Team, Copy, is_mutator}
 use Rattle.heap_state.proofs.Frames.{accounts_put, registers_put, rooted_put}
 use Rattle.heap_state.proofs.Puts.{put_at, put_other, put_same}
-use Rattle.heap_laws.specs.Copying.{PlacesAreReserved}
-use Rattle.heap_laws.specs.Steps.{with_worker, with_area, Preserves}
+use Rattle.heap_laws.specs.Copying.{reserved, copying as in_progress}
+use Rattle.heap_laws.specs.Steps.{with_worker, with_area, Preserves, Ready}
 use Rattle.heap_laws.proofs.CopyingGrowth.{not_new, was, is, was_written, written_on, here_back, old_side, value_grown}
 use Rattle.heap_laws.proofs.CopyingReserve.{Reserving, w', g', mine, growth, invariant}
 
@@ -185,5 +185,8 @@ module _ {E : Era} {m : Memory} {team : Team} {g : Ghost} {k : ℕ} {c : Copy} (
   pub preserves : Preserves E m (with_area m (c.to + c.size) m.low (m.owed - c.size)) team (with_worker team k (w' reserving)) g after
   preserves = record { invariant = invariant reserving; ages = λ page. omega arith; shown = shown; cycle = λ p cy. record { copying = copying p cy.copying; rooted = rooted p cy.rooted } }
 
-pub places_reserved : PlacesAreReserved
-places_reserved E m team g k c ready has ann loose at_front = preserves (record { ready = ready; has = has; ann = ann; loose = loose; at_front = at_front })
+pub place_reserved : (E : Era) (m : Memory) (team : Team) (g : Ghost) (k : ℕ) (c : Copy) → Ready E m team g k
+    → (team.worker k).copy ≡ Some c → c.announced ≡ true → c.reserved ≡ false → c.to ≡ m.front
+    → Preserves E m (with_area m (c.to + c.size) m.low (m.owed - c.size)) team
+    (with_worker team k (in_progress (team.worker k) (record c { reserved = true; crossed = (c.to + 63) / 64 }))) g (reserved g k c.from c.to c.size)
+place_reserved E m team g k c ready has ann loose at_front = preserves (record { ready = ready; has = has; ann = ann; loose = loose; at_front = at_front })

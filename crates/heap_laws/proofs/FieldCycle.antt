@@ -1,5 +1,7 @@
 -- What a cycle keeps stays where a word is stored, if what the word before led to of the old space is copied.
-use Rattle.std.proofs.Common.{◌≡◌, ◌≢◌, ℕ, ◌+◌, ◌<◌, ◌≤◌, refl, arith, ⊎_elim, ◌⊎◌, inl, inr}
+use Rattle.space_map.specs.declared.page_word.PageWord.TheVariants.{Open}
+use Rattle.heap_state.specs.Era.{IsLaidOut}
+use Rattle.std.proofs.Common.{◌≡◌, ◌≢◌, ℕ, ◌+◌, ◌<◌, ◌≤◌, refl, arith, ⊎_elim, ◌⊎◌, inl, inr, ◌/◌}
 use Rattle.std.proofs.lemmas.Bool.{cases_eq}
 use Rattle.plain_state.specs.State as plain
 use Rattle.plain_state.specs.declared.value.Value.TheVariants.{Reference}
@@ -14,7 +16,8 @@ use Rattle.heap_state.specs.Reachable.{Reachable}
 use Rattle.heap_state.specs.Values.{value_of, Shows}
 use Rattle.heap_state.specs.Worker.{Team}
 use Rattle.heap_state.proofs.Puts.{put_other, each_put}
-use Rattle.heap_laws.specs.Fields.{StoresKeepCycle, BoardStoresKeepCycle}
+use Rattle.heap_laws.specs.Fields.{IsWordOf, MayStore}
+use Rattle.heap_laws.specs.MutatorSteps.{MayHold}
 use Rattle.heap_laws.specs.Steps.{with_word}
 use Rattle.heap_laws.proofs.FieldSlot.{Slot, within, old_same}
 use Rattle.heap_laws.proofs.FieldStore.{Stores, in_word, on_board}
@@ -63,8 +66,16 @@ module _ (E : Era) (m : Memory) (team : Team) (g : Ghost) (p : plain.Plain) (x v
 store_keeps_cycle : (E : Era) (m : Memory) (team : Team) (g : Ghost) (p : plain.Plain) (x v : ℕ) → Stores E m g x v → Invariant E m team g → Cycle E m team g p → Cycle E (with_word m x v) team g p
 store_keeps_cycle E m team g p x v st inv cy = slot_keeps_cycle E m team g p x v st.slot (λ h i s. absurd (inv.opened.opened x h st.opens (still_leads E g.identity (m.heap x) i s))) cy
 
+abbrev pub StoresKeepCycle : Type 0
+StoresKeepCycle = (E : Era) (m : Memory) (team : Team) (g : Ghost) (p : plain.Plain) (a x v : ℕ) → IsLaidOut E → Invariant E m team g → IsWordOf E g.size g.writer g.kind a x
+    → m.page ((a + word_of (g.kind a) x) / 64) ≡ Open E.epoch → MayStore E g.size g.writer (g.kind a) x v → Cycle E m team g p → Cycle E (with_word m (a + word_of (g.kind a) x) v) team g p
+
 pub stores_keep_cycle : StoresKeepCycle
 stores_keep_cycle E m team g p a x v lay inv f o may cy = store_keeps_cycle E m team g p (a + word_of (g.kind a) x) v (in_word E m team g a x v lay inv f o may) inv cy
+
+abbrev pub BoardStoresKeepCycle : Type 0
+BoardStoresKeepCycle = (E : Era) (m : Memory) (team : Team) (g : Ghost) (p : plain.Plain) (x v : ℕ) → IsLaidOut E → Invariant E m team g → x < 16
+    → m.page (E.board / 64) ≡ Open E.epoch → MayHold E g.size g.writer v → Cycle E m team g p → Cycle E (with_word m (E.board + x) v) team g p
 
 pub board_stores_keep_cycle : BoardStoresKeepCycle
 board_stores_keep_cycle E m team g p x v lay inv l o may cy = store_keeps_cycle E m team g p (E.board + x) v (on_board E m team g x v lay inv l o may) inv cy

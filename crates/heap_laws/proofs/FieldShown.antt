@@ -1,4 +1,6 @@
 -- A mutator's store changes the plain heap at one word, and a load gives what stands there.
+use Rattle.heap_words.specs.Decoded.{decode, PointerWord}
+use Rattle.plain_state.specs.Writing.{with_board}
 use Rattle.std.proofs.Common.{◌≡◌, ◌≢◌, ℕ, zero, suc, ◌+◌, ◌<◌, ◌≤◌, Some, refl, sym, ap, ◌∙◌, arith, ⊎_elim, ◌⊎◌, inl, length, slice_get}
 use Rattle.std.proofs.Math.ListN.{length-set}
 use Rattle.std.proofs.lemmas.Bool.{cases_eq}
@@ -14,7 +16,10 @@ use Rattle.heap_state.specs.Inductive.{Invariant}
 use Rattle.heap_state.specs.Values.{value_of, Shows, Shown}
 use Rattle.heap_state.specs.Worker.{Team}
 use Rattle.heap_state.proofs.Puts.{put_at, put_other, some_same}
-use Rattle.heap_laws.specs.Fields.{IsWordOf, StandsFor, StoresShow, BoardStoresShow, HeadersAreRead, RegistersAreHeld, NumbersAreHeld}
+use Rattle.heap_laws.specs.Fields.{IsWordOf, StandsFor, IsLedTo, HeadersAreRead, RegistersAreHeld, NumbersAreHeld}
+use Rattle.heap_laws.specs.MutatorSteps.{MayHold}
+use Rattle.heap_laws.proofs.MutatorSteps.{runs, timely}
+use Rattle.heap_state.proofs.Puts.{true_false}
 use Rattle.heap_laws.specs.Steps.{with_word}
 use Rattle.heap_laws.proofs.OtherWords.{shows_same}
 use Rattle.heap_laws.proofs.PlainHeaps.{stored_there, stored_elsewhere, stored_serial, stored_makers}
@@ -132,8 +137,18 @@ module _ (E : Era) (m : Memory) (team : Team) (g : Ghost) (p : plain.Plain) (a x
     registers = s.registers;
   }
 
+-- the plain heap changes at that word alone
+abbrev pub StoresShow : Type 0
+StoresShow = (E : Era) (m : Memory) (team : Team) (g : Ghost) (p : plain.Plain) (a x v : ℕ) (r : plain.Record) (y : Value) → IsLaidOut E → Invariant E m team g
+    → IsWordOf E g.size g.writer g.kind a x → plain.record_of p.heap (g.identity a) ≡ Some r → StandsFor g (g.kind a) x v y
+    → Shown E m team g p → Shown E (with_word m (a + word_of (g.kind a) x) v) team g (with_heap p (stored p.heap (g.identity a) r x y))
+
 pub stores_show : StoresShow
 stores_show = shows_store
+
+abbrev pub BoardStoresShow : Type 0
+BoardStoresShow = (E : Era) (m : Memory) (team : Team) (g : Ghost) (p : plain.Plain) (x v : ℕ) (y : Value) → IsLaidOut E → Invariant E m team g → x < 16
+    → value_of g.identity v ≡ Some y → Shown E m team g p → Shown E (with_word m (E.board + x) v) team g (with_heap p (with_board p.heap x y))
 
 -- the store on the board
 pub board_stores_show : BoardStoresShow
@@ -165,9 +180,10 @@ board_stores_show E m team g p x v y lay inv l denotes s = record {
 
 -- ---- loads
 
-pub headers_are_read : HeadersAreRead
+header_read : (E : Era) (m : Memory) (team : Team) (g : Ghost) (p : plain.Plain) (w a : ℕ) → IsLaidOut E → Invariant E m team g → Shown E m team g p
+    → MayHold E g.size g.writer w → decode w ≡ PointerWord a → IsLedTo E m g p a
 unfolding Lands Leads
-headers_are_read E m team g p w a lay inv s may d =
+header_read E m team g p w a lay inv s may d =
     let q = may.lands a d in
     let n : ¬ ((E.old_start ≤ a) × (a < E.old_start + E.old_span)) = (λ o. may.clean (a, d, o.0, o.1)) in
     let inside : (E.start ≤ a) × (a < E.start + E.span) = place a q.0 n in
@@ -192,8 +208,14 @@ headers_are_read E m team g p w a lay inv s may d =
         by_keeper zero e = e
         by_keeper (suc y) e = absurd (let t = inv.copied.keeper_of a y st (omega (arith, e)) in omega (arith, t, l, lay.apart))
 
+pub headers_are_read : HeadersAreRead
+headers_are_read E m team g p k w a ready s may d = header_read E m team g p w a ready.laid_out ready.invariant s may d
+
 pub registers_are_held : RegistersAreHeld
-registers_are_held E m team g k j inv l mu late n s = let c = (inv.workers k l).registers mu n in record { clean = c.clean j s (λ t. absurd (let q = sym late ∙ t in cc)); lands = c.lands j s }
+registers_are_held E m team g k j ready running n s =
+    let me = ready.invariant.workers k ready.member in
+    let c = me.registers (runs (team.worker k).post running).mutator n in
+    record { clean = c.clean j s (λ t. true_false (timely E (team.worker k) running me.timely.running) t); lands = c.lands j s }
 
 pub numbers_are_held : NumbersAreHeld
 unfolding Lands Leads

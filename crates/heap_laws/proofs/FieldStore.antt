@@ -7,7 +7,7 @@ use Rattle.heap_state.specs.Functions.{put}
 use Rattle.heap_state.specs.Ghost.{Ghost, InRecord, OnBoard, Here}
 use Rattle.heap_state.specs.Inductive.{Invariant, Knows}
 use Rattle.heap_state.specs.Worker.{Worker, Team, Quest, Copy, Scan, is_late}
-use Rattle.heap_laws.specs.Fields.{IsWordOf, MayStore, WordsAreStored, BoardIsStored, WordsAreLoaded, BoardIsLoaded, AccessesAreAllowed}
+use Rattle.heap_laws.specs.Fields.{IsWordOf, MayStore, WordsAreLoaded, BoardIsLoaded, AccessesAreAllowed}
 use Rattle.heap_laws.specs.MutatorSteps.{MayHold}
 use Rattle.heap_laws.specs.Steps.{with_word}
 use Rattle.heap_laws.proofs.FieldSlot.{Slot, here_slot, headed_slot, raw_slot, opened_slot, landing_slot, older_slot, new_slot, old_space_slot, stocks_slot, scans_slot, copies_slot, keeps_slot, origin_slot}
@@ -87,8 +87,18 @@ on_board E m team g x v lay inv l open_page may = record {
   opens = let e : (E.board + x) / 64 ≡ E.board / 64 = omega (arith, lay.board, l) in rw e open_page;
 }
 
+-- a store in a word of a record, whose page is open
+abbrev pub WordsAreStored : Type 0
+WordsAreStored = (E : Era) (m : Memory) (team : Team) (g : Ghost) (a x v : ℕ) → IsLaidOut E → Invariant E m team g → IsWordOf E g.size g.writer g.kind a x
+    → m.page ((a + word_of (g.kind a) x) / 64) ≡ Open E.epoch → MayStore E g.size g.writer (g.kind a) x v → Invariant E (with_word m (a + word_of (g.kind a) x) v) team g
+
 pub words_are_stored : WordsAreStored
 words_are_stored E m team g a x v lay inv f o may = slot_keeps E m team g (a + word_of (g.kind a) x) v (in_word E m team g a x v lay inv f o may) inv
+
+-- a store on the board, which is open
+abbrev pub BoardIsStored : Type 0
+BoardIsStored = (E : Era) (m : Memory) (team : Team) (g : Ghost) (x v : ℕ) → IsLaidOut E → Invariant E m team g → x < 16
+    → m.page (E.board / 64) ≡ Open E.epoch → MayHold E g.size g.writer v → Invariant E (with_word m (E.board + x) v) team g
 
 pub board_is_stored : BoardIsStored
 board_is_stored E m team g x v lay inv l o may = slot_keeps E m team g (E.board + x) v (on_board E m team g x v lay inv l o may) inv
@@ -96,23 +106,24 @@ board_is_stored E m team g x v lay inv l o may = slot_keeps E m team g (E.board 
 -- ---- loads
 
 pub words_are_loaded : WordsAreLoaded
-words_are_loaded E m team g a x inv f o = record {
+words_are_loaded E m team g k a x ready f o = let inv = ready.invariant in record {
   held = λ t. let h = field_here E g.size g.writer g.kind a (word_of (g.kind a) x) (record { stands = f.stands; written = f.written; field = t; first = omega arith; last = f.last }) f.inside in
       record { clean = inv.opened.opened (a + word_of (g.kind a) x) h o; lands = inv.landing.lands (a + word_of (g.kind a) x) h };
   number = λ t. inv.raw_words.raw a (word_of (g.kind a) x) f.stands f.written (omega arith) f.last t;
 }
 
 pub board_is_loaded : BoardIsLoaded
-board_is_loaded E m team g x lay inv l o = record {
+board_is_loaded E m team g k x ready l o = let inv = ready.invariant in let lay = ready.laid_out in record {
   clean = inv.opened.opened (E.board + x) (board_here E g.size g.writer g.kind x l) (let e : (E.board + x) / 64 ≡ E.board / 64 = omega (arith, lay.board, l) in rw e o);
   lands = inv.landing.lands (E.board + x) (board_here E g.size g.writer g.kind x l);
 }
 
 pub accesses_are_allowed : AccessesAreAllowed
-accesses_are_allowed E m team g k f inv l has opened =
-    let a = (inv.workers k l).access f has in
+accesses_are_allowed E m team g k f ready has opened =
+    let me = ready.invariant.workers k ready.member in
+    let a = me.access f has in
     record {
       word = λ x e. record { stands = a.stands; written = a.written; inside = a.inside; last = let z = a.word.1 in omega (arith, e) };
-      opens = ((inv.workers k l).opened ((f.at + f.word) / 64) opened).1;
+      opens = (me.opened ((f.at + f.word) / 64) opened).1;
       role = a.role;
     }

@@ -7,7 +7,7 @@ use Rattle.plain_state.specs.declared.value.Identity.{Identity}
 use Rattle.plain_state.specs.State as plain
 use Rattle.space_map.specs.declared.gate_word.GateWord.{GateWord}
 use Rattle.heap_state.specs.Cycle.{Rooted, RootLeads, ByBoard, ByRegister, IsCopied, StillLeads}
-use Rattle.heap_state.specs.Era.{Era, Memory, IsLaidOut}
+use Rattle.heap_state.specs.Era.{Era, Memory}
 use Rattle.heap_state.specs.Functions.{put}
 use Rattle.heap_state.specs.Ghost.{Ghost, Leads, Lands}
 use Rattle.heap_state.specs.Inductive.{Invariant, Knows}
@@ -17,13 +17,13 @@ use Rattle.heap_state.specs.Reachable.{Reachable}
 use Rattle.heap_state.specs.Values.{Shown, RegistersShow, value_of}
 use Rattle.heap_state.specs.Worker.{Worker, Team, Post, Passage, Outside, Enter, Park, Request, Forwarded, Resume, Leave, Origin, Register, Quest, Copy, is_mutator, is_live, is_late, GateStep}
 use Rattle.heap_state.proofs.Frames.{counted_put, staffed_put, scanned_put, stocks_put, numbered_put, accounts_put}
-use Rattle.heap_state.proofs.Puts.{put_at, put_other, put_same, each_put, team_put, none≢some, some_same}
-use Rattle.heap_laws.specs.Flipping.{forwarded, HasRegister, PassingRegisterKeeps, asking_for, AskingForRegisterKeeps, HasFoundCopy}
+use Rattle.heap_state.proofs.Puts.{put_at, put_other, put_same, each_put, team_put, none≢some, some_same, put_is}
+use Rattle.heap_laws.specs.Flipping.{forwarded, HasRegister, PassingRegisterKeeps, asking_for, AskingForRegisterKeeps, HasFoundCopy, past_register}
 use Rattle.heap_laws.specs.Keeping.{Keeps}
-use Rattle.heap_laws.specs.Steps.{with_worker}
+use Rattle.heap_laws.specs.Steps.{with_worker, Ready, Steps}
 use Rattle.heap_laws.proofs.CopyingRoots.{late_lives, late_mutator, late_unended}
 use Rattle.heap_laws.proofs.FoundCopy.{found_copy}
-use Rattle.heap_laws.proofs.Learning.{learns}
+use Rattle.heap_laws.proofs.Learning.{learns, learnt}
 use Rattle.heap_laws.proofs.ScanningOn.{no_copy}
 use Rattle.heap_laws.proofs.Words.{still_leads, pointer_lands}
 
@@ -38,18 +38,18 @@ passes_on post epoch done then_done ended seen read Forwarded l q = absurd (omeg
 passes_on post epoch done then_done ended seen read Resume l q = q
 passes_on post epoch done then_done ended seen read Leave l q = q
 
-module _ (E : Era) (m : Memory) (team : Team) (g : Ghost) (k : ℕ) (inv : Invariant E m team g) (has : HasRegister E team k) where
+module _ (E : Era) (m : Memory) (team : Team) (g : Ghost) (k : ℕ) (inv : Invariant E m team g) (below : k < team.count) (has : HasRegister E team k) where
   abbrev word : ℕ
   word = (team.worker k).registers (team.worker k).done
 
   me : Knows E m.gate m.traced m.front m.low m.old_front m.old_low m.old_owed g m.page m.cross m.announced m.heap k (team.worker k)
-  me = inv.workers k has.below
+  me = inv.workers k below
 
   pub mutator : is_mutator (team.worker k).post ≡ true
-  mutator = late_mutator E m team g k inv has.below has.late
+  mutator = late_mutator E m team g k inv below has.late
 
   pub no_end : (team.worker k).account.end ≡ None
-  no_end = late_unended E m team g k inv has.below has.late
+  no_end = late_unended E m team g k inv below has.late
 
   pub clean : Clean E g.size g.writer (is_late E.epoch (team.worker k)) (team.worker k).done (team.worker k).registers
   clean = me.registers mutator no_end
@@ -120,7 +120,7 @@ module _ (E : Era) (m : Memory) (team : Team) (g : Ghost) (k : ℕ) (inv : Invar
         at_me : (n : ℕ) (i : Identity) → is_mutator (team.worker k).post ≡ true → (team.worker k).account.end ≡ None → n < 8 → StillLeads E g.identity (registers' n) i → Reachable p i
         at_me n i mu end small t = ⊎_elim
             (λ (e : n ≡ (team.worker k).done). absurd (fine (still_leads E g.identity v i (rw (put_at (team.worker k).registers (team.worker k).done v n e) at t))))
-            (λ (d : n ≢ (team.worker k).done). r.sound k n i has.below mu end small (rw (put_other (team.worker k).registers (team.worker k).done v n d) at t))
+            (λ (d : n ≢ (team.worker k).done). r.sound k n i below mu end small (rw (put_other (team.worker k).registers (team.worker k).done v n d) at t))
             (cases_eq n (team.worker k).done)
 
         by_register : (j n : ℕ) (i : Identity) → j < team.count → n < 8 → is_late E.epoch (team.worker j) ≡ true → (team.worker j).done ≤ n → StillLeads E g.identity ((team.worker j).registers n) i
@@ -134,7 +134,7 @@ module _ (E : Era) (m : Memory) (team : Team) (g : Ghost) (k : ℕ) (inv : Invar
             let same : put team.worker k w' k ≡ w' = put_same team.worker k w' in
             ⊎_elim
             (λ (f : n ≡ (team.worker k).done). inl (seen i (rw f at t')))
-            (λ (f : n ≢ (team.worker k).done). inr (ByRegister k n has.below s (rw same has.late) (rw same (omega (arith, d', f)))
+            (λ (f : n ≢ (team.worker k).done). inr (ByRegister k n below s (rw same has.late) (rw same (omega (arith, d', f)))
             (rw (same, put_other (team.worker k).registers (team.worker k).done v n f) t')))
             (cases_eq n (team.worker k).done)
 
@@ -148,29 +148,37 @@ module _ (E : Era) (m : Memory) (team : Team) (g : Ghost) (k : ℕ) (inv : Invar
 -- ---- the laws
 
 pub passes_register : PassingRegisterKeeps
-passes_register E m team g k inv has idle fine =
+passes_register E m team g k ready has idle fine =
+    let inv = ready.invariant in
     let w = (team.worker k).registers (team.worker k).done in
-    register_keeps E m team g k inv has w fine ((clean E m team g k inv has).lands (team.worker k).done has.left) refl (no_copy E m team g k inv has.below idle)
-    (λ i t. absurd (fine (still_leads E g.identity w i t)))
+    let same : put (team.worker k).registers (team.worker k).done w ≡ (team.worker k).registers = sym (put_is (team.worker k).registers (team.worker k).registers (team.worker k).done w refl (λ x d. refl)) in
+    let passed : forwarded (team.worker k) w ≡ past_register (team.worker k) = λ i. record (past_register (team.worker k)) { registers = same i; quest = sym idle i } in
+    learnt (rw passed at (register_keeps E m team g k inv ready.member has w fine ((clean E m team g k inv ready.member has).lands (team.worker k).done has.left) refl (no_copy E m team g k inv ready.member idle)
+    (λ i t. absurd (fine (still_leads E g.identity w i t)))))
 
 pub asks_for_register : AskingForRegisterKeeps
-asks_for_register E m team g k a inv has idle leads =
-    let me = inv.workers k has.below in
-    let old = (clean E m team g k inv has).old has.late (team.worker k).done a (omega arith) has.left leads in
+asks_for_register E m team g k a ready has idle leads =
+    let inv = ready.invariant in
+    let me = inv.workers k ready.member in
+    let is_clean = clean E m team g k inv ready.member has in
+    let old = is_clean.old has.late (team.worker k).done a (omega arith) has.left leads in
     let q : Quest = record { old = a; origin = Register (team.worker k).done; found = None } in
-    let st : 0 < g.size a = pointer_lands g.size g.writer ((team.worker k).registers (team.worker k).done) a ((clean E m team g k inv has).lands (team.worker k).done has.left) leads in
-    learns E m team g k (asking_for (team.worker k) a) inv (assumption) (λ t e. (t, e, refl))
+    let st : 0 < g.size a = pointer_lands g.size g.writer ((team.worker k).registers (team.worker k).done) a (is_clean.lands (team.worker k).done has.left) leads in
+    learnt (learns E m team g k (asking_for (team.worker k) a) inv (assumption) (λ t e. (t, e, refl))
     (let origin : (r : Quest) → Some q ≡ Some r → IsOrigin E g.size g.writer g.kind m.heap (is_late E.epoch (team.worker k)) (team.worker k).done (team.worker k).registers (team.worker k).scan r.old r.origin = λ r e. rw (← some_same e) (has.late, refl, has.left, leads) in
     let seeks : (r : Quest) → Some q ≡ Some r → Seeks E g.size g.writer g.copy r = λ r e. rw (← some_same e) (record { old = (st, old.0, old.1); found = λ b f. none≢some f }) in
-    let licence : Licensed m.gate.behind g.kept k (is_late E.epoch (team.worker k)) (team.worker k).copy (Some q) (team.worker k).scan = record { licensed = me.licensed.licensed; asked = λ c e. absurd (no_copy E m team g k inv has.below idle c e); counted = me.licensed.counted; idle = me.licensed.idle } in
-    assumption)
+    let licence : Licensed m.gate.behind g.kept k (is_late E.epoch (team.worker k)) (team.worker k).copy (Some q) (team.worker k).scan = record { licensed = me.licensed.licensed; asked = λ c e. absurd (no_copy E m team g k inv ready.member idle c e); counted = me.licensed.counted; idle = me.licensed.idle } in
+    assumption))
 
-module _ (E : Era) (m : Memory) (team : Team) (g : Ghost) (k : ℕ) (q : Quest) (b v : ℕ) (out : IsLaidOut E) (inv : Invariant E m team g) (has : HasFoundCopy E team k q b) (points : decode v ≡ PointerWord b) where
+module _ (E : Era) (m : Memory) (team : Team) (g : Ghost) (k : ℕ) (q : Quest) (b v : ℕ) (ready : Ready E m team g k) (has : HasFoundCopy E team k q b) (points : decode v ≡ PointerWord b) where
+  abbrev inv : Invariant E m team g
+  inv = ready.invariant
+
   abbrev w : ℕ
   w = (team.worker k).registers (team.worker k).done
 
   knows : Knows E m.gate m.traced m.front m.low m.old_front m.old_low m.old_owed g m.page m.cross m.announced m.heap k (team.worker k)
-  knows = inv.workers k has.register.below
+  knows = inv.workers k ready.member
 
   led : decode w ≡ PointerWord q.old
   led = by_origin q.origin has.origin (knows.origin q has.quest)
@@ -178,7 +186,7 @@ module _ (E : Era) (m : Memory) (team : Team) (g : Ghost) (k : ℕ) (q : Quest) 
       by_origin : (o : Origin) → o ≡ Register (team.worker k).done → IsOrigin E g.size g.writer g.kind m.heap (is_late E.epoch (team.worker k)) (team.worker k).done (team.worker k).registers (team.worker k).scan q.old o → decode w ≡ PointerWord q.old
       by_origin o e y = let z : IsOrigin E g.size g.writer g.kind m.heap (is_late E.epoch (team.worker k)) (team.worker k).done (team.worker k).registers (team.worker k).scan q.old (Register (team.worker k).done) = rw e at y in z.3
 
-  pub forwards_register : Keeps E m m team (with_worker team k (forwarded (team.worker k) v)) g
+  pub forwards_register : Steps E m team g k None (forwarded (team.worker k) v) g
   forwards_register =
-      let c = found_copy E m team g k w v b q out inv has.register.below has.quest has.found led points in
-      register_keeps E m team g k inv has.register v c.clean c.lands c.value c.copies_nothing c.seen
+      let c = found_copy E m team g k w v b q ready.laid_out inv ready.member has.quest has.found led points in
+      learnt (register_keeps E m team g k inv ready.member has.register v c.clean c.lands c.value c.copies_nothing c.seen)

@@ -11,11 +11,11 @@ use Rattle.heap_state.specs.Parts.Pages.{OldPages}
 use Rattle.heap_state.specs.Worker.{Worker, Team, Reset, is_flipper}
 use Rattle.heap_state.proofs.Frames.{counted_put, staffed_put, scanned_put, stocks_put, numbered_put, rooted_put}
 use Rattle.heap_state.proofs.Puts.{team_put, some_same, none≢some}
-use Rattle.heap_laws.specs.FlippingReset.{resetting, with_old_area, FindingStillKeeps, ReadingUsedKeeps}
+use Rattle.heap_laws.specs.FlippingReset.{resetting, FindingStillKeeps, ReadingUsedKeeps, StoringAreaKeeps, whole_area}
 use Rattle.heap_laws.specs.Keeping.{Keeps}
-use Rattle.heap_laws.specs.Steps.{with_worker}
+use Rattle.heap_laws.specs.Steps.{with_worker, with_old_area, InOldArea}
 use Rattle.heap_laws.proofs.FlippingSums.{sum_below-two, one_of, at_most_one}
-use Rattle.heap_laws.proofs.Learning.{shown_put, learns}
+use Rattle.heap_laws.proofs.Learning.{shown_put, learns, learnt}
 
 -- at most one worker flips
 pub one_flipper : (E : Era) (m : Memory) (team : Team) (g : Ghost) → Invariant E m team g → (j k : ℕ) → j < team.count → k < team.count
@@ -38,14 +38,14 @@ module _ (E : Era) (m : Memory) (team : Team) (g : Ghost) (k : ℕ) (r : Reset) 
       assumption)
 
 pub finds_still : FindingStillKeeps
-finds_still E m team g k inv below flips still none = resets_more E m team g k (record { read = m.gate; used = None; stored = false }) inv below flips
-    (record { unmoved = refl; stopped = (still, none); used = λ u e. none≢some e; stored = λ e. absurd (cc) })
+finds_still E m team g k ready flips still none = learnt (resets_more E m team g k (record { read = m.gate; used = None; stored = false }) ready.invariant ready.member flips
+    (record { unmoved = refl; stopped = (still, none); used = λ u e. none≢some e; stored = λ e. absurd (cc) }))
 
 pub reads_used : ReadingUsedKeeps
-reads_used E m team g k r u inv below e loose used =
-    let me = inv.workers k below in let o = me.reset r e in
-    resets_more E m team g k (record r { used = Some u }) inv below (me.resets r e)
-    (record { unmoved = o.unmoved; stopped = o.stopped; used = λ v f. let z : u ≡ v = some_same f in rw (← z) used; stored = λ f. absurd (let q = sym f ∙ loose in cc) })
+reads_used E m team g k r u ready e loose used =
+    let me = ready.invariant.workers k ready.member in let o = me.reset r e in
+    learnt (resets_more E m team g k (record r { used = Some u }) ready.invariant ready.member (me.resets r e)
+    (record { unmoved = o.unmoved; stopped = o.stopped; used = λ v f. let z : u ≡ v = some_same f in rw (← z) used; stored = λ f. absurd (let q = sym f ∙ loose in cc) }))
 
 module _ (E : Era) (m : Memory) (team : Team) (g : Ghost) (k : ℕ) (r : Reset) (front low u : ℕ) (out : IsLaidOut E) (inv : Invariant E m team g) (below : k < team.count)
     (has : (team.worker k).reset ≡ Some r) (used : r.used ≡ Some u) (at_start : front ≡ E.old_start) (at_end : low ≡ E.old_start + E.old_span) where
@@ -100,3 +100,10 @@ module _ (E : Era) (m : Memory) (team : Team) (g : Ghost) (k : ℕ) (r : Reset) 
     cycle = λ p c. record { copying = c.copying; rooted = rooted_put team.worker k w' refl refl refl (λ _ _ a b. (a, b)) c.rooted };
     ages = λ p. omega arith;
   }
+
+pub stores_area_word : StoringAreaKeeps
+stores_area_word E m team g k r u ready has used fits = record {
+  later = with_old_area m (E.old_start + 0) (E.old_start + E.old_span) u;
+  writes = InOldArea (whole_area E.old_span u) fits;
+  keeps = stores_area E m team g k r (E.old_start + 0) (E.old_start + E.old_span) u ready.laid_out ready.invariant ready.member has used (omega arith) refl;
+}

@@ -22,6 +22,7 @@ use Rattle.heap_state.specs.Worker.{Worker, Team, Post, Stopped, Reset, is_mutat
 use Rattle.heap_state.proofs.Following.{follows}
 use Rattle.heap_state.proofs.Holding.{uncopied_here}
 use Rattle.heap_state.proofs.Puts.{each_put, proj_put, team_put, sum_below-same}
+use Rattle.heap_laws.specs.Steps as laws
 use Rattle.heap_laws.specs.Flipping.{next_era, next_memory, next_ghost, flipped_gate, after_flip, Flips, FlipKeeps, TableFlips}
 use Rattle.heap_laws.specs.Steps.{with_worker}
 use Rattle.heap_laws.proofs.FlippingParts.{Ready, nothing, was, laid, headed, copied, once, kept, room, raw_words, shut, filling, tracing, aged, scanned, old_area, old_pages, lands_on, here_board, board_here, opened, landing, older, new, new_written, crossing, old_space}
@@ -35,12 +36,18 @@ some_of [] i l = absurd (omega (arith, l))
 some_of (x ∷ xs) zero l = (x, refl)
 some_of (x ∷ xs) (suc i) l = some_of xs i (omega (arith, l))
 
-module _ (E : Era) (m : Memory) (team : Team) (g : Ghost) (k : ℕ) (r : Reset) (out : IsLaidOut E) (inv : Invariant E m team g) (flips : Flips E m team k r) where
+module _ (E : Era) (m : Memory) (team : Team) (g : Ghost) (k : ℕ) (r : Reset) (start : laws.Ready E m team g k) (flips : Flips E team k r) where
+  abbrev out : IsLaidOut E
+  out = start.laid_out
+
+  abbrev inv : Invariant E m team g
+  inv = start.invariant
+
   abbrev w' : Worker
   w' = after_flip (team.worker k)
 
   me : Knows E m.gate m.traced m.front m.low m.old_front m.old_low m.old_owed g m.page m.cross m.announced m.heap k (team.worker k)
-  me = inv.workers k flips.below
+  me = inv.workers k start.member
 
   is_flipping : is_flipper (team.worker k).post ≡ true
   is_flipping = ap is_flipper flips.post
@@ -62,7 +69,7 @@ module _ (E : Era) (m : Memory) (team : Team) (g : Ghost) (k : ℕ) (r : Reset) 
   }
 
   not_flipper : (j : ℕ) → j < team.count → j ≢ k → is_flipper (team.worker j).post ≡ false
-  not_flipper j l d = none_true (is_flipper (team.worker j).post) (λ e. d (one_flipper E m team g inv j k l flips.below e is_flipping))
+  not_flipper j l d = none_true (is_flipper (team.worker j).post) (λ e. d (one_flipper E m team g inv j k l start.member e is_flipping))
 
   -- ---- the gate
 
@@ -77,7 +84,7 @@ module _ (E : Era) (m : Memory) (team : Team) (g : Ghost) (k : ℕ) (r : Reset) 
     left = inv.counted.left ∙ count_same is_gone (sym (ap is_gone flips.post));
     request = sym (sum_below-none team.count (λ j. one_if (is_flipper (put team.worker k w' j).post)) (λ j l. no_flipper j l));
     still = λ b. (ready.still, refl);
-    epoch_fits = flips.fits;
+    epoch_fits = let a = start.at_gate in let f = flips.fits in omega (arith, a, f);
   }
     where
       late_now : is_late (m.gate.epoch + 1) w' ≡ is_late (m.gate.epoch + 1) (team.worker k)
@@ -85,7 +92,7 @@ module _ (E : Era) (m : Memory) (team : Team) (g : Ghost) (k : ℕ) (r : Reset) 
 
       behind : (j : ℕ) → j < team.count → is_live (team.worker j).post ≡ is_late (m.gate.epoch + 1) (put team.worker k w' j)
       behind j l =
-          let a : m.gate.epoch + 1 ≡ E.epoch + 1 = ap (λ e. e + 1) flips.at_gate in
+          let a : m.gate.epoch + 1 ≡ E.epoch + 1 = ap (λ e. e + 1) start.at_gate in
           let b : is_late (m.gate.epoch + 1) (team.worker j) ≡ is_live (team.worker j).post = rw a (late_is ready j l) in
           sym b ∙ sym (proj_put (is_late (m.gate.epoch + 1)) team.worker k w' j late_now)
 
@@ -140,7 +147,7 @@ module _ (E : Era) (m : Memory) (team : Team) (g : Ghost) (k : ℕ) (r : Reset) 
     stocks = stocks;
     numbered = numbered;
     workers = team_put team.count (Knows (next_era E) (flipped_gate m.gate) m.traced m.old_front m.old_low m.front m.low m.owed (next_ghost E g) m.page m.cross m.announced m.heap) team.worker k w'
-        (λ j l d. other ready j l (not_flipper j l d)) (flipper ready k flips.below flips.asked flips.post);
+        (λ j l d. other ready j l (not_flipper j l d)) (flipper ready k start.member flips.asked flips.post);
   }
 
   -- ---- what is shown

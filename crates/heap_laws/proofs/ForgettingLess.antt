@@ -2,10 +2,10 @@
 use Rattle.std.proofs.Common.{◌≡◌, ℕ, Bool, ◌+◌, true, Some, is_some, refl, arith, ◌⊎◌, inl}
 use Rattle.space_map.specs.declared.gate_word.GateWord.{GateWord}
 use Rattle.heap_state.specs.Parts.Knowledge.{Passes}
-use Rattle.heap_state.specs.Worker.{Worker, Post, Passage, Enter, Park, Request, Forwarded, Resume, Leave, GateStep, is_running, Access, Round, Claim, Look, LastLook, is_flipper}
+use Rattle.heap_state.specs.Worker.{Worker, Post, Passage, Enter, Park, Request, Forwarded, Resume, Leave, GateStep, is_running, is_flipper}
 use Rattle.heap_state.proofs.Puts.{some_same}
-use Rattle.heap_laws.specs.Forgetting.{ReadingGateKeeps, SeeingTracedKeeps, ForgettingKeeps}
-use Rattle.heap_laws.proofs.Learning.{learns}
+use Rattle.heap_laws.proofs.Learning.{learns, learnt}
+use Rattle.heap_laws.specs.Gating.{ReadingGateKeeps, SeeingTracedKeeps}
 
 -- a passage that is allowed is allowed to who has seen more
 seen_on : (post : Post) (epoch done : ℕ) (ended seen : Bool) (read : GateWord) (p : Passage) → Passes post epoch done ended seen read p → Passes post epoch done ended true read p
@@ -17,34 +17,22 @@ seen_on post epoch done ended seen read Resume q = q
 seen_on post epoch done ended seen read Leave q = q
 
 pub reads_gate : ReadingGateKeeps
-reads_gate E m team g k p inv below passes =
-    let me = inv.workers k below in
+reads_gate E m team g k p ready passes =
+    let inv = ready.invariant in
+    let me = inv.workers k ready.member in
     let w : Worker = record (team.worker k) { gate_step = Some (record { read = m.gate; passage = p }) } in
-    learns E m team g k w inv (assumption) (λ s e. (s, e, refl))
+    learnt (learns E m team g k w inv (assumption) (λ s e. (s, e, refl))
     (let new : (s : GateStep) → w.gate_step ≡ Some s → Passes (team.worker k).post (team.worker k).epoch (team.worker k).done (is_some (team.worker k).account.end) (team.worker k).traced_seen s.read s.passage = λ s e. rw (← some_same e) passes in
-    assumption)
+    assumption))
 
 pub sees_traced : SeeingTracedKeeps
-sees_traced E m team g k inv below running traced =
-    let me = inv.workers k below in
+sees_traced E m team g k ready running traced =
+    let inv = ready.invariant in
+    let me = inv.workers k ready.member in
     let w : Worker = record (team.worker k) { traced_seen = true } in
     let now = me.timely.running running in
-    learns E m team g k w inv (assumption) (λ s e. (s, e, refl))
+    learnt (learns E m team g k w inv (assumption) (λ s e. (s, e, refl))
     (let seen : true ≡ true → ((is_running (team.worker k).post ≡ true) ⊎ (is_flipper (team.worker k).post ≡ true)) × (m.traced ≡ E.epoch + 1) = λ e. (inl running, omega (arith, traced, now)) in
     let flips : is_flipper (team.worker k).post ≡ true → true ≡ true = λ e. refl in
     let passage = λ (s : GateStep) (e : (team.worker k).gate_step ≡ Some s). seen_on (team.worker k).post (team.worker k).epoch (team.worker k).done (is_some (team.worker k).account.end) (team.worker k).traced_seen s.read s.passage (me.passage s e) in
-    assumption)
-
-pub forgets : ForgettingKeeps
-forgets E m team g k r c l a s f inv below fr fc fl fa fs ff =
-    let me = inv.workers k below in
-    let w : Worker = record (team.worker k) { round = r; claim = c; look = l; last_look = a; gate_step = s; access = f } in
-    learns E m team g k w inv (assumption) (λ s e. (s, e, refl))
-    (let b1 = λ (x : Access) (e : f ≡ Some x). me.active x (ff x e) in
-    let b2 = λ (x : Access) (e : f ≡ Some x). me.access x (ff x e) in
-    let b3 = λ (x : Round) (e : r ≡ Some x). me.round x (fr x e) in
-    let b4 = λ (x : Claim) (e : c ≡ Some x). me.claim x (fc x e) in
-    let b5 = λ (x : Look) (e : l ≡ Some x). me.look x (fl x e) in
-    let b6 = λ (x : LastLook) (e : a ≡ Some x). me.last_look x (fa x e) in
-    let b7 = λ (x : GateStep) (e : s ≡ Some x). me.passage x (fs x e) in
-    assumption)
+    assumption))

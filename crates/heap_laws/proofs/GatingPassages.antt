@@ -1,5 +1,5 @@
 -- The passages of the gate.
-use Rattle.std.proofs.Common.{◌≡◌, ◌≢◌, ℕ, ◌+◌, ◌-◌, ◌<◌, Bool, true, false, Option, Some, None, is_some, refl, sym, ap, ◌∙◌, arith, ⊎_elim, ◌⊎◌, inl, inr}
+use Rattle.std.proofs.Common.{◌≡◌, ◌≢◌, ℕ, ◌+◌, ◌-◌, ◌<◌, Bool, true, false, Option, Some, None, is_some, refl, sym, ap, ◌∙◌, arith, ⊎_elim, ◌⊎◌, inl, inr, subst}
 use Rattle.std.proofs.lemmas.Bool.{eq-eqb}
 use Rattle.space_map.specs.declared.gate_word.GateWord.{GateWord}
 use Rattle.space_map.specs.declared.page_word.PageWord.TheVariants.{Open}
@@ -13,11 +13,12 @@ use Rattle.heap_state.specs.Parts.Pages.{Quiet}
 use Rattle.heap_state.specs.Parts.Scanning.{Claims, Looks, LastLooks}
 use Rattle.heap_state.specs.Worker.{Worker, Team, Post, Scanner, Outside, Running, Stopped, Flipping, Gone, Passage, Enter, Park, Request, Forwarded, Resume, Leave, Origin, Register, Scanned, Quest, Claim, Look, LastLook, GateStep, Reset, Access, is_mutator, is_flipper, is_gone, is_live, is_running, is_late}
 use Rattle.heap_state.proofs.Puts.{none≢some, true_false}
-use Rattle.heap_laws.specs.Gating.{with_gate, gate_after, worker_after, WinsGate, PassingGateKeeps}
+use Rattle.heap_state.specs.Entries.{GateIs}
+use Rattle.heap_laws.specs.Gating.{gate_after, worker_after, WinsGate, PassingGateKeeps}
 use Rattle.heap_laws.specs.Keeping.{Keeps}
-use Rattle.heap_laws.specs.Steps.{with_worker}
+use Rattle.heap_laws.specs.Steps.{with_worker, Ready, Steps, InGate, with_gate}
 use Rattle.heap_laws.proofs.FlippingSums.{sum_below-term, sum_below-two, one_of}
-use Rattle.heap_laws.proofs.GatingCounts.{counted_moves}
+use Rattle.heap_laws.proofs.GatingCounts.{counted_moves, fits}
 use Rattle.heap_laws.proofs.GatingTeam.{passing_keeps, usual}
 use Rattle.heap_laws.proofs.GatingWorker.{no_reset, knows_then}
 use Rattle.heap_laws.proofs.ScanningWho.{now_not_late}
@@ -30,22 +31,25 @@ runs Stopped e = absurd (cc)
 runs (Flipping asked) e = absurd (cc)
 runs Gone e = absurd (cc)
 
-module _ (E : Era) (m : Memory) (team : Team) (g : Ghost) (k : ℕ) (s : GateStep) (inv : Invariant E m team g) (wins : WinsGate E m team k s) where
+module _ (E : Era) (m : Memory) (team : Team) (g : Ghost) (k : ℕ) (s : GateStep) (ready : Ready E m team g k) (wins : WinsGate m team k s) where
+  abbrev inv : Invariant E m team g
+  inv = ready.invariant
+
   abbrev w : Worker
   w = team.worker k
 
   me : Knows E m.gate m.traced m.front m.low m.old_front m.old_low m.old_owed g m.page m.cross m.announced m.heap k w
-  me = inv.workers k wins.below
+  me = inv.workers k ready.member
 
   no_flip : (m.gate.request ≡ false) ⊎ ((0 < m.gate.running) ⊎ (0 < m.gate.behind)) → (r : Reset) → w.reset ≡ Some r → ⊥
-  no_flip busy r e = no_reset E m team g inv busy k r wins.below e
+  no_flip busy r e = no_reset E m team g inv busy k r ready.member e
 
   -- one that runs is counted
   running_some : is_running w.post ≡ true → 0 < m.gate.running
-  running_some e = let t = sum_below-term team.count (λ j. one_if (is_running (team.worker j).post)) k wins.below in let a = one_of (is_running w.post) e in let c = inv.counted.running in omega (arith, t, a, c)
+  running_some e = let t = sum_below-term team.count (λ j. one_if (is_running (team.worker j).post)) k ready.member in let a = one_of (is_running w.post) e in let c = inv.counted.running in omega (arith, t, a, c)
 
   live_some : is_live w.post ≡ true → 0 < m.gate.live
-  live_some e = let t = sum_below-term team.count (λ j. one_if (is_live (team.worker j).post)) k wins.below in let a = one_of (is_live w.post) e in let c = inv.counted.live in omega (arith, t, a, c)
+  live_some e = let t = sum_below-term team.count (λ j. one_if (is_live (team.worker j).post)) k ready.member in let a = one_of (is_live w.post) e in let c = inv.counted.live in omega (arith, t, a, c)
 
   -- one of the current epoch has forwarded nothing
   done_none : w.epoch ≡ E.epoch → w.done ≡ 0
@@ -74,7 +78,7 @@ module _ (E : Era) (m : Memory) (team : Team) (g : Ghost) (k : ℕ) (s : GateSte
       usual E m team g k (worker_after m.gate.epoch Enter w) (m.gate.live + 1) (m.gate.running + 1) m.gate.left m.gate.request
       (record {
         inv = inv;
-        below = wins.below;
+        below = ready.member;
         mutator = sym (ap is_mutator at);
         account = refl;
         registers = refl;
@@ -83,11 +87,11 @@ module _ (E : Era) (m : Memory) (team : Team) (g : Ghost) (k : ℕ) (s : GateSte
         none_left = λ r l y d. true_false (late E.epoch) y;
       })
       (inl q)
-      (counted_moves team.worker team.count k (worker_after m.gate.epoch Enter w) Outside Running m.gate (gate_after Enter m.gate) false false wins.below at refl (late m.gate.epoch) (now_not_late m.gate.epoch m.gate.epoch Running refl)
+      (counted_moves team.worker team.count k (worker_after m.gate.epoch Enter w) Outside Running m.gate (gate_after Enter m.gate) false false ready.member at refl (late m.gate.epoch) (now_not_late m.gate.epoch m.gate.epoch Running refl)
       refl (omega arith) (omega arith) refl refl refl (λ y. absurd (omega (arith, y, b))) inv.counted)
-      (knows_then E m team g k (gate_after Enter m.gate) inv wins.below (no_flip (inl q)) Running m.gate.epoch 0 None w.access w.opened None None None None w.traced_seen
+      (knows_then E m team g k (gate_after Enter m.gate) inv ready.member (no_flip (inl q)) Running m.gate.epoch 0 None w.access w.opened None None None None w.traced_seen
       (record {
-        now = wins.at_gate;
+        now = ready.at_gate;
         done_none = refl;
         inside = λ e. absurd (cc);
         ends = record { stays = λ e. inl refl; gone = λ e. absurd (cc) };
@@ -120,12 +124,12 @@ module _ (E : Era) (m : Memory) (team : Team) (g : Ghost) (k : ℕ) (s : GateSte
   stays p q access opened seen live running left request now at mutator mutates busy lives runs leaves asks still inside ends accesses opens sees flips =
       let w' : Worker = record w { post = q; access = access; opened = opened; traced_seen = seen; gate_step = None } in
       let gate' : GateWord = record m.gate { live = live; running = running; left = left; request = request } in
-      let gate_now : w.epoch ≡ m.gate.epoch = now ∙ sym wins.at_gate in
+      let gate_now : w.epoch ≡ m.gate.epoch = now ∙ sym ready.at_gate in
       let was : is_mutator w.post ≡ true = rw at mutator in
       usual E m team g k w' live running left request
       (record {
         inv = inv;
-        below = wins.below;
+        below = ready.member;
         mutator = mutates ∙ sym was;
         account = refl;
         registers = refl;
@@ -134,9 +138,9 @@ module _ (E : Era) (m : Memory) (team : Team) (g : Ghost) (k : ℕ) (s : GateSte
         none_left = λ r l y d. not_late now y;
       })
       busy
-      (counted_moves team.worker team.count k w' p q m.gate gate' false false wins.below at refl (now_not_late m.gate.epoch w.epoch w.post gate_now) (now_not_late m.gate.epoch w.epoch q gate_now)
+      (counted_moves team.worker team.count k w' p q m.gate gate' false false ready.member at refl (now_not_late m.gate.epoch w.epoch w.post gate_now) (now_not_late m.gate.epoch w.epoch q gate_now)
       refl lives runs refl leaves asks still inv.counted)
-      (knows_then E m team g k gate' inv wins.below (no_flip busy) q w.epoch w.done w.stock access opened w.round w.claim w.look w.last_look seen
+      (knows_then E m team g k gate' inv ready.member (no_flip busy) q w.epoch w.done w.stock access opened w.round w.claim w.look w.last_look seen
       (record {
         now = now;
         done_none = done_none now;
@@ -160,7 +164,7 @@ module _ (E : Era) (m : Memory) (team : Team) (g : Ghost) (k : ℕ) (s : GateSte
       let q = request_read false request in
       let b = behind_read behind in
       let same : m.gate.epoch ≡ s.read.epoch = ap (λ (x : GateWord). x.epoch) wins.unchanged in
-      stays Stopped Running w.access w.opened w.traced_seen m.gate.live (m.gate.running + 1) m.gate.left m.gate.request (sym (same ∙ epoch) ∙ wins.at_gate) at refl refl (inl q)
+      stays Stopped Running w.access w.opened w.traced_seen m.gate.live (m.gate.running + 1) m.gate.left m.gate.request (sym (same ∙ epoch) ∙ ready.at_gate) at refl refl (inl q)
       refl (omega arith) refl refl (λ y. absurd (omega (arith, y, b))) (λ e. absurd (cc)) (record { stays = λ e. inl refl; gone = λ e. absurd (cc) })
       (λ f e. (refl, me.access f e)) (λ x e. (refl, (me.opened x e).1)) (λ e. (inl refl, (me.seen_traced e).1)) (λ e. absurd (cc))
 
@@ -201,7 +205,7 @@ module _ (E : Era) (m : Memory) (team : Team) (g : Ghost) (k : ℕ) (s : GateSte
     gate_next = sym epoch ∙ sym (ap (λ (x : GateWord). x.epoch) wins.unchanged)
 
     next : w.epoch + 1 ≡ E.epoch
-    next = gate_next ∙ wins.at_gate
+    next = gate_next ∙ ready.at_gate
 
     late : (e : ℕ) → w.epoch + 1 ≡ e → is_late e w ≡ true
     late e y = rw (at, eq-eqb (w.epoch + 1) e y) refl
@@ -229,8 +233,8 @@ module _ (E : Era) (m : Memory) (team : Team) (g : Ghost) (k : ℕ) (s : GateSte
           licensed = u.licensed.licensed;
           asked = u.licensed.asked;
           idle = u.licensed.idle;
-          counted = λ e. let t = sum_below-two team.count (λ i. one_if (is_late m.gate.epoch (team.worker i))) j k l wins.below d in
-              let x = one_of (is_late m.gate.epoch (team.worker j)) (rw wins.at_gate e) in let y = one_of (is_late m.gate.epoch w) (late m.gate.epoch gate_next) in
+          counted = λ e. let t = sum_below-two team.count (λ i. one_if (is_late m.gate.epoch (team.worker i))) j k l ready.member d in
+              let x = one_of (is_late m.gate.epoch (team.worker j)) (rw ready.at_gate e) in let y = one_of (is_late m.gate.epoch w) (late m.gate.epoch gate_next) in
               let c = inv.counted.behind in omega (arith, t, x, y, c);
         } in
         let b : (q : Claim) → (team.worker j).claim ≡ Some q → Claims E m.front (m.gate.behind - 1) g.size g.writer m.page (team.worker j).epoch q = λ q e. claims (team.worker j).epoch q (u.claim q e) in
@@ -252,7 +256,7 @@ module _ (E : Era) (m : Memory) (team : Team) (g : Ghost) (k : ℕ) (s : GateSte
     forwards = passing_keeps
         (record {
           inv = inv;
-          below = wins.below;
+          below = ready.member;
           mutator = refl;
           account = refl;
           registers = refl;
@@ -261,14 +265,14 @@ module _ (E : Era) (m : Memory) (team : Team) (g : Ghost) (k : ℕ) (s : GateSte
           none_left = λ r l y d. omega (arith, l, d, all);
         })
         (gate_after Forwarded m.gate)
-        (counted_moves team.worker team.count k (worker_after m.gate.epoch Forwarded w) w.post w.post m.gate (gate_after Forwarded m.gate) true false wins.below refl refl (late m.gate.epoch gate_next) (now_not_late m.gate.epoch m.gate.epoch w.post refl)
+        (counted_moves team.worker team.count k (worker_after m.gate.epoch Forwarded w) w.post w.post m.gate (gate_after Forwarded m.gate) true false ready.member refl refl (late m.gate.epoch gate_next) (now_not_late m.gate.epoch m.gate.epoch w.post refl)
         refl refl refl (let b = behind_some in omega (arith, b)) refl refl (λ y. inv.counted.still behind_some) inv.counted)
         (record { filling = λ p l n a. unquiet (inv.filling.filling p l n a) })
         (record { begun = inv.tracing.begun; bottom = inv.tracing.bottom; top = inv.tracing.top; quiet = λ e. unquiet (inv.tracing.quiet e); last = inv.tracing.last })
         others
-        (knows_then E m team g k (gate_after Forwarded m.gate) inv wins.below (no_flip busy) w.post m.gate.epoch 0 None w.access w.opened None None None None w.traced_seen
+        (knows_then E m team g k (gate_after Forwarded m.gate) inv ready.member (no_flip busy) w.post m.gate.epoch 0 None w.access w.opened None None None None w.traced_seen
         (record {
-          now = wins.at_gate;
+          now = ready.at_gate;
           done_none = refl;
           inside = λ e. absurd (let q = sym at ∙ e in cc);
           ends = me.ends;
@@ -293,5 +297,20 @@ module _ (E : Era) (m : Memory) (team : Team) (g : Ghost) (k : ℕ) (s : GateSte
   by_passage Resume y = resumes y.0 y.1 y.2 y.3
   by_passage Leave y = leaves y.0 y.1
 
+-- a passage stays in the epoch
+same_epoch : (p : Passage) (gate : GateWord) → (gate_after p gate).epoch ≡ gate.epoch
+same_epoch Enter gate = refl
+same_epoch Park gate = refl
+same_epoch (Request asked) gate = refl
+same_epoch Forwarded gate = refl
+same_epoch Resume gate = refl
+same_epoch Leave gate = refl
+
 pub passes_gate : PassingGateKeeps
-passes_gate E m team g k s inv wins = by_passage E m team g k s inv wins s.passage ((inv.workers k wins.below).passage s wins.step)
+passes_gate E m team g k s ready wins =
+    let keeps = by_passage E m team g k s ready wins s.passage ((ready.invariant.workers k ready.member).passage s wins.step) in
+    subst (λ (read : GateWord). Steps E m team g k (Some (GateIs (gate_after s.passage read))) (worker_after read.epoch s.passage (team.worker k)) g) wins.unchanged (record {
+      later = with_gate m (gate_after s.passage m.gate);
+      writes = InGate (gate_after s.passage m.gate) (fits E _ _ g keeps.invariant) (same_epoch s.passage m.gate ∙ ready.at_gate);
+      keeps = keeps;
+    })

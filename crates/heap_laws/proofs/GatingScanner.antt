@@ -12,6 +12,7 @@ use Rattle.heap_laws.specs.Steps.{with_worker}
 use Rattle.heap_laws.proofs.GatingCounts.{counted_moves}
 use Rattle.heap_laws.proofs.GatingTeam.{passing_keeps}
 use Rattle.heap_laws.proofs.GatingWorker.{knows_then}
+use Rattle.heap_laws.proofs.Learning.{learnt}
 
 module _ (E : Era) (m : Memory) (team : Team) (g : Ghost) (k : ℕ) (inv : Invariant E m team g) (below : k < team.count) (at_gate : m.gate.epoch ≡ E.epoch) (scanner : (team.worker k).post ≡ Scanner)
     (idle : (team.worker k).scan ≡ None) where
@@ -74,4 +75,4 @@ module _ (E : Era) (m : Memory) (team : Team) (g : Ghost) (k : ℕ) (inv : Invar
       }))
 
 pub takes_epoch_of_gate : TakingEpochKeeps
-takes_epoch_of_gate = takes_epoch
+takes_epoch_of_gate E m team g k ready scanner idle = learnt (takes_epoch E m team g k ready.invariant ready.member ready.at_gate scanner idle)

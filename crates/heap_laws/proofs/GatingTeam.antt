@@ -11,9 +11,8 @@ use Rattle.heap_state.specs.Parts.Pages.{Filling, Tracing}
 use Rattle.heap_state.specs.Worker.{Worker, Team, Stock, Reset, is_mutator, is_late}
 use Rattle.heap_state.proofs.Frames.{staffed_put, scanned_put, stocks_put, numbered_put, rooted_put}
 use Rattle.heap_state.proofs.Puts.{team_put}
-use Rattle.heap_laws.specs.Gating.{with_gate}
 use Rattle.heap_laws.specs.Keeping.{Keeps}
-use Rattle.heap_laws.specs.Steps.{with_worker}
+use Rattle.heap_laws.specs.Steps.{with_worker, with_gate}
 use Rattle.heap_laws.proofs.GatingWorker.{no_reset}
 use Rattle.heap_laws.proofs.Learning.{shown_put}
 

@@ -1,5 +1,5 @@
 -- A worker learns or forgets something, where others read the same of it: a step that writes no heap word.
-use Rattle.std.proofs.Common.{◌≡◌, ◌≢◌, ℕ, ◌<◌, Some, refl, sym, ap, ◌∙◌, arith, ⊎_elim}
+use Rattle.std.proofs.Common.{◌≡◌, ◌≢◌, ℕ, ◌<◌, Some, refl, sym, ap, ◌∙◌, arith, ⊎_elim, None}
 use Rattle.std.proofs.lemmas.Bool.{cases_eq}
 use Rattle.plain_state.specs.State as plain
 use Rattle.space_map.specs.declared.page_word.PageWord.{PageWord}
@@ -15,7 +15,7 @@ use Rattle.heap_state.specs.Worker.{Worker, Team, Copy, Scan, is_mutator}
 use Rattle.heap_state.proofs.Frames.{counted_put, staffed_put, stocks_put, numbered_put, accounts_put, registers_put, rooted_put}
 use Rattle.heap_state.proofs.Puts.{put_at, put_other, team_put}
 use Rattle.heap_laws.specs.Keeping.{Keeps}
-use Rattle.heap_laws.specs.Steps.{with_worker}
+use Rattle.heap_laws.specs.Steps.{with_worker, NoRow, Steps}
 
 -- what is shown by the same words is shown by the team after the change
 pub shown_put : (E : Era) (m n : Memory) (team : Team) (g : Ghost) (k : ℕ) (w : Worker) (p : plain.Plain) → w.account ≡ (team.worker k).account → w.registers ≡ (team.worker k).registers → n.heap ≡ m.heap
@@ -84,3 +84,7 @@ module _ (E : Era) (m : Memory) (team : Team) (g : Ghost) (k : ℕ) (w : Worker)
 
   pub learns : Knows E m.gate m.traced m.front m.low m.old_front m.old_low m.old_owed g m.page m.cross m.announced m.heap k w → Keeps E m m team (with_worker team k w) g
   learns own = marks m.cross m.announced inv.crossing (λ j c l d e. (inv.workers j l).copy c e) own
+
+-- a step that writes no row
+pub learnt : {E : Era} {m : Memory} {team : Team} {g : Ghost} {k : ℕ} {w : Worker} → Keeps E m m team (with_worker team k w) g → Steps E m team g k None w g
+learnt {m = m} keeps = record { later = m; writes = NoRow; keeps = keeps }

@@ -14,9 +14,10 @@ pub mod CopyingGrowth
 pub mod CopyingRoom
 pub mod CopyingReserve
 pub mod CopyingReserved
+pub mod Rows
+pub mod CopyingSteps
 pub mod LiftingSteps
 pub mod LiftingRows
-pub mod LiftingCopies
 pub mod Learning
 pub mod ScanningWho
 pub mod ScanningFrames
@@ -43,6 +44,7 @@ pub mod PlainHeaps
 pub mod FieldShown
 pub mod AllocFree
 pub mod AllocStock
+pub mod AllocRows
 pub mod AllocZero
 pub mod AllocOpen
 pub mod AllocClaim
@@ -55,9 +57,8 @@ pub mod BirthShown
 pub mod BirthCycle
 pub mod MutatorStores
 pub mod MutatorPlaces
-pub mod MutatorsStand
+pub mod Effects
 pub mod ScanningRecords
-pub mod AgingEntries
 pub mod FlippingReset
 pub mod GatingCounts
 pub mod GatingWorker
@@ -65,4 +66,5 @@ pub mod GatingTeam
 pub mod GatingScanner
 pub mod GatingPassages
 pub mod ForgettingLess
-pub mod ScanningLifted
+pub mod Composing
+pub mod Composites

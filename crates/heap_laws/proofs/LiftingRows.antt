@@ -1,15 +1,19 @@
 -- What a law says of a step is so of each configuration that stands.
-use Rattle.std.proofs.Common.{◌≡◌, ℕ, ◌+◌, Option, refl, ap, arith}
+use Rattle.std.proofs.Common.{◌≡◌, ℕ, ◌+◌, Option, refl, ap, arith, subst, Some}
 use Rattle.space_map.specs.declared.gate_word.GateWord.{GateWord}
 use Rattle.space_map.specs.Spaces.{to_space, space_start}
-use Rattle.heap_state.specs.Configuration.{Configuration, table, era, memory}
-use Rattle.heap_state.specs.Entries.{Entry}
+use Rattle.space_map.specs.GateWord.{GateFits}
+use Rattle.heap_state.specs.Configuration.{Configuration, table, era, memory, team}
+use Rattle.heap_state.specs.Entries.{Entry, GateIs}
 use Rattle.heap_state.specs.Era.{Memory, era_of, era_at, memory_of, from_space}
 use Rattle.heap_state.specs.Table.{Table}
 use Rattle.heap_state.proofs.Following.{follows}
-use Rattle.heap_laws.specs.Lifting.{table_after, RowFits, StepsAreLifted, PlainStepsAreLifted}
+use Rattle.heap_laws.specs.Lifting.{table_after, RowFits, StepsAreLifted, PlainStepsAreLifted, Flipped, FlipsAreLifted}
 use Rattle.heap_laws.specs.Steps.{Writes, NoRow, InGate, InTraced, InArea, InOldArea, InPage, InCross, InWord, InAnnounce}
-use Rattle.heap_laws.proofs.LiftingSteps.{board_at, seen, stand}
+use Rattle.heap_laws.proofs.LiftingSteps.{board_at, seen, stand, ready}
+use Rattle.heap_laws.specs.Flipping.{FlipKeeps, flipped_gate, after_flip, next_ghost, next_era, next_memory}
+use Rattle.heap_laws.proofs.FlippingShown.{flip_keeps, table_flips}
+use Rattle.heap_laws.proofs.GatingCounts.{fits}
 
 -- ---- the row
 
@@ -70,3 +74,22 @@ steps_are_lifted c p s e k w h l step = plain_steps_are_lifted c p p s e k w h l
   writes = step.writes;
   makes = record { invariant = step.keeps.invariant; shown = step.keeps.shown p s.shown; cycle = step.keeps.cycle; ages = step.keeps.ages };
 })
+
+-- ---- the flip
+
+pub flips_are_lifted : FlipsAreLifted
+flips_are_lifted c p s k r l flips =
+    let law : FlipKeeps (era c) (memory c) (team c) s.ghost k r = flip_keeps (era c) (memory c) (team c) s.ghost k r (ready c p s k l) flips in
+    subst (λ (gate : GateWord). Flipped c (flipped_gate gate) k (after_flip ((team c).worker k)) p (next_ghost (era c) s.ghost)) law.won (flips_now law)
+  where
+    flips_now : FlipKeeps (era c) (memory c) (team c) s.ghost k r → Flipped c (flipped_gate (table c).gate) k (after_flip ((team c).worker k)) p (next_ghost (era c) s.ghost)
+    flips_now law =
+        let t = table_flips (table c) in
+        let gate : GateFits (flipped_gate (table c).gate) = fits (next_era (era c)) (next_memory (memory c)) _ (next_ghost (era c) s.ghost) law.invariant in
+        let y = seen c (Some (GateIs (flipped_gate (table c).gate))) k (after_flip ((team c).worker k)) s.formed l gate in
+        record {
+          fits = gate;
+          standing = stand c p p (Some (GateIs (flipped_gate (table c).gate))) k (after_flip ((team c).worker k)) (next_ghost (era c) s.ghost) s l gate (rw (t.era, t.memory) law.invariant) (rw (t.era, t.memory) (law.shown p s.shown));
+          begins = rw (y.table_said, y.team_said, t.era, t.memory) (law.begins p s.shown);
+          pages = rw y.table_said refl;
+        }

@@ -1,14 +1,19 @@
 -- What a step makes of a configuration.
-use Rattle.std.proofs.Common.{◌≡◌, ℕ, ◌+◌, ◌*◌, ◌<◌, ◌≤◌, arith, List, Option, Some, None, refl}
+use Rattle.heap_laws.specs.Steps.{with_worker}
+use Rattle.heap_state.specs.Ghost.{Ghost}
+use Rattle.heap_state.specs.Inductive.{Invariant}
+use Rattle.heap_state.specs.Values.{Shown}
+use Rattle.heap_state.specs.Era.{era_of, memory_of}
+use Rattle.std.proofs.Common.{◌≡◌, ℕ, ◌+◌, ◌*◌, ◌<◌, ◌≤◌, arith, List, Option, Some, None, refl, length}
 use Rattle.plain_state.specs.State.{Plain}
-use Rattle.heap_state.specs.Configuration.{Configuration, Stands, table, era}
+use Rattle.heap_state.specs.Configuration.{Configuration, Stands, table, era, team}
 use Rattle.heap_state.specs.Entries.{Entry}
-use Rattle.heap_state.specs.Table.{table_of, IsFormed}
-use Rattle.heap_state.specs.Worker.{Team}
+use Rattle.heap_state.specs.Table.{table_of, IsFormed, Table}
+use Rattle.heap_state.specs.Worker.{Team, Worker}
 use Rattle.heap_state.proofs.Placing.{laid_out, table_pages}
 use Rattle.heap_state.proofs.Teams.{team_changes}
 use Rattle.heap_state.proofs.Writing.{stores_entry}
-use Rattle.heap_laws.specs.Lifting.{words_after, table_after, RowFits, StepsAreSeen, StandingIsReady, StepsStand, LawsAreLifted, CyclesAreLifted}
+use Rattle.heap_laws.specs.Lifting.{words_after, table_after, RowFits, stepped, StandingIsReady, StandsWith}
 
 pub ready : StandingIsReady
 ready c p s k l = record { laid_out = laid_out c.pages c.words; at_gate = refl; invariant = s.invariant; member = l }
@@ -37,6 +42,16 @@ words_say n words (Some e) formed fits = (stores_entry n words e formed fits).sa
 same_team : (a b : Team) → a.mutators ≡ b.mutators → a.count ≡ b.count → a.worker ≡ b.worker → a ≡ b
 same_team a b mutators count worker = λ i. record { mutators = mutators i; count = count i; worker = worker i }
 
+-- the configuration has this table and this team
+pub record Says (c : Configuration) (t : Table) (all : Team) : Type 0 where
+  pub formed : IsFormed c.pages c.words
+  pub table_said : table c ≡ t
+  pub team_said : team c ≡ all
+
+abbrev pub StepsAreSeen : Type 0
+StepsAreSeen = (c : Configuration) (e : Option Entry) (k : ℕ) (w : Worker) → IsFormed c.pages c.words → k < length c.workers → RowFits c.pages e
+    → Says (stepped c e k w) (table_after (table c) e) (with_worker (team c) k w)
+
 pub seen : StepsAreSeen
 seen c e k w formed l fits =
     let t = team_changes c.mutators c.workers k w l in
@@ -45,6 +60,13 @@ seen c e k w formed l fits =
       table_said = words_say c.pages c.words e formed fits;
       team_said = same_team _ _ refl t.count t.worker;
     }
+
+-- after a step by which the invariant is kept and a plain state shown the configuration stands
+abbrev pub StepsStand : Type 0
+StepsStand = (c : Configuration) (p q : Plain) (e : Option Entry) (k : ℕ) (w : Worker) (h : Ghost) → Stands c p → k < length c.workers → RowFits c.pages e
+    → Invariant (era_of (table_after (table c) e)) (memory_of (table_after (table c) e)) (with_worker (team c) k w) h
+    → Shown (era_of (table_after (table c) e)) (memory_of (table_after (table c) e)) (with_worker (team c) k w) h q
+    → StandsWith (stepped c e k w) q h
 
 pub stand : StepsStand
 stand c p q e k w h s l fits invariant shown =
@@ -59,14 +81,3 @@ stand c p q e k w h s l fits invariant shown =
       };
       with_ghost = refl;
     }
-
-pub lifted : LawsAreLifted
-lifted c p s e k w h l fits same law =
-    let y = seen c e k w s.formed l fits in
-    record {
-      standing = stand c p p e k w h s l fits (rw same law.invariant) (rw same (law.shown p s.shown));
-      cycle = λ o cy. rw (y.table_said, y.team_said, same) (law.cycle o cy);
-    }
-
-pub cycle_lifted : CyclesAreLifted
-cycle_lifted c e k w h o formed l fits cy = let y = seen c e k w formed l fits in rw (y.table_said, y.team_said) cy

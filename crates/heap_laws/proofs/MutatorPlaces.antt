@@ -12,23 +12,24 @@ use Rattle.heap_state.specs.Era.{Era, Memory}
 use Rattle.heap_state.specs.Ghost.{Ghost}
 use Rattle.heap_state.specs.Values.{Shown, Shows, value_of}
 use Rattle.heap_state.specs.Worker.{Worker, Team, Stock}
-use Rattle.heap_state.proofs.Puts.{put_at, put_other, put_same}
-use Rattle.heap_laws.specs.MutatorSteps.{MayHold, GoesOn}
+use Rattle.heap_state.proofs.Puts.{put_at, put_other, put_same, put_twice}
+use Rattle.heap_laws.specs.MutatorSteps.{MayHold, HoldsValue, GoesOn}
 use Rattle.heap_laws.specs.MutatorStores.{IsAs, MutatorsPlace, with_record, with_reference}
-use Rattle.heap_laws.specs.Placing.{PlacesNext, IsPlaced, born, next_identity, placed}
-use Rattle.heap_laws.specs.Steps.{Ready, with_word, with_worker}
-use Rattle.heap_laws.proofs.AllocHeader.{cradle, records_are_placed, placed_is_held}
+use Rattle.heap_laws.specs.Placing.{born, next_identity}
+use Rattle.heap_laws.specs.Steps.{Ready, with_word, with_worker, InWord}
+use Rattle.heap_laws.proofs.AllocHeader.{placed, cradle, records_are_placed, placed_is_held}
 use Rattle.heap_laws.proofs.BirthCycle.{placing_keeps_cycle}
 use Rattle.heap_laws.proofs.BirthParts.{Cradle, lands_on, unused}
 use Rattle.heap_laws.proofs.BirthShown.{placing_shows, within as maker_there}
+use Rattle.heap_laws.proofs.AllocStock.{Places, places_of}
 use Rattle.heap_laws.proofs.BirthValues.{value_born}
 use Rattle.heap_laws.proofs.BirthWorkers.{accesses_born}
-use Rattle.heap_laws.proofs.MutatorStores.{both, put_twice, mutators_step}
+use Rattle.heap_laws.proofs.MutatorStores.{both, goes_as}
 use Rattle.heap_laws.proofs.PlainGains.{gained_serial}
 use Rattle.plain_state.proofs.Lists.{slice_get-set_same, slice_get-set_other}
 
 module _ (E : Era) (m : Memory) (team : Team) (g : Ghost) (p : plain.Plain) (k : ℕ) (next : Worker) (q : plain.Mutator) (s : Stock) (c : Kind) (z v d pointer : ℕ) (r : plain.Record)
-    (ready : Ready E m team g k) (shown : Shown E m team g p) (places : PlacesNext E team k s c z v) (behind : Shows (value_of g.identity) m.heap s.at c z r) (small : d < 8) (points : decode pointer ≡ PointerWord s.at)
+    (ready : Ready E m team g k) (shown : Shown E m team g p) (places : Places E team k s c z v) (behind : Shows (value_of g.identity) m.heap s.at c z r) (small : d < 8) (points : decode pointer ≡ PointerWord s.at)
     (goes : GoesOn E m g (team.worker k) next) (same : IsAs g p.heap k next q) where
   abbrev i : Identity
   i = next_identity team k
@@ -45,8 +46,8 @@ module _ (E : Era) (m : Memory) (team : Team) (g : Ghost) (p : plain.Plain) (k :
   cr : Cradle E m.front m.low g.size g.copy g.keeper s.at z
   cr = cradle E m team g k s c z v ready.laid_out ready.invariant places
 
-  new : IsPlaced E g' pointer i
-  new = placed_is_held E m team g k s c z v pointer ready.laid_out ready.invariant places points
+  new : HoldsValue E g' pointer (Reference i)
+  new = placed_is_held E m team g k s c z v ready.laid_out ready.invariant places pointer points
 
   -- what the mutator held it still may hold, and it denotes what it denoted
   held_on : (w : ℕ) → MayHold E g.size g.writer w → MayHold E g'.size g'.writer w
@@ -109,12 +110,18 @@ module _ (E : Era) (m : Memory) (team : Team) (g : Ghost) (p : plain.Plain) (k :
       named = λ x. record { mutator = k; serial = serial x + 1 }
 
 pub mutators_place : MutatorsPlace
-mutators_place E m team g p k next q s c z v d pointer r ready shown places behind small points goes same =
+mutators_place E m team g p k next q s c z v d pointer r ready shown next_one behind small points goes same =
+    let places : Places E team k s c z v = places_of s c z v ready next_one in
     let t = put_twice team.worker k (placed team k s z) (with_record next s z d pointer) in
     let w = put_same team.worker k (placed team k s z) in
     let inv = records_are_placed E m team g k s c z v ready.laid_out ready.invariant places in
-    rw (← t) (both (λ o cy. placing_keeps_cycle E m team g o k s c z v ready.laid_out ready.invariant places cy) (λ page. omega arith)
-    (mutators_step E _ (with_worker team k (placed team k s z)) _ _ k (with_record next s z d pointer) (with_reference p.heap k q d) (record { laid_out = ready.laid_out; at_gate = ready.at_gate; invariant = inv; member = ready.member }) (rw w places.runs)
-    (placing_shows E m team g p k s c z v r ready.laid_out ready.invariant places behind shown)
-    (rw w (goes' E m team g p k next q s c z v d pointer r ready shown places behind small points goes same))
-    (same' E m team g p k next q s c z v d pointer r ready shown places behind small points goes same)))
+    let ok = (ready.invariant.stocks.stocked k ready.member s places.own.has places.own.epoch).lies in
+    record {
+      later = with_word m s.at v;
+      writes = InWord s.at v (let lay = ready.laid_out in let f = places.fits in let n = places.some in omega (arith, ok, lay.below, f, n));
+      makes = rw (← t) (both (λ o cy. placing_keeps_cycle E m team g o k s c z v ready.laid_out ready.invariant places cy) (λ page. omega arith)
+          (goes_as E _ (with_worker team k (placed team k s z)) _ _ k (with_record next s z d pointer) (with_reference p.heap k q d) inv ready.member (rw w places.runs)
+          (placing_shows E m team g p k s c z v r ready.laid_out ready.invariant places behind shown)
+          (rw w (goes' E m team g p k next q s c z v d pointer r ready shown places behind small points goes same))
+          (same' E m team g p k next q s c z v d pointer r ready shown places behind small points goes same)));
+    }

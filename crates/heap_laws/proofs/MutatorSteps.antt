@@ -6,18 +6,18 @@ use Rattle.std.proofs.lemmas.Bool.{cases_eq}
 use Rattle.std.proofs.lemmas.Option.{slice_get_within}
 use Rattle.plain_state.specs.State.{Plain, Mutator}
 use Rattle.plain_state.specs.declared.value.Identity.{Identity}
-use Rattle.heap_state.specs.Cycle.{Rooted, RootLeads, ByBoard, ByRegister, StillLeads}
+use Rattle.heap_state.specs.Cycle.{Rooted, RootLeads, ByBoard, ByRegister, StillLeads, Cycle}
 use Rattle.heap_state.specs.Era.{Era, Memory}
 use Rattle.heap_state.specs.Functions.{put}
 use Rattle.heap_state.specs.Ghost.{Ghost}
 use Rattle.heap_state.specs.Inductive.{Invariant, Knows}
 use Rattle.heap_state.specs.Parts.Copying.{IsOrigin}
 use Rattle.heap_state.specs.Reachable.{Reachable}
-use Rattle.heap_state.specs.Values.{Accounts, RegistersShow, value_of}
+use Rattle.heap_state.specs.Values.{Accounts, RegistersShow, value_of, Shown}
 use Rattle.heap_state.specs.Worker.{Worker, Team, Post, Running, Outside, Scanner, Stopped, Flipping, Gone, Origin, Register, Scanned, Quest, Scan, is_mutator, is_live, is_running, is_flipper, is_gone, is_late}
 use Rattle.heap_state.proofs.Frames.{counted_put, staffed_put, scanned_put, stocks_put, numbered_put}
 use Rattle.heap_state.proofs.Puts.{put_at, put_other, each_put, team_put, none≢some, true_false}
-use Rattle.heap_laws.specs.MutatorSteps.{GoesOn, MutatorsGoOn, GoingOnShows, GoingOnKeepsCycle}
+use Rattle.heap_laws.specs.MutatorSteps.{GoesOn, with_mutator}
 use Rattle.heap_laws.specs.Steps.{with_worker}
 use Rattle.plain_state.proofs.Lists.{slice_get-set_other, set-found}
 use Rattle.heap_laws.proofs.ScanningWho.{now_not_late}
@@ -135,13 +135,29 @@ module _ (E : Era) (m : Memory) (team : Team) (g : Ghost) (k : ℕ) (next : Work
       leads i (ByRegister j x a b t d y) = let n : j ≢ k = (λ e. true_false late (rw (ap team.worker e) at t)) in
           ByRegister j x a b (rw (put_other team.worker k next j n) t) (rw (put_other team.worker k next j n) d) (rw (put_other team.worker k next j n) y)
 
+-- a running mutator goes on: the invariant is kept
+abbrev pub MutatorsGoOn : Type 0
+MutatorsGoOn = (E : Era) (m : Memory) (team : Team) (g : Ghost) (k : ℕ) (next : Worker) → Invariant E m team g → k < team.count
+    → is_running (team.worker k).post ≡ true → GoesOn E m g (team.worker k) next → Invariant E m (with_worker team k next) g
+
 pub mutators_go_on : MutatorsGoOn
 mutators_go_on = keeps
+
+-- what a cycle keeps is kept
+abbrev pub GoingOnKeepsCycle : Type 0
+GoingOnKeepsCycle = (E : Era) (m : Memory) (team : Team) (g : Ghost) (p : Plain) (k : ℕ) (next : Worker) → Invariant E m team g → k < team.count
+    → is_running (team.worker k).post ≡ true → GoesOn E m g (team.worker k) next → Cycle E m team g p → Cycle E m (with_worker team k next) g p
 
 pub going_on_keeps_cycle : GoingOnKeepsCycle
 going_on_keeps_cycle E m team g p k next inv l run goes cy = record { copying = cy.copying; rooted = rooted E m team g k next inv l run goes p cy.rooted }
 
 -- ---- the plain state
+
+-- where its account and registers are those of a plain mutator, the plain state with that mutator is shown
+abbrev pub GoingOnShows : Type 0
+GoingOnShows = (E : Era) (m : Memory) (team : Team) (g : Ghost) (p : Plain) (k : ℕ) (next : Worker) (q : Mutator) → Shown E m team g p
+    → Accounts p.heap k next.account q → RegistersShow (value_of g.identity) next.registers q
+    → Shown E m (with_worker team k next) g (with_mutator p k q)
 
 pub going_on_shows : GoingOnShows
 going_on_shows E m team g p k next q s same shows = record {

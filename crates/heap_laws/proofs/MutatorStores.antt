@@ -1,33 +1,72 @@
 -- A mutator's store and its going on are one step.
-use Rattle.std.proofs.Common.{◌≡◌, ◌≢◌, ℕ, ◌+◌, ◌≤◌, Some, refl, sym, ◌∙◌, arith, ⊎_elim}
-use Rattle.std.proofs.Math.Path.{fun_ext}
-use Rattle.std.proofs.lemmas.Bool.{cases_eq}
+use Rattle.std.proofs.Common.{◌≡◌, ℕ, ◌+◌, ◌-◌, ◌<◌, ◌≤◌, true, Some, refl, sym, ◌∙◌, arith}
 use Rattle.plain_state.specs.Layout.{word_of}
 use Rattle.plain_state.specs.State as plain
 use Rattle.plain_state.specs.declared.end.End.TheVariants.{HeapFull}
 use Rattle.space_map.specs.PageWord.{age_of}
 use Rattle.heap_state.specs.Cycle.{Cycle}
 use Rattle.heap_state.specs.Era.{Era, Memory}
-use Rattle.heap_state.specs.Functions.{put}
 use Rattle.heap_state.specs.Ghost.{Ghost}
-use Rattle.heap_state.specs.Values.{Accounts}
-use Rattle.heap_state.specs.Worker.{Worker, Team, Account}
-use Rattle.heap_state.proofs.Puts.{put_at, put_other, none≢some}
-use Rattle.heap_laws.specs.MutatorSteps.{GoesOn}
-use Rattle.heap_laws.specs.Steps.{with_word, Makes}
-use Rattle.heap_laws.specs.MutatorStores.{MutatorsStep, MutatorsStore, MutatorsStoreOnBoard, MutatorsEnd, MutatorsFindNoRoom, with_end}
+use Rattle.heap_state.specs.Inductive.{Invariant}
+use Rattle.heap_state.specs.Values.{Accounts, Shown}
+use Rattle.heap_state.specs.Worker.{Worker, Team, Account, is_running}
+use Rattle.heap_state.proofs.Puts.{none≢some}
+use Rattle.heap_laws.specs.MutatorSteps.{GoesOn, with_mutator, GoesOnSo}
+use Rattle.heap_laws.specs.Steps.{with_word, with_worker, Makes, NoRow, InWord}
+use Rattle.heap_laws.specs.MutatorStores.{IsAs, MutatorsStep, MutatorsStore, MutatorsStoreOnBoard, MutatorsEnd, MutatorsFindNoRoom, with_end, MutatorsLearn}
 use Rattle.heap_laws.proofs.FieldCycle.{stores_keep_cycle, board_stores_keep_cycle}
 use Rattle.heap_laws.proofs.FieldShown.{stores_show, board_stores_show}
 use Rattle.heap_laws.proofs.FieldStore.{words_are_stored, board_is_stored}
 use Rattle.heap_laws.proofs.PlainHeaps.{stored_serial}
 use Rattle.heap_laws.proofs.MutatorSteps.{mutators_go_on, going_on_shows, going_on_keeps_cycle}
+use Rattle.heap_laws.proofs.Learning.{shown_put}
+
+-- a step that stores nothing, of a team of which a part was changed before
+pub goes_as : (E : Era) (m : Memory) (team : Team) (g : Ghost) (p : plain.Plain) (k : ℕ) (next : Worker) (q : plain.Mutator) → Invariant E m team g → k < team.count
+    → is_running (team.worker k).post ≡ true → Shown E m team g p → GoesOn E m g (team.worker k) next → IsAs g p.heap k next q
+    → Makes E m m team (with_worker team k next) g g (with_mutator p k q)
+goes_as E m team g p k next q inv member runs s goes same = record {
+  invariant = mutators_go_on E m team g k next inv member runs goes;
+  shown = going_on_shows E m team g p k next q s same.account same.registers;
+  cycle = λ o cy. going_on_keeps_cycle E m team g o k next inv member runs goes cy;
+  ages = λ page. omega arith;
+}
 
 pub mutators_step : MutatorsStep
-mutators_step E m team g p k next q ready runs s goes same = record {
-  invariant = mutators_go_on E m team g k next ready.invariant ready.member runs goes;
-  shown = going_on_shows E m team g p k next q s same.account same.registers;
-  cycle = λ o cy. going_on_keeps_cycle E m team g o k next ready.invariant ready.member runs goes cy;
-  ages = λ page. omega arith;
+mutators_step E m team g p k next q ready runs s goes same = record { later = m; writes = NoRow; makes = goes_as E m team g p k next q ready.invariant ready.member runs s goes same }
+
+pub goes_on_so : GoesOnSo
+goes_on_so E m team g k account registers access opened ready serial accesses opens holds = record {
+  post = refl;
+  epoch = refl;
+  done = refl;
+  serial = serial;
+  quest = refl;
+  copy = refl;
+  scan = refl;
+  gate_step = refl;
+  stock = λ _ e. e;
+  round = λ _ e. e;
+  claim = λ _ e. e;
+  look = λ _ e. e;
+  last_look = λ _ e. e;
+  traced_seen = λ e. ((ready.invariant.workers k ready.member).seen_traced e).1;
+  reset = λ _ e. e;
+  access = accesses;
+  opened = opens;
+  registers = holds;
+}
+
+pub mutators_learn : MutatorsLearn
+mutators_learn E m team g k next ready runs goes account registers = record {
+  later = m;
+  writes = NoRow;
+  keeps = record {
+    invariant = mutators_go_on E m team g k next ready.invariant ready.member runs goes;
+    shown = λ p s. shown_put E m m team g k next p account registers refl s;
+    cycle = λ p cy. going_on_keeps_cycle E m team g p k next ready.invariant ready.member runs goes cy;
+    ages = λ page. omega arith;
+  };
 }
 
 -- a step in two halves
@@ -47,23 +86,24 @@ pub mutators_store : MutatorsStore
 mutators_store E m team g p k next q a x v r y ready runs s word opens may is stands goes same =
     let inv = words_are_stored E m team g a x v ready.laid_out ready.invariant word opens may in
     let account = accounts_in (stored_serial p.heap (g.identity a) r x y is k) same.account in
-    both (λ o cy. stores_keep_cycle E m team g o a x v ready.laid_out ready.invariant word opens may cy) (λ page. omega arith)
-    (mutators_step E _ team g _ k next q (record { laid_out = ready.laid_out; at_gate = ready.at_gate; invariant = inv; member = ready.member }) runs (stores_show E m team g p a x v r y ready.laid_out ready.invariant word is stands s)
-    (goes_on (a + word_of (g.kind a) x) v goes) (record { account = account; registers = same.registers }))
+    record {
+      later = with_word m (a + word_of (g.kind a) x) v;
+      writes = InWord (a + word_of (g.kind a) x) v (let l = ready.invariant.laid.lies a word.stands in let o = ready.invariant.laid.order in let lay = ready.laid_out in let z = word.last in omega (arith, l, o, lay.below, lay.old_below, z));
+      makes = both (λ o cy. stores_keep_cycle E m team g o a x v ready.laid_out ready.invariant word opens may cy) (λ page. omega arith)
+          (goes_as E _ team g _ k next q inv ready.member runs (stores_show E m team g p a x v r y ready.laid_out ready.invariant word is stands s)
+          (goes_on (a + word_of (g.kind a) x) v goes) (record { account = account; registers = same.registers }));
+    }
 
 pub mutators_store_on_board : MutatorsStoreOnBoard
-mutators_store_on_board E m team g p k next q x v y ready runs s l opens may denotes goes same =
-    let inv = board_is_stored E m team g x v ready.laid_out ready.invariant l opens may in
-    both (λ o cy. board_stores_keep_cycle E m team g o x v ready.laid_out ready.invariant l opens may cy) (λ page. omega arith)
-    (mutators_step E _ team g _ k next q (record { laid_out = ready.laid_out; at_gate = ready.at_gate; invariant = inv; member = ready.member }) runs (board_stores_show E m team g p x v y ready.laid_out ready.invariant l denotes s)
-    (goes_on (E.board + x) v goes) (record { account = accounts_in refl same.account; registers = same.registers }))
-
--- what is put twice at a place is what was put there last
-pub put_twice : {X : Type 0} (f : ℕ → X) (k : ℕ) (a b : X) → put (put f k a) k b ≡ put f k b
-put_twice f k a b = fun_ext (λ j. ⊎_elim
-    (λ (e : j ≡ k). rw (put_at (put f k a) k b j e, put_at f k b j e) refl)
-    (λ (d : j ≢ k). rw (put_other (put f k a) k b j d, put_other f k b j d, put_other f k a j d) refl)
-    (cases_eq j k))
+mutators_store_on_board E m team g p k next q x v y ready runs s l opens holds goes same =
+    let inv = board_is_stored E m team g x v ready.laid_out ready.invariant l opens holds.held in
+    record {
+      later = with_word m (E.board + x) v;
+      writes = InWord (E.board + x) v (omega (arith, l));
+      makes = both (λ o cy. board_stores_keep_cycle E m team g o x v ready.laid_out ready.invariant l opens holds.held cy) (λ page. omega arith)
+          (goes_as E _ team g _ k next q inv ready.member runs (board_stores_show E m team g p x v y ready.laid_out ready.invariant l holds.denotes s)
+          (goes_on (E.board + x) v goes) (record { account = accounts_in refl same.account; registers = same.registers }));
+    }
 
 -- ---- ends
 
@@ -99,8 +139,7 @@ mutators_end E m team g p k q why ready runs s is =
     })
 
 pub mutators_find_no_room : MutatorsFindNoRoom
-mutators_find_no_room E m team g p k q asked room live ready runs s is seen all below short = record {
+mutators_find_no_room E m team g p k asked q area ready runs s is now seen short = record {
   traced = ((ready.invariant.workers k ready.member).seen_traced seen).1;
-  none_fits = λ owed has. omega (arith, has.room, all, short);
-  ends = mutators_end E m team g p k q (HeapFull asked room live) ready runs s is;
+  ends = mutators_end E m team g p k q (HeapFull asked (area.low - area.front) area.front) ready runs s is;
 }

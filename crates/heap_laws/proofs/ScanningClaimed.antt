@@ -1,5 +1,5 @@
 -- A page is claimed: its word becomes that of the worker that scans it.
-use Rattle.std.proofs.Common.{◌≡◌, ◌≢◌, ℕ, ◌+◌, ◌-◌, ◌*◌, ◌/◌, ◌<◌, ◌≤◌, true, false, Some, refl, sym, ap, ◌∙◌, arith, ⊎_elim, ◌⊎◌, inl, inr, None}
+use Rattle.std.proofs.Common.{◌≡◌, ◌≢◌, ℕ, ◌+◌, ◌-◌, ◌*◌, ◌/◌, ◌<◌, ◌≤◌, true, false, Some, refl, sym, ap, ◌∙◌, arith, ⊎_elim, ◌⊎◌, inl, inr, None, subst}
 use Rattle.std.proofs.lemmas.Bool.{cases_eq, cases_lt, cases_Bool}
 use Rattle.space_map.specs.declared.page_word.PageWord.{PageWord}
 use Rattle.space_map.specs.declared.page_word.PageWord.TheVariants.{Open, Scanning}
@@ -16,21 +16,29 @@ use Rattle.heap_state.specs.Worker.{Worker, Team, Origin, Register, Scanned, Sca
 use Rattle.heap_state.proofs.Frames.{counted_put, staffed_put, stocks_put, numbered_put, rooted_put}
 use Rattle.heap_state.proofs.Holding.{writer}
 use Rattle.heap_state.proofs.Puts.{put_at, put_other, put_same, team_put, some_same, none≢some}
-use Rattle.heap_laws.specs.Scanning.{with_page, WinsPage, scan_from, begins_scan, ClaimsPage, SleeperLosesPage}
-use Rattle.heap_laws.specs.Steps.{with_worker}
+use Rattle.heap_state.specs.Entries.{PageIs}
+use Rattle.heap_laws.specs.Scanning.{WinsPage, scan_from, begins_scan, ClaimsPage, SleeperLosesPage}
+use Rattle.heap_laws.specs.Steps.{Ready, Steps, InPage, with_page, with_worker}
 use Rattle.heap_laws.proofs.Learning.{shown_put}
 use Rattle.heap_laws.proofs.PageTurns.{Turns, grows, quiet_turns, tracing_turns, aged_turns, old_pages_turn, old_space_turns, scans_beside, knows_turns}
 use Rattle.heap_laws.proofs.ScanningFrames.{PageTurns, not_old_word, new_turns, stocks_turn}
 use Rattle.heap_laws.proofs.ScanningWho.{open_age, scan_age, open_scan, scan_scan, none_writes}
+use Rattle.heap_laws.proofs.Rows.{page_below, few}
 
 pub sleeper_loses : SleeperLosesPage
-sleeper_loses E m team g k q inv lt cl sure past won =
-    let c = (inv.workers k lt).claim q cl in
+sleeper_loses E m team g k q ready cl sure past won =
+    let c = (ready.invariant.workers k ready.member).claim q cl in
     let z = c.late sure past in
     let a : age_of (m.page q.page) ≡ age_of q.old = ap age_of won in
     omega (arith, z, a, c.earlier)
 
-module _ (E : Era) (m : Memory) (team : Team) (g : Ghost) (k : ℕ) (q : Claim) (out : IsLaidOut E) (inv : Invariant E m team g) (wins : WinsPage E m team k q) where
+module _ (E : Era) (m : Memory) (team : Team) (g : Ghost) (k : ℕ) (q : Claim) (ready : Ready E m team g k) (wins : WinsPage E m team k q) where
+  abbrev out : IsLaidOut E
+  out = ready.laid_out
+
+  abbrev inv : Invariant E m team g
+  inv = ready.invariant
+
   abbrev v : PageWord
   v = Scanning E.epoch k
 
@@ -44,14 +52,14 @@ module _ (E : Era) (m : Memory) (team : Team) (g : Ghost) (k : ℕ) (q : Claim) 
   n = with_page m q.page v
 
   me : Knows E m.gate m.traced m.front m.low m.old_front m.old_low m.old_owed g m.page m.cross m.announced m.heap k (team.worker k)
-  me = inv.workers k wins.below
+  me = inv.workers k ready.member
 
   mine : Claims E m.front m.gate.behind g.size g.writer m.page (team.worker k).epoch q
   mine = me.claim q wins.claims
 
   of_now : (team.worker k).epoch ≡ E.epoch
   of_now = ⊎_elim
-      (λ (y : (team.worker k).epoch < E.epoch). absurd (sleeper_loses E m team g k q inv wins.below wins.claims wins.sure y wins.unchanged))
+      (λ (y : (team.worker k).epoch < E.epoch). absurd (sleeper_loses E m team g k q ready wins.claims wins.sure y wins.unchanged))
       (λ (y : E.epoch ≤ (team.worker k).epoch). let z = me.timely.past in omega (arith, y, z))
       (cases_lt (team.worker k).epoch E.epoch)
 
@@ -148,7 +156,7 @@ module _ (E : Era) (m : Memory) (team : Team) (g : Ghost) (k : ℕ) (q : Claim) 
   scanned = record {
     scanned = λ p j e. ⊎_elim
         (λ (y : p ≡ q.page). let z : k ≡ j = scan_scan (put_at m.page q.page v p y) e in
-        (let l = wins.below in omega (arith, z, l), (scan_from q, ap (λ u. u.scan) (put_at team.worker k w' j (sym z)), sym y)))
+        (let l = ready.member in omega (arith, z, l), (scan_from q, ap (λ u. u.scan) (put_at team.worker k w' j (sym z)), sym y)))
         (λ (d : p ≢ q.page). let o = inv.scanned.scanned p j (rw (put_other m.page q.page v p d) at e) in
         let c : j ≢ k = (λ y. not_me j o.1.0 y o.1.1) in
         (o.0, (o.1.0, rw (put_other team.worker k w' j c) o.1.1, o.1.2)))
@@ -200,10 +208,14 @@ module _ (E : Era) (m : Memory) (team : Team) (g : Ghost) (k : ℕ) (q : Claim) 
   pub claims : ClaimsPage E m team g k q
   claims = record {
     now = of_now;
-    keeps = record {
-      invariant = invariant;
-      shown = λ p s. shown_put E m n team g k w' p refl refl refl s;
-      cycle = λ p c. record { copying = c.copying; rooted = rooted_put team.worker k w' refl refl refl (λ _ _ a b. (a, b)) c.rooted };
-      ages = grows turn;
-    };
+    steps = subst (λ (e : ℕ). Steps E m team g k (Some (PageIs q.page (Scanning e k))) w' g) (sym of_now) (record {
+      later = n;
+      writes = InPage q.page v (page_below ready q.page place) (rw ready.at_gate at inv.counted.epoch_fits, let f = few ready in omega (arith, f));
+      keeps = record {
+        invariant = invariant;
+        shown = λ p s. shown_put E m n team g k w' p refl refl refl s;
+        cycle = λ p c. record { copying = c.copying; rooted = rooted_put team.worker k w' refl refl refl (λ _ _ a b. (a, b)) c.rooted };
+        ages = grows turn;
+      };
+    });
   }

@@ -29,11 +29,12 @@ past E page y e = ⊎_elim
     (cases_eq page (E.board / 64))
 
 -- which record the cursor is in, further on in the same
-pub stepping_on : (E : Era) (front : ℕ) (size writer : ℕ → ℕ) (kind : ℕ → Kind) (s : Scan) (y : ℕ) → s.cursor ≤ y → ((r : Seen) → s.current ≡ Some r → (r.at < y) × (y ≤ r.at + r.size))
+pub stepping_on : (E : Era) (front : ℕ) (size writer : ℕ → ℕ) (kind : ℕ → Kind) (s : Scan) (y : ℕ) → s.cursor ≤ y → ((r : Seen) → s.current ≡ Some r → y ≤ r.next)
     → Stepping E front size writer kind s → Stepping E front size writer kind (on_to E s y)
 stepping_on E front size writer kind s y forward within p = record {
   over = p.over;
-  current = λ r e. let c = p.current r e in let w = within r e in (c.0, c.1, c.2, c.3, c.4, c.5, w.0, w.1);
+  current = λ r e. let c = p.current r e in
+      record { stands = c.stands; written = c.written; fields = c.fields; whole = c.whole; inside = c.inside; entered = let q = c.entered in omega (arith, q, forward); cursor = within r e };
   inner = λ e. absurd (cc);
   begun = let b = p.begun in omega (arith, b, forward);
   full = p.full;

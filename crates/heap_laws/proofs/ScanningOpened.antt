@@ -1,5 +1,5 @@
 -- A page whose scan has ended is opened.
-use Rattle.std.proofs.Common.{◌≡◌, ◌≢◌, ℕ, ◌+◌, ◌*◌, ◌/◌, ◌<◌, ◌≤◌, true, false, Some, None, refl, sym, ap, ◌∙◌, arith, ⊎_elim, ◌⊎◌}
+use Rattle.std.proofs.Common.{◌≡◌, ◌≢◌, ℕ, ◌+◌, ◌*◌, ◌/◌, ◌<◌, ◌≤◌, true, false, Some, None, refl, sym, ap, ◌∙◌, arith, ⊎_elim, ◌⊎◌, subst}
 use Rattle.std.proofs.lemmas.Bool.{cases_eq}
 use Rattle.space_map.specs.declared.page_word.PageWord.{PageWord}
 use Rattle.space_map.specs.declared.page_word.PageWord.TheVariants.{Open, Scanning}
@@ -16,14 +16,22 @@ use Rattle.heap_state.specs.Worker.{Worker, Team, Origin, Register, Scanned, Cop
 use Rattle.heap_state.proofs.Frames.{counted_put, staffed_put, stocks_put, numbered_put, rooted_put}
 use Rattle.heap_state.proofs.Holding.{writer}
 use Rattle.heap_state.proofs.Puts.{put_at, put_other, each_put, team_put, some_same, none≢some}
-use Rattle.heap_laws.specs.Scanning.{with_page, HasScanned, ends_scan, OpensPage}
-use Rattle.heap_laws.specs.Steps.{with_worker}
+use Rattle.heap_state.specs.Entries.{PageIs}
+use Rattle.heap_laws.specs.Scanning.{HasScanned, ends_scan, OpensPage}
+use Rattle.heap_laws.specs.Steps.{with_worker, Ready, Steps, InPage, with_page}
 use Rattle.heap_laws.proofs.Learning.{shown_put}
 use Rattle.heap_laws.proofs.PageTurns.{Turns, grows, quiet_turns, tracing_turns, aged_turns, old_pages_turn, old_space_turns, scans_beside, knows_turns}
 use Rattle.heap_laws.proofs.ScanningFrames.{PageTurns, not_old_word, new_turns, stocks_turn}
 use Rattle.heap_laws.proofs.ScanningWho.{scan_age, open_scan, scan_scan, not_late, here_lies}
+use Rattle.heap_laws.proofs.Rows.{page_below}
 
-module _ (E : Era) (m : Memory) (team : Team) (g : Ghost) (k : ℕ) (s : Scan) (out : IsLaidOut E) (inv : Invariant E m team g) (has : HasScanned team k s) where
+module _ (E : Era) (m : Memory) (team : Team) (g : Ghost) (k : ℕ) (s : Scan) (ready : Ready E m team g k) (has : HasScanned team k s) where
+  abbrev out : IsLaidOut E
+  out = ready.laid_out
+
+  abbrev inv : Invariant E m team g
+  inv = ready.invariant
+
   abbrev v : PageWord
   v = Open E.epoch
 
@@ -34,7 +42,7 @@ module _ (E : Era) (m : Memory) (team : Team) (g : Ghost) (k : ℕ) (s : Scan) (
   w' = ends_scan (team.worker k)
 
   me : Knows E m.gate m.traced m.front m.low m.old_front m.old_low m.old_owed g m.page m.cross m.announced m.heap k (team.worker k)
-  me = inv.workers k has.below
+  me = inv.workers k ready.member
 
   of_now : (team.worker k).epoch ≡ E.epoch
   of_now = me.present s has.scans
@@ -153,10 +161,14 @@ module _ (E : Era) (m : Memory) (team : Team) (g : Ghost) (k : ℕ) (s : Scan) (
   opens = record {
     now = of_now;
     was = mine.claimed;
-    keeps = record {
-      invariant = invariant;
-      shown = λ p y. shown_put E m (with_page m s.page v) team g k w' p refl refl refl y;
-      cycle = λ p y. record { copying = y.copying; rooted = rooted_put team.worker k w' refl refl refl (λ _ _ a b. (a, b)) y.rooted };
-      ages = grows turn;
-    };
+    steps = subst (λ (e : ℕ). Steps E m team g k (Some (PageIs s.page (Open e))) w' g) (sym of_now) (record {
+      later = with_page m s.page v;
+      writes = InPage s.page v (page_below ready s.page mine.place) (rw ready.at_gate at inv.counted.epoch_fits);
+      keeps = record {
+        invariant = invariant;
+        shown = λ p y. shown_put E m (with_page m s.page v) team g k w' p refl refl refl y;
+        cycle = λ p y. record { copying = y.copying; rooted = rooted_put team.worker k w' refl refl refl (λ _ _ a b. (a, b)) y.rooted };
+        ages = grows turn;
+      };
+    });
   }

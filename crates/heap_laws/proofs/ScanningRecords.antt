@@ -8,26 +8,27 @@ use Rattle.heap_words.specs.Decoded.{HeaderWord, decode}
 use Rattle.heap_state.specs.Era.{Era, Memory, IsLaidOut}
 use Rattle.heap_state.specs.Ghost.{Ghost, Here, said_kind}
 use Rattle.heap_state.specs.Inductive.{Invariant, Knows}
-use Rattle.heap_state.specs.Parts.Scanning.{Scans, Stepping}
+use Rattle.heap_state.specs.Parts.Scanning.{Scans, Stepping, IsIn}
 use Rattle.heap_state.specs.Worker.{Team, Copy, Scan, Seen}
 use Rattle.heap_state.proofs.Holding.{writer, uncopied_here}
-use Rattle.heap_state.proofs.Puts.{some_same}
+use Rattle.heap_state.proofs.Puts.{some_same, none≢some}
 use Rattle.heap_state.proofs.Headers.{said_kind-header_kind}
-use Rattle.heap_state.specs.FieldSpan.{next_in}
-use Rattle.heap_state.proofs.FieldSpans.{goes_on_within, passes_no_field}
+use Rattle.heap_state.specs.FieldSpan.{seen_at, entry_of}
+use Rattle.heap_state.proofs.FieldSpans.{enters_within, enters_past_no_field}
 use Rattle.heap_laws.specs.Keeping.{Keeps}
 use Rattle.heap_laws.specs.ScanningWords.{scanning, in_record, IsScanning, ReadingCrossingKeeps, ReadingFirstHeaderKeeps, ReadingFrontKeeps, ReadingNextHeaderKeeps}
 use Rattle.heap_laws.specs.Steps.{with_worker}
 use Rattle.heap_laws.proofs.FieldSlot.{here_field}
 use Rattle.heap_laws.proofs.ScanningOn.{past, goes_on, no_copy}
+use Rattle.heap_laws.proofs.Learning.{learnt}
 
 -- two headers that a word decodes to are one
 header_same : {k l : HeaderKind} {a b s t i j : ℕ} (w : ℕ) → decode w ≡ HeaderWord k a s i → decode w ≡ HeaderWord l b t j → (k ≡ l) × (a ≡ b)
 header_same w e f = let q = sym e ∙ f in (cc, cc)
 
-module _ (E : Era) (m : Memory) (team : Team) (g : Ghost) (k : ℕ) (s : Scan) (out : IsLaidOut E) (inv : Invariant E m team g) (is : IsScanning team k s) (no_board : s.page ≢ E.board / 64) where
+module _ (E : Era) (m : Memory) (team : Team) (g : Ghost) (k : ℕ) (s : Scan) (out : IsLaidOut E) (inv : Invariant E m team g) (below : k < team.count) (is : IsScanning team k s) (no_board : s.page ≢ E.board / 64) where
   me : Knows E m.gate m.traced m.front m.low m.old_front m.old_low m.old_owed g m.page m.cross m.announced m.heap k (team.worker k)
-  me = inv.workers k is.below
+  me = inv.workers k below
 
   mine : Scans E m.front g.size g.writer g.kind m.heap m.page k s
   mine = me.scan s is.scans
@@ -45,7 +46,7 @@ module _ (E : Era) (m : Memory) (team : Team) (g : Ghost) (k : ℕ) (s : Scan) (
   below_front = ⊎_elim (λ b. absurd (no_board b)) (λ y. y) mine.cursor
 
   idle : (c : Copy) → (team.worker k).copy ≡ Some c → ⊥
-  idle = no_copy E m team g k inv is.below is.asks_nothing
+  idle = no_copy E m team g k inv below is.asks_nothing
 
   -- nobody writes a record with a word on the page
   written : (b x : ℕ) → 0 < g.size b → b ≤ x → x < b + g.size b → x / 64 ≡ s.page → g.writer b ≡ 0
@@ -75,7 +76,7 @@ module _ (E : Era) (m : Memory) (team : Team) (g : Ghost) (k : ℕ) (s : Scan) (
       rw c (o.1, w, o.2, o.3)
 
   pub crosses : Keeps E m m team (with_worker team k (scanning (team.worker k) (record s { over = Some (m.cross s.page) }))) g
-  crosses = goes_on E m team g k s inv is.below is.scans idle (record s { over = Some (m.cross s.page) }) (record {
+  crosses = goes_on E m team g k s inv below is.scans idle (record s { over = Some (m.cross s.page) }) (record {
     page = refl;
     clean = λ x u e l n. absurd (omega (arith, l, n));
     top = mine.cursor;
@@ -106,48 +107,48 @@ module _ (E : Era) (m : Memory) (team : Team) (g : Ghost) (k : ℕ) (s : Scan) (
 
   -- the scan enters the record at a
   enters : (a len serial mutator : ℕ) (head : HeaderKind) → 0 < g.size a → g.writer a ≡ 0 → E.start ≤ a → a + g.size a ≤ m.front → a ≤ s.cursor → s.cursor < a + g.size a
-      → decode (m.heap a) ≡ HeaderWord head len serial mutator → Keeps E m m team (with_worker team k (scanning (team.worker k) (in_record E s (record { at = a; size = len + 1; kind = said_kind head (m.heap (a + 1)) })))) g
+      → decode (m.heap a) ≡ HeaderWord head len serial mutator → Keeps E m m team (with_worker team k (scanning (team.worker k) (in_record E s a (kind_at head a) (len + 1)))) g
   enters a len serial mutator head st w l n c d e =
       let h = header a len serial mutator head st w l n e in
-      let seen : Seen = record { at = a; size = len + 1; kind = kind_at head a } in
-      let y = goes_on_within seen s.cursor (omega arith) (omega (arith, h.1, d)) in
-      goes_on E m team g k s inv is.below is.scans idle (in_record E s seen) (record {
+      let seen : Seen = seen_at a (kind_at head a) (len + 1) in
+      let y = enters_within seen (kind_at head a) (len + 1) (omega arith) refl refl s.cursor (omega (arith, h.1, d)) in
+      goes_on E m team g k s inv below is.scans idle (in_record E s a (kind_at head a) (len + 1)) (record {
         page = refl;
         clean = λ x u p f o. absurd (no_field x u (omega (arith, c, f)) f (omega (arith, y.2, o)) o h.0 h.1);
         top = inr (omega (arith, y.2, h.1, n));
         stepping = record {
-          over = steps.over;
-          current = λ r i. let z : record { at = a; size = len + 1; kind = kind_at head a } ≡ r = some_same i in
-              rw (← z) (omega arith, h.1, h.0, w, l, omega (arith, h.1, n), y.1, y.2);
+          over = λ b e. none≢some e;
+          current = λ r i. let z : seen_at a (kind_at head a) (len + 1) ≡ r = some_same i in
+              rw (← z) (record { stands = st; written = w; fields = rw (h.0, h.1) refl; whole = omega (arith, h.1); inside = (l, omega (arith, h.1, n)); entered = rw h.0 y.1; cursor = y.2 });
           inner = λ i. absurd (cc);
           begun = let b = steps.begun in omega (arith, b, y.0);
           full = steps.full;
-          ended = λ i. ⊎_elim (λ z. inl z) (λ z. inr (inl z)) (past E s.page (next_in seen s.cursor) i);
+          ended = λ i. ⊎_elim (λ z. inl z) (λ z. inr (inl z)) (past E s.page (entry_of seen (kind_at head a) s.cursor) i);
         };
       })
     where
-      no_field : (x : ℕ) → Here E g.size g.writer g.kind x → a ≤ x → s.cursor ≤ x → x < a + (len + 1) → x < next_in (record { at = a; size = len + 1; kind = kind_at head a }) s.cursor
+      no_field : (x : ℕ) → Here E g.size g.writer g.kind x → a ≤ x → s.cursor ≤ x → x < a + (len + 1) → x < entry_of (seen_at a (kind_at head a) (len + 1)) (kind_at head a) s.cursor
           → g.kind a ≡ kind_at head a → g.size a ≡ len + 1 → ⊥
       no_field x u f c b o kd sz =
           let q = here_field out inv.laid g.writer g.kind x u a (x - a) (omega (arith, sz, b, f, st)) (omega arith) in
           let e : is_field (kind_at head a) (x - a) ≡ true = rw kd at q.1 in
-          passes_no_field (record { at = a; size = len + 1; kind = kind_at head a }) s.cursor (omega arith) x c (omega (arith, q.0)) b o e
+          enters_past_no_field (seen_at a (kind_at head a) (len + 1)) (kind_at head a) (len + 1) (omega arith) refl refl s.cursor x c (omega (arith, q.0)) b o e
 
   -- the header of the record over the page's first word
   pub enters_first : (a len serial mutator : ℕ) (head : HeaderKind) → s.over ≡ Some a → s.cursor ≡ 64 * s.page → decode (m.heap a) ≡ HeaderWord head len serial mutator
-      → Keeps E m m team (with_worker team k (scanning (team.worker k) (in_record E s (record { at = a; size = len + 1; kind = said_kind head (m.heap (a + 1)) })))) g
+      → Keeps E m m team (with_worker team k (scanning (team.worker k) (in_record E s a (kind_at head a) (len + 1)))) g
   enters_first a len serial mutator head e c d =
       let o = steps.over a e in
       let w : (E.start ≤ a) × (a + g.size a ≤ m.front) = (let q = inv.laid.lies a o.0 in let r = out.apart in let y = inv.laid.order in (omega (arith, q, r, y, o, place), omega (arith, q, r, y, o, place))) in
       enters a len serial mutator head o.0 o.1 w.0 w.1 (omega (arith, o.2, c)) (omega (arith, o.3, c)) d
 
   -- the header of the next record
-  pub enters_next : (r : Seen) (len serial mutator : ℕ) (head : HeaderKind) → s.current ≡ Some r → s.cursor ≡ r.at + r.size → s.cursor < 64 * s.page + 64 → (s.inner ≡ true) ⊎ (s.in_place ≡ false)
-      → decode (m.heap s.cursor) ≡ HeaderWord head len serial mutator → Keeps E m m team (with_worker team k (scanning (team.worker k) (in_record E s (record { at = s.cursor; size = len + 1; kind = said_kind head (m.heap (s.cursor + 1)) })))) g
+  pub enters_next : (r : Seen) (len serial mutator : ℕ) (head : HeaderKind) → s.current ≡ Some r → s.cursor ≡ r.next → s.cursor < 64 * s.page + 64 → (s.inner ≡ true) ⊎ (s.in_place ≡ false)
+      → decode (m.heap s.cursor) ≡ HeaderWord head len serial mutator → Keeps E m m team (with_worker team k (scanning (team.worker k) (in_record E s s.cursor (kind_at head s.cursor) (len + 1)))) g
   enters_next r len serial mutator head e c p i d =
       let t = steps.current r e in
       let f : s.cursor < m.front = ⊎_elim (λ y. steps.inner y) (λ y. ⊎_elim (λ b. absurd (no_board b)) (λ q. omega (arith, q, p)) (steps.full y)) i in
-      let st : 0 < g.size s.cursor = follows r t.0 t.1 t.4 t.6 t.7 c f in
+      let st : 0 < g.size s.cursor = follows r t c f in
       let b = steps.begun in
       let w = written s.cursor s.cursor st (omega arith) (omega (arith, st)) (omega (arith, b, p)) in
       let y = inv.laid.lies s.cursor st in
@@ -155,11 +156,14 @@ module _ (E : Era) (m : Memory) (team : Team) (g : Ghost) (k : ℕ) (s : Scan) (
       let q = out.apart in
       enters s.cursor len serial mutator head st w (omega (arith, place, b)) (omega (arith, y, f, o, q, place, b, st)) (omega arith) (omega (arith, st)) d
     where
-      follows : (r : Seen) → 0 < r.size → g.size r.at ≡ r.size → E.start ≤ r.at → r.at < s.cursor → s.cursor ≤ r.at + r.size → s.cursor ≡ r.at + r.size → s.cursor < m.front → 0 < g.size s.cursor
-      follows r z sz l n h c f = ⊎_elim
-          (λ y. absurd (omega (arith, y, sz, c, f)))
-          (λ y. let q : r.at + g.size r.at ≡ s.cursor = omega (arith, sz, c) in rw q at y)
-          (inv.laid.next r.at l (omega (arith, n, f)) (omega (arith, sz, z)))
+      follows : (r : Seen) → IsIn E m.front g.size g.writer g.kind s.cursor r → s.cursor ≡ r.next → s.cursor < m.front → 0 < g.size s.cursor
+      follows r t c f =
+          let whole = t.whole in
+          let in_front = t.inside.1 in
+          ⊎_elim
+          (λ y. absurd (omega (arith, y, whole, c, f)))
+          (λ y. let q : r.at + g.size r.at ≡ s.cursor = omega (arith, whole, c) in rw q at y)
+          (inv.laid.next r.at t.inside.0 (let st = t.stands in omega (arith, whole, c, f, st)) t.stands)
 
   -- FRONT is read at a record's end
   pub sees_front : Keeps E m m team (with_worker team k (scanning (team.worker k) (cond (eqb s.cursor m.front) (record s { ended = true }) (record s { inner = true })))) g
@@ -169,7 +173,7 @@ module _ (E : Era) (m : Memory) (team : Team) (g : Ghost) (k : ℕ) (s : Scan) (
       (cases_eq s.cursor m.front)
     where
       at_front : s.cursor ≡ m.front → Keeps E m m team (with_worker team k (scanning (team.worker k) (record s { ended = true }))) g
-      at_front e = goes_on E m team g k s inv is.below is.scans idle (record s { ended = true }) (record {
+      at_front e = goes_on E m team g k s inv below is.scans idle (record s { ended = true }) (record {
         page = refl;
         clean = λ x u p l n. absurd (omega (arith, l, n));
         top = mine.cursor;
@@ -177,7 +181,7 @@ module _ (E : Era) (m : Memory) (team : Team) (g : Ghost) (k : ℕ) (s : Scan) (
       })
 
       before : s.cursor ≢ m.front → Keeps E m m team (with_worker team k (scanning (team.worker k) (record s { inner = true }))) g
-      before n = goes_on E m team g k s inv is.below is.scans idle (record s { inner = true }) (record {
+      before n = goes_on E m team g k s inv below is.scans idle (record s { inner = true }) (record {
         page = refl;
         clean = λ x u p l o. absurd (omega (arith, l, o));
         top = mine.cursor;
@@ -185,13 +189,14 @@ module _ (E : Era) (m : Memory) (team : Team) (g : Ghost) (k : ℕ) (s : Scan) (
       })
 
 pub reads_crossing : ReadingCrossingKeeps
-reads_crossing = crosses
+reads_crossing E m team g k s ready is n = learnt (crosses E m team g k s ready.laid_out ready.invariant ready.member is n)
 
 pub reads_first_header : ReadingFirstHeaderKeeps
-reads_first_header E m team g k s a len serial mutator kind out inv is n over cursor says = enters_first E m team g k s out inv is n a len serial mutator kind over cursor says
+reads_first_header E m team g k s a len serial mutator head ready is n over cursor says = learnt (enters_first E m team g k s ready.laid_out ready.invariant ready.member is n a len serial mutator head over cursor says)
 
 pub reads_front : ReadingFrontKeeps
-reads_front = sees_front
+reads_front E m team g k s ready is n = learnt (sees_front E m team g k s ready.laid_out ready.invariant ready.member is n)
 
 pub reads_next_header : ReadingNextHeaderKeeps
-reads_next_header E m team g k s r len serial mutator kind out inv is n current cursor page inner says = enters_next E m team g k s out inv is n r len serial mutator kind current cursor page inner says
+reads_next_header E m team g k s r len serial mutator head ready is n current cursor page inner says =
+    learnt (enters_next E m team g k s ready.laid_out ready.invariant ready.member is n r len serial mutator head current cursor page inner says)

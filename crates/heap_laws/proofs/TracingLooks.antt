@@ -13,7 +13,7 @@ use Rattle.heap_state.proofs.Puts.{some_same, none≢some}
 use Rattle.heap_laws.specs.Keeping.{Keeps}
 use Rattle.heap_laws.specs.Steps.{with_worker}
 use Rattle.heap_laws.specs.Tracing.{in_round, ReadingTracedKeeps, ReadingRoundFrontKeeps, looking, first_look, BeginningLookKeeps, LookingAtFrontKeeps, LookingAtBoardKeeps, LookingAtPageKeeps, LookingAtFillingPageKeeps, LooksAgain, about_to_trace, LookingAgainKeeps, filling_claim, about_to_fill, ClaimingFillingPageKeeps}
-use Rattle.heap_laws.proofs.Learning.{learns}
+use Rattle.heap_laws.proofs.Learning.{learns, learnt}
 use Rattle.heap_laws.proofs.ScanningWho.{open_age}
 
 module _ (E : Era) (m : Memory) (team : Team) (g : Ghost) (k : ℕ) (inv : Invariant E m team g) (below : k < team.count) where
@@ -37,19 +37,20 @@ module _ (E : Era) (m : Memory) (team : Team) (g : Ghost) (k : ℕ) (inv : Invar
       assumption)
 
 pub reads_traced : ReadingTracedKeeps
-reads_traced E m team g k inv below n = rounds_more E m team g k inv below (record { traced = m.traced; front = None }) (record { traced_then = (omega arith, n); front_then = λ f e. none≢some e })
+reads_traced E m team g k ready n = learnt (rounds_more E m team g k ready.invariant ready.member (record { traced = m.traced; front = None }) (record { traced_then = (omega arith, n); front_then = λ f e. none≢some e }))
 
 pub reads_front : ReadingRoundFrontKeeps
-reads_front E m team g k r f inv below e front =
-    let o = (inv.workers k below).round r e in
-    rounds_more E m team g k inv below (record r { front = Some f }) (record { traced_then = o.traced_then; front_then = λ y e d. let z : f ≡ y = some_same e in let q = front.now d in omega (arith, z, q) })
+reads_front E m team g k r f ready e front =
+    let o = (ready.invariant.workers k ready.member).round r e in
+    learnt (rounds_more E m team g k ready.invariant ready.member (record r { front = Some f }) (record { traced_then = o.traced_then; front_then = λ y e d. let z : f ≡ y = some_same e in let q = front.now d in omega (arith, z, q) }))
 
 pub begins_look : BeginningLookKeeps
-begins_look E m team g k r inv begins =
-    let me = inv.workers k begins.below in
+begins_look E m team g k r ready begins =
+    let inv = ready.invariant in
+    let me = inv.workers k ready.member in
     let o = me.round r begins.round in
-    let d : (team.worker k).epoch ≡ E.epoch = sym begins.same ∙ begins.at_gate in
-    looks_more E m team g k inv begins.below (first_look E r) (record {
+    let d : (team.worker k).epoch ≡ E.epoch = sym begins.same ∙ ready.at_gate in
+    learnt (looks_more E m team g k inv ready.member (first_look E r) (record {
       earlier = let a = o.traced_then in let t = inv.tracing.top in omega (arith, a, t, d);
       none = λ e. (begins.none, inv.laid.order.0);
       board = λ e b. absurd (cc);
@@ -57,12 +58,13 @@ begins_look E m team g k r inv begins =
       last = λ e b. absurd (cc);
       start = (λ e. refl, λ e. absurd (omega (arith, d, e)));
       late = λ l. absurd (omega (arith, l, d));
-    })
+    }))
 
 pub looks_at_front : LookingAtFrontKeeps
-looks_at_front E m team g k l f inv is board filled front =
-    let o = (inv.workers k is.below).look l is.looks in
-    looks_more E m team g k inv is.below (record l { front = f }) (record {
+looks_at_front E m team g k l f ready is board filled front =
+    let inv = ready.invariant in
+    let o = (inv.workers k ready.member).look l is.looks in
+    learnt (looks_more E m team g k inv ready.member (record l { front = f }) (record {
       earlier = o.earlier;
       none = λ e. ((o.none e).0, let z = front.now e in omega (arith, z));
       board = o.board;
@@ -73,13 +75,14 @@ looks_at_front E m team g k l f inv is board filled front =
           (λ (b : l.board ≡ true). absurd (let q = sym b ∙ board in cc))
           (λ (b : (team.worker k).epoch + 1 ≡ E.epoch). let z = front.before b in let w = o.start.1 b in let q = inv.old_pages.old p (omega (arith, w, s)) (omega (arith, z, r)) in omega (arith, q, b))
           y;
-    })
+    }))
 
 pub looks_at_board : LookingAtBoardKeeps
-looks_at_board E m team g k l inv is opened =
-    let me = inv.workers k is.below in
+looks_at_board E m team g k l ready is opened =
+    let inv = ready.invariant in
+    let me = inv.workers k ready.member in
     let o = me.look l is.looks in
-    looks_more E m team g k inv is.below (record l { board = true }) (record {
+    learnt (looks_more E m team g k inv ready.member (record l { board = true }) (record {
       earlier = o.earlier;
       none = o.none;
       full = o.full;
@@ -87,12 +90,13 @@ looks_at_board E m team g k l inv is opened =
       start = o.start;
       board = λ e b. rw e at opened;
       late = λ d y p s r. let a = open_age (m.page (E.board / 64)) (team.worker k).epoch opened in let b = inv.aged.board in o.late d (inr (omega (arith, a, b, d))) p s r;
-    })
+    }))
 
 pub looks_at_page : LookingAtPageKeeps
-looks_at_page E m team g k l p inv is next opened =
-    let o = (inv.workers k is.below).look l is.looks in
-    looks_more E m team g k inv is.below (record l { upto = p + 1 }) (record {
+looks_at_page E m team g k l p ready is next opened =
+    let inv = ready.invariant in
+    let o = (inv.workers k ready.member).look l is.looks in
+    learnt (looks_more E m team g k inv ready.member (record l { upto = p + 1 }) (record {
       earlier = o.earlier;
       none = o.none;
       last = o.last;
@@ -106,12 +110,13 @@ looks_at_page E m team g k l p inv is next opened =
           (λ (z : 64 * p ≡ l.start). absurd (let w = o.start.0 e in omega (arith, z, w, y, r, s)))
           next)
           (cases_eq q p);
-    })
+    }))
 
 pub looks_at_filling : LookingAtFillingPageKeeps
-looks_at_filling E m team g k l inv is opened =
-    let o = (inv.workers k is.below).look l is.looks in
-    looks_more E m team g k inv is.below (record l { filled = true }) (record {
+looks_at_filling E m team g k l ready is opened =
+    let inv = ready.invariant in
+    let o = (inv.workers k ready.member).look l is.looks in
+    learnt (looks_more E m team g k inv ready.member (record l { filled = true }) (record {
       earlier = o.earlier;
       none = o.none;
       full = o.full;
@@ -119,13 +124,13 @@ looks_at_filling E m team g k l inv is opened =
       board = o.board;
       late = o.late;
       last = λ e b p s r. rw (← e) (opened p s r);
-    })
+    }))
 
 -- ---- the second look
 
-module _ (E : Era) (m : Memory) (team : Team) (g : Ghost) (k : ℕ) (l : Look) (inv : Invariant E m team g) (again : LooksAgain E m team k l) where
+module _ (E : Era) (m : Memory) (team : Team) (g : Ghost) (k : ℕ) (l : Look) (inv : Invariant E m team g) (below : k < team.count) (again : LooksAgain E m team k l) where
   o : Looks E m.gate.behind m.front m.page (team.worker k).epoch l
-  o = (inv.workers k again.below).look l again.looks
+  o = (inv.workers k below).look l again.looks
 
   quiet : (team.worker k).epoch ≡ E.epoch → Quiet E m.gate.behind m.front m.page
   quiet e = record {
@@ -153,19 +158,21 @@ module _ (E : Era) (m : Memory) (team : Team) (g : Ghost) (k : ℕ) (l : Look) (
   }
 
 pub looks_again : LookingAgainKeeps
-looks_again E m team g k l inv again filled =
-    let me = inv.workers k again.below in
-    learns E m team g k (about_to_trace (team.worker k) l) inv
+looks_again E m team g k l ready again filled =
+    let inv = ready.invariant in
+    let me = inv.workers k ready.member in
+    learnt (learns E m team g k (about_to_trace (team.worker k) l) inv
     (assumption) (λ s e. (s, e, refl))
-    (let c : (q : LastLook) → Some (record { traced = l.traced }) ≡ Some q → LastLooks E m.traced m.gate.behind m.front m.page (team.worker k).epoch q = λ q e. rw (← some_same e) (looks_last E m team g k l inv again filled) in
+    (let c : (q : LastLook) → Some (record { traced = l.traced }) ≡ Some q → LastLooks E m.traced m.gate.behind m.front m.page (team.worker k).epoch q = λ q e. rw (← some_same e) (looks_last E m team g k l inv ready.member again filled) in
     let none : (q : Look) → None ≡ Some q → Looks E m.gate.behind m.front m.page (team.worker k).epoch q = λ q e. none≢some e in
-    assumption)
+    assumption))
 
 pub claims_filling : ClaimingFillingPageKeeps
-claims_filling E m team g k l p old inv again s f n a =
-    let me = inv.workers k again.below in
-    learns E m team g k (about_to_fill (team.worker k) p old) inv
+claims_filling E m team g k l p old ready again s f n a =
+    let inv = ready.invariant in
+    let me = inv.workers k ready.member in
+    learnt (learns E m team g k (about_to_fill (team.worker k) p old) inv
     (assumption) (λ s e. (s, e, refl))
-    (let c : (q : Claim) → Some (filling_claim p old) ≡ Some q → Claims E m.front m.gate.behind g.size g.writer m.page (team.worker k).epoch q = λ q e. rw (← some_same e) (fills E m team g k l inv again p old s f n a) in
+    (let c : (q : Claim) → Some (filling_claim p old) ≡ Some q → Claims E m.front m.gate.behind g.size g.writer m.page (team.worker k).epoch q = λ q e. rw (← some_same e) (fills E m team g k l inv ready.member again p old s f n a) in
     let none : (q : Look) → None ≡ Some q → Looks E m.gate.behind m.front m.page (team.worker k).epoch q = λ q e. none≢some e in
-    assumption)
+    assumption))

@@ -1,5 +1,5 @@
 -- TRACED is exchanged, and what holds then.
-use Rattle.std.proofs.Common.{◌≡◌, ◌≢◌, ℕ, ◌+◌, ◌*◌, ◌/◌, ◌<◌, ◌≤◌, true, Some, None, refl, arith, ⊎_elim, ◌⊎◌}
+use Rattle.std.proofs.Common.{◌≡◌, ◌≢◌, ℕ, ◌+◌, ◌*◌, ◌/◌, ◌<◌, ◌≤◌, true, Some, None, refl, arith, ⊎_elim, ◌⊎◌, subst, sym}
 use Rattle.std.proofs.lemmas.Bool.{cases_lt}
 use Rattle.space_map.specs.declared.page_word.PageWord.TheVariants.{Open}
 use Rattle.heap_state.specs.Era.{Era, Memory, IsLaidOut}
@@ -12,24 +12,28 @@ use Rattle.heap_state.specs.Parts.Scanning.{Rounds, LastLooks}
 use Rattle.heap_state.specs.Worker.{Worker, Team, Copy, Scan, Round, LastLook, is_mutator, is_running, is_flipper}
 use Rattle.heap_state.proofs.Frames.{counted_put, staffed_put, scanned_put, stocks_put, numbered_put, rooted_put}
 use Rattle.heap_state.proofs.Puts.{team_put, none≢some}
-use Rattle.heap_laws.specs.Steps.{with_worker}
-use Rattle.heap_laws.specs.Tracing.{with_traced, WinsTraced, has_traced, Traces, SleeperLosesTraced, NothingLeads}
+use Rattle.heap_state.specs.Entries.{TracedIs}
+use Rattle.heap_laws.specs.Steps.{with_worker, Ready, Steps, InTraced, with_traced}
+use Rattle.heap_laws.specs.Tracing.{WinsTraced, has_traced, Traces, SleeperLosesTraced, NothingLeads}
 use Rattle.heap_laws.proofs.Learning.{shown_put}
 use Rattle.heap_laws.proofs.ScanningWho.{open_scan, scans_last, copies_last, none_writes, here_lies}
 
 pub sleeper_loses_traced : SleeperLosesTraced
-sleeper_loses_traced E m team g k l inv below looks past won = let o = (inv.workers k below).last_look l looks in let a = o.late past in let b = o.earlier in omega (arith, a, b, won)
+sleeper_loses_traced E m team g k l ready looks past won = let o = (ready.invariant.workers k ready.member).last_look l looks in let a = o.late past in let b = o.earlier in omega (arith, a, b, won)
 
-module _ (E : Era) (m : Memory) (team : Team) (g : Ghost) (k : ℕ) (l : LastLook) (inv : Invariant E m team g) (wins : WinsTraced m team k l) where
+module _ (E : Era) (m : Memory) (team : Team) (g : Ghost) (k : ℕ) (l : LastLook) (ready : Ready E m team g k) (wins : WinsTraced m team k l) where
+  abbrev inv : Invariant E m team g
+  inv = ready.invariant
+
   abbrev w' : Worker
   w' = has_traced (team.worker k)
 
   me : Knows E m.gate m.traced m.front m.low m.old_front m.old_low m.old_owed g m.page m.cross m.announced m.heap k (team.worker k)
-  me = inv.workers k wins.below
+  me = inv.workers k ready.member
 
   of_now : (team.worker k).epoch ≡ E.epoch
   of_now = ⊎_elim
-      (λ (y : (team.worker k).epoch < E.epoch). absurd (sleeper_loses_traced E m team g k l inv wins.below wins.looks y wins.unchanged))
+      (λ (y : (team.worker k).epoch < E.epoch). absurd (sleeper_loses_traced E m team g k l ready wins.looks y wins.unchanged))
       (λ (y : E.epoch ≤ (team.worker k).epoch). let z = me.timely.past in omega (arith, y, z))
       (cases_lt (team.worker k).epoch E.epoch)
 
@@ -80,12 +84,16 @@ module _ (E : Era) (m : Memory) (team : Team) (g : Ghost) (k : ℕ) (l : LastLoo
   pub traces : Traces E m team g k
   traces = record {
     now = of_now;
-    keeps = record {
-      invariant = invariant;
-      shown = λ p y. shown_put E m (with_traced m (E.epoch + 1)) team g k w' p refl refl refl y;
-      cycle = λ p y. record { copying = y.copying; rooted = rooted_put team.worker k w' refl refl refl (λ _ _ a b. (a, b)) y.rooted };
-      ages = λ p. omega arith;
-    };
+    steps = subst (λ (e : ℕ). Steps E m team g k (Some (TracedIs (e + 1))) w' g) (sym of_now) (record {
+      later = with_traced m (E.epoch + 1);
+      writes = InTraced (E.epoch + 1);
+      keeps = record {
+        invariant = invariant;
+        shown = λ p y. shown_put E m (with_traced m (E.epoch + 1)) team g k w' p refl refl refl y;
+        cycle = λ p y. record { copying = y.copying; rooted = rooted_put team.worker k w' refl refl refl (λ _ _ a b. (a, b)) y.rooted };
+        ages = λ p. omega arith;
+      };
+    });
   }
 
 -- ---- the epoch is traced

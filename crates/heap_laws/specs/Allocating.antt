@@ -1,45 +1,52 @@
 -- A mutator claims pages, makes them 0 and opens them.
-use Rattle.std.specs.Prelude.{◌≡◌, ℕ, ◌+◌, ◌-◌, ◌*◌, ◌<◌, ◌≤◌, true, Some}
-use Rattle.space_map.specs.declared.page_word.PageWord.{PageWord}
+use Rattle.std.specs.Prelude.{◌≡◌, ℕ, ◌+◌, ◌-◌, ◌*◌, ◌<◌, ◌≤◌, Bool, true, Some, if◌then◌else◌}
+use Rattle.space_map.specs.declared.area_word.AreaWord.{AreaWord}
 use Rattle.space_map.specs.declared.page_word.PageWord.TheVariants.{Open}
+use Rattle.space_map.specs.Spaces.{to_space}
+use Rattle.heap_state.specs.Entries.{AreaIs, PageIs, WordIs}
 use Rattle.heap_state.specs.Era.{Era, Memory}
-use Rattle.heap_state.specs.Functions.{put}
 use Rattle.heap_state.specs.Ghost.{Ghost}
-use Rattle.heap_state.specs.Worker.{Team, Stock, is_running}
-use Rattle.heap_laws.specs.Steps.{Ready, Preserves, with_word, with_worker}
+use Rattle.heap_state.specs.Worker.{Worker, Team, Stock, is_running}
+use Rattle.heap_laws.specs.Steps.{Ready, IsAreaNow, Steps}
 
--- ---- stocks
+-- the worker with this stock
+abbrev pub stocked : Worker → Stock → Worker
+stocked w q = record w { stock = Some q }
 
--- worker k has this stock, claimed in the epoch
-pub record HasStock (E : Era) (team : Team) (k : ℕ) (q : Stock) : Type 0 where
-  pub worker : k < team.count
+-- worker k runs, and has this stock
+pub record HasStock (team : Team) (k : ℕ) (q : Stock) : Type 0 where
+  pub runs : is_running (team.worker k).post ≡ true
   pub has : (team.worker k).stock ≡ Some q
-  pub epoch : q.epoch ≡ E.epoch
-
--- the team in which worker k has this stock
-abbrev pub with_stock : Team → ℕ → Stock → Team
-with_stock team k q = with_worker team k (record (team.worker k) { stock = Some q })
 
 -- ---- pages claimed
 
--- n pages below LOW, nothing of them 0 or open yet
-abbrev pub claimed : Era → Memory → ℕ → Stock
-claimed E m n = record { epoch = E.epoch; at = m.low - 64 * n; end = m.low; zeroed = m.low - 64 * n; opened = m.low - 64 * n }
+-- what is owed beside the words that a worker claims: nothing any more, where it has seen that the epoch is traced
+abbrev pub owed_beside : Bool → AreaWord → ℕ
+owed_beside traced_seen area = if traced_seen then 0 else area.owed
 
--- LOW and owed of the epoch's space are stored
-abbrev pub with_low : Memory → (low owed : ℕ) → Memory
-with_low m low owed = record m { low = low; owed = owed }
+-- there is room for n pages beside the words owed
+abbrev pub HasRoom : Bool → AreaWord → ℕ → Type 0
+HasRoom traced_seen area n = area.front + 64 * n + owed_beside traced_seen area ≤ area.low
 
--- There is room for n pages. While the epoch is not traced that is beside the words owed, and these stay.
-pub record HasRoom (E : Era) (m : Memory) (n owed : ℕ) : Type 0 where
-  pub room : m.front + 64 * n ≤ m.low
-  pub beside : m.traced ≤ E.epoch → (owed ≡ m.owed) × (m.front + 64 * n + owed ≤ m.low)
-  pub small : owed ≤ m.owed
+-- the area with LOW n pages lower
+abbrev pub lowered : Bool → AreaWord → ℕ → AreaWord
+lowered traced_seen area n = record { front = area.front; low = area.low - 64 * n; owed = owed_beside traced_seen area }
+
+-- n pages below LOW, nothing of them 0 or open yet, claimed in an epoch whose space has this first word
+abbrev pub claimed : (epoch start : ℕ) → AreaWord → ℕ → Stock
+claimed epoch start area n = record {
+  epoch = epoch;
+  at = start + (area.low - 64 * n);
+  end = start + area.low;
+  zeroed = start + (area.low - 64 * n);
+  opened = start + (area.low - 64 * n);
+}
 
 -- the area word is exchanged by a running mutator
 abbrev pub StocksAreClaimed : Type 0
-StocksAreClaimed = (E : Era) (m : Memory) (team : Team) (g : Ghost) (k n owed : ℕ) → Ready E m team g k → is_running (team.worker k).post ≡ true → HasRoom E m n owed
-    → Preserves E m (with_low m (m.low - 64 * n) owed) team (with_stock team k (claimed E m n)) g g
+StocksAreClaimed = (E : Era) (m : Memory) (team : Team) (g : Ghost) (k n : ℕ) (area : AreaWord) → Ready E m team g k → is_running (team.worker k).post ≡ true
+    → IsAreaNow E m area → HasRoom (team.worker k).traced_seen area n
+    → Steps E m team g k (Some (AreaIs (to_space E.epoch) (lowered (team.worker k).traced_seen area n))) (stocked (team.worker k) (claimed (team.worker k).epoch E.start area n)) g
 
 -- ---- words made 0
 
@@ -48,26 +55,22 @@ zeroed_further q = record q { zeroed = q.zeroed + 1 }
 
 -- 0 is stored in the next word of a stock
 abbrev pub StocksAreZeroed : Type 0
-StocksAreZeroed = (E : Era) (m : Memory) (team : Team) (g : Ghost) (k : ℕ) (q : Stock) → Ready E m team g k → HasStock E team k q → q.zeroed < q.end
-    → Preserves E m (with_word m q.zeroed 0) team (with_stock team k (zeroed_further q)) g g
+StocksAreZeroed = (E : Era) (m : Memory) (team : Team) (g : Ghost) (k : ℕ) (q : Stock) → Ready E m team g k → HasStock team k q → q.zeroed < q.end
+    → Steps E m team g k (Some (WordIs q.zeroed 0)) (stocked (team.worker k) (zeroed_further q)) g
 
 -- ---- pages opened
-
--- the memory with this page word
-abbrev pub with_page : Memory → ℕ → PageWord → Memory
-with_page m page w = record m { page = put m.page page w }
 
 abbrev pub opened_further : Stock → Stock
 opened_further q = record q { opened = q.opened + 64 }
 
 -- the page is the next one of the stock of worker k to open: all its words are 0
-pub record OpensNext (E : Era) (team : Team) (k : ℕ) (q : Stock) (page : ℕ) : Type 0 where
-  pub own : HasStock E team k q
+pub record OpensNext (team : Team) (k : ℕ) (q : Stock) (page : ℕ) : Type 0 where
+  pub own : HasStock team k q
   pub blank : q.zeroed ≡ q.end
   pub at : 64 * page ≡ q.opened
   pub more : q.opened < q.end
 
 -- its word is stored
 abbrev pub StocksAreOpened : Type 0
-StocksAreOpened = (E : Era) (m : Memory) (team : Team) (g : Ghost) (k page : ℕ) (q : Stock) → Ready E m team g k → OpensNext E team k q page
-    → Preserves E m (with_page m page (Open E.epoch)) team (with_stock team k (opened_further q)) g g
+StocksAreOpened = (E : Era) (m : Memory) (team : Team) (g : Ghost) (k page : ℕ) (q : Stock) → Ready E m team g k → OpensNext team k q page
+    → Steps E m team g k (Some (PageIs page (Open (team.worker k).epoch))) (stocked (team.worker k) (opened_further q)) g

@@ -1,22 +1,19 @@
--- Stores and loads of a mutator in records of the epoch's space and on the board.
+-- Words of records of the epoch's space and of the board, as a mutator loads and stores them.
 use Rattle.std.specs.Prelude.{◌≡◌, ℕ, ◌+◌, ◌-◌, ◌/◌, ◌^◌, ◌<◌, ◌≤◌, true, false, Some, None}
 use Rattle.heap_words.specs.Decoded.{NumberWord, PointerWord, HeaderWord, decode}
 use Rattle.plain_state.specs.declared.value.Value.{Value}
 use Rattle.plain_state.specs.declared.value.Value.TheVariants.{Number}
 use Rattle.plain_state.specs.State as plain
-use Rattle.plain_state.specs.Writing.{with_heap, stored, with_board}
 use Rattle.plain_state.specs.Layout.{is_field, is_raw, word_of}
 use Rattle.plain_state.specs.declared.kind.Kind.{Kind}
 use Rattle.space_map.specs.declared.page_word.PageWord.TheVariants.{Open}
-use Rattle.heap_state.specs.Cycle.{Cycle}
-use Rattle.heap_state.specs.Era.{Era, IsLaidOut, Memory}
+use Rattle.heap_state.specs.Era.{Era, Memory}
 use Rattle.heap_state.specs.Ghost.{Ghost, header_kind}
-use Rattle.heap_state.specs.Inductive.{Invariant}
 use Rattle.heap_state.specs.Parts.Knowledge.{HasRole}
 use Rattle.heap_state.specs.Values.{Shown, Shows, value_of}
-use Rattle.heap_state.specs.Worker.{Team, Access, is_mutator, is_late}
+use Rattle.heap_state.specs.Worker.{Team, Access, is_running}
 use Rattle.heap_laws.specs.MutatorSteps.{MayHold}
-use Rattle.heap_laws.specs.Steps.{with_word}
+use Rattle.heap_laws.specs.Steps.{Ready}
 
 -- ---- what is written
 
@@ -37,36 +34,6 @@ pub record StandsFor (g : Ghost) (k : Kind) (x v : ℕ) (y : Value) : Type 0 whe
   pub denotes : is_field k (word_of k x) ≡ true → value_of g.identity v ≡ Some y
   pub number : is_raw k (word_of k x) ≡ true → Number v ≡ y
 
--- ---- stores
-
--- a store in a word of a record, whose page is open
-abbrev pub WordsAreStored : Type 0
-WordsAreStored = (E : Era) (m : Memory) (team : Team) (g : Ghost) (a x v : ℕ) → IsLaidOut E → Invariant E m team g → IsWordOf E g.size g.writer g.kind a x
-    → m.page ((a + word_of (g.kind a) x) / 64) ≡ Open E.epoch → MayStore E g.size g.writer (g.kind a) x v → Invariant E (with_word m (a + word_of (g.kind a) x) v) team g
-
--- the plain heap changes at that word alone
-abbrev pub StoresShow : Type 0
-StoresShow = (E : Era) (m : Memory) (team : Team) (g : Ghost) (p : plain.Plain) (a x v : ℕ) (r : plain.Record) (y : Value) → IsLaidOut E → Invariant E m team g
-    → IsWordOf E g.size g.writer g.kind a x → plain.record_of p.heap (g.identity a) ≡ Some r → StandsFor g (g.kind a) x v y
-    → Shown E m team g p → Shown E (with_word m (a + word_of (g.kind a) x) v) team g (with_heap p (stored p.heap (g.identity a) r x y))
-
-abbrev pub StoresKeepCycle : Type 0
-StoresKeepCycle = (E : Era) (m : Memory) (team : Team) (g : Ghost) (p : plain.Plain) (a x v : ℕ) → IsLaidOut E → Invariant E m team g → IsWordOf E g.size g.writer g.kind a x
-    → m.page ((a + word_of (g.kind a) x) / 64) ≡ Open E.epoch → MayStore E g.size g.writer (g.kind a) x v → Cycle E m team g p → Cycle E (with_word m (a + word_of (g.kind a) x) v) team g p
-
--- a store on the board, which is open
-abbrev pub BoardIsStored : Type 0
-BoardIsStored = (E : Era) (m : Memory) (team : Team) (g : Ghost) (x v : ℕ) → IsLaidOut E → Invariant E m team g → x < 16
-    → m.page (E.board / 64) ≡ Open E.epoch → MayHold E g.size g.writer v → Invariant E (with_word m (E.board + x) v) team g
-
-abbrev pub BoardStoresShow : Type 0
-BoardStoresShow = (E : Era) (m : Memory) (team : Team) (g : Ghost) (p : plain.Plain) (x v : ℕ) (y : Value) → IsLaidOut E → Invariant E m team g → x < 16
-    → value_of g.identity v ≡ Some y → Shown E m team g p → Shown E (with_word m (E.board + x) v) team g (with_heap p (with_board p.heap x y))
-
-abbrev pub BoardStoresKeepCycle : Type 0
-BoardStoresKeepCycle = (E : Era) (m : Memory) (team : Team) (g : Ghost) (p : plain.Plain) (x v : ℕ) → IsLaidOut E → Invariant E m team g → x < 16
-    → m.page (E.board / 64) ≡ Open E.epoch → MayHold E g.size g.writer v → Cycle E m team g p → Cycle E (with_word m (E.board + x) v) team g p
-
 -- ---- loads
 
 -- The record that a register of a mutator leads to: it stands in the epoch's space, nobody writes it any more, its header says
@@ -78,7 +45,7 @@ pub record IsLedTo (E : Era) (m : Memory) (g : Ghost) (p : plain.Plain) (a : ℕ
   pub shows : (r : plain.Record) × (plain.record_of p.heap (g.identity a) ≡ Some r) × Shows (value_of g.identity) m.heap a (g.kind a) (g.size a) r
 
 abbrev pub HeadersAreRead : Type 0
-HeadersAreRead = (E : Era) (m : Memory) (team : Team) (g : Ghost) (p : plain.Plain) (w a : ℕ) → IsLaidOut E → Invariant E m team g → Shown E m team g p
+HeadersAreRead = (E : Era) (m : Memory) (team : Team) (g : Ghost) (p : plain.Plain) (k w a : ℕ) → Ready E m team g k → Shown E m team g p
     → MayHold E g.size g.writer w → decode w ≡ PointerWord a → IsLedTo E m g p a
 
 -- A word that a mutator has access to, and whose page it has found open, is one that it may load and store: of a record of the
@@ -89,23 +56,23 @@ pub record IsAccessed (E : Era) (m : Memory) (g : Ghost) (f : Access) : Type 0 w
   pub role : HasRole (g.kind f.at) f.word f.role
 
 abbrev pub AccessesAreAllowed : Type 0
-AccessesAreAllowed = (E : Era) (m : Memory) (team : Team) (g : Ghost) (k : ℕ) (f : Access) → Invariant E m team g → k < team.count
+AccessesAreAllowed = (E : Era) (m : Memory) (team : Team) (g : Ghost) (k : ℕ) (f : Access) → Ready E m team g k
     → (team.worker k).access ≡ Some f → (team.worker k).opened ≡ Some ((f.at + f.word) / 64) → IsAccessed E m g f
 
 -- what is loaded from a field on an open page, or from the open board, a mutator may hold; what is loaded from elsewhere in a
 -- record is a number below 2^62
 abbrev pub WordsAreLoaded : Type 0
-WordsAreLoaded = (E : Era) (m : Memory) (team : Team) (g : Ghost) (a x : ℕ) → Invariant E m team g → IsWordOf E g.size g.writer g.kind a x
+WordsAreLoaded = (E : Era) (m : Memory) (team : Team) (g : Ghost) (k a x : ℕ) → Ready E m team g k → IsWordOf E g.size g.writer g.kind a x
     → m.page ((a + word_of (g.kind a) x) / 64) ≡ Open E.epoch → MayStore E g.size g.writer (g.kind a) x (m.heap (a + word_of (g.kind a) x))
 
 abbrev pub BoardIsLoaded : Type 0
-BoardIsLoaded = (E : Era) (m : Memory) (team : Team) (g : Ghost) (x : ℕ) → IsLaidOut E → Invariant E m team g → x < 16
+BoardIsLoaded = (E : Era) (m : Memory) (team : Team) (g : Ghost) (k x : ℕ) → Ready E m team g k → x < 16
     → m.page (E.board / 64) ≡ Open E.epoch → MayHold E g.size g.writer (m.heap (E.board + x))
 
 -- the registers of a running mutator without an end are what it may hold
 abbrev pub RegistersAreHeld : Type 0
-RegistersAreHeld = (E : Era) (m : Memory) (team : Team) (g : Ghost) (k j : ℕ) → Invariant E m team g → k < team.count → is_mutator (team.worker k).post ≡ true
-    → is_late E.epoch (team.worker k) ≡ false → (team.worker k).account.end ≡ None → j < 8 → MayHold E g.size g.writer ((team.worker k).registers j)
+RegistersAreHeld = (E : Era) (m : Memory) (team : Team) (g : Ghost) (k j : ℕ) → Ready E m team g k → is_running (team.worker k).post ≡ true
+    → (team.worker k).account.end ≡ None → j < 8 → MayHold E g.size g.writer ((team.worker k).registers j)
 
 -- a number is what a mutator may hold
 abbrev pub NumbersAreHeld : Type 0

@@ -5,15 +5,14 @@ use Rattle.plain_state.specs.State.{Plain}
 use Rattle.space_map.specs.declared.gate_word.GateWord.{GateWord}
 use Rattle.heap_state.specs.Cycle.{Cycle}
 use Rattle.heap_state.specs.Entries.{GateIs, with_entry}
-use Rattle.heap_state.specs.Era.{Era, Memory, IsLaidOut, era_of, memory_of}
+use Rattle.heap_state.specs.Era.{Era, Memory, era_of, memory_of}
 use Rattle.heap_state.specs.Functions.{put}
 use Rattle.heap_state.specs.Ghost.{Ghost, Leads}
 use Rattle.heap_state.specs.Inductive.{Invariant}
 use Rattle.heap_state.specs.Table.{Table}
 use Rattle.heap_state.specs.Values.{Shown}
 use Rattle.heap_state.specs.Worker.{Worker, Team, Stopped, Flipping, Reset, Register, Quest, is_late}
-use Rattle.heap_laws.specs.Keeping.{Keeps}
-use Rattle.heap_laws.specs.Steps.{with_worker}
+use Rattle.heap_laws.specs.Steps.{with_worker, Ready, Steps}
 
 -- ---- the flip
 
@@ -58,14 +57,12 @@ after_flip w = record w { post = Stopped; traced_seen = false; reset = None }
 
 -- Worker k flips: it has asked for it, has read a gate with nobody running and nobody behind, and has stored the other space's
 -- area. Another epoch fits the gate, and the other space is as large.
-pub record Flips (E : Era) (m : Memory) (team : Team) (k : ℕ) (r : Reset) : Type 0 where
-  pub below : k < team.count
+pub record Flips (E : Era) (team : Team) (k : ℕ) (r : Reset) : Type 0 where
   pub asked : ℕ
   pub post : (team.worker k).post ≡ Flipping asked
   pub reset : (team.worker k).reset ≡ Some r
   pub stored : r.stored ≡ true
-  pub at_gate : m.gate.epoch ≡ E.epoch
-  pub fits : m.gate.epoch + 1 < 2 ^ 32
+  pub fits : E.epoch + 1 < 2 ^ 32
   pub large : E.span ≤ E.old_span
 
 -- The exchange of the gate is won. In the next epoch the invariant holds and the same plain state is shown, and a cycle begins of
@@ -78,7 +75,7 @@ pub record FlipKeeps (E : Era) (m : Memory) (team : Team) (g : Ghost) (k : ℕ) 
   pub begins : (p : Plain) → Shown E m team g p → Cycle (next_era E) (next_memory m) (with_worker team k (after_flip (team.worker k))) (next_ghost E g) p
 
 abbrev pub FlippingKeeps : Type 0
-FlippingKeeps = (E : Era) (m : Memory) (team : Team) (g : Ghost) (k : ℕ) (r : Reset) → IsLaidOut E → Invariant E m team g → Flips E m team k r → FlipKeeps E m team g k r
+FlippingKeeps = (E : Era) (m : Memory) (team : Team) (g : Ghost) (k : ℕ) (r : Reset) → Ready E m team g k → Flips E team k r → FlipKeeps E m team g k r
 
 -- the table with the gate of the flip is that of the next epoch
 pub record TableFlips (t : Table) : Type 0 where
@@ -87,30 +84,28 @@ pub record TableFlips (t : Table) : Type 0 where
 
 -- ---- a register is forwarded
 
--- the worker, one register further on
-abbrev pub forwarded : Worker → ℕ → Worker
-forwarded w v = record w { registers = put w.registers w.done v; done = w.done + 1; quest = None }
-
 -- Worker k is late, and has not forwarded all registers.
 pub record HasRegister (E : Era) (team : Team) (k : ℕ) : Type 0 where
-  pub below : k < team.count
   pub late : is_late E.epoch (team.worker k) ≡ true
   pub left : (team.worker k).done < 8
 
--- a register that leads nowhere, or at least not into the old space, stays
+-- a register that leads nowhere, or at least not into the old space, is passed
+abbrev pub past_register : Worker → Worker
+past_register w = record w { done = w.done + 1 }
+
 abbrev pub PassingRegisterKeeps : Type 0
-PassingRegisterKeeps = (E : Era) (m : Memory) (team : Team) (g : Ghost) (k : ℕ) → Invariant E m team g → HasRegister E team k
+PassingRegisterKeeps = (E : Era) (m : Memory) (team : Team) (g : Ghost) (k : ℕ) → Ready E m team g k → HasRegister E team k
     → (team.worker k).quest ≡ None → ¬ (Leads E ((team.worker k).registers (team.worker k).done))
-    → Keeps E m m team (with_worker team k (forwarded (team.worker k) ((team.worker k).registers (team.worker k).done))) g
+    → Steps E m team g k None (past_register (team.worker k)) g
 
 -- for one that is a pointer, and so leads into the old space, the worker asks for the copy
 abbrev pub asking_for : Worker → ℕ → Worker
 asking_for w a = record w { quest = Some (record { old = a; origin = Register w.done; found = None }) }
 
 abbrev pub AskingForRegisterKeeps : Type 0
-AskingForRegisterKeeps = (E : Era) (m : Memory) (team : Team) (g : Ghost) (k a : ℕ) → Invariant E m team g → HasRegister E team k
+AskingForRegisterKeeps = (E : Era) (m : Memory) (team : Team) (g : Ghost) (k a : ℕ) → Ready E m team g k → HasRegister E team k
     → (team.worker k).quest ≡ None → decode ((team.worker k).registers (team.worker k).done) ≡ PointerWord a
-    → Keeps E m m team (with_worker team k (asking_for (team.worker k) a)) g
+    → Steps E m team g k None (asking_for (team.worker k) a) g
 
 -- worker k has found the copy that its register asked for
 pub record HasFoundCopy (E : Era) (team : Team) (k : ℕ) (q : Quest) (b : ℕ) : Type 0 where
@@ -120,6 +115,9 @@ pub record HasFoundCopy (E : Era) (team : Team) (k : ℕ) (q : Quest) (b : ℕ) 
   pub found : q.found ≡ Some b
 
 -- the register gets a pointer to the copy
+abbrev pub forwarded : Worker → ℕ → Worker
+forwarded w v = record w { registers = put w.registers w.done v; done = w.done + 1; quest = None }
+
 abbrev pub ForwardingRegisterKeeps : Type 0
-ForwardingRegisterKeeps = (E : Era) (m : Memory) (team : Team) (g : Ghost) (k : ℕ) (q : Quest) (b v : ℕ) → IsLaidOut E → Invariant E m team g → HasFoundCopy E team k q b
-    → decode v ≡ PointerWord b → Keeps E m m team (with_worker team k (forwarded (team.worker k) v)) g
+ForwardingRegisterKeeps = (E : Era) (m : Memory) (team : Team) (g : Ghost) (k : ℕ) (q : Quest) (b v : ℕ) → Ready E m team g k → HasFoundCopy E team k q b
+    → decode v ≡ PointerWord b → Steps E m team g k None (forwarded (team.worker k) v) g

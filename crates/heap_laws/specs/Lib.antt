@@ -1,7 +1,6 @@
 pub mod Steps
 pub mod Copying
 pub mod Lifting
-pub mod CopyingStands
 pub mod Keeping
 pub mod Scanning
 pub mod ScanningWords
@@ -13,9 +12,8 @@ pub mod Fields
 pub mod Allocating
 pub mod Placing
 pub mod MutatorStores
-pub mod MutatorsStand
+pub mod Effects
 pub mod FlippingReset
 pub mod Gating
-pub mod Forgetting
-pub mod ScanningStands
-pub mod Aging
+pub mod Composing
+pub mod Composites

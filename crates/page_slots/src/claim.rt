@@ -1,9 +1,11 @@
 ghost use Rattle.std.specs.Prelude.{◌≡◌, ◌<◌, ◌≤◌, ◌^◌, Some, IsTrue};
+ghost use Rattle.atom_store.specs.Step.{place_in};
 ghost use Rattle.space_map.specs.PageWord.{IsEarlier};
 ghost use Rattle.space_map.specs.Spaces.{board_page};
 ghost use Rattle.page_slots.specs.Claim.{begun, wanted, taken, told, left, advances, looked_at_place, looked_at_gate, first_stage};
 ghost use Rattle.page_slots.specs.Soundness.{IsSoundClaim, IsClaimGoing};
 ghost use Rattle.space_map.specs.GateWord.{decode_gate};
+ghost use Rattle.space_map.specs.Table.{table_length};
 
 use crate::claim_stage::ClaimStage;
 use crate::claimed::Claimed;
@@ -89,7 +91,8 @@ impl Claim {
     /// The next step.
     pub fn want(&self) -> Step
         requires { IsClaimGoing self.now.stage }
-        ensures { wanted self.now ≡ Some result }
+        ensures wanted { wanted self.now ≡ Some result }
+        ensures in_table { place_in result < table_length self.now.layout.pages }
     {
         let spaces = self.spaces;
         match self.stage {
