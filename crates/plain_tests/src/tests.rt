@@ -1,5 +1,5 @@
-use super::*;
 use mutator_asm::{Program, assemble};
+use plain_heap::{End, Mark, PlainState, plain_run, plain_step, print, push_order};
 use std::alloc::Global;
 use std::process::Abort;
 use std::test::Fail;

@@ -1,4 +1,4 @@
-use super::*;
+use plain_state::End;
 use std::test::Fail;
 
 #[test]
