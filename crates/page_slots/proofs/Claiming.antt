@@ -8,6 +8,7 @@ use Rattle.atom_store.specs.declared.turn.Turn.{Turn}
 use Rattle.atom_store.specs.declared.turn.Turn.TheVariants.{More, Finished}
 use Rattle.atom_store.specs.Acts.{Acts}
 use Rattle.atom_store.specs.Step.{reply_of, words_after}
+use Rattle.atom_store.proofs.Acting.{no_step}
 use Rattle.atom_store.proofs.Steps.{slice_index-words_after, slice_index-won, won_exactly, lost_tells_another, words_after-lost}
 use Rattle.space_map.specs.declared.gate_word.GateWord.{GateWord}
 use Rattle.space_map.specs.declared.page_word.PageWord.TheVariants.{Scanning}
@@ -82,9 +83,6 @@ gate_shows epoch loaded word (Some gate) tells = by_test (nat_eq gate.epoch epoc
 gate_shows epoch loaded word None tells = cc
 
 -- ---- all
-
-no_step : false ≡ true → ⊥
-no_step is = cc
 
 pub wins : (c : Claiming) (stage : ClaimStage) (before after : List ℕ) → IsSoundClaim c → HoldsTable c.layout.pages before
     → Acts claim_machine (at c stage) before after (Finished Won) → WinsPage c before after
