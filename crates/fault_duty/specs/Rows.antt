@@ -105,7 +105,7 @@ NoFillingPage =
 -- a wanted page of a later epoch, which no mutator comes upon, would end the round where the claim would begin
 abbrev pub LaterWantedPageEnds : Type 0
 LaterWantedPageEnds =
-    (MutatorComesTo (Faulted 5) ((Load 0, Value 0x0000_0101_0000_0001) ∷ (Load 2, Value 1) ∷ (Load 21, Value 131073) ∷ (Load 5, Value 0x0000_000a_0300_0082) ∷ []) (NothingNow 131073))
+    (MutatorComesTo (Faulted 5) ((Load 0, Value 0x0000_0101_0000_0001) ∷ (Load 2, Value 1) ∷ (Load 21, Value 131073) ∷ (Load 5, Value 0x0000_00a0_0300_0082) ∷ []) (NothingNow 131073))
     × (MutatorComesTo (Faulted 8) ((Load 0, Value 0x0000_0101_0000_0001) ∷ (Load 2, Value 1) ∷ (Load 24, Value 131073) ∷ []) (NothingNow 131073))
 
 -- a filling page of a later epoch, which a scanner comes upon that slept through flips, ends it after the second look at the area

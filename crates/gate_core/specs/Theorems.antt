@@ -2,8 +2,7 @@
 use Rattle.std.specs.Prelude.{◌≡◌, ◌≢◌, ℕ, ◌+◌, ◌*◌, ◌≤◌, ◌⊎◌, true, false, ⊤, List, Some}
 use Rattle.atom_store.specs.declared.turn.Turn.{Turn}
 use Rattle.atom_store.specs.declared.turn.Turn.TheVariants.{Finished}
-use Rattle.atom_store.specs.Acts.{Acts}
-use Rattle.atom_store.specs.Runs.{after_step}
+use Rattle.atom_store.specs.Acts.{Acts, stepped}
 use Rattle.space_map.specs.declared.area_word.AreaWord.{AreaWord}
 use Rattle.space_map.specs.declared.gate_word.GateWord.{GateWord}
 use Rattle.space_map.specs.AreaWord.{decode_area}
@@ -95,7 +94,7 @@ StandsAt f (Ended result) words = ⊤
 abbrev pub FlipsKeepWhatTheyRead : Type 0
 FlipsKeepWhatTheyRead = (f : Flipping) (before after : List ℕ) (turn : Turn Flipped) → IsSoundFlipping f → HoldsTable f.layout.pages before
     → StandsAt f f.stage before → Acts flip_machine f before after turn
-    → StandsAt f (after_step flip_machine f (flip_machine.wanted f) before).stage after
+    → StandsAt f (stepped flip_machine f before).stage after
 
 -- Nobody ran and nobody was behind; then the epoch is the next one, all that are live are behind, and no flip is requested any
 -- more. The other space is empty, and owes as many words as are in use in the one that was copied into until now.
