@@ -1,5 +1,5 @@
 -- A worker's stock: that it is of the epoch, and what the worker knows where it alone changes.
-use Rattle.std.proofs.Common.{◌≡◌, ℕ, ◌+◌, ◌-◌, ◌*◌, ◌<◌, ◌≤◌, true, Some, ◌∙◌}
+use Rattle.std.proofs.Common.{◌≡◌, ℕ, ◌+◌, ◌-◌, ◌*◌, ◌<◌, ◌≤◌, true, Some, ◌∙◌, arith}
 use Rattle.heap_words.specs.Decoded.{HeaderWord, decode}
 use Rattle.plain_state.specs.declared.kind.Kind.{Kind}
 use Rattle.heap_state.specs.Era.{Era, Memory}
@@ -48,7 +48,7 @@ pub owns : {E : Era} {m : Memory} {team : Team} {g : Ghost} {k : ℕ} (q : Stock
 owns {k = k} q ready own = let me = ready.invariant.workers k ready.member in record { worker = ready.member; has = own.has; epoch = me.stock q own.has ∙ me.timely.running own.runs }
 
 pub opens_of : {E : Era} {m : Memory} {team : Team} {g : Ghost} {k : ℕ} (q : Stock) (page : ℕ) → Ready E m team g k → OpensNext team k q page → Opens E team k q page
-opens_of q page ready opens = record { own = owns q ready opens.own; blank = opens.blank; at = opens.at; more = opens.more }
+opens_of q page ready opens = record { own = owns q ready opens.own; blank = omega (arith, opens.blank); at = opens.at; more = opens.more }
 
 pub places_of : {E : Era} {m : Memory} {team : Team} {g : Ghost} {k : ℕ} (q : Stock) (c : Kind) (z v : ℕ) → Ready E m team g k → PlacesNext team k q c z v → Places E team k q c z v
 places_of q c z v ready places = record { own = owns q ready places.own; runs = places.own.runs; run = places.run; some = places.some; fits = places.fits; header = places.header }

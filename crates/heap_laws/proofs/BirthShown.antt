@@ -7,7 +7,7 @@ use Rattle.plain_state.specs.declared.kind.Kind.{Kind}
 use Rattle.plain_state.specs.State as plain
 use Rattle.plain_state.specs.declared.value.Identity.{Identity}
 use Rattle.plain_state.specs.declared.value.Value.TheVariants.{Number}
-use Rattle.plain_state.specs.Writing.{with_heap, gained}
+use Rattle.plain_state.specs.Writing.{with_heap, gained, zeros as zeros_made}
 use Rattle.heap_state.specs.Era.{Era, IsLaidOut, Memory}
 use Rattle.heap_state.specs.Functions.{put}
 use Rattle.heap_state.specs.Ghost.{Ghost, Lands}
@@ -16,7 +16,7 @@ use Rattle.heap_state.specs.Values.{value_of, Shows, ShowsAll, Accounts, Registe
 use Rattle.heap_state.specs.Worker.{Worker, Team, Stock}
 use Rattle.heap_state.proofs.Puts.{put_at, put_other, put_same, proj_put}
 use Rattle.heap_laws.specs.Opening.{opening_mutator}
-use Rattle.heap_laws.specs.Placing.{next_identity, born, ZerosShow, zeros_of}
+use Rattle.heap_laws.specs.Placing.{next_identity, born, ZerosShow}
 use Rattle.heap_laws.proofs.AllocStock.{Places, places_of}
 use Rattle.heap_laws.specs.Steps.{with_word, with_worker}
 use Rattle.heap_laws.proofs.AllocFree.{IsFree, word_same, board_same}
@@ -176,9 +176,9 @@ zeros_show E m team g k q c z v ready places' = record {
     places : Places E team k q c z v
     places = places_of q c z v ready places'
 
-    within : (x : ℕ) → x < length (zeros_of c (z - 1)).values → x < z - 1
+    within : (x : ℕ) → x < length (zeros_made c (z - 1)).values → x < z - 1
     within x l = rw (length-replicate (z - 1) (Number 0)) at l
 
-    zero : (x : ℕ) → x < length (zeros_of c (z - 1)).values → m.heap (q.at + (x + 1)) ≡ 0
+    zero : (x : ℕ) → x < length (zeros_made c (z - 1)).values → m.heap (q.at + (x + 1)) ≡ 0
     zero x l = let u = within x l in
         sym (put_other m.heap q.at v (q.at + (x + 1)) (λ e. omega (arith, e))) ∙ zeros E m team g k q c z v ready.laid_out ready.invariant places (x + 1) (omega arith) (omega (arith, u))

@@ -20,14 +20,13 @@ use Rattle.heap_state.proofs.Headers.{said_kind-header_kind}
 use Rattle.heap_state.proofs.Holding.{uncopied_here}
 use Rattle.heap_state.proofs.Layouts.{raw_is_no_field}
 use Rattle.heap_state.proofs.Puts.{some_same, true_false, none≢some}
-use Rattle.heap_laws.specs.Effects.{RunnersAreShown, RegistersHold, HeadersSay, word_held, word_stored, FitsRole, IsValueOf, AccessesAreValues, BoardWordsAreValues}
+use Rattle.heap_laws.specs.Effects.{MutatorsAreShown, RegistersHold, HeadersSay, word_held, word_stored, FitsRole, IsValueOf, AccessesAreValues, BoardWordsAreValues}
 use Rattle.heap_laws.specs.Fields.{IsWordOf, IsAccessed, MayStore, StandsFor}
 use Rattle.heap_laws.specs.MutatorSteps.{HoldsValue}
 use Rattle.heap_laws.specs.Opening.{opening_mutator}
 use Rattle.heap_laws.specs.Steps.{Ready}
 use Rattle.heap_laws.proofs.FieldShown.{headers_are_read, registers_are_held, numbers_are_held}
 use Rattle.heap_laws.proofs.FieldStore.{accesses_are_allowed, words_are_loaded, board_is_loaded}
-use Rattle.heap_laws.proofs.MutatorSteps.{runs}
 use Rattle.heap_laws.proofs.Words.{value_from_pointer}
 
 -- ---- words
@@ -50,15 +49,15 @@ number_word_of Malformed v e = none≢some e
 
 -- ---- mutators and registers
 
-pub runners_are_shown : RunnersAreShown
-runners_are_shown E m team g p k ready s running =
+pub mutators_are_shown : MutatorsAreShown
+mutators_are_shown E m team g p k ready s mutator =
     let inv = ready.invariant in
-    let l = ltb-true k team.mutators (sym (inv.staffed.posts k ready.member) ∙ (runs (team.worker k).post running).mutator) in
+    let l = ltb-true k team.mutators (sym (inv.staffed.posts k ready.member) ∙ mutator) in
     let is : slice_get p.mutators k ≡ Some (get_or p.mutators k opening_mutator) = slice_get-get_or p.mutators k opening_mutator (let n = s.as_many in omega (arith, l, n)) in
     (get_or p.mutators k opening_mutator, record { is = is; same = record { account = s.accounts k (get_or p.mutators k opening_mutator) is; registers = s.registers k (get_or p.mutators k opening_mutator) is } })
 
 pub registers_hold : RegistersHold
-registers_hold E m team g p k q j ready runner running no_end small =
+registers_hold E m team g p k q j ready runner mutator late no_end small =
     let w : ℕ = (team.worker k).registers j in
     let y : Value = get_or q.registers j (Number 0) in
     let n = runner.same.registers.eight in
@@ -67,7 +66,7 @@ registers_hold E m team g p k q j ready runner running no_end small =
       y,
       is,
       record {
-        holds = record { held = registers_are_held E m team g k j ready running no_end small; denotes = denotes };
+        holds = record { held = registers_are_held E m team g k j ready mutator late no_end small; denotes = denotes };
         number = λ n e. some_same (sym denotes ∙ value_of_number g.identity w n e);
         reference = λ a e. some_same (sym denotes ∙ value_from_pointer g.identity w a e);
       },

@@ -18,7 +18,6 @@ use Rattle.heap_state.specs.Worker.{Team}
 use Rattle.heap_state.proofs.Puts.{put_at, put_other, some_same}
 use Rattle.heap_laws.specs.Fields.{IsWordOf, StandsFor, IsLedTo, HeadersAreRead, RegistersAreHeld, NumbersAreHeld}
 use Rattle.heap_laws.specs.MutatorSteps.{MayHold}
-use Rattle.heap_laws.proofs.MutatorSteps.{runs, timely}
 use Rattle.heap_state.proofs.Puts.{true_false}
 use Rattle.heap_laws.specs.Steps.{with_word}
 use Rattle.heap_laws.proofs.OtherWords.{shows_same}
@@ -212,10 +211,9 @@ pub headers_are_read : HeadersAreRead
 headers_are_read E m team g p k w a ready s may d = header_read E m team g p w a ready.laid_out ready.invariant s may d
 
 pub registers_are_held : RegistersAreHeld
-registers_are_held E m team g k j ready running n s =
-    let me = ready.invariant.workers k ready.member in
-    let c = me.registers (runs (team.worker k).post running).mutator n in
-    record { clean = c.clean j s (λ t. true_false (timely E (team.worker k) running me.timely.running) t); lands = c.lands j s }
+registers_are_held E m team g k j ready mutator now n s =
+    let c = (ready.invariant.workers k ready.member).registers mutator n in
+    record { clean = c.clean j s (λ t. true_false now t); lands = c.lands j s }
 
 pub numbers_are_held : NumbersAreHeld
 unfolding Lands Leads

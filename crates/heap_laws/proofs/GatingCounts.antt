@@ -9,7 +9,7 @@ use Rattle.heap_laws.specs.Gating.{GatesFit}
 use Rattle.heap_laws.proofs.FlippingSums.{at_most_one}
 
 -- the sum of ones is at most their number
-ones : (n : ℕ) (is : ℕ → Bool) → sum_below n (λ j. one_if (is j)) ≤ n
+pub ones : (n : ℕ) (is : ℕ → Bool) → sum_below n (λ j. one_if (is j)) ≤ n
 unfolding sum_below
 ones zero is = omega arith
 ones (suc n) is = let a = ones n is in let b = at_most_one (is n) in omega (arith, a, b)

@@ -68,3 +68,5 @@ pub mod GatingPassages
 pub mod ForgettingLess
 pub mod Composing
 pub mod Composites
+pub mod Answers
+pub mod SameWords

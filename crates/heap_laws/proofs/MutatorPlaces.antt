@@ -1,5 +1,5 @@
 -- A mutator stores a new record's header, and points to it, in one step.
-use Rattle.std.proofs.Common.{◌≡◌, ◌≢◌, ℕ, ◌+◌, ◌<◌, Some, sym, ap, ◌∙◌, arith, ⊎_elim}
+use Rattle.std.proofs.Common.{◌≡◌, ◌≢◌, ℕ, ◌<◌, Some, sym, ap, ◌∙◌, arith, ⊎_elim}
 use Rattle.std.proofs.Math.ListN.{length-set}
 use Rattle.std.proofs.lemmas.Bool.{cases_eq}
 use Rattle.heap_words.specs.Decoded.{PointerWord, decode}
@@ -14,7 +14,7 @@ use Rattle.heap_state.specs.Values.{Shown, Shows, value_of}
 use Rattle.heap_state.specs.Worker.{Worker, Team, Stock}
 use Rattle.heap_state.proofs.Puts.{put_at, put_other, put_same, put_twice}
 use Rattle.heap_laws.specs.MutatorSteps.{MayHold, HoldsValue, GoesOn}
-use Rattle.heap_laws.specs.MutatorStores.{IsAs, MutatorsPlace, with_record, with_reference}
+use Rattle.heap_laws.specs.MutatorStores.{IsAs, MutatorsPlace, with_record, with_reference, plain_next}
 use Rattle.heap_laws.specs.Placing.{born, next_identity}
 use Rattle.heap_laws.specs.Steps.{Ready, with_word, with_worker, InWord}
 use Rattle.heap_laws.proofs.AllocHeader.{placed, cradle, records_are_placed, placed_is_held}
@@ -104,10 +104,13 @@ module _ (E : Era) (m : Memory) (team : Team) (g : Ghost) (p : plain.Plain) (k :
   }
     where
       next' : Identity
-      next' = record { mutator = k; serial = plain.serial_of p.heap k + 1 }
+      next' = plain_next p.heap k
+
+      same_serial : i.serial ≡ next'.serial
+      same_serial = let e = serial in omega arith
 
       named : i ≡ next'
-      named = λ x. record { mutator = k; serial = serial x + 1 }
+      named = λ x. record { mutator = k; serial = same_serial x }
 
 pub mutators_place : MutatorsPlace
 mutators_place E m team g p k next q s c z v d pointer r ready shown next_one behind small points goes same =

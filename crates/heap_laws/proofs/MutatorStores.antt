@@ -1,5 +1,6 @@
 -- A mutator's store and its going on are one step.
-use Rattle.std.proofs.Common.{◌≡◌, ℕ, ◌+◌, ◌-◌, ◌<◌, ◌≤◌, true, Some, refl, sym, ◌∙◌, arith}
+use Rattle.std.proofs.lemmas.Bool.{cases_lt}
+use Rattle.std.proofs.Common.{◌≡◌, ℕ, ◌+◌, ◌-◌, ◌<◌, ◌≤◌, ◌*◌, ◌⊎◌, inl, inr, true, Some, refl, sym, ◌∙◌, arith}
 use Rattle.plain_state.specs.Layout.{word_of}
 use Rattle.plain_state.specs.State as plain
 use Rattle.plain_state.specs.declared.end.End.TheVariants.{HeapFull}
@@ -139,7 +140,17 @@ mutators_end E m team g p k q why ready runs s is =
     })
 
 pub mutators_find_no_room : MutatorsFindNoRoom
-mutators_find_no_room E m team g p k asked q area ready runs s is now seen short = record {
-  traced = ((ready.invariant.workers k ready.member).seen_traced seen).1;
-  ends = mutators_end E m team g p k q (HeapFull asked (area.low - area.front) area.front) ready runs s is;
-}
+mutators_find_no_room E m team g p k asked q area ready runs s is now seen short =
+    let o = ready.invariant.laid.order in
+    let few : area.low - area.front < 64 * asked = by_room (cases_lt (area.low - area.front) (64 * asked)) in
+    record {
+      traced = ((ready.invariant.workers k ready.member).seen_traced seen).1;
+      room_is = omega (arith, o, now.front, now.low);
+      live_is = omega (arith, now.front);
+      short = few;
+      ends = mutators_end E m team g p k q (HeapFull asked (area.low - area.front) area.front) ready runs s is;
+    }
+  where
+    by_room : (area.low - area.front < 64 * asked) ⊎ (64 * asked ≤ area.low - area.front) → area.low - area.front < 64 * asked
+    by_room (inl l) = l
+    by_room (inr l) = absurd (short (let o = ready.invariant.laid.order in omega (arith, l, o, now.front, now.low)))

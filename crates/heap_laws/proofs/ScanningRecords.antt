@@ -36,7 +36,7 @@ module _ (E : Era) (m : Memory) (team : Team) (g : Ghost) (k : ℕ) (s : Scan) (
   steps : Stepping E m.front g.size g.writer g.kind s
   steps = me.stepping s is.scans
 
-  place : (E.start ≤ 64 * s.page) × (64 * s.page < m.front)
+  pub place : (E.start ≤ 64 * s.page) × (64 * s.page < m.front)
   place = ⊎_elim (λ b. absurd (no_board b)) (λ y. y) mine.place
 
   before_board : s.page < E.board / 64
@@ -67,7 +67,7 @@ module _ (E : Era) (m : Memory) (team : Team) (g : Ghost) (k : ℕ) (s : Scan) (
       (cases_lt x (a + g.size a))
 
   -- the page's crossing
-  crossing : (0 < g.size (m.cross s.page)) × (g.writer (m.cross s.page) ≡ 0) × (m.cross s.page ≤ 64 * s.page) × (64 * s.page < m.cross s.page + g.size (m.cross s.page))
+  pub crossing : (0 < g.size (m.cross s.page)) × (g.writer (m.cross s.page) ≡ 0) × (m.cross s.page ≤ 64 * s.page) × (64 * s.page < m.cross s.page + g.size (m.cross s.page))
   crossing =
       let first : 0 < g.size E.start = ⊎_elim (λ e. absurd (omega (arith, e, place))) (λ e. e) inv.laid.start in
       let o = over (64 * s.page) E.start (64 * s.page) (omega arith) first place.0 place.1 (omega arith) in
@@ -134,27 +134,32 @@ module _ (E : Era) (m : Memory) (team : Team) (g : Ghost) (k : ℕ) (s : Scan) (
           let e : is_field (kind_at head a) (x - a) ≡ true = rw kd at q.1 in
           enters_past_no_field (seen_at a (kind_at head a) (len + 1)) (kind_at head a) (len + 1) (omega arith) refl refl s.cursor x c (omega (arith, q.0)) b o e
 
-  -- the header of the record over the page's first word
+  -- a record of the epoch's space that lies over a word of the page, or begins on it, lies below FRONT
+  lies_below : (a x : ℕ) → 0 < g.size a → a ≤ x → x < a + g.size a → x < m.front → 64 * s.page ≤ x → (E.start ≤ a) × (a + g.size a ≤ m.front)
+  lies_below a x st l n f b = let q = inv.laid.lies a st in let r = out.apart in let y = inv.laid.order in (omega (arith, q, r, y, l, n, f, b, place), omega (arith, q, r, y, l, n, f, b, place))
+
+  -- the record over the page's first word
+  pub first_lies : (a : ℕ) → s.over ≡ Some a → (E.start ≤ a) × (a + g.size a ≤ m.front)
+  first_lies a e = let o = steps.over a e in lies_below a (64 * s.page) o.0 o.2 o.3 place.1 (omega arith)
+
+  -- its header
   pub enters_first : (a len serial mutator : ℕ) (head : HeaderKind) → s.over ≡ Some a → s.cursor ≡ 64 * s.page → decode (m.heap a) ≡ HeaderWord head len serial mutator
       → Keeps E m m team (with_worker team k (scanning (team.worker k) (in_record E s a (kind_at head a) (len + 1)))) g
   enters_first a len serial mutator head e c d =
       let o = steps.over a e in
-      let w : (E.start ≤ a) × (a + g.size a ≤ m.front) = (let q = inv.laid.lies a o.0 in let r = out.apart in let y = inv.laid.order in (omega (arith, q, r, y, o, place), omega (arith, q, r, y, o, place))) in
+      let w = first_lies a e in
       enters a len serial mutator head o.0 o.1 w.0 w.1 (omega (arith, o.2, c)) (omega (arith, o.3, c)) d
 
-  -- the header of the next record
-  pub enters_next : (r : Seen) (len serial mutator : ℕ) (head : HeaderKind) → s.current ≡ Some r → s.cursor ≡ r.next → s.cursor < 64 * s.page + 64 → (s.inner ≡ true) ⊎ (s.in_place ≡ false)
-      → decode (m.heap s.cursor) ≡ HeaderWord head len serial mutator → Keeps E m m team (with_worker team k (scanning (team.worker k) (in_record E s s.cursor (kind_at head s.cursor) (len + 1)))) g
-  enters_next r len serial mutator head e c p i d =
+  -- the next record stands below FRONT, and nobody writes it
+  pub next_lies : (r : Seen) → s.current ≡ Some r → s.cursor ≡ r.next → s.cursor < 64 * s.page + 64 → (s.inner ≡ true) ⊎ (s.in_place ≡ false)
+      → (0 < g.size s.cursor) × (g.writer s.cursor ≡ 0) × (E.start ≤ s.cursor) × (s.cursor + g.size s.cursor ≤ m.front)
+  next_lies r e c p i =
       let t = steps.current r e in
       let f : s.cursor < m.front = ⊎_elim (λ y. steps.inner y) (λ y. ⊎_elim (λ b. absurd (no_board b)) (λ q. omega (arith, q, p)) (steps.full y)) i in
       let st : 0 < g.size s.cursor = follows r t c f in
       let b = steps.begun in
-      let w = written s.cursor s.cursor st (omega arith) (omega (arith, st)) (omega (arith, b, p)) in
-      let y = inv.laid.lies s.cursor st in
-      let o = inv.laid.order in
-      let q = out.apart in
-      enters s.cursor len serial mutator head st w (omega (arith, place, b)) (omega (arith, y, f, o, q, place, b, st)) (omega arith) (omega (arith, st)) d
+      let y = lies_below s.cursor s.cursor st (omega arith) (omega (arith, st)) f b in
+      (st, written s.cursor s.cursor st (omega arith) (omega (arith, st)) (omega (arith, b, p)), y.0, y.1)
     where
       follows : (r : Seen) → IsIn E m.front g.size g.writer g.kind s.cursor r → s.cursor ≡ r.next → s.cursor < m.front → 0 < g.size s.cursor
       follows r t c f =
@@ -164,6 +169,13 @@ module _ (E : Era) (m : Memory) (team : Team) (g : Ghost) (k : ℕ) (s : Scan) (
           (λ y. absurd (omega (arith, y, whole, c, f)))
           (λ y. let q : r.at + g.size r.at ≡ s.cursor = omega (arith, whole, c) in rw q at y)
           (inv.laid.next r.at t.inside.0 (let st = t.stands in omega (arith, whole, c, f, st)) t.stands)
+
+  -- its header
+  pub enters_next : (r : Seen) (len serial mutator : ℕ) (head : HeaderKind) → s.current ≡ Some r → s.cursor ≡ r.next → s.cursor < 64 * s.page + 64 → (s.inner ≡ true) ⊎ (s.in_place ≡ false)
+      → decode (m.heap s.cursor) ≡ HeaderWord head len serial mutator → Keeps E m m team (with_worker team k (scanning (team.worker k) (in_record E s s.cursor (kind_at head s.cursor) (len + 1)))) g
+  enters_next r len serial mutator head e c p i d =
+      let y = next_lies r e c p i in
+      enters s.cursor len serial mutator head y.0 y.1 y.2 y.3 (omega arith) (let st = y.0 in omega (arith, st)) d
 
   -- FRONT is read at a record's end
   pub sees_front : Keeps E m m team (with_worker team k (scanning (team.worker k) (cond (eqb s.cursor m.front) (record s { ended = true }) (record s { inner = true })))) g

@@ -20,17 +20,29 @@ pub record HasStock (team : Team) (k : ℕ) (q : Stock) : Type 0 where
 
 -- ---- pages claimed
 
+-- The area has room for n pages, and so many words are owed from then on. While the epoch is not traced there is room beside the
+-- words owed, and these stay.
+pub record HasRoom (E : Era) (m : Memory) (area : AreaWord) (n owed : ℕ) : Type 0 where
+  pub room : area.front + 64 * n ≤ area.low
+  pub beside : m.traced ≤ E.epoch → (owed ≡ area.owed) × (area.front + 64 * n + owed ≤ area.low)
+  pub small : owed ≤ area.owed
+
+-- the area with LOW n pages lower, and so much owed
+abbrev pub lowered : AreaWord → (n owed : ℕ) → AreaWord
+lowered area n owed = record { front = area.front; low = area.low - 64 * n; owed = owed }
+
 -- what is owed beside the words that a worker claims: nothing any more, where it has seen that the epoch is traced
 abbrev pub owed_beside : Bool → AreaWord → ℕ
 owed_beside traced_seen area = if traced_seen then 0 else area.owed
 
--- there is room for n pages beside the words owed
-abbrev pub HasRoom : Bool → AreaWord → ℕ → Type 0
-HasRoom traced_seen area n = area.front + 64 * n + owed_beside traced_seen area ≤ area.low
+-- a worker sees room for n pages beside the words owed
+abbrev pub SeesRoom : Bool → AreaWord → ℕ → Type 0
+SeesRoom traced_seen area n = area.front + 64 * n + owed_beside traced_seen area ≤ area.low
 
--- the area with LOW n pages lower
-abbrev pub lowered : Bool → AreaWord → ℕ → AreaWord
-lowered traced_seen area n = record { front = area.front; low = area.low - 64 * n; owed = owed_beside traced_seen area }
+-- what it sees is so
+abbrev pub RoomIsSeen : Type 0
+RoomIsSeen = (E : Era) (m : Memory) (team : Team) (g : Ghost) (k n : ℕ) (area : AreaWord) → Ready E m team g k → SeesRoom (team.worker k).traced_seen area n
+    → HasRoom E m area n (owed_beside (team.worker k).traced_seen area)
 
 -- n pages below LOW, nothing of them 0 or open yet, claimed in an epoch whose space has this first word
 abbrev pub claimed : (epoch start : ℕ) → AreaWord → ℕ → Stock
@@ -44,9 +56,9 @@ claimed epoch start area n = record {
 
 -- the area word is exchanged by a running mutator
 abbrev pub StocksAreClaimed : Type 0
-StocksAreClaimed = (E : Era) (m : Memory) (team : Team) (g : Ghost) (k n : ℕ) (area : AreaWord) → Ready E m team g k → is_running (team.worker k).post ≡ true
-    → IsAreaNow E m area → HasRoom (team.worker k).traced_seen area n
-    → Steps E m team g k (Some (AreaIs (to_space E.epoch) (lowered (team.worker k).traced_seen area n))) (stocked (team.worker k) (claimed (team.worker k).epoch E.start area n)) g
+StocksAreClaimed = (E : Era) (m : Memory) (team : Team) (g : Ghost) (k n owed : ℕ) (area : AreaWord) → Ready E m team g k → is_running (team.worker k).post ≡ true
+    → IsAreaNow E m area → HasRoom E m area n owed
+    → Steps E m team g k (Some (AreaIs (to_space E.epoch) (lowered area n owed))) (stocked (team.worker k) (claimed (team.worker k).epoch E.start area n)) g
 
 -- ---- words made 0
 

@@ -1,5 +1,5 @@
 -- What a running mutator's registers, and the words that it accesses, are to the plain machine.
-use Rattle.std.specs.Prelude.{◌≡◌, ℕ, ◌+◌, ◌/◌, ◌^◌, ◌<◌, ⊤, true, length, Option, Some, None, slice_get}
+use Rattle.std.specs.Prelude.{◌≡◌, ℕ, ◌+◌, ◌/◌, ◌^◌, ◌<◌, ⊤, true, length, Option, Some, None, slice_get, false}
 use Rattle.heap_words.specs.declared.kind.Kind.{Kind as HeaderKind}
 use Rattle.heap_words.specs.Decoded.{NumberWord, PointerWord, HeaderWord, decode, number_in}
 use Rattle.heap_words.specs.Word.{number_word}
@@ -12,7 +12,7 @@ use Rattle.heap_state.specs.Era.{Era, Memory}
 use Rattle.heap_state.specs.Ghost.{Ghost, said_kind}
 use Rattle.heap_state.specs.Parts.Knowledge.{HasRole, Accesses}
 use Rattle.heap_state.specs.Values.{Shown}
-use Rattle.heap_state.specs.Worker.{Team, Role, FieldRole, NumberRole, Access, is_running}
+use Rattle.heap_state.specs.Worker.{Team, Role, FieldRole, NumberRole, Access, is_mutator, is_late}
 use Rattle.heap_laws.specs.Fields.{IsWordOf, MayStore, StandsFor}
 use Rattle.heap_laws.specs.MutatorSteps.{MayHold, HoldsValue}
 use Rattle.heap_laws.specs.MutatorStores.{IsAs}
@@ -20,19 +20,19 @@ use Rattle.heap_laws.specs.Steps.{Ready}
 
 -- ---- mutators
 
--- mutator k runs, and is like the plain mutator q
-pub record IsRunner (E : Era) (m : Memory) (team : Team) (g : Ghost) (p : plain.Plain) (k : ℕ) (q : plain.Mutator) : Type 0 where
+-- mutator k is like the plain mutator q
+pub record IsMutator (E : Era) (m : Memory) (team : Team) (g : Ghost) (p : plain.Plain) (k : ℕ) (q : plain.Mutator) : Type 0 where
   pub is : slice_get p.mutators k ≡ Some q
   pub same : IsAs g p.heap k (team.worker k) q
 
--- each running mutator has its plain one
-abbrev pub RunnersAreShown : Type 0
-RunnersAreShown = (E : Era) (m : Memory) (team : Team) (g : Ghost) (p : plain.Plain) (k : ℕ) → Ready E m team g k → Shown E m team g p
-    → is_running (team.worker k).post ≡ true → (q : plain.Mutator) × IsRunner E m team g p k q
+-- each mutator has its plain one
+abbrev pub MutatorsAreShown : Type 0
+MutatorsAreShown = (E : Era) (m : Memory) (team : Team) (g : Ghost) (p : plain.Plain) (k : ℕ) → Ready E m team g k → Shown E m team g p
+    → is_mutator (team.worker k).post ≡ true → (q : plain.Mutator) × IsMutator E m team g p k q
 
 -- ---- registers
 
--- Register j of a running mutator without an end holds what its plain register has: where it is a number that number, and where it
+-- Register j of a mutator without an end that is not late holds what its plain register has: where it is a number that number, and where it
 -- is a pointer a reference to the record that stands there.
 pub record RegisterHolds (E : Era) (g : Ghost) (w : ℕ) (y : Value) : Type 0 where
   pub holds : HoldsValue E g w y
@@ -40,8 +40,8 @@ pub record RegisterHolds (E : Era) (g : Ghost) (w : ℕ) (y : Value) : Type 0 wh
   pub reference : (a : ℕ) → decode w ≡ PointerWord a → y ≡ Reference (g.identity a)
 
 abbrev pub RegistersHold : Type 0
-RegistersHold = (E : Era) (m : Memory) (team : Team) (g : Ghost) (p : plain.Plain) (k : ℕ) (q : plain.Mutator) (j : ℕ) → Ready E m team g k → IsRunner E m team g p k q
-    → is_running (team.worker k).post ≡ true → (team.worker k).account.end ≡ None → j < 8
+RegistersHold = (E : Era) (m : Memory) (team : Team) (g : Ghost) (p : plain.Plain) (k : ℕ) (q : plain.Mutator) (j : ℕ) → Ready E m team g k → IsMutator E m team g p k q
+    → is_mutator (team.worker k).post ≡ true → is_late E.epoch (team.worker k) ≡ false → (team.worker k).account.end ≡ None → j < 8
     → (y : Value) × (slice_get q.registers j ≡ Some y) × RegisterHolds E g ((team.worker k).registers j) y
 
 -- ---- headers

@@ -11,7 +11,7 @@ use Rattle.heap_state.specs.Era.{Era, Memory}
 use Rattle.heap_state.specs.Ghost.{Ghost, header_kind}
 use Rattle.heap_state.specs.Parts.Knowledge.{HasRole}
 use Rattle.heap_state.specs.Values.{Shown, Shows, value_of}
-use Rattle.heap_state.specs.Worker.{Team, Access, is_running}
+use Rattle.heap_state.specs.Worker.{Team, Access, is_mutator, is_late}
 use Rattle.heap_laws.specs.MutatorSteps.{MayHold}
 use Rattle.heap_laws.specs.Steps.{Ready}
 
@@ -69,9 +69,9 @@ abbrev pub BoardIsLoaded : Type 0
 BoardIsLoaded = (E : Era) (m : Memory) (team : Team) (g : Ghost) (k x : ℕ) → Ready E m team g k → x < 16
     → m.page (E.board / 64) ≡ Open E.epoch → MayHold E g.size g.writer (m.heap (E.board + x))
 
--- the registers of a running mutator without an end are what it may hold
+-- the registers of a mutator without an end that is not behind are what it may hold
 abbrev pub RegistersAreHeld : Type 0
-RegistersAreHeld = (E : Era) (m : Memory) (team : Team) (g : Ghost) (k j : ℕ) → Ready E m team g k → is_running (team.worker k).post ≡ true
+RegistersAreHeld = (E : Era) (m : Memory) (team : Team) (g : Ghost) (k j : ℕ) → Ready E m team g k → is_mutator (team.worker k).post ≡ true → is_late E.epoch (team.worker k) ≡ false
     → (team.worker k).account.end ≡ None → j < 8 → MayHold E g.size g.writer ((team.worker k).registers j)
 
 -- a number is what a mutator may hold

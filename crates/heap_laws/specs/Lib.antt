@@ -17,3 +17,4 @@ pub mod FlippingReset
 pub mod Gating
 pub mod Composing
 pub mod Composites
+pub mod Answers

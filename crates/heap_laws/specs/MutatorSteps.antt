@@ -1,6 +1,6 @@
 -- What a running mutator may hold, and how it goes on: with other registers, another account, or another access.
 use Rattle.plain_state.specs.declared.value.Value.{Value}
-use Rattle.std.specs.Prelude.{◌≡◌, ℕ, ◌+◌, ◌<◌, true, Some, None, slice_set, Option}
+use Rattle.std.specs.Prelude.{◌≡◌, ℕ, ◌+◌, ◌<◌, true, Some, None, slice_set, Option, ◌↔◌}
 use Rattle.plain_state.specs.State as plain
 use Rattle.space_map.specs.declared.page_word.PageWord.TheVariants.{Open}
 use Rattle.heap_state.specs.Era.{Era, Memory}
@@ -19,6 +19,10 @@ pub record MayHold (E : Era) (size writer : ℕ → ℕ) (w : ℕ) : Type 0 wher
 pub record HoldsValue (E : Era) (g : Ghost) (w : ℕ) (y : Value) : Type 0 where
   pub held : MayHold E g.size g.writer w
   pub denotes : value_of g.identity w ≡ Some y
+
+-- two words that a mutator may hold are equal exactly where they denote the same value
+abbrev pub SameWords : Type 0
+SameWords = (E : Era) (m : Memory) (team : Team) (g : Ghost) (k v w : ℕ) (x y : Value) → Ready E m team g k → HoldsValue E g v x → HoldsValue E g w y → (v ≡ w) ↔ (x ≡ y)
 
 -- Mutator w goes on as `next`. It stands where it stood, and copies and scans what it did. What it knows it knew before, but
 -- for its access, a page found open and whether the epoch is traced, of which what it says is so. Its registers hold what a mutator may

@@ -1,6 +1,7 @@
 -- One step of a running mutator that is one of the plain machine: it stores nothing, or in a record, on the board, or a new
 -- record's header.
-use Rattle.std.specs.Prelude.{◌≡◌, ℕ, ◌+◌, ◌-◌, ◌/◌, ◌<◌, true, Some, None, slice_get, slice_set}
+use Rattle.plain_state.specs.declared.value.Identity.{Identity}
+use Rattle.std.specs.Prelude.{◌≡◌, ℕ, ◌+◌, ◌-◌, ◌*◌, ◌/◌, ◌<◌, true, Some, None, slice_get, slice_set}
 use Rattle.heap_words.specs.Decoded.{PointerWord, decode}
 use Rattle.plain_state.specs.declared.end.End.{End}
 use Rattle.plain_state.specs.declared.end.End.TheVariants.{HeapFull}
@@ -18,7 +19,7 @@ use Rattle.heap_state.specs.Ghost.{Ghost}
 use Rattle.heap_state.specs.Values.{Shown, Shows, Accounts, RegistersShow, value_of}
 use Rattle.heap_state.specs.Worker.{Worker, Team, Stock, is_running}
 use Rattle.heap_state.specs.Functions.{put}
-use Rattle.heap_laws.specs.Allocating.{HasRoom}
+use Rattle.heap_laws.specs.Allocating.{SeesRoom}
 use Rattle.heap_laws.specs.Fields.{IsWordOf, MayStore, StandsFor}
 use Rattle.heap_laws.specs.MutatorSteps.{with_mutator, HoldsValue, GoesOn}
 use Rattle.heap_laws.specs.Placing.{PlacesNext, born, next_identity}
@@ -68,9 +69,13 @@ with_record w s z d pointer = record w {
   registers = put w.registers d pointer;
 }
 
--- the plain mutator k with a reference to the next record of its own in register d
+-- the next record that mutator k makes in the plain heap
+abbrev pub plain_next : plain.Heap → ℕ → Identity
+plain_next heap k = record { mutator = k; serial = plain.serial_of heap k + 1 }
+
+-- the plain mutator k with a reference to it in register d
 abbrev pub with_reference : plain.Heap → ℕ → plain.Mutator → ℕ → plain.Mutator
-with_reference heap k q d = record q { registers = slice_set q.registers d (Reference (record { mutator = k; serial = plain.serial_of heap k + 1 })) }
+with_reference heap k q d = record q { registers = slice_set q.registers d (Reference (plain_next heap k)) }
 
 -- the store of a new record's header: the plain heap gains the record that the words behind it show
 abbrev pub MutatorsPlace : Type 0
@@ -94,13 +99,16 @@ MutatorsEnd = (E : Era) (m : Memory) (team : Team) (g : Ghost) (p : plain.Plain)
     → StepsTo E m team g k None (with_end (team.worker k) why) g (with_mutator p k (record q { end = Some why }))
 
 -- Mutator k has seen that its epoch is traced, and then reads in AREA that there is too little room for the pages that it asks
--- for: nothing is owed any more, and it gets its end, with the words of room and those copied in this epoch.
-pub record EndsFull (E : Era) (m : Memory) (team : Team) (g : Ghost) (p : plain.Plain) (k : ℕ) (q : plain.Mutator) (why : End) : Type 0 where
+-- for: nothing is owed any more, and it gets its end, with the words from FRONT to LOW and those copied below FRONT.
+pub record EndsFull (E : Era) (m : Memory) (team : Team) (g : Ghost) (p : plain.Plain) (k : ℕ) (q : plain.Mutator) (asked room live : ℕ) : Type 0 where
   pub traced : m.traced ≡ E.epoch + 1
-  pub ends : StepsTo E m team g k None (with_end (team.worker k) why) g (with_mutator p k (record q { end = Some why }))
+  pub room_is : m.front + room ≡ m.low
+  pub live_is : E.start + live ≡ m.front
+  pub short : room < 64 * asked
+  pub ends : StepsTo E m team g k None (with_end (team.worker k) (HeapFull asked room live)) g (with_mutator p k (record q { end = Some (HeapFull asked room live) }))
 
 abbrev pub MutatorsFindNoRoom : Type 0
 MutatorsFindNoRoom = (E : Era) (m : Memory) (team : Team) (g : Ghost) (p : plain.Plain) (k asked : ℕ) (q : plain.Mutator) (area : AreaWord) → Ready E m team g k
     → is_running (team.worker k).post ≡ true → Shown E m team g p → slice_get p.mutators k ≡ Some q
-    → IsAreaNow E m area → (team.worker k).traced_seen ≡ true → ¬ (HasRoom true area asked)
-    → EndsFull E m team g p k q (HeapFull asked (area.low - area.front) area.front)
+    → IsAreaNow E m area → (team.worker k).traced_seen ≡ true → ¬ (SeesRoom true area asked)
+    → EndsFull E m team g p k q asked (area.low - area.front) area.front

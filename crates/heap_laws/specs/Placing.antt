@@ -1,11 +1,10 @@
 -- A new record in a mutator's run: its header is stored last, and the words behind it are 0 before.
 use Rattle.heap_laws.specs.Steps.{Ready}
-use Rattle.std.specs.Prelude.{◌≡◌, ℕ, ◌+◌, ◌-◌, ◌<◌, ◌≤◌, replicate}
+use Rattle.std.specs.Prelude.{◌≡◌, ℕ, ◌+◌, ◌-◌, ◌<◌, ◌≤◌}
 use Rattle.plain_state.specs.declared.kind.Kind.{Kind}
 use Rattle.heap_words.specs.Decoded.{HeaderWord, decode}
 use Rattle.plain_state.specs.declared.value.Identity.{Identity}
-use Rattle.plain_state.specs.declared.value.Value.TheVariants.{Number}
-use Rattle.plain_state.specs.State as plain
+use Rattle.plain_state.specs.Writing.{zeros}
 use Rattle.heap_state.specs.Era.{Era, Memory}
 use Rattle.heap_state.specs.Functions.{put}
 use Rattle.heap_state.specs.Ghost.{Ghost, header_kind}
@@ -23,10 +22,6 @@ next_identity team k = record { mutator = k; serial = (team.worker k).account.se
 abbrev pub born : Ghost → (a size : ℕ) → Kind → Identity → Ghost
 born g a z c i = record g { size = put g.size a z; writer = put g.writer a 0; kind = put g.kind a c; identity = put g.identity a i }
 
--- a record of this kind of n words, all 0
-abbrev pub zeros_of : Kind → ℕ → plain.Record
-zeros_of c n = record { kind = c; values = replicate n (Number 0) }
-
 -- ---- the law
 
 -- worker k runs, and has a run with room for a record of this kind and size, whose header is v
@@ -40,4 +35,4 @@ pub record PlacesNext (team : Team) (k : ℕ) (q : Stock) (c : Kind) (z v : ℕ)
 -- the words of a run, which are 0, show a record whose values all are 0
 abbrev pub ZerosShow : Type 0
 ZerosShow = (E : Era) (m : Memory) (team : Team) (g : Ghost) (k : ℕ) (q : Stock) (c : Kind) (z v : ℕ) → Ready E m team g k
-    → PlacesNext team k q c z v → Shows (value_of g.identity) m.heap q.at c z (zeros_of c (z - 1))
+    → PlacesNext team k q c z v → Shows (value_of g.identity) m.heap q.at c z (zeros c (z - 1))

@@ -1,12 +1,13 @@
 //! Allocation: pages are claimed, made 0 and opened, and new records placed in them.
 
-ghost use Rattle.heap_laws.specs.Allocating.{StocksAreClaimed, StocksAreOpened, StocksAreZeroed};
+ghost use Rattle.heap_laws.specs.Allocating.{RoomIsSeen, StocksAreClaimed, StocksAreOpened, StocksAreZeroed};
 ghost use Rattle.heap_laws.specs.MutatorStores.{MutatorsPlace};
 ghost use Rattle.heap_laws.specs.Placing.{ZerosShow};
 
 /// A running mutator exchanges the area word and has pages below LOW.
 pub fn stocks_are_claimed()
-    ensures { StocksAreClaimed }
+    ensures room { RoomIsSeen }
+    ensures claimed { StocksAreClaimed }
 {}
 
 /// A word of what is claimed is made 0.

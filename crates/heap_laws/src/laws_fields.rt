@@ -1,6 +1,6 @@
 //! Steps of a mutator that are steps of the plain machine, and what its loads may read.
 
-ghost use Rattle.heap_laws.specs.Effects.{RunnersAreShown, RegistersHold, HeadersSay, AccessesAreValues, BoardWordsAreValues};
+ghost use Rattle.heap_laws.specs.Effects.{MutatorsAreShown, RegistersHold, HeadersSay, AccessesAreValues, BoardWordsAreValues};
 ghost use Rattle.heap_laws.specs.Fields.{AccessesAreAllowed, WordsAreLoaded, BoardIsLoaded, HeadersAreRead, RegistersAreHeld, NumbersAreHeld};
 ghost use Rattle.heap_laws.specs.MutatorSteps.{GoesOnSo};
 ghost use Rattle.heap_laws.specs.MutatorStores.{MutatorsLearn, MutatorsStep, MutatorsStore, MutatorsStoreOnBoard, MutatorsEnd, MutatorsFindNoRoom};
@@ -18,7 +18,7 @@ pub fn words_are_loaded()
 
 /// What a mutator's registers, the headers that they lead to and the words that it accesses are to the plain machine.
 pub fn mutators_are_shown()
-    ensures runners { RunnersAreShown }
+    ensures mutators { MutatorsAreShown }
     ensures registers { RegistersHold }
     ensures headers { HeadersSay }
     ensures accesses { AccessesAreValues }

@@ -5,6 +5,7 @@
 #![tactic(auto)]
 
 mod laws_allocating;
+mod laws_answers;
 mod laws_composing;
 mod laws_copying;
 mod laws_fields;
@@ -17,6 +18,10 @@ mod laws_tracing;
 
 pub use laws_allocating::{
     mutators_place, stocks_are_claimed, stocks_are_opened, stocks_are_zeroed,
+};
+pub use laws_answers::{
+    areas_are_answered, copies_are_answered, gates_are_answered, scans_are_answered,
+    words_are_compared,
 };
 pub use laws_composing::{
     knowledge_is_forgotten, registers_are_settled, rounds_are_ended, steps_follow, steps_forget,

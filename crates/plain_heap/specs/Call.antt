@@ -13,6 +13,7 @@ use Rattle.plain_state.specs.declared.value.Value.{Value}
 use Rattle.plain_state.specs.declared.value.Value.TheVariants.{Number, Reference}
 use Rattle.plain_state.specs.Operation.{one_if, applied}
 use Rattle.plain_state.specs.State.{Record, Heap, Mutator, record_of, serial_of}
+pub use Rattle.plain_state.specs.Writing.{zeros}
 use Rattle.plain_state.specs.Writing.{stored, with_board, gained}
 use Rattle.mutator_asm.specs.declared.instr.Instr.{Instr}
 use Rattle.mutator_asm.specs.declared.instr.Instr.TheVariants as instrs
@@ -109,10 +110,6 @@ store_in heap i None x v = Err OutOfRange
 store_in heap i (Some r) x v = do
   v ← may_hold r.kind v
   Ok (stored heap i r x v)
-
--- a record of n values, each the number 0
-abbrev pub zeros : Kind → ℕ → Record
-zeros kind n = record { kind = kind; values = replicate n (Number 0) }
 
 -- mutator m allocates a record of n values, all 0, and register d refers to it
 abbrev pub allocated : ℕ → Heap → Mutator → Kind → ℕ → ℕ → After

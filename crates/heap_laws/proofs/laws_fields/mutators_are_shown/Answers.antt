@@ -1,8 +1,8 @@
-use Rattle.heap_laws.proofs.Effects.{runners_are_shown, registers_hold, headers_say, accesses_are_values, board_words_are_values}
+use Rattle.heap_laws.proofs.Effects.{mutators_are_shown, registers_hold, headers_say, accesses_are_values, board_words_are_values}
 use Rattle.heap_laws.proofs.laws_fields.mutators_are_shown.Goals as goal
 
-pub returns-clause-runners : goal.returns-clause-runners
-returns-clause-runners c = runners_are_shown
+pub returns-clause-mutators : goal.returns-clause-mutators
+returns-clause-mutators c = mutators_are_shown
 
 pub returns-clause-registers : goal.returns-clause-registers
 returns-clause-registers c = registers_hold
