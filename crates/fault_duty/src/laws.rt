@@ -1,6 +1,6 @@
 //! What holds of the machines. Each function here does nothing: its contract is what is proved.
 
-ghost use Rattle.fault_duty.specs.Rows.{BoardIsClaimed, FillingPageIsClaimed, EpochIsMarked, TracedEpochIsLeft, ScannerEndsWithMutators, LostMarkEnds, LostBoardEnds, LostFillingPageEnds, MovedFrontEnds, BehindForbidsEnd, ScannedBoardForbidsEnd, FullPageIsWanted, NextFullPageIsChosen, OpenPageIsLeft, FillingPageIsNotWanted, NoFillingPage};
+ghost use Rattle.fault_duty.specs.Rows.{BoardIsClaimed, FillingPageIsClaimed, EpochIsMarked, TracedEpochIsLeft, ScannerEndsWithMutators, LostMarkEnds, LostBoardEnds, LostFillingPageEnds, MovedFrontEnds, BehindForbidsEnd, ScannedBoardForbidsEnd, FullPageIsWanted, NextFullPageIsChosen, OpenPageIsLeft, FillingPageIsNotWanted, NoFillingPage, LaterWantedPageEnds, LaterFillingPageEnds};
 
 /// Rounds of the duty, worked out step by step with all words as numbers.
 pub fn rows_are_worked_out()
@@ -20,4 +20,6 @@ pub fn rows_are_worked_out()
     ensures open_page_is_left { OpenPageIsLeft }
     ensures filling_page_is_not_wanted { FillingPageIsNotWanted }
     ensures no_filling_page { NoFillingPage }
+    ensures later_wanted_page { LaterWantedPageEnds }
+    ensures later_filling_page { LaterFillingPageEnds }
 {}

@@ -61,7 +61,7 @@ abbrev pub Parks : Type 0
 Parks =
     Passes Park ((Load 0, Value 0x0100_0102_0000_0000) ∷ (Exchange 0 0x0100_0102_0000_0000 0x0100_0002_0000_0000, Won) ∷ []) (passed.Went 0x0100_0002_0000_0000)
 
--- an exchange that is lost to another mutator is made again from its word
+-- where the exchange is lost to another mutator, the gate is loaded again
 abbrev pub ExchangeIsTriedAgain : Type 0
 ExchangeIsTriedAgain =
     Passes Park ((Load 0, Value 0x0100_0203_0000_0000) ∷ (Exchange 0 0x0100_0203_0000_0000 0x0100_0103_0000_0000, Lost 0x0100_0103_0000_0000) ∷ (Load 0, Value 0x0100_0103_0000_0000) ∷ (Exchange 0 0x0100_0103_0000_0000 0x0100_0003_0000_0000, Won) ∷ []) (passed.Went 0x0100_0003_0000_0000)

@@ -8,6 +8,7 @@ use Rattle.atom_store.specs.declared.turn.Turn.{Turn}
 use Rattle.atom_store.specs.declared.turn.Turn.TheVariants.{More, Finished}
 use Rattle.atom_store.specs.Acts.{Acts}
 use Rattle.atom_store.specs.Step.{reply_of, words_after}
+use Rattle.atom_store.proofs.Acting.{no_step}
 use Rattle.atom_store.proofs.Steps.{slice_index-words_after, slice_index-won, won_exactly, lost_tells_another, words_after-lost}
 use Rattle.space_map.specs.declared.gate_word.GateWord.{GateWord}
 use Rattle.space_map.specs.declared.page_word.PageWord.TheVariants.{Scanning}
@@ -83,9 +84,6 @@ gate_shows epoch loaded word None tells = cc
 
 -- ---- all
 
-no_step : false ≡ true → ⊥
-no_step is = cc
-
 pub wins : (c : Claiming) (stage : ClaimStage) (before after : List ℕ) → IsSoundClaim c → HoldsTable c.layout.pages before
     → Acts claim_machine (at c stage) before after (Finished Won) → WinsPage c before after
 wins c (LooksAtPlace k) before after sound whole acts = absurd (place_never_won c.page k (word_in c.layout.pages (Announce k) before) _ _ acts.tells)
@@ -108,24 +106,24 @@ wins c Exchanges before after sound whole acts =
     }
 wins c (Ended result) before after sound whole acts = absurd (no_step acts.has_step)
 
-pub takes : (c : Claiming) (stage : ClaimStage) (before after : List ℕ) (word : ℕ)
+pub takes : (c : Claiming) (stage : ClaimStage) (before after : List ℕ) (word : ℕ) → IsSoundClaim (at c stage)
     → Acts claim_machine (at c stage) before after (Finished (Taken word)) → ShowsTaken c before word × (after ≡ before)
-takes c (LooksAtPlace k) before after word acts =
+takes c (LooksAtPlace k) before after word sound acts =
     let announced : ℕ = word_in c.layout.pages (Announce k) before in
     let shows = place_shows k announced word (names_below_end c.page announced) (nat_eq k 23) acts.tells in
     let below = names_below c.page announced shows.0 in
-    (Announced k shows.1 (rw shows.1 below.0) (rw shows.1 below.1), acts.makes)
+    (Announced k sound.stage shows.1 (rw shows.1 below.0) (rw shows.1 below.1), acts.makes)
   where
     names_below : (page announced : ℕ) → names_below_end page announced ≡ true → (0 < announced) × (announced ≤ 64 * (page + 1))
     names_below page announced is = grind (arith, nat_tests)
-takes c LooksAtGate before after word acts =
+takes c LooksAtGate before after word sound acts =
     let loaded : ℕ = word_in c.layout.pages Gate before in
     let shows = gate_shows c.epoch loaded word (decode_gate loaded) acts.tells in
     (OtherEpoch shows.gate shows.same (ap decode_gate shows.same ∙ shows.is) shows.other, acts.makes)
-takes c Exchanges before after word acts =
+takes c Exchanges before after word sound acts =
     let place : ℕ = place_of c.layout.pages (Page c.page) in
     let new : ℕ = encode_page (Scanning c.epoch c.worker) in
     let lost = exchange_loses c (reply_of (Exchange place (encode_page c.found) new) before) word acts.tells in
     let another = lost_tells_another place (encode_page c.found) new word before lost in
     (OtherWord another.0 another.1, acts.makes ∙ words_after-lost place (encode_page c.found) new word before lost)
-takes c (Ended result) before after word acts = absurd (no_step acts.has_step)
+takes c (Ended result) before after word sound acts = absurd (no_step acts.has_step)

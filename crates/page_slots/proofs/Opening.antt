@@ -3,6 +3,7 @@ use Rattle.std.proofs.Common.{◌≡◌, ℕ, ◌<◌, ◌≤◌, true, false, L
 use Rattle.atom_store.specs.declared.step.Step.TheVariants.{Store}
 use Rattle.atom_store.specs.declared.turn.Turn.TheVariants.{Finished}
 use Rattle.atom_store.specs.Acts.{Acts}
+use Rattle.atom_store.proofs.Acting.{no_step}
 use Rattle.atom_store.proofs.Steps.{slice_index-words_after, slice_index-stored}
 use Rattle.space_map.specs.declared.page_word.PageWord.TheVariants.{Open}
 use Rattle.space_map.specs.PageWord.{decode_page, encode_page}
@@ -16,9 +17,6 @@ use Rattle.page_slots.specs.declared.open_stage.OpenStage.TheVariants.{StoresOpe
 use Rattle.page_slots.specs.Open.{Opening, open_machine}
 use Rattle.page_slots.specs.Soundness.{IsSoundOpening}
 use Rattle.page_slots.specs.Theorems.{OpensPage}
-
-no_step : false ≡ true → ⊥
-no_step is = cc
 
 pub opens : (o : Opening) (stage : OpenStage) (before after : List ℕ) (outcome : Opened) → IsSoundOpening o → HoldsTable o.layout.pages before
     → Acts open_machine (record o { stage = stage }) before after (Finished outcome) → OpensPage o before after

@@ -33,12 +33,12 @@ WonPagesAreClaimed = (c : Claiming) (before after : List ℕ) → IsSoundClaim c
 -- A word of the table shows that a page is not to be had: a place is announced below the page's end, the gate is of another
 -- epoch than the claim, or the page's word is no longer the one that was read.
 pub data ShowsTaken (c : Claiming) (words : List ℕ) (word : ℕ) : Type 0 where
-  Announced : (k : ℕ) → word ≡ word_in c.layout.pages (Announce k) words → 0 < word → word ≤ first_word (c.page + 1) → ShowsTaken c words word
+  Announced : (k : ℕ) → k ≤ 23 → word ≡ word_in c.layout.pages (Announce k) words → 0 < word → word ≤ first_word (c.page + 1) → ShowsTaken c words word
   OtherEpoch : (gate : GateWord) → word ≡ word_in c.layout.pages Gate words → decode_gate word ≡ Some gate → gate.epoch ≢ c.epoch → ShowsTaken c words word
   OtherWord : word ≡ word_in c.layout.pages (Page c.page) words → word ≢ encode_page c.found → ShowsTaken c words word
 
 abbrev pub TakenPagesShowIt : Type 0
-TakenPagesShowIt = (c : Claiming) (before after : List ℕ) (word : ℕ)
+TakenPagesShowIt = (c : Claiming) (before after : List ℕ) (word : ℕ) → IsSoundClaim c
     → Acts claim_machine c before after (Finished (Taken word)) → ShowsTaken c before word × (after ≡ before)
 
 -- ---- the opening

@@ -28,6 +28,3 @@ pub use order::plain_run;
 pub use plain_state::{End, NoMemory};
 pub use printing::{print, push_lines, push_order};
 pub use state::{PlainState, plain_step};
-
-#[cfg(test)]
-mod tests;

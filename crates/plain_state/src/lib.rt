@@ -15,6 +15,3 @@ pub use no_memory::NoMemory;
 pub use operation::Operation;
 pub use sizes::{BOARD_WORDS, LONGEST_RECORD, MOST_PRINTED, NUMBERS, PAGE_WORDS, REGISTERS};
 pub use value::{Identity, Value};
-
-#[cfg(test)]
-mod tests;

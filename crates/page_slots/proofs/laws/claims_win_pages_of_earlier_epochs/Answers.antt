@@ -5,4 +5,4 @@ pub returns-clause-won : goal.returns-clause-won
 returns-clause-won c = λ claim before after sound whole acts. wins claim claim.stage before after sound whole acts
 
 pub returns-clause-taken : goal.returns-clause-taken
-returns-clause-taken c = λ claim before after word acts. takes claim claim.stage before after word acts
+returns-clause-taken c = λ claim before after word sound acts. takes claim claim.stage before after word sound acts
