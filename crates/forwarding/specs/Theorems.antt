@@ -14,10 +14,11 @@ use Rattle.space_map.specs.declared.area_word.AreaWord.{AreaWord}
 use Rattle.space_map.specs.AreaWord.{encode_area}
 use Rattle.space_map.specs.Spaces.{to_space, first_word}
 use Rattle.space_map.specs.Table.{Row, Area, Cross, HeapWord, Announce, place_of}
+use Rattle.crossing_map.specs.Crossing.{first_page_from}
 use Rattle.forwarding.specs.declared.evac_stage.EvacStage.TheVariants.{LoadsHeader, TakesHeader, Announces, Reserves, StoresHeader, Clears, Ended}
 use Rattle.forwarding.specs.declared.kept_header.KeptHeader.{KeptHeader}
 use Rattle.forwarding.specs.declared.reserved.Reserved.{Reserved}
-use Rattle.forwarding.specs.Evacuation.{Evacuation, IsGoing, area_past, begun, front_of, size_of, wanted}
+use Rattle.forwarding.specs.Evacuation.{Evacuation, IsGoing, area_past, front_of, size_of, wanted}
 use Rattle.forwarding.specs.Keeping.{address_reserved, header_kept}
 use Rattle.forwarding.specs.Taken.{evac_machine, first_page, taken, told}
 use Rattle.forwarding.specs.Worked.{worked, copy, second, taken_by_another, header_lost, low_moved, front_moved, over_two_pages, header_alone, longest, longest_replies, words_before, words_after}
@@ -71,7 +72,7 @@ wants v met n = wanted (among evac_machine v met n)
 
 -- the number of pages that begin in the copy
 abbrev pub pages_begun : Reserved → ℕ
-pages_begun r = first_page (record { kept = r.kept; to = r.to + size_of r.kept }) - first_page r
+pages_begun r = first_page_from (r.to + size_of r.kept) - first_page r
 
 -- From the reserved address on: the header is stored; each word is loaded from the old record and stored; of each page that
 -- begins in the copy it is said that the copy lies over its first word; then the forward is stored, and what was announced

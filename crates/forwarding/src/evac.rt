@@ -18,6 +18,7 @@ use crate::loaded_word::LoadedWord;
 use crate::reserved::Reserved;
 use crate::to::To;
 use atom_store::{Reply, Step, Turn};
+use crossing_map::crossed;
 use record_layout::{Busy, Forward, pack_busy, pack_forward, read, read_forward};
 use space_map::{AreaWord, PAGE_WORDS, Spaces};
 use std::marker::Model;
@@ -231,7 +232,8 @@ impl Evac {
         if count < size(r.kept) {
             self.goes_to(EvacStage::LoadsWord(r, count))
         } else {
-            self.has_crossed(r, (r.to + (PAGE_WORDS - 1)) / PAGE_WORDS)
+            let (first, _) = crossed(r.to, size(r.kept));
+            self.has_crossed(r, first)
         }
     }
 

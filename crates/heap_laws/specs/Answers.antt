@@ -13,8 +13,8 @@ use Rattle.heap_state.specs.Era.{Era, Memory}
 use Rattle.heap_state.specs.Ghost.{Ghost, Lands}
 use Rattle.heap_state.specs.Parts.Knowledge.{Passes}
 use Rattle.heap_state.specs.Worker.{Team, Passage, Enter, Park, Request, Forwarded, Resume, Leave, Quest, Copy, Scan, Seen}
-use Rattle.heap_laws.specs.Gating.{gate_after}
-use Rattle.heap_laws.specs.ScanningWords.{AtField, IsScanning}
+use Rattle.heap_laws.specs.Gate.{gate_after}
+use Rattle.heap_laws.specs.Scanning.Words.{AtField, IsScanning}
 use Rattle.heap_laws.specs.Steps.{Ready, IsAreaNow}
 use Rattle.heap_laws.specs.Tracing.{IsFrontFor}
 

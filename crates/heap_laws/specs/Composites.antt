@@ -9,8 +9,8 @@ use Rattle.heap_state.specs.Functions.{put}
 use Rattle.heap_state.specs.Ghost.{Ghost, Leads}
 use Rattle.heap_state.specs.Worker.{Worker, Team, Register, Quest, Look, is_late}
 use Rattle.heap_laws.specs.Composing.{ends_round}
-use Rattle.heap_laws.specs.Flipping.{HasFoundCopy}
-use Rattle.heap_laws.specs.Scanning.{MayClaim, claiming, claim_of}
+use Rattle.heap_laws.specs.Flipping.Registers.{HasFoundCopy}
+use Rattle.heap_laws.specs.Scanning.Claims.{MayClaim, claiming, claim_of}
 use Rattle.heap_laws.specs.Steps.{Ready, Steps}
 use Rattle.heap_laws.specs.Tracing.{IsLooking, looking}
 

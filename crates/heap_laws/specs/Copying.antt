@@ -66,13 +66,13 @@ reserved g k a b size = record g {
 }
 
 -- there is room for a copy that has no place yet
-pub record HasRoom (m : Memory) (c : Copy) : Type 0 where
+pub record HasRoomForCopy (m : Memory) (c : Copy) : Type 0 where
   pub owed : c.size ≤ m.owed
   pub below_low : m.front + c.size ≤ m.low
 
 abbrev pub CopiesHaveRoom : Type 0
 CopiesHaveRoom = (E : Era) (m : Memory) (team : Team) (g : Ghost) (k : ℕ) (c : Copy) → Ready E m team g k
-    → (team.worker k).copy ≡ Some c → c.reserved ≡ false → HasRoom m c
+    → (team.worker k).copy ≡ Some c → c.reserved ≡ false → HasRoomForCopy m c
 
 -- FRONT moved by so many words, of those owed
 abbrev pub moved_by : ℕ → AreaWord → AreaWord

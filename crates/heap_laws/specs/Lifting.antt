@@ -12,7 +12,7 @@ use Rattle.heap_state.specs.Ghost.{Ghost}
 use Rattle.heap_state.specs.Table.{Table}
 use Rattle.heap_state.specs.Worker.{Worker, Reset}
 use Rattle.heap_laws.specs.Steps.{Ready, Steps, StepsTo}
-use Rattle.heap_laws.specs.Flipping.{Flips, flipped_gate, after_flip, next_ghost}
+use Rattle.heap_laws.specs.Flipping.Flip.{Flips, flipped_gate, after_flip, next_ghost}
 
 -- ---- one step
 

@@ -1,8 +1,8 @@
 //! Allocation: pages are claimed, made 0 and opened, and new records placed in them.
 
-ghost use Rattle.heap_laws.specs.Allocating.{RoomIsSeen, StocksAreClaimed, StocksAreOpened, StocksAreZeroed};
-ghost use Rattle.heap_laws.specs.MutatorStores.{MutatorsPlace};
-ghost use Rattle.heap_laws.specs.Placing.{ZerosShow};
+ghost use Rattle.heap_laws.specs.Allocation.Stocks.{RoomIsSeen, StocksAreClaimed, StocksAreOpened, StocksAreZeroed};
+ghost use Rattle.heap_laws.specs.Fields.Stores.{MutatorsPlace};
+ghost use Rattle.heap_laws.specs.Allocation.Records.{ZerosShow};
 
 /// A running mutator exchanges the area word and has pages below LOW.
 pub fn stocks_are_claimed()

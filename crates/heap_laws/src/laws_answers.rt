@@ -1,7 +1,7 @@
 //! What a load may answer, by what the worker is about; the row that is read is one of the table.
 
 ghost use Rattle.heap_laws.specs.Answers.{OldHeadersAreRead, CopiesAreThere, ScansAreAnswered, PassagesFit, AreasAreRead};
-ghost use Rattle.heap_laws.specs.MutatorSteps.{SameWords};
+ghost use Rattle.heap_laws.specs.Fields.Held.{SameWords};
 
 /// What stands in the place of an old record's header, and where the words of a copy are.
 pub fn copies_are_answered()

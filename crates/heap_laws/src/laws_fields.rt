@@ -1,9 +1,9 @@
 //! Steps of a mutator that are steps of the plain machine, and what its loads may read.
 
-ghost use Rattle.heap_laws.specs.Effects.{MutatorsAreShown, RegistersHold, HeadersSay, AccessesAreValues, BoardWordsAreValues};
-ghost use Rattle.heap_laws.specs.Fields.{AccessesAreAllowed, WordsAreLoaded, BoardIsLoaded, HeadersAreRead, RegistersAreHeld, NumbersAreHeld};
-ghost use Rattle.heap_laws.specs.MutatorSteps.{GoesOnSo};
-ghost use Rattle.heap_laws.specs.MutatorStores.{MutatorsLearn, MutatorsStep, MutatorsStore, MutatorsStoreOnBoard, MutatorsEnd, MutatorsFindNoRoom};
+ghost use Rattle.heap_laws.specs.Fields.Effects.{MutatorsAreShown, RegistersHold, HeadersSay, AccessesAreValues, BoardWordsAreValues};
+ghost use Rattle.heap_laws.specs.Fields.Words.{AccessesAreAllowed, WordsAreLoaded, BoardIsLoaded, HeadersAreRead, RegistersAreHeld, NumbersAreHeld};
+ghost use Rattle.heap_laws.specs.Fields.Held.{GoesOnSo};
+ghost use Rattle.heap_laws.specs.Fields.Stores.{MutatorsLearn, MutatorsStep, MutatorsStore, MutatorsStoreOnBoard, MutatorsEnd, MutatorsFindNoRoom};
 
 /// What a mutator loads leads into the epoch's space, to a record that nobody writes, and it may hold it in a register. Where
 /// a register leads, a record's own header stands, and an access to one of its words is what a load or store needs.

@@ -1,6 +1,6 @@
 //! The gate's other steps: a mutator attaches, parks, asks for a flip, has forwarded its registers, goes on, or leaves.
 
-ghost use Rattle.heap_laws.specs.Gating.{ReadingGateKeeps, SeeingTracedKeeps, PassingGateKeeps, TakingEpochKeeps, GatesFit};
+ghost use Rattle.heap_laws.specs.Gate.{ReadingGateKeeps, SeeingTracedKeeps, PassingGateKeeps, TakingEpochKeeps, GatesFit};
 
 /// What a worker reads of the gate and of TRACED.
 pub fn passages_are_made_ready()

@@ -23,7 +23,7 @@ use Rattle.page_scan.specs.declared.spot.Spot.TheVariants.{OnBoard, InRecord}
 use Rattle.page_scan.specs.Answering.{IsPacked, LeadsBack, ReplacesPointers, answered_by, answering, crossing_in, heap_in}
 use Rattle.page_scan.specs.Fields.{IsField, IsFieldOn, begins, fields_said}
 use Rattle.page_scan.specs.Scanning.{Scanning, address_of}
-use Rattle.page_scan.specs.Taken.{by_area, by_header, by_word, enters, goes_on, is_old, passes, record_at}
+use Rattle.page_scan.specs.Taken.{by_area, by_header, by_word, goes_on, is_old, passes, record_at}
 use Rattle.page_scan.specs.Theorems.{ScansPages}
 use Rattle.page_scan.proofs.Packed.{begins-next, begins-le, field-below, field-of, no_field-first, fields_end-le, first_field-is}
 use Rattle.page_scan.proofs.Replacing.{Replaced, begun-Replaced, unread, area_stays, cross_stays, passed, stored, ended-Replaced}

@@ -1,5 +1,5 @@
 -- The words that the scan of a page looks at, by the records that lie on the page.
-use Rattle.std.specs.Prelude.{ℕ, zero, suc, ◌+◌, ◌<◌, ◌≤◌, ⊤}
+use Rattle.std.specs.Prelude.{ℕ, zero, suc, ◌+◌, ◌<◌, ◌≤◌}
 use Rattle.heap_words.specs.Decoded.{Decoded, HeaderWord, decode}
 use Rattle.space_map.specs.Spaces.{first_word}
 use Rattle.heap_state.specs.FieldSpan.{fields_end}

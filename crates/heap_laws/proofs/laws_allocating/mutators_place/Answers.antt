@@ -1,5 +1,5 @@
-use Rattle.heap_laws.proofs.BirthShown.{zeros_show}
-use Rattle.heap_laws.proofs.MutatorPlaces.{mutators_place}
+use Rattle.heap_laws.proofs.Allocation.Shown.{zeros_show}
+use Rattle.heap_laws.proofs.Allocation.Placed.{mutators_place}
 use Rattle.heap_laws.proofs.laws_allocating.mutators_place.Goals as goal
 
 pub returns-clause-places : goal.returns-clause-places

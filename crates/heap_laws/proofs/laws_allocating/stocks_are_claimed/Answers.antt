@@ -1,4 +1,4 @@
-use Rattle.heap_laws.proofs.AllocRows.{claims_pages, room_is_seen}
+use Rattle.heap_laws.proofs.Allocation.Laws.{claims_pages, room_is_seen}
 use Rattle.heap_laws.proofs.laws_allocating.stocks_are_claimed.Goals as goal
 
 pub returns-clause-room : goal.returns-clause-room

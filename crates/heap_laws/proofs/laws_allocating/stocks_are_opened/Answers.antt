@@ -1,4 +1,4 @@
-use Rattle.heap_laws.proofs.AllocRows.{opens_pages}
+use Rattle.heap_laws.proofs.Allocation.Laws.{opens_pages}
 use Rattle.heap_laws.proofs.laws_allocating.stocks_are_opened.Goals as goal
 
 pub returns : goal.returns

@@ -1,4 +1,4 @@
-use Rattle.heap_laws.proofs.AllocRows.{zeroes_words}
+use Rattle.heap_laws.proofs.Allocation.Laws.{zeroes_words}
 use Rattle.heap_laws.proofs.laws_allocating.stocks_are_zeroed.Goals as goal
 
 pub returns : goal.returns

@@ -1,5 +1,5 @@
-use Rattle.heap_laws.proofs.Answers.{old_headers_are_read}
-use Rattle.heap_laws.proofs.Answers.{copies_are_there}
+use Rattle.heap_laws.proofs.Steps.Answers.{old_headers_are_read}
+use Rattle.heap_laws.proofs.Steps.Answers.{copies_are_there}
 use Rattle.heap_laws.proofs.laws_answers.copies_are_answered.Goals as goal
 
 pub returns-clause-headers : goal.returns-clause-headers

@@ -1,4 +1,4 @@
-use Rattle.heap_laws.proofs.Composites.{registers_are_passed, registers_find_forwards, registers_are_settled}
+use Rattle.heap_laws.proofs.Steps.Composites.{registers_are_passed, registers_find_forwards, registers_are_settled}
 use Rattle.heap_laws.proofs.laws_composing.registers_are_settled.Goals as goal
 
 pub returns-clause-passed : goal.returns-clause-passed

@@ -1,4 +1,4 @@
-use Rattle.heap_laws.proofs.Composites.{looks_at_last_page, claims_begin, rounds_end}
+use Rattle.heap_laws.proofs.Steps.Composites.{looks_at_last_page, claims_begin, rounds_end}
 use Rattle.heap_laws.proofs.laws_composing.rounds_are_ended.Goals as goal
 
 pub returns-clause-last : goal.returns-clause-last

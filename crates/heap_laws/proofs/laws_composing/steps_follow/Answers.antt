@@ -1,4 +1,4 @@
-use Rattle.heap_laws.proofs.Composing.{steps_are_ready, steps_follow, plain_steps_are_ready, plain_steps_follow}
+use Rattle.heap_laws.proofs.Steps.Composing.{steps_are_ready, steps_follow, plain_steps_are_ready, plain_steps_follow}
 use Rattle.heap_laws.proofs.laws_composing.steps_follow.Goals as goal
 
 pub returns-clause-ready : goal.returns-clause-ready

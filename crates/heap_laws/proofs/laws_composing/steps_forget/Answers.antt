@@ -1,4 +1,4 @@
-use Rattle.heap_laws.proofs.Composing.{steps_forget, plain_steps_forget}
+use Rattle.heap_laws.proofs.Steps.Composing.{steps_forget, plain_steps_forget}
 use Rattle.heap_laws.proofs.laws_composing.steps_forget.Goals as goal
 
 pub returns-clause-kept : goal.returns-clause-kept

@@ -1,4 +1,4 @@
-use Rattle.heap_laws.proofs.CopyingSteps.{copies_are_published}
+use Rattle.heap_laws.proofs.Copying.Laws.{copies_are_published}
 use Rattle.heap_laws.proofs.laws_copying.copies_are_published.Goals as goal
 
 pub returns : goal.returns

@@ -1,4 +1,4 @@
-use Rattle.heap_laws.proofs.CopyingSteps.{crossings_are_stored}
+use Rattle.heap_laws.proofs.Copying.Laws.{crossings_are_stored}
 use Rattle.heap_laws.proofs.laws_copying.crossings_are_stored.Goals as goal
 
 pub returns : goal.returns

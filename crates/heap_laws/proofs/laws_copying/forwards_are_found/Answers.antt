@@ -1,4 +1,4 @@
-use Rattle.heap_laws.proofs.CopyingSteps.{forwards_are_found}
+use Rattle.heap_laws.proofs.Copying.Laws.{forwards_are_found}
 use Rattle.heap_laws.proofs.laws_copying.forwards_are_found.Goals as goal
 
 pub returns : goal.returns

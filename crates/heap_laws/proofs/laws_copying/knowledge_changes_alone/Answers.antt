@@ -1,4 +1,4 @@
-use Rattle.heap_laws.proofs.CopyingSteps.{knowledge_changes_alone}
+use Rattle.heap_laws.proofs.Copying.Laws.{knowledge_changes_alone}
 use Rattle.heap_laws.proofs.laws_copying.knowledge_changes_alone.Goals as goal
 
 pub returns : goal.returns

@@ -1,4 +1,4 @@
-use Rattle.heap_laws.proofs.CopyingSteps.{nothing_else_changes}
+use Rattle.heap_laws.proofs.Copying.Laws.{nothing_else_changes}
 use Rattle.heap_laws.proofs.laws_copying.nothing_changes.Goals as goal
 
 pub returns : goal.returns

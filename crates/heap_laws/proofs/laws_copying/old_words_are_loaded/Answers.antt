@@ -1,4 +1,4 @@
-use Rattle.heap_laws.proofs.CopyingSteps.{old_words_are_loaded}
+use Rattle.heap_laws.proofs.Copying.Laws.{old_words_are_loaded}
 use Rattle.heap_laws.proofs.laws_copying.old_words_are_loaded.Goals as goal
 
 pub returns : goal.returns

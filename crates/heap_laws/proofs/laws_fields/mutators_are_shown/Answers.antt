@@ -1,4 +1,4 @@
-use Rattle.heap_laws.proofs.Effects.{mutators_are_shown, registers_hold, headers_say, accesses_are_values, board_words_are_values}
+use Rattle.heap_laws.proofs.Fields.Effects.{mutators_are_shown, registers_hold, headers_say, accesses_are_values, board_words_are_values}
 use Rattle.heap_laws.proofs.laws_fields.mutators_are_shown.Goals as goal
 
 pub returns-clause-mutators : goal.returns-clause-mutators

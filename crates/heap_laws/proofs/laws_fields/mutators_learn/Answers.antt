@@ -1,4 +1,4 @@
-use Rattle.heap_laws.proofs.MutatorStores.{mutators_learn, goes_on_so}
+use Rattle.heap_laws.proofs.Fields.Laws.{mutators_learn, goes_on_so}
 use Rattle.heap_laws.proofs.laws_fields.mutators_learn.Goals as goal
 
 pub returns-clause-learns : goal.returns-clause-learns

@@ -1,4 +1,4 @@
-use Rattle.heap_laws.proofs.FlippingReset.{finds_still, reads_used, stores_area_word}
+use Rattle.heap_laws.proofs.Flipping.Reset.{finds_still, reads_used, stores_area_word}
 use Rattle.heap_laws.proofs.laws_flipping.flips_are_made_ready.Goals as goal
 
 pub returns-clause-still : goal.returns-clause-still

@@ -1,4 +1,4 @@
-use Rattle.heap_laws.proofs.ForgettingLess.{reads_gate, sees_traced}
+use Rattle.heap_laws.proofs.Gate.Reading.{reads_gate, sees_traced}
 use Rattle.heap_laws.proofs.laws_gating.passages_are_made_ready.Goals as goal
 
 pub returns-clause-gate : goal.returns-clause-gate
