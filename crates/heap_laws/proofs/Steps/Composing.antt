@@ -10,7 +10,7 @@ use Rattle.heap_state.specs.Inductive.{Invariant, Knows}
 use Rattle.heap_state.specs.Parts.Copying.{IsOrigin}
 use Rattle.heap_state.specs.Values.{Shown}
 use Rattle.heap_state.specs.Worker.{Worker, Team, Account, Quest, is_mutator, is_flipper, is_late}
-use Rattle.heap_state.proofs.Frames.{counted_put, staffed_put, scanned_put, stocks_put, numbered_put, rooted_put}
+use Rattle.heap_state.proofs.Workers.Frames.{counted_put, staffed_put, scanned_put, stocks_put, numbered_put, rooted_put}
 use Rattle.heap_state.proofs.Puts.{put_same, put_twice, each_put}
 use Rattle.heap_laws.specs.Composing.{IsAtMost, StepsForget, StepsAreReady, StepsFollow, PlainStepsForget, PlainStepsAreReady, PlainStepsFollow}
 use Rattle.heap_laws.specs.Steps.{Writes, NoRow, InGate, InTraced, InArea, InOldArea, InPage, InCross, InWord, InAnnounce, with_worker, Preserves, Steps}

@@ -10,7 +10,7 @@ use Rattle.heap_state.specs.Parts.OldSpace.{OldArea}
 use Rattle.heap_state.specs.Parts.Pages.{Shut, Quiet, Filling, Tracing, Aged, OldPages, ScannedBy}
 use Rattle.heap_state.specs.Worked.{worked}
 use Rattle.heap_state.specs.Worker.{Team, Scan}
-use Rattle.heap_state.proofs.WorkedGhost.{worked_table, worked_era, size, writer, each_place}
+use Rattle.heap_state.proofs.Worked.Ghost.{worked_table, worked_era, size, writer, each_place}
 
 abbrev pub page : ℕ → PageWord
 page = worked_table.page

@@ -12,9 +12,9 @@ use Rattle.heap_state.specs.Holds.{IsWalkedField}
 use Rattle.heap_state.specs.Inductive.{Invariant}
 use Rattle.heap_state.specs.Represents.{IsOwn}
 use Rattle.heap_state.specs.Walk.{Walked}
-use Rattle.heap_state.proofs.Denoting.{header_of, Headers, Own, Forwarded, headers}
-use Rattle.heap_state.proofs.InHeap.{IsKnown, in_heap_sound, now_sound}
-use Rattle.heap_state.proofs.Headers.{said_kind-header_kind}
+use Rattle.heap_state.proofs.Represents.Denoting.{header_of, Headers, Own, Forwarded, headers}
+use Rattle.heap_state.proofs.Walks.InHeap.{IsKnown, in_heap_sound, now_sound}
+use Rattle.heap_state.proofs.Records.Headers.{said_kind-header_kind}
 
 abbrev pub identity_at : ℕ → ℕ → Identity
 identity_at mutator serial = record { mutator = mutator; serial = serial }

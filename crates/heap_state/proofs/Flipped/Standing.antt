@@ -24,13 +24,13 @@ use Rattle.heap_state.specs.Values.{value_of, ShowsAll, Accounts, RegistersShow,
 use Rattle.heap_state.specs.Walk.{walk, old_walk_of}
 use Rattle.heap_state.specs.Worked.{made}
 use Rattle.heap_state.specs.Worker.{Worker}
-use Rattle.heap_state.proofs.FlippedParts.{flipped_table, flipped_era, flipped_ghost, workers, heap, page, size, none, identity, only, blank_word, zero_word, first_register, number_lands, pointer_lands, counted, staffed, laid, headed, copied, once, kept_by, room, raw_words, shut, filling, tracing, aged, scanned, opened, landing, older, new_area, new_written, old_space, old_words, old_pages, crossing, stocks, numbered}
-use Rattle.heap_state.proofs.Idle.{idle_knows}
-use Rattle.heap_state.proofs.Keeping.{holds}
+use Rattle.heap_state.proofs.Flipped.Parts.{flipped_table, flipped_era, flipped_ghost, workers, heap, page, size, none, identity, only, blank_word, zero_word, first_register, number_lands, pointer_lands, counted, staffed, laid, headed, copied, once, kept_by, room, raw_words, shut, filling, tracing, aged, scanned, opened, landing, older, new_area, new_written, old_space, old_words, old_pages, crossing, stocks, numbered}
+use Rattle.heap_state.proofs.Workers.Idle.{idle_knows}
+use Rattle.heap_state.proofs.Holds.Keeping.{holds}
 use Rattle.heap_state.proofs.Puts.{some_same, none≢some, true_false}
-use Rattle.heap_state.proofs.Representing.{represents}
-use Rattle.heap_state.proofs.WorkedStands.{the_mutator, register_zero}
-use Rattle.heap_state.proofs.Writing.{writes_tables}
+use Rattle.heap_state.proofs.Represents.Representing.{represents}
+use Rattle.heap_state.proofs.Worked.Standing.{the_mutator, register_zero}
+use Rattle.heap_state.proofs.Table.Writing.{writes_tables}
 
 -- ---- the invariant
 

@@ -25,13 +25,13 @@ use Rattle.heap_state.specs.Configuration.{team}
 use Rattle.heap_state.specs.Cycle.{IsCopied, StillLeads, IsRoot, InRegister, OnTheBoard, Copying, Rooted, Cycle}
 use Rattle.heap_state.specs.Era.{era_of, memory_of}
 use Rattle.std.proofs.lemmas.Bool.{cases_eq, ne_eqb}
-use Rattle.heap_state.proofs.WorkedGhost.{worked_table, worked_era, worked_ghost, size, writer, copy, keeper, identity, each_place}
-use Rattle.heap_state.proofs.WorkedRecords.{heap, older, word_258}
-use Rattle.heap_state.proofs.Broken.{second}
-use Rattle.heap_state.proofs.Keeping.{holds}
-use Rattle.heap_state.proofs.Representing.{represents}
-use Rattle.heap_state.proofs.WorkedStands.{entries_fit, stands, the_mutator, objects}
-use Rattle.heap_state.proofs.Writing.{writes_tables}
+use Rattle.heap_state.proofs.Worked.Ghost.{worked_table, worked_era, worked_ghost, size, writer, copy, keeper, identity, each_place}
+use Rattle.heap_state.proofs.Worked.Records.{heap, older, word_258}
+use Rattle.heap_state.proofs.Worked.Broken.{second}
+use Rattle.heap_state.proofs.Holds.Keeping.{holds}
+use Rattle.heap_state.proofs.Represents.Representing.{represents}
+use Rattle.heap_state.proofs.Worked.Standing.{entries_fit, stands, the_mutator, objects}
+use Rattle.heap_state.proofs.Table.Writing.{writes_tables}
 
 table_is : Written 4 worked_entries
 table_is = writes_tables 4 worked_entries entries_fit

@@ -16,7 +16,7 @@ use Rattle.heap_state.specs.Functions.{put}
 use Rattle.heap_state.specs.Table.{Table, word_in, table_of, page_said, IsFormed}
 use Rattle.heap_state.specs.Theorems.Rows.{Stored}
 use Rattle.heap_state.proofs.Puts.{put_is}
-use Rattle.heap_state.proofs.Places.{word_in-same, word_in-other, length-after}
+use Rattle.heap_state.proofs.Table.Places.{word_in-same, word_in-other, length-after}
 
 -- two tables agree where their parts do
 pub same_table : (a b : Table) → a.pages ≡ b.pages → a.in_use ≡ b.in_use

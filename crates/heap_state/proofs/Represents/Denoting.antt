@@ -9,13 +9,13 @@ use Rattle.heap_state.specs.Denotes.{named_in, denoted, denoted_in, denoted_by}
 use Rattle.heap_state.specs.Dump.{dump_of}
 use Rattle.heap_state.specs.Kept.{kept_of}
 use Rattle.heap_state.specs.Represents.{own_header}
-use Rattle.heap_state.proofs.Reserving.{kept_there}
+use Rattle.heap_state.proofs.Walks.Reserving.{kept_there}
 use Rattle.heap_state.specs.Era.{Era, Memory}
 use Rattle.heap_state.specs.Ghost.{Ghost, IsField, Here, Leads, Lands, header_kind}
 use Rattle.heap_state.specs.Inductive.{Invariant}
 use Rattle.heap_state.specs.Values.{value_of, value_said}
-use Rattle.heap_state.proofs.Holding.{First, OwnHeader, KeptBy, GoneTo, first, keeper, uncopied_here}
-use Rattle.heap_state.proofs.InHeap.{IsInReach, lay}
+use Rattle.heap_state.proofs.Records.Holding.{First, OwnHeader, KeptBy, GoneTo, first, keeper, uncopied_here}
+use Rattle.heap_state.proofs.Walks.InHeap.{IsInReach, lay}
 
 module _ (c : Configuration) (g : Ghost) (inv : Invariant (era c) (memory c) (team c) g) where
   abbrev E : Era

@@ -4,7 +4,7 @@ use Rattle.std.proofs.Math.Path.{fun_ext}
 use Rattle.std.proofs.lemmas.Bool.{cases_Bool}
 use Rattle.std.proofs.lemmas.List.{get_or-replicate, length-replicate}
 use Rattle.space_map.proofs.Rows.{place_of-lt}
-use Rattle.heap_state.proofs.Places.{row_is}
+use Rattle.heap_state.proofs.Table.Places.{row_is}
 use Rattle.space_map.specs.AreaWord.{area_in}
 use Rattle.space_map.specs.GateWord.{gate_in}
 use Rattle.space_map.specs.PageWord.{decode_page}
@@ -13,7 +13,7 @@ use Rattle.space_map.specs.Table.{Row, Gate, Area, Page, Cross, HeapWord, Announ
 use Rattle.heap_state.specs.Entries.{GateIs, TracedIs, AreaIs, PageIs, CrossIs, WordIs, AnnounceIs, with_entry, blank_words, blank_table, written}
 use Rattle.heap_state.specs.Table.{is_row, word_in, table_of, page_said, IsFormed}
 use Rattle.heap_state.specs.Theorems.Rows.{StoresEntry, WritesTables}
-use Rattle.heap_state.proofs.Stores.{same_table, stores_gate, stores_traced, stores_area, stores_page, stores_cross, stores_heap_word, stores_announce}
+use Rattle.heap_state.proofs.Table.Stores.{same_table, stores_gate, stores_traced, stores_area, stores_page, stores_cross, stores_heap_word, stores_announce}
 
 pub stores_entry : StoresEntry
 stores_entry n words (GateIs gate) formed fits = stores_gate n words formed gate fits

@@ -12,7 +12,7 @@ use Rattle.heap_state.specs.Ghost.{Here, Lands, header_kind}
 use Rattle.heap_state.specs.Parts.Copies.{Copied, Once, Keepers, Room}
 use Rattle.heap_state.specs.Parts.Leading.{Landing, Older}
 use Rattle.heap_state.specs.Parts.Records.{Laid, Headed, NewWritten}
-use Rattle.heap_state.proofs.WorkedGhost.{worked_table, worked_era, size, writer, copy, keeper, identity, kept, each_place, Sizes, sizes}
+use Rattle.heap_state.proofs.Worked.Ghost.{worked_table, worked_era, size, writer, copy, keeper, identity, kept, each_place, Sizes, sizes}
 
 abbrev pub heap : ℕ → ℕ
 heap = worked_table.heap

@@ -17,11 +17,11 @@ use Rattle.heap_state.specs.Represents.{IsOwn, HasOwn, IsFieldOf, LeadsToRecord,
 use Rattle.heap_state.specs.Values.{value_of, Shows, Shown}
 use Rattle.heap_state.specs.Walk.{Walked, walk_of}
 use Rattle.heap_state.specs.Worker.{is_mutator}
-use Rattle.heap_state.proofs.Denoting.{denotes, reaches, field_lands, board_lands}
-use Rattle.heap_state.proofs.Holding.{uncopied_here}
-use Rattle.heap_state.proofs.InHeap.{in_heap_complete, lay, now_sound, now_read, old_readable}
-use Rattle.heap_state.proofs.Owning.{Owns, owns, field_of}
-use Rattle.heap_state.proofs.Headers.{said_kind-header_kind}
+use Rattle.heap_state.proofs.Represents.Denoting.{denotes, reaches, field_lands, board_lands}
+use Rattle.heap_state.proofs.Records.Holding.{uncopied_here}
+use Rattle.heap_state.proofs.Walks.InHeap.{in_heap_complete, lay, now_sound, now_read, old_readable}
+use Rattle.heap_state.proofs.Represents.Owning.{Owns, owns, field_of}
+use Rattle.heap_state.proofs.Records.Headers.{said_kind-header_kind}
 
 module _ (c : Configuration) (g : Ghost) (inv : Invariant (era c) (memory c) (team c) g) (p : plain.Plain) (shown : Shown (era c) (memory c) (team c) g p) where
   abbrev E : Era

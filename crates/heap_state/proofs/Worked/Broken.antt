@@ -25,8 +25,8 @@ use Rattle.plain_state.specs.declared.value.Value.TheVariants.{Reference}
 use Rattle.plain_state.specs.State as plain
 use Rattle.heap_state.proofs.Puts.{none≢some}
 use Rattle.heap_state.specs.Worked.{worked_entries, forwarded_wrong, opened_early, short_of_room, made}
-use Rattle.heap_state.proofs.WorkedStands.{entries_fit}
-use Rattle.heap_state.proofs.Writing.{writes_tables}
+use Rattle.heap_state.proofs.Worked.Standing.{entries_fit}
+use Rattle.heap_state.proofs.Table.Writing.{writes_tables}
 
 -- ---- a reserve that is a word too small
 

@@ -13,12 +13,12 @@ use Rattle.heap_state.specs.Parts.Knowledge.{Clean}
 use Rattle.heap_state.specs.Parts.Scanning.{Scans, Stepping}
 use Rattle.heap_state.specs.Worked.{worked_mutator, worked_scanner}
 use Rattle.heap_state.specs.Worker.{Worker, Copy, Scan, Quest, Scanned}
-use Rattle.heap_state.proofs.Idle.{idle_knows}
+use Rattle.heap_state.proofs.Workers.Idle.{idle_knows}
 use Rattle.heap_state.proofs.Puts.{some_same, none≢some, true_false}
-use Rattle.heap_state.proofs.WorkedGhost.{worked_table, worked_era, worked_ghost, size, writer, copy, keeper, identity, kept, each_place}
-use Rattle.heap_state.proofs.WorkedPages.{page}
-use Rattle.heap_state.proofs.WorkedRecords.{heap, word_257, word_258, word_259, number_lands, pointer_lands}
-use Rattle.heap_state.proofs.WorkedSpaces.{number_leads, pointer_leads}
+use Rattle.heap_state.proofs.Worked.Ghost.{worked_table, worked_era, worked_ghost, size, writer, copy, keeper, identity, kept, each_place}
+use Rattle.heap_state.proofs.Worked.Pages.{page}
+use Rattle.heap_state.proofs.Worked.Records.{heap, word_257, word_258, word_259, number_lands, pointer_lands}
+use Rattle.heap_state.proofs.Worked.Spaces.{number_leads, pointer_leads}
 
 -- what a worker of the configuration knows
 abbrev pub Known : ℕ → Worker → Type 0

@@ -13,16 +13,16 @@ use Rattle.heap_state.specs.Parts.Stocks.{Stocked}
 use Rattle.heap_state.specs.Dump.{dump_of}
 use Rattle.heap_state.specs.Kept.{kept_of, size_said, IsReservedIn}
 use Rattle.heap_state.specs.Represents.{IsInHeap}
-use Rattle.heap_state.proofs.Reserving.{kept_there}
+use Rattle.heap_state.proofs.Walks.Reserving.{kept_there}
 use Rattle.heap_state.specs.Sums.{is_uncopied}
 use Rattle.heap_state.specs.Walk.{Walked}
 use Rattle.heap_state.specs.Worker.{Post, Scanner, Outside, Running, Stopped, Flipping, Gone, Claim, Stock, is_live, is_running, is_flipper, is_late}
-use Rattle.heap_state.proofs.Denoting.{none_leads}
-use Rattle.heap_state.proofs.Holding.{First, OwnHeader, KeptBy, GoneTo, first, keeper, writer, reserves}
-use Rattle.heap_state.proofs.InHeap.{in_heap_sound, lay, now_sound, now_complete, old_sum, still_copying}
-use Rattle.heap_state.proofs.Owning.{walked_here}
-use Rattle.heap_state.proofs.Spaces.{IsOf}
-use Rattle.heap_state.proofs.Walking.{item}
+use Rattle.heap_state.proofs.Represents.Denoting.{none_leads}
+use Rattle.heap_state.proofs.Records.Holding.{First, OwnHeader, KeptBy, GoneTo, first, keeper, writer, reserves}
+use Rattle.heap_state.proofs.Walks.InHeap.{in_heap_sound, lay, now_sound, now_complete, old_sum, still_copying}
+use Rattle.heap_state.proofs.Represents.Owning.{walked_here}
+use Rattle.heap_state.proofs.Walks.Spaces.{IsOf}
+use Rattle.heap_state.proofs.Walks.Walking.{item}
 
 module _ (c : Configuration) (g : Ghost) (inv : Invariant (era c) (memory c) (team c) g) where
   abbrev E : Era

@@ -15,12 +15,12 @@ use Rattle.space_map.specs.declared.page_word.PageWord.TheVariants.{Unset, Open,
 use Rattle.std.proofs.lemmas.Bool.{cases_eq, cases_lt, eq-eqb, ne_eqb}
 use Rattle.heap_state.specs.Sums.{sum_of_sizes}
 use Rattle.heap_state.specs.Walk.{Walked, walk_of, old_walk_of, walk_space, is_closed, is_closed_before, IsReadable, IsOldReadable, met_word, Record}
-use Rattle.heap_state.proofs.Holding.{says}
-use Rattle.heap_state.proofs.Placing.{laid_out}
-use Rattle.heap_state.proofs.Reserving.{tells}
-use Rattle.heap_state.proofs.SpaceWalks.{Told, IsClear}
-use Rattle.heap_state.proofs.Spaces.{IsOf, space_sound, space_read, space_complete, space_sum}
-use Rattle.heap_state.proofs.Walking.{item}
+use Rattle.heap_state.proofs.Records.Holding.{says}
+use Rattle.heap_state.proofs.Table.LaidOut.{laid_out}
+use Rattle.heap_state.proofs.Walks.Reserving.{tells}
+use Rattle.heap_state.proofs.Walks.SpaceWalks.{Told, IsClear}
+use Rattle.heap_state.proofs.Walks.Spaces.{IsOf, space_sound, space_read, space_complete, space_sum}
+use Rattle.heap_state.proofs.Walks.Walking.{item}
 use Rattle.heap_words.specs.Decoded.{decode}
 
 -- the address is in the epoch's space, or in the old one while records are copied from it

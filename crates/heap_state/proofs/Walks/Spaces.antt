@@ -7,8 +7,8 @@ use Rattle.space_map.specs.declared.page_word.PageWord.{PageWord}
 use Rattle.heap_state.specs.Functions.{sum_below}
 use Rattle.heap_state.specs.Sums.{sum_of_sizes}
 use Rattle.heap_state.specs.Walk.{Walked, walk, walk_space, ReadsSpace, is_closed}
-use Rattle.heap_state.proofs.Walking.{IsItem, item, sound, reads_all, complete, sum_sound, sum_below-head}
-use Rattle.heap_state.proofs.SpaceWalks.{Told, TellsReserved, IsClear, copied_part, copied_start, new_part}
+use Rattle.heap_state.proofs.Walks.Walking.{IsItem, item, sound, reads_all, complete, sum_sound, sum_below-head}
+use Rattle.heap_state.proofs.Walks.SpaceWalks.{Told, TellsReserved, IsClear, copied_part, copied_start, new_part}
 
 -- a walked record of the space
 pub record IsOf (start front low end : ℕ) (size writer : ℕ → ℕ) (w : Walked) : Type 0 where

@@ -15,12 +15,12 @@ use Rattle.heap_state.specs.Values.{value_of, Shows, ShowsAll, Accounts, Registe
 use Rattle.heap_state.specs.Worked.{worked, worked_entries, worked_plain, worked_mutator, made, zeros_after}
 use Rattle.heap_words.specs.Word.{pointer_word}
 use Rattle.heap_state.proofs.Puts.{some_same, none≢some}
-use Rattle.heap_state.proofs.WorkedGhost.{worked_table, worked_era, worked_ghost, size, writer, copy, keeper, identity, each_place}
-use Rattle.heap_state.proofs.WorkedPages.{workers, shut, filling, tracing, aged, old_area, old_pages, scanned}
-use Rattle.heap_state.proofs.WorkedRecords.{heap, laid, headed, new_written, copied, once, kept_by, room, landing, older, word_196, word_257, word_258, word_515, elsewhere}
-use Rattle.heap_state.proofs.WorkedSpaces.{opened, new_area, old_space, crossing, counted, staffed, stocks, numbered}
-use Rattle.heap_state.proofs.WorkedWorkers.{Known, mutator_knows, scanner_knows, first_register, zero_register}
-use Rattle.heap_state.proofs.Writing.{writes_tables}
+use Rattle.heap_state.proofs.Worked.Ghost.{worked_table, worked_era, worked_ghost, size, writer, copy, keeper, identity, each_place}
+use Rattle.heap_state.proofs.Worked.Pages.{workers, shut, filling, tracing, aged, old_area, old_pages, scanned}
+use Rattle.heap_state.proofs.Worked.Records.{heap, laid, headed, new_written, copied, once, kept_by, room, landing, older, word_196, word_257, word_258, word_515, elsewhere}
+use Rattle.heap_state.proofs.Worked.Spaces.{opened, new_area, old_space, crossing, counted, staffed, stocks, numbered}
+use Rattle.heap_state.proofs.Worked.Workers.{Known, mutator_knows, scanner_knows, first_register, zero_register}
+use Rattle.heap_state.proofs.Table.Writing.{writes_tables}
 
 -- ---- the invariant
 

@@ -9,7 +9,7 @@ use Rattle.heap_words.specs.Decoded.{decode}
 use Rattle.std.proofs.Math.ListN.{get_or-map, length-map}
 use Rattle.heap_state.specs.Kept.{Kept, kept_by, kept_of, kept_at, size_said, reserved_by, reserved_in}
 use Rattle.heap_state.specs.Worker.{Worker, Scanner, Team, Copy, fresh}
-use Rattle.heap_state.proofs.Holding.{writer, reserves}
+use Rattle.heap_state.proofs.Records.Holding.{writer, reserves}
 
 none_reserved : (a : ℕ) (kept : List Kept) → ((j : ℕ) → j < length kept → reserved_by (kept_at kept j) a ≡ 0) → reserved_in kept a ≡ 0
 none_reserved a [] h = refl

@@ -6,7 +6,7 @@ use Rattle.space_map.specs.declared.page_word.PageWord.{PageWord}
 use Rattle.space_map.specs.declared.page_word.PageWord.TheVariants.{Unset, Open, Scanning}
 use Rattle.heap_state.specs.Parts.Records.{SpaceOf}
 use Rattle.heap_state.specs.Walk.{Nothing, Reserved, Record, Broken, met_word, meets, next_place, is_closed}
-use Rattle.heap_state.proofs.Walking.{StandsAt, Part}
+use Rattle.heap_state.proofs.Walks.Walking.{StandsAt, Part}
 use Rattle.heap_words.specs.Word.{tag_of}
 
 decode-zero : decode 0 ≡ NumberWord 0

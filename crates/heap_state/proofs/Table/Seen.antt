@@ -6,7 +6,7 @@ use Rattle.space_map.specs.Spaces.{to_space}
 use Rattle.heap_state.specs.Era.{from_space}
 use Rattle.heap_state.specs.Table.{Table}
 use Rattle.heap_state.specs.Theorems.Rows.{AreaSeen, FlipSeen, MemoryFollows}
-use Rattle.heap_state.proofs.Placing.{laid_out}
+use Rattle.heap_state.proofs.Table.LaidOut.{laid_out}
 use Rattle.heap_state.proofs.Puts.{put_same, put_other}
 
 area_seen : (t : Table) (v : AreaWord) → AreaSeen t v

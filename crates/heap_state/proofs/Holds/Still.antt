@@ -10,7 +10,7 @@ use Rattle.heap_state.specs.Parts.Pages.{Quiet}
 use Rattle.heap_state.specs.Parts.Scanning.{Scans}
 use Rattle.heap_state.specs.Theorems.Standing.{ScansFillingPage, StandsStill}
 use Rattle.heap_state.specs.Worker.{Team, Copy, Scan, is_late}
-use Rattle.heap_state.proofs.Holding.{writer}
+use Rattle.heap_state.proofs.Records.Holding.{writer}
 
 pub open_scanning : {p : PageWord} {e k : ℕ} {A : Type 0} → p ≡ Open e → p ≡ Scanning e k → A
 open_scanning q r = absurd (cc)
