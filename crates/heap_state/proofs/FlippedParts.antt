@@ -16,7 +16,7 @@ use Rattle.heap_state.specs.Era.{Era}
 use Rattle.heap_state.specs.Flipped.{flipped, flipped_entries}
 use Rattle.heap_state.specs.Functions.{put, sum_below}
 use Rattle.heap_state.specs.Ghost.{Ghost, Here, Leads, Lands, header_kind}
-use Rattle.heap_state.specs.Parts.Copies.{Copied, Once, Kept, Room}
+use Rattle.heap_state.specs.Parts.Copies.{Copied, Once, Keepers, Room}
 use Rattle.heap_state.specs.Parts.Crossing.{Crossing}
 use Rattle.heap_state.specs.Parts.Gate.{Counted, Staffed}
 use Rattle.heap_state.specs.Parts.Leading.{Opened, Landing, Older}
@@ -147,7 +147,7 @@ copied = record {
 pub once : Once size none identity
 once = record { once = λ a b sa sb e. inl (omega (arith, only a sa, only b sb)) }
 
-pub kept_by : Kept size none 1
+pub kept_by : Keepers size none 1
 kept_by = record { kept = λ a k st y. absurd (omega (arith, y)) }
 
 pub room : Room flipped_era 1 256 512 64 size none

@@ -7,7 +7,7 @@ use Rattle.space_map.specs.declared.gate_word.GateWord.{GateWord}
 use Rattle.space_map.specs.declared.page_word.PageWord.{PageWord}
 use Rattle.heap_state.specs.Cycle.{Rooted, RootLeads, ByBoard, ByRegister}
 use Rattle.heap_state.specs.Era.{Era}
-use Rattle.heap_state.specs.Functions.{put, sum_below, one_if}
+use Rattle.heap_state.specs.Functions.{put, sum_below, count_one}
 use Rattle.heap_state.specs.Parts.Gate.{Counted, Staffed}
 use Rattle.heap_state.specs.Parts.Pages.{ScannedBy}
 use Rattle.heap_state.specs.Parts.Stocks.{Stocks, Stocked, Numbered}
@@ -21,8 +21,8 @@ module _ (worker : ℕ → Worker) (k : ℕ) (w : Worker) where
   after = put worker k w
 
   -- a count over workers that agree on what is counted
-  count_put : (count : ℕ) (is : Worker → Bool) → is w ≡ is (worker k) → sum_below count (λ j. one_if (is (worker j))) ≡ sum_below count (λ j. one_if (is (after j)))
-  count_put count is e = sum_below-same count (λ j. one_if (is (worker j))) (λ j. one_if (is (after j))) (λ j l. ap one_if (sym (proj_put is worker k w j e)))
+  count_put : (count : ℕ) (is : Worker → Bool) → is w ≡ is (worker k) → sum_below count (λ j. count_one (is (worker j))) ≡ sum_below count (λ j. count_one (is (after j)))
+  count_put count is e = sum_below-same count (λ j. count_one (is (worker j))) (λ j. count_one (is (after j))) (λ j l. ap count_one (sym (proj_put is worker k w j e)))
 
   pub counted_put : {gate : GateWord} {count : ℕ} → w.post ≡ (worker k).post → w.epoch ≡ (worker k).epoch → Counted gate count worker → Counted gate count after
   counted_put {gate} {count} post epoch c = record {

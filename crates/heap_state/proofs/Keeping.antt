@@ -81,7 +81,7 @@ module _ (c : Configuration) (g : Ghost) (inv : Invariant (era c) (memory c) (te
         let o = ((knows other l).copy copy cp).old.2 in
         let same : g.keeper copy.from ≡ g.keeper w.at = ap g.keeper from in
         omega (arith, q.1, o, same);
-    announced = λ k copy l cp r. let cs = (knows k l).copy copy cp in (cs.named (cs.place r).0).0;
+    announced = λ k copy l cp r. let cs = (knows k l).copy copy cp in let n = (cs.named (cs.place r).0).0 in omega arith;
   }
 
   -- ---- access
@@ -149,7 +149,7 @@ module _ (c : Configuration) (g : Ghost) (inv : Invariant (era c) (memory c) (te
     crossing = λ p s f free.
         let o = over (64 * p) E.start (64 * p) (omega arith) (begun p s f) s f (omega arith) in
         let w = nobody (64 * p) o.0 o.1 o.3 o.4 free in
-        (item o.0 (g.size o.0), now_complete c g inv o.0 o.2 (omega (arith, o.3, f, inv.laid.order)) o.1 w, o.3, o.4, inv.crossing.crossing p o.0 s f o.1 o.3 o.4 w);
+        (item o.0 (g.size o.0), now_complete c g inv o.0 o.2 (omega (arith, o.3, f, inv.laid.order)) o.1 w, o.3, omega (arith, o.4), inv.crossing.crossing p o.0 s f o.1 o.3 o.4 w);
   }
     where
       begun : (p : ℕ) → E.start ≤ 64 * p → 64 * p < m.front → 0 < g.size E.start
@@ -203,7 +203,7 @@ module _ (c : Configuration) (g : Ghost) (inv : Invariant (era c) (memory c) (te
 
   free : FreeHolds c
   free = record {
-    walked = λ w h. let i = now_sound c g inv w h in let l = inv.laid.lies w.at (omega (arith, i.sized)) in apart w i l;
+    walked = λ w h. let i = now_sound c g inv w h in let l = inv.laid.lies w.at (omega (arith, i.sized)) in ⊎_elim (λ a. inl (omega (arith, a))) (λ a. inr a) (apart w i l);
     above = λ k q l e n. (inv.stocks.stocked k l q e n).lies.0;
     apart = λ j k p q l n d e f a b. inv.stocks.apart j k l n d p q e f a b;
     zeros = λ k q x l e n a b. let s = inv.stocks.stocked k l q e n in s.zeros x a (below q x s a b);

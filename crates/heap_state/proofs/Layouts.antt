@@ -8,8 +8,3 @@ use Rattle.plain_state.specs.Layout.{is_field, is_raw, word_of}
 pub raw_is_no_field : (k : Kind) (i : ℕ) → is_raw k i ≡ true → is_field k i ≡ false
 raw_is_no_field Fields i e = cc
 raw_is_no_field Raw i e = refl
-
--- each value stands in a field or in a word with a plain number
-pub field_or_raw : (k : Kind) (x : ℕ) → (is_field k (word_of k x) ≡ true) ⊎ (is_raw k (word_of k x) ≡ true)
-field_or_raw Fields x = inl refl
-field_or_raw Raw x = inr refl

@@ -126,6 +126,6 @@ module _ (c : Configuration) (g : Ghost) (inv : Invariant (era c) (memory c) (te
       board = board_word_shows;
       readable = now_read c g inv;
       old_readable = old_readable c g inv;
-      records = λ w h. record { owns = each_owns w; shows = records_show w; leads = field_leads w; once = once w };
+      records = λ w h. record { owns = each_owns w; shows = λ kind len serial mutator is. let s = records_show w kind len serial mutator is in (omega (arith, s.0), s.1); leads = field_leads w; once = λ v kind other len longer serial mutator a b. let e = once w v kind other len longer serial mutator a b in omega arith };
     };
   }

@@ -9,7 +9,7 @@ use Rattle.heap_words.specs.Word.{number_word}
 use Rattle.heap_words.proofs.Decoding.{decode-number_word, decode-pointer_word, decode-header_word, decode-forward_word, decode-busy_word}
 use Rattle.heap_state.specs.Functions.{put, sum_below}
 use Rattle.heap_state.specs.Ghost.{Here, Lands, header_kind}
-use Rattle.heap_state.specs.Parts.Copies.{Copied, Once, Kept, Room}
+use Rattle.heap_state.specs.Parts.Copies.{Copied, Once, Keepers, Room}
 use Rattle.heap_state.specs.Parts.Leading.{Landing, Older}
 use Rattle.heap_state.specs.Parts.Records.{Laid, Headed, NewWritten}
 use Rattle.heap_state.proofs.WorkedGhost.{worked_table, worked_era, size, writer, copy, keeper, identity, kept, each_place, Sizes, sizes}
@@ -158,7 +158,7 @@ once = record {
     apart : made 1 ≡ made 2 → ⊥
     apart e = let q : serial_of (made 1) ≡ serial_of (made 2) = ap serial_of e in omega (arith, q)
 
-pub kept_by : Kept size keeper 2
+pub kept_by : Keepers size keeper 2
 kept_by = record {
   kept = λ a k st y. each_place (λ a. (k : ℕ) → keeper a ≡ k + 1 → k < 2)
       (λ k y. absurd (omega (arith, y))) (λ k y. omega (arith, y)) (λ k y. absurd (omega (arith, y))) (λ k y. absurd (omega (arith, y))) a st k y;

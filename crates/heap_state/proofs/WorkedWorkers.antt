@@ -62,7 +62,7 @@ abbrev pub the_copy : Copy
 the_copy = record { header = header_word (header_kind Fields) 1 2 0; from = 195; to = 259; size = 2; done = 1; word = None; aimed = true; announced = true; reserved = true; crossed = 0 }
 
 abbrev pub the_scan : Scan
-the_scan = record { page = 4; cursor = 258; in_place = true; over = None; current = Some (record { at = 256; size = 3; kind = Fields }); inner = false; ended = false }
+the_scan = record { page = 4; cursor = 258; in_place = true; over = None; current = Some (record { at = 256; fields_end = 259; next = 259 }); inner = false; ended = false }
 
 abbrev pub the_quest : Quest
 the_quest = record { old = 195; origin = Scanned 258; found = None }
@@ -111,7 +111,8 @@ scans = record {
 stepping : Stepping worked_era 261 size writer (λ a. Fields) the_scan
 stepping = record {
   over = λ a e. none≢some e;
-  current = λ r e. let s : record { at = 256; size = 3; kind = Fields } ≡ r = some_same e in rw (← s) (omega arith, refl, refl, refl, omega arith, omega arith, omega arith, omega arith);
+  current = λ r e. let s : record { at = 256; fields_end = 259; next = 259 } ≡ r = some_same e in
+      rw (← s) (record { stands = omega arith; written = refl; fields = refl; whole = refl; inside = (omega arith, omega arith); entered = omega arith; cursor = omega arith });
   begun = omega arith;
   inner = λ e. true_false refl e;
   full = λ e. true_false e refl;

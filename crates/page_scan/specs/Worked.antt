@@ -1,17 +1,14 @@
 -- A small heap, worked out by hand: what was copied into it is scanned in epoch 1.
-use Rattle.std.specs.Prelude.{ℕ, zero, suc, ◌+◌, Bool, true, false, List, [], ◌∷◌, ◌++◌, replicate, slice_set}
+use Rattle.std.specs.Prelude.{ℕ, zero, suc, ◌+◌, true, false, List, [], ◌∷◌, replicate}
 use Rattle.atom_store.specs.declared.step.Step.{Step}
 use Rattle.atom_store.specs.declared.step.Step.TheVariants.{Load, Store}
 use Rattle.atom_store.specs.declared.reply.Reply.{Reply}
 use Rattle.atom_store.specs.declared.reply.Reply.TheVariants.{Value, Done}
 use Rattle.atom_store.specs.Machine.{after_replies, replies_in}
-use Rattle.space_map.specs.Spaces.{Layout}
+use Rattle.atom_store.specs.Runs.{with_words}
+use Rattle.space_map.specs.Worked.{four_pages}
 use Rattle.page_scan.specs.Scanning.{Scanning, begun}
 use Rattle.page_scan.specs.Taken.{answered, scan_machine}
-
--- four pages a space, so that the areas stand at places 4 and 5, the crossing words begin at 25, and the heap's words at 33
-abbrev pub four_pages : Layout
-four_pages = record { pages = 4 }
 
 -- ---- the board
 
@@ -72,11 +69,6 @@ full_loads =
 -- the scan after these steps and the answer to what it then asked
 abbrev pub answered_after : Scanning → List (Step × Reply) → ℕ → Scanning
 answered_after v rows to = answered (after_replies scan_machine v (replies_in rows)) to
-
--- the words with these values in these places
-abbrev pub with_words : List (ℕ × ℕ) → List ℕ → List ℕ
-with_words [] words = words
-with_words (entry ∷ entries) words = with_words entries (slice_set words entry.0 entry.1)
 
 -- a table of four pages a space with the copied record, whose second field leads to this word
 unfoldable pub words_with : ℕ → List ℕ

@@ -4,3 +4,4 @@ pub mod AreaWord
 pub mod GateWord
 pub mod PageWord
 pub mod TableWords
+pub mod Worked
