@@ -2,3 +2,4 @@ pub mod GoingOn
 pub mod Passing
 pub mod Crossing
 pub mod Front
+pub mod Headers
