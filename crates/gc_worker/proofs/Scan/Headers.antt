@@ -142,3 +142,55 @@ module _ (c : Configuration) (p : Plain) (s : Stands c p) (k : ℕ) (y : Held) (
         let f = answers1.first a apart1 refl in
         wants c p s k x1 (Load (place_of c.pages (HeapWord a))) (rw (is.fits.stage.0.layout, is.fits.pages) refl)
             (loads c p s k x1 (HeapWord a) (let i = inside1 in omega (arith, i)) (goes1 f.1.0 f.1.1))
+
+-- ---- the next record
+
+module _ (c : Configuration) (p : Plain) (s : Stands c p) (k : ℕ) (y : Held) (u : Scanning) (back : Back) (q : ScannedRecord) where
+  abbrev v2 : Scanning
+  v2 = record u { stage = scan_stage.LoadsNext q }
+
+  abbrev x2 : Held
+  x2 = record y { stage = Scans v2 back }
+
+  abbrev now2 : Scan
+  now2 = scan_of v2 (scan_stage.LoadsNext q)
+
+  module _ (is : Is c k x2) where
+    space2 : u.page < 2 * c.pages
+    space2 = let f = is.fits.stage.0.sound.fits.1 in let l = is.fits.stage.0.layout in let n = is.fits.pages in rw (l, n) at f
+
+    on_page : (first_word u.page ≤ q.next) × (q.next < first_word (u.page + 1))
+    on_page = let f = is.fits.stage.0.sound.fits in (f.2, f.3)
+
+    apart2 : u.page ≢ (era c).board / 64
+    apart2 = not_board c p s k y v2 back q.next 0 0 0 Fields space2
+
+    scans2 : IsScanning (team c) k now2
+    scans2 = record { scans = ap (λ (w : Worker). w.scan) is.as_known; asks_nothing = ap (λ (w : Worker). w.quest) is.as_known }
+
+    inner_or_not : (b : Bool) → u.in_place ≡ b → (u.in_place ≡ true) ⊎ (u.in_place ≡ false)
+    inner_or_not true e = inl e
+    inner_or_not false e = inr e
+
+    below2 : q.next < 64 * u.page + 64
+    below2 = let o = on_page in omega (arith, o)
+
+    answer2 : MeetsHeader (memory c) q.next
+    answer2 = (scans_are_answered (era c) (memory c) (team c) s.ghost k now2 (prepared c p s k x2 is) scans2).next (seen_of q) apart2 refl refl below2 (inner_or_not u.in_place refl)
+
+    goes2 : (h : MeetsHeader (memory c) q.next) → Goes c p s k None x2 (Value (word_in c.pages c.words (HeapWord q.next)))
+    goes2 h =
+        let said : decode (word_in c.pages c.words (HeapWord q.next)) ≡ HeaderWord h.kind h.len h.serial h.mutator = ap decode (sym (heap_word c q.next)) ∙ h.header in
+        let l = reads_next_header (era c) (memory c) (team c) s.ghost k now2 (seen_of q) h.len h.serial h.mutator h.kind (prepared c p s k x2 is) scans2 apart2 refl refl below2 (inner_or_not u.in_place refl) h.header in
+        let law : Law c p s k x2 None (scanning (knows x2) (in_record (era c) now2 q.next (said_kind h.kind 0) (h.len + 1))) s.ghost = rw (is.as_known, said_same h.kind ((memory c).heap (q.next + 1))) at l in
+        let o = on_page in
+        let i = space2 in
+        let entry : max (q.next + first_field (said_kind h.kind 0)) (first_word u.page) ≡ max q.next (q.next + first_field (said_kind h.kind 0)) = omega (arith, o) in
+        entered c p s k y v2 back q.next h.len h.serial h.mutator h.kind is space2 (omega (arith, o, i)) said (omega (arith, o)) is
+            (rw entry law)
+            (rw said refl) (λ sound. rw said sound) refl
+
+    pub reads_next : StepsSo c p s k x2
+    reads_next =
+        wants c p s k x2 (Load (place_of c.pages (HeapWord q.next))) (rw (is.fits.stage.0.layout, is.fits.pages) refl)
+            (loads c p s k x2 (HeapWord q.next) (let o = on_page in let i = space2 in omega (arith, o, i)) (goes2 answer2))
