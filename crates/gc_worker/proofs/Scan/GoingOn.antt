@@ -47,7 +47,7 @@ of_scan w a b less = record {
 }
 
 -- where it goes back to stays
-still_back : (x : Held) (next : Stage) (back : Back) → FitsBack x back → FitsBack (at_stage x next) back
+pub still_back : (x : Held) (next : Stage) (back : Back) → FitsBack x back → FitsBack (at_stage x next) back
 still_back x next (ToAccess a) own = own
 still_back x next ToPlace own = tt
 still_back x next ToScanner own = tt
