@@ -1,5 +1,5 @@
 -- A word of the board, or a field, is loaded: where it leads into the old space the copy is asked for, else it is passed.
-use Rattle.std.proofs.Common.{◌≡◌, ◌≢◌, ℕ, ◌+◌, ◌*◌, ◌/◌, ◌<◌, ◌≤◌, ◌^◌, ◌&&◌, Bool, true, false, Some, None, is_some, nat_lt, nat_le, refl, sym, ap, ◌∙◌, subst, arith}
+use Rattle.std.proofs.Common.{◌≡◌, ℕ, ◌+◌, ◌*◌, ◌<◌, ◌≤◌, ◌&&◌, Bool, true, false, None, nat_lt, nat_le, refl, sym, ap, ◌∙◌, subst, arith}
 use Rattle.std.proofs.lemmas.Bool.{ltb-true, leb-true}
 use Rattle.std.proofs.lemmas.Bool.Decides.{nat_tests}
 use Rattle.plain_state.specs.State.{Plain}
@@ -26,15 +26,12 @@ use Rattle.heap_laws.proofs.Lifting.Configurations.{board_at}
 use Rattle.heap_laws.proofs.Scanning.Fields as fields
 use Rattle.heap_laws.proofs.Steps.Composing.{steps_forget}
 use Rattle.gc_worker.specs.declared.back.Back.{Back}
-use Rattle.gc_worker.specs.declared.back.Back.TheVariants.{ToAccess, ToPlace, ToScanner}
 use Rattle.gc_worker.specs.declared.stage.Stage.{Stage}
 use Rattle.gc_worker.specs.declared.stage.Stage.TheVariants.{Scans, Evacuates}
 use Rattle.forwarding.specs.Evacuation as evac
-use Rattle.gc_worker.specs.Fits.{Fits}
 use Rattle.gc_worker.specs.Goes.{Is, Goes, StepsSo}
 use Rattle.gc_worker.specs.Held.{Held}
-use Rattle.gc_worker.specs.Knows.{knows, scan_of, scan_at}
-use Rattle.gc_worker.specs.Turned.{turned}
+use Rattle.gc_worker.specs.Knows.{knows, scan_at}
 use Rattle.gc_worker.proofs.Fitting.{refit, page_count}
 use Rattle.gc_worker.proofs.Gate.Words.{wants}
 use Rattle.gc_worker.proofs.Scan.GoingOn.{scans_to, still_back}
@@ -103,11 +100,11 @@ module _ (c : Configuration) (p : Plain) (s : Stands c p) (k : ℕ) (y : Held) (
     goes_past away same =
         let l : Law c p s k x None (scanning (knows x) (past_word (era c) now)) s.ghost = rw is.as_known at (fields.passes (era c) (memory c) (team c) s.ghost k now (prepared c p s k x is) scans field away) in
         let known : Law c p s k x None (knows (scans_to x v back (passes u.page u.in_place spot))) s.ghost =
-            steps_forget (era c) (memory c) (team c) s.ghost k None (scanning (knows x) (past_word (era c) now)) (knows (scans_to x v back (passes u.page u.in_place spot))) s.ghost l
-                (passes_less y v back (era c) c.pages (board_at c) spot on) in
+        steps_forget (era c) (memory c) (team c) s.ghost k None (scanning (knows x) (past_word (era c) now)) (knows (scans_to x v back (passes u.page u.in_place spot))) s.ghost l
+        (passes_less y v back (era c) c.pages (board_at c) spot on) in
         quiet c p s k x None (Value word) s.ghost is.below (rw same known) refl
-            (record { pages = is.fits.stage.0.sound.pages; page = is.fits.stage.0.sound.page; fits = rw same (passes_sound y v back spot is.fits.stage.0.sound.pages is.fits.stage.0.sound.fits) })
-            (rw same (passes_fits y v back c.pages c.mutators k is.fits is.fits.end is.fits.stage.0 is.fits.stage.2 spot is.fits.stage.0.sound.fits)) tt
+        (record { pages = is.fits.stage.0.sound.pages; page = is.fits.stage.0.sound.page; fits = rw same (passes_sound y v back spot is.fits.stage.0.sound.pages is.fits.stage.0.sound.fits) })
+        (rw same (passes_fits y v back c.pages c.mutators k is.fits is.fits.end is.fits.stage.0 is.fits.stage.2 spot is.fits.stage.0.sound.fits)) tt
 
     -- its copy is asked for
     abbrev asked : ℕ → Stage
@@ -117,16 +114,16 @@ module _ (c : Configuration) (p : Plain) (s : Stands c p) (k : ℕ) (y : Held) (
         → after (decode word) ≡ scan_stage.Asks (record { spot = spot; old = a }) → Goes c p s k None x (Value word)
     goes_asking a points low high same =
         let l : Law c p s k x None (asking (knows x) (record { old = a; origin = Scanned now.cursor; found = None })) s.ghost =
-            rw is.as_known at (fields.asks (era c) (memory c) (team c) s.ghost k now a (prepared c p s k x is) scans field refl points low high) in
+        rw is.as_known at (fields.asks (era c) (memory c) (team c) s.ghost k now a (prepared c p s k x is) scans field refl points low high) in
         let inside : a < 128 * x.layout.pages = let w = old_space_below c in rw is.fits.pages (omega (arith, w, high)) in
         quiet c p s k x None (Value word) s.ghost is.below (rw same l) refl
-            (record { pages = is.fits.stage.0.sound.pages; page = is.fits.stage.0.sound.page; fits = rw same is.fits.stage.0.sound.fits })
-            (rw same (refit c.pages c.mutators k x is.fits (asked a) is.fits.end (
-                record { layout = refl; of_epoch = refl; worker = refl; sound = record { pages = page_count c.pages c.mutators k x is.fits; worker = let q = is.fits.few in let r = is.fits.number in omega (arith, q, r); addr = inside; fits = tt } },
-                record { layout = is.fits.stage.0.layout; epoch = is.fits.stage.0.epoch; sound = record { pages = is.fits.stage.0.sound.pages; page = is.fits.stage.0.sound.page; fits = is.fits.stage.0.sound.fits } },
-                refl,
-                still_back x (asked a) back is.fits.stage.2,
-            ))) tt
+        (record { pages = is.fits.stage.0.sound.pages; page = is.fits.stage.0.sound.page; fits = rw same is.fits.stage.0.sound.fits })
+        (rw same (refit c.pages c.mutators k x is.fits (asked a) is.fits.end (
+          record { layout = refl; of_epoch = refl; worker = refl; sound = record { pages = page_count c.pages c.mutators k x is.fits; worker = let q = is.fits.few in let r = is.fits.number in omega (arith, q, r); addr = inside; fits = tt } },
+          record { layout = is.fits.stage.0.layout; epoch = is.fits.stage.0.epoch; sound = record { pages = is.fits.stage.0.sound.pages; page = is.fits.stage.0.sound.page; fits = is.fits.stage.0.sound.fits } },
+          refl,
+          still_back x (asked a) back is.fits.stage.2,
+        ))) tt
 
     goes_by : (d : Decoded) → decode word ≡ d → Goes c p s k None x (Value word)
     goes_by (PointerWord a) e = by_old (is_old u.layout u.epoch a) refl
@@ -137,12 +134,12 @@ module _ (c : Configuration) (p : Plain) (s : Stands c p) (k : ℕ) (y : Held) (
         by_old : (b : Bool) → is_old u.layout u.epoch a ≡ b → Goes c p s k None x (Value word)
         by_old true f =
             let m = between_by (space_start u.layout.pages (to_space (u.epoch + 1))) (space_start u.layout.pages (to_space (u.epoch + 1)) + 64 * u.layout.pages) a
-                (nat_le (space_start u.layout.pages (to_space (u.epoch + 1))) a) (nat_lt a (space_start u.layout.pages (to_space (u.epoch + 1)) + 64 * u.layout.pages)) refl refl f in
+            (nat_le (space_start u.layout.pages (to_space (u.epoch + 1))) a) (nat_lt a (space_start u.layout.pages (to_space (u.epoch + 1)) + 64 * u.layout.pages)) refl refl f in
             goes_asking a says (rw old_start m.0) (rw (old_start, old_span) m.1) (rw (e, f) refl)
         by_old false f = goes_past
             (unleading (era c) ((memory c).heap now.cursor) (λ b q low high.
-                let same : a ≡ b = pointers (sym says ∙ q) in
-                outside_by (space_start u.layout.pages (to_space (u.epoch + 1))) (space_start u.layout.pages (to_space (u.epoch + 1)) + 64 * u.layout.pages) a f (rw (← old_start, same) low) (rw (← old_start, ← old_span, same) high)))
+            let same : a ≡ b = pointers (sym says ∙ q) in
+            outside_by (space_start u.layout.pages (to_space (u.epoch + 1))) (space_start u.layout.pages (to_space (u.epoch + 1)) + 64 * u.layout.pages) a f (rw (← old_start, same) low) (rw (← old_start, ← old_span, same) high)))
             (rw (e, f) refl)
     goes_by (NumberWord m) e = goes_past (unleading (era c) ((memory c).heap now.cursor) (λ b q _ _. let z = sym (ap decode (heap_word c (address_of spot)) ∙ e) ∙ q in absurd (cc))) (rw e refl)
     goes_by (HeaderWord kind len serial mutator) e = goes_past (unleading (era c) ((memory c).heap now.cursor) (λ b q _ _. let z = sym (ap decode (heap_word c (address_of spot)) ∙ e) ∙ q in absurd (cc))) (rw e refl)
@@ -157,4 +154,4 @@ module _ (c : Configuration) (p : Plain) (s : Stands c p) (k : ℕ) (y : Held) (
     pub reads_word : StepsSo c p s k x
     reads_word =
         wants c p s k x (Load (place_of c.pages (HeapWord (address_of spot)))) (rw (is.fits.stage.0.layout, is.fits.pages) refl)
-            (loads c p s k x (HeapWord (address_of spot)) (let i = inside_row spot on in omega (arith, i)) (goes_by (decode word) refl))
+        (loads c p s k x (HeapWord (address_of spot)) (let i = inside_row spot on in omega (arith, i)) (goes_by (decode word) refl))
