@@ -7,7 +7,7 @@ use Rattle.mutator_asm.specs.Text.{IsText}
 use Rattle.plain_state.specs.State.{Mutator}
 use Rattle.plain_heap.specs.Order.{opening}
 use Rattle.plain_heap.specs.Print.{lines_from}
-use Rattle.plain_heap.specs.Solo.{IsAsAlone, is_alone}
+use Rattle.plain_heap.specs.Alone.{IsAsAlone, shares_nothing}
 use Rattle.gc_core.specs.Whole.{EachActs}
 use Rattle.ael_cli.specs.declared.reading.TheConstants.{MAX_INPUT}
 use Rattle.ael_cli.specs.declared.job.Job.{Job}
@@ -95,4 +95,4 @@ pub record PrintsAsAlone (options : SimOptions) (items : List Item) (program : L
 -- of a program without `get`, `put` and `swap` print what they print alone, whatever the schedule is.
 abbrev pub IsAlwaysTheSame : List (List ℕ) → Drawn → Filled → Filled → ℕ → Type 0
 IsAlwaysTheSame words source out err code = (options : SimOptions) (items : List Item) (program : List (List Instr)) → GoesWell words source out err (Sim options) items program → code ≢ 7
-    → IsTrue (is_alone program) → PrintsAsAlone options items program out
+    → IsTrue (shares_nothing program) → PrintsAsAlone options items program out

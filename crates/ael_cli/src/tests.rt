@@ -25,16 +25,16 @@ struct Outcome {
     status: u8,
 }
 
-/// The reads that fail, and how many bytes the sinks have room for.
+/// The read that fails, or 0, and how many bytes the sinks have room for.
 #[derive(Clone, Copy)]
-struct Limits<'a> {
-    reads: &'a [u64],
+struct Limits {
+    read: u64,
     out: usize,
     err: usize,
 }
 
 const AMPLE: Limits = Limits {
-    reads: &[],
+    read: 0,
     out: 1_000_000,
     err: 1000,
 };
@@ -76,7 +76,7 @@ fn call(rt: &HostRuntime, line: &str, text: &str, limits: Limits) -> Result<Outc
     let alloc = rt.alloc();
     let words = words_of(alloc, line)?;
     let input = Vec::from_slice(alloc, text.as_bytes())?;
-    let mut src = MemSource::new(input, Vec::from_slice(alloc, limits.reads)?);
+    let mut src = MemSource::new(input, Vec::from_slice(alloc, &[limits.read])?);
     let mut out = MemSink::new(alloc, limits.out, Vec::new(alloc))?;
     let mut err = MemSink::new(alloc, limits.err, Vec::new(alloc))?;
     let status = ael(rt, alloc, &words, &mut src, &mut out, &mut err);
@@ -100,8 +100,19 @@ no room at all|sim|.mutator/new r0 4095/new r0 4095/new r0 4095/new r0 4095/new 
 an empty input|sim|||ael: line 1: error 5: no mutator/|1";
 
 #[test]
-fn texts_print_what_they_should(rt: HostRuntime) -> Result<(), Fail> {
-    check_rows(&rt, ROWS)
+fn calls_give_what_they_should(rt: HostRuntime) -> Result<(), Fail> {
+    let tables = [
+        ROWS,
+        instructions::ROWS,
+        schedules::ROWS,
+        texts::ROWS,
+        texts::REFUSED,
+        texts::ADDERS,
+    ];
+    for table in tables {
+        check_rows(&rt, table)?;
+    }
+    Ok(())
 }
 
 /// A text of one instruction, with spaces before its last line end.
@@ -110,19 +121,47 @@ const LENGTHS: &str = "\
 1048563| |an input too long|sim|.mutator/halt@/||ael: input too long/|8";
 
 #[test]
-fn input_has_a_limit(rt: HostRuntime) -> Result<(), Fail> {
-    check_long_rows(&rt, LENGTHS)
+fn long_calls_give_what_they_should(rt: HostRuntime) -> Result<(), Fail> {
+    for table in [LENGTHS, instructions::FULL, texts::LIMITS] {
+        check_long_rows(&rt, table)?;
+    }
+    Ok(())
 }
 
-/// The second read fails.
-const READ_FAULT: Limits = Limits {
-    reads: &[2],
-    ..AMPLE
-};
+/// The read that fails, or 0, and the rooms of out and of err stand before each row. The first rows
+/// have all statuses from 0 to 6, so a call that always answers the same one is wrong in another row.
+const ENDS: &str = "\
+0|1000|1000|all is well|sim|.mutator/li r1 7/new r0 2/st r0 1 r1/ld r2 r0 1/out r2/halt/|0: 7/0: halt/||0
+0|1000|1000|a text that is refused|sim|.mutator/foo/||ael: line 2: error 1: unknown instruction/|1
+0|1000|1000|words that are no command|simulate|.mutator/li r1 7/new r0 2/st r0 1 r1/ld r2 r0 1/out r2/halt/||usage: ael asm, sim, run, concord or bench/|2
+0|1000|1000|a mutator that doesn't halt|sim|.mutator/|0: jump out/||3
+0|1000|1000|steps that run out|sim --steps 1|.mutator/jr r0/|0: stopped/|ael: steps out/|4
+2|1000|1000|the read of the end fails|sim|.mutator/li r1 7/new r0 2/st r0 1 r1/ld r2 r0 1/out r2/halt/||ael: read fault/|5
+2|1000|1000|the read of the end of a listing fails|asm|.mutator/halt/||ael: read fault/|5
+1|1000|1000|the first read fails|sim|||ael: read fault/|5
+0|1|1000|no room for the output|sim|.mutator/halt/|0|ael: write fault/|6
+0|1000|0|no room for the usage|||||6
+0|1000|5|some room for the usage||||usage|6
+0|1000|10|some room for a text's fault|sim|.mutator/foo/||ael: line |6
+0|3|7|both sinks fail|sim|.mutator/li r1 7/new r0 2/st r0 1 r1/ld r2 r0 1/out r2/halt/|0: |ael: wr|6
+0|3|17|out fails, and err has just enough room|sim|.mutator/li r1 7/new r0 2/st r0 1 r1/ld r2 r0 1/out r2/halt/|0: |ael: write fault/|6";
 
 #[test]
-fn failed_reads_are_told(rt: HostRuntime) -> Result<(), Fail> {
-    call(&rt, "sim --order", FIRST, READ_FAULT)?.check("a run", b"", b"ael: read fault\n", 5)
+fn ends_that_fail_are_told(rt: HostRuntime) -> Result<(), Fail> {
+    for line in ENDS.split('\n') {
+        let (read, rest) = line
+            .split_once('|')
+            .ok_or("the read that fails is missing")?;
+        let (out, rest) = rest.split_once('|').ok_or("the room of out is missing")?;
+        let (err, row) = rest.split_once('|').ok_or("the room of err is missing")?;
+        let limits = Limits {
+            read: read.parse::<u64>()?,
+            out: out.parse::<usize>()?,
+            err: err.parse::<usize>()?,
+        };
+        Row::read(rt.alloc(), row)?.check(&rt, limits)?;
+    }
+    Ok(())
 }
 
 /// Where out has no room for all, it holds what it has room for.
@@ -137,35 +176,10 @@ fn check_fronts(rt: &HostRuntime, words: &str, text: &str, whole: &[u8]) -> Resu
 
 #[test]
 fn failed_writes_leave_a_front(rt: HostRuntime) -> Result<(), Fail> {
-    check_fronts(
-        &rt,
-        "sim --order",
-        FIRST,
-        b"0: 7\n0: halt\norder 0 0 0 0 0 0\n",
-    )
-}
-
-/// Before each row stand the room of out and the room of err.
-const FAILED_LINES: &str = "\
-1000|0|no room for the usage|||||6
-1000|5|some room for the usage||||usage|6
-1000|10|some room for a text's fault|sim|.mutator/foo/||ael: line |6
-3|7|both sinks fail|sim|.mutator/li r1 7/new r0 2/st r0 1 r1/ld r2 r0 1/out r2/halt/|0: |ael: wr|6
-3|17|out fails, and err has just enough room|sim|.mutator/li r1 7/new r0 2/st r0 1 r1/ld r2 r0 1/out r2/halt/|0: |ael: write fault/|6";
-
-#[test]
-fn failed_lines_leave_a_front(rt: HostRuntime) -> Result<(), Fail> {
-    for line in FAILED_LINES.split('\n') {
-        let (out, rest) = line.split_once('|').ok_or("the room of out is missing")?;
-        let (err, row) = rest.split_once('|').ok_or("the room of err is missing")?;
-        let limits = Limits {
-            reads: &[],
-            out: out.parse::<usize>()?,
-            err: err.parse::<usize>()?,
-        };
-        Row::read(rt.alloc(), row)?.check(&rt, limits)?;
-    }
-    Ok(())
+    let printed = b"0: 7\n0: halt\norder 0 0 0 0 0 0\n";
+    check_fronts(&rt, "sim --order", FIRST, printed)?;
+    let listing = b".schedule 0\n.mutator\nL0: jmp L0\n";
+    check_fronts(&rt, "asm", ".schedule 0\n.mutator\nl: jmp l\n", listing)
 }
 
 #[test]

@@ -53,15 +53,16 @@ NextRecordIsPlaced =
 -- with 64 words owed in an epoch that isn't traced, the page is claimed only where they are left
 abbrev pub ReserveIsKept : Type 0
 ReserveIsKept =
-    ComesTo place_machine (begun four_pages no_run pair 1)
-    ((Load 2, Value 1) ∷ (Load 5, Value 0x0000_0400_01fc_0000) ∷ [])
-    (Full (record { asked = 1; room = 127; owed = 64; traced = false; live = 0 }))
+    ComesTo place_machine (begun four_pages no_run pair 1) ((Load 2, Value 1) ∷ (Load 5, Value 0x0000_0400_0200_0001) ∷ [])
+    (Full (record { asked = 1; room = 127; owed = 64; traced = false; live = 1 }))
 
 -- once it is traced, nothing is owed any more
 abbrev pub ReserveIsFreeOnceTraced : Type 0
 ReserveIsFreeOnceTraced =
     ComesTo place_machine (begun four_pages no_run pair 1)
-    (((Load 2, Value 2) ∷ (Load 5, Value 0x0000_0400_01fc_0000) ∷ (Exchange 5 0x0000_0400_01fc_0000 0x0000_0000_00fc_0000, Won) ∷ []) ++ zeros_stored 352 64 ++ ((Store 20 65537, Done) ∷ (Store 352 65570, Done) ∷ [])) (Placed 319)
+    (((Load 2, Value 2) ∷ (Load 5, Value 0x0000_0400_0200_0001) ∷ (Exchange 5 0x0000_0400_0200_0001 0x0000_0000_0100_0001, Won) ∷ [])
+    ++ zeros_stored 353 64 ++ ((Store 21 65537, Done) ∷ (Store 353 65570, Done) ∷ []))
+    (Placed 320)
 
 -- a heap that is full of live records tells its numbers
 abbrev pub FullTellsItsNumbers : Type 0

@@ -46,4 +46,19 @@ LostClaimEnds = ComesTo claim_machine (begun four_pages 4 1 3 page_word.Unset tr
 
 -- a page is opened by one store
 abbrev pub PageIsOpened : Type 0
-PageIsOpened = ComesTo opening.open_machine (opening.begun four_pages 8 1) ((Store 24 65537, reply.Done) ∷ []) (record {})
+PageIsOpened =
+    (ComesTo opening.open_machine (opening.begun four_pages 8 1) ((Store 24 65537, reply.Done) ∷ []) (record {}))
+    × (ComesTo opening.open_machine (opening.begun four_pages 4 1) ((Store 20 65537, reply.Done) ∷ []) (record {}))
+
+-- the board is claimed by worker 1 in epoch 1, from OPEN of epoch 0
+abbrev pub BoardIsClaimed : Type 0
+BoardIsClaimed =
+    ComesTo claim_machine (begun four_pages 8 1 1 (page_word.Open 0) false) ((Load 0, reply.Value 0x0000_0001_0000_0001) ∷ (Exchange 24 1 65542, reply.Won) ∷ []) claimed.Won
+
+-- and the filling page
+abbrev pub FillingPageIsClaimed : Type 0
+FillingPageIsClaimed = ComesTo claim_machine (begun four_pages 4 1 1 page_word.Unset true) ((Exchange 20 0 65542, reply.Won) ∷ []) claimed.Won
+
+-- a page that was opened in a later epoch meanwhile isn't claimed
+abbrev pub LaterEpochWins : Type 0
+LaterEpochWins = ComesTo claim_machine (begun four_pages 4 1 3 page_word.Unset true) ((Exchange 20 0 65550, reply.Lost 131073) ∷ []) (claimed.Taken 131073)

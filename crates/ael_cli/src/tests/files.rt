@@ -31,19 +31,16 @@ fn files_are_read_and_written(rt: HostRuntime) -> Result<(), Fail> {
     holds(&rt, "read.err", "")
 }
 
-/// A file that was opened only for writing can't be read.
+/// A file that was opened only for writing can't be read, and one that was opened only for reading
+/// can't be written.
 #[test]
-fn a_file_that_cannot_be_read_is_told(rt: HostRuntime) -> Result<(), Fail> {
+fn files_that_fail_are_told(rt: HostRuntime) -> Result<(), Fail> {
     let (src, out) = (fs::create(&rt, "5.ael")?, fs::create(&rt, "5.out")?);
     assert_eq!(rt; call(&rt, src, out, fs::create(&rt, "5.err")?)?, 5);
-    fs::remove_file(&rt, "5.ael")?;
+    holds(&rt, "5.ael", "")?;
     holds(&rt, "5.out", "")?;
-    holds(&rt, "5.err", "ael: read fault\n")
-}
+    holds(&rt, "5.err", "ael: read fault\n")?;
 
-/// A file that was opened only for reading can't be written.
-#[test]
-fn a_file_that_cannot_be_written_is_told(rt: HostRuntime) -> Result<(), Fail> {
     fs::write(&rt, "6.ael", FIRST)?;
     let (src, out) = (fs::open(&rt, "6.ael")?, fs::open(&rt, "6.ael")?);
     assert_eq!(rt; call(&rt, src, out, fs::create(&rt, "6.err")?)?, 6);

@@ -1,9 +1,6 @@
 //! What each instruction does, and each of its ends, in the order in which they are tried.
 
-use super::rows::{check_long_rows, check_rows};
-use std::test::Fail;
-
-const ROWS: &str = "\
+pub const ROWS: &str = "\
 mov|sim|.mutator/li r1 5/mov r0 r1/out r0/halt/|0: 5/0: halt/||0
 mov of a reference|sim|.mutator/new r1 1/mov r0 r1/eq r2 r0 r1/out r2/halt/|0: 1/0: halt/||0
 add|sim|.mutator/li r0 2/li r1 3/add r0 r0 r1/out r0/halt/|0: 5/0: halt/||0
@@ -72,15 +69,5 @@ no halt|sim|.mutator/li r0 1/out r0/|0: 1/0: jump out/||3
 a trap leaves the registers|sim|.mutator/li r0 7/out r0/ld r0 r0 0/|0: 7/0: not a pointer/||3
 turns out before jump out|sim|.mutator/li r0 0/jr r0/|0: turns out/||3";
 
-#[test]
-fn instructions_have_their_effects_and_ends(rt: HostRuntime) -> Result<(), Fail> {
-    check_rows(&rt, ROWS)
-}
-
 /// A mutator prints 65,536 numbers, and not one more.
-const FULL: &str = "65536|0: 0/|a loop|sim|.mutator/out r0/jr r0/|@0: output full/||3";
-
-#[test]
-fn output_is_full_at_last(rt: HostRuntime) -> Result<(), Fail> {
-    check_long_rows(&rt, FULL)
-}
+pub const FULL: &str = "65536|0: 0/|a loop|sim|.mutator/out r0/jr r0/|@0: output full/||3";

@@ -1,7 +1,7 @@
 //! What `asm` prints.
 
 use super::rows::{Row, long_row};
-use super::{AMPLE, READ_FAULT, call, check_fronts};
+use super::{AMPLE, call};
 use std::test::Fail;
 
 const ROWS: &str = "\
@@ -68,16 +68,4 @@ fn long_programs_are_listed(rt: HostRuntime) -> Result<(), Fail> {
         check_listing(&rt, &long_row(rt.alloc(), line)?)?;
     }
     Ok(())
-}
-
-#[test]
-fn listings_need_every_read(rt: HostRuntime) -> Result<(), Fail> {
-    let found = call(&rt, "asm", ".mutator\nhalt\n", READ_FAULT)?;
-    found.check("a listing", b"", b"ael: read fault\n", 5)
-}
-
-#[test]
-fn failed_listings_leave_a_front(rt: HostRuntime) -> Result<(), Fail> {
-    let text = ".schedule 0\n.mutator\nl: jmp l\n";
-    check_fronts(&rt, "asm", text, b".schedule 0\n.mutator\nL0: jmp L0\n")
 }

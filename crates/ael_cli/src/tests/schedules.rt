@@ -1,9 +1,6 @@
 //! Which worker makes which step, and when a run stops.
 
-use super::rows::check_rows;
-use std::test::Fail;
-
-const ROWS: &str = "\
+pub const ROWS: &str = "\
 turns that run out|sim --turns 3|.mutator/out r0/jr r0/|0: 0/0: 0/0: turns out/||3
 one turn, and halt in it|sim --turns 1|.mutator/halt/|0: halt/||0
 an endless loop|sim --steps 5|.mutator/jr r0/|0: stopped/|ael: steps out/|4
@@ -23,8 +20,3 @@ and an even one|sim --seed 1234567 --steps 6|.mutator/halt/|0: halt/||0
 two scanners, one step too few|sim --seed 1 --scanners 2 --steps 4|.mutator/out r0/out r0/halt/|0: 0/0: stopped/|ael: steps out/|4
 two scanners|sim --seed 1 --scanners 2 --steps 7|.mutator/out r0/out r0/halt/|0: 0/0: 0/0: halt/||0
 the greatest seed|sim --seed 18446744073709551615 --scanners 2 --steps 5|.mutator/out r0/out r0/halt/|0: 0/0: 0/0: halt/||0";
-
-#[test]
-fn schedules_name_the_workers(rt: HostRuntime) -> Result<(), Fail> {
-    check_rows(&rt, ROWS)
-}

@@ -1,9 +1,9 @@
 //! Texts of several mutators and schedules, and texts that are refused.
 
-use super::rows::{check_long_rows, check_rows};
+use super::rows::check_rows;
 use std::test::Fail;
 
-const ROWS: &str = "\
+pub const ROWS: &str = "\
 a loop of three turns|sim --turns 3|.mutator/li r0 1/l: out r0/jmp l/|0: 1/0: turns out/||3
 a loop without an end|sim|.mutator/l: jmp l/|0: turns out/||3
 steps that run out|sim --steps 5|.mutator/l: jmp l/.mutator/l: jmp l/|0: stopped/1: stopped/|ael: steps out/|4
@@ -21,12 +21,7 @@ one mutator ended, one stopped|sim --steps 4 --scanners 0|.mutator/halt/.mutator
 labels of one name in two sections|sim|.mutator/jmp l/l: halt/.mutator/out r0/l: halt/|0: halt/1: 0/1: halt/||0
 two mutators meet on the board|sim --scanners 0|.mutator/li r0 5/put 0 r0/w: get r1 1/jz r1 w/out r1/halt/.mutator/w: get r0 0/jz r0 w/add r0 r0 r0/put 1 r0/halt/|0: 10/0: halt/1: halt/||0";
 
-#[test]
-fn mutators_share_a_heap(rt: HostRuntime) -> Result<(), Fail> {
-    check_rows(&rt, ROWS)
-}
-
-const REFUSED: &str = "\
+pub const REFUSED: &str = "\
 a directive that isn't known|sim|.mutat/||ael: line 1: error 1: unknown instruction/|1
 an operand missing|sim|.mutator/li r1/||ael: line 2: error 2: bad operand/|1
 a section with an operand|sim|.mutator x/||ael: line 1: error 2: bad operand/|1
@@ -46,12 +41,7 @@ a label of another section|sim|.mutator/l: halt/.mutator/jmp l/||ael: line 4: er
 schedules alone|sim|.schedule 0//||ael: line 1: error 5: no mutator/|1
 the last line without its end|sim|.mutator/halt/foo||ael: line 3: error 1: unknown instruction/|1";
 
-#[test]
-fn texts_are_refused(rt: HostRuntime) -> Result<(), Fail> {
-    check_rows(&rt, REFUSED)
-}
-
-const LIMITS: &str = "\
+pub const LIMITS: &str = "\
 65536|halt/|as many instructions as may be|sim|.mutator/@|0: halt/||0
 65537|halt/|one instruction more|sim|.mutator/@||ael: line 65538: error 7: code too long/|1
 65535|halt/|as many in two sections|sim|.mutator/halt/.mutator/@|0: halt/1: halt/||0
@@ -59,11 +49,6 @@ const LIMITS: &str = "\
 17|.mutator/|one section too many|sim|@||ael: line 17: error 6: too many mutators/|1
 65536| 0|as many items as may be|sim|.mutator/halt/.schedule@/|0: halt/||0
 65536| 0|one item more|sim|.mutator/halt/.schedule 0/.schedule@/||ael: line 4: error 8: bad schedule/|1";
-
-#[test]
-fn texts_have_limits(rt: HostRuntime) -> Result<(), Fail> {
-    check_long_rows(&rt, LIMITS)
-}
 
 /// Numbers of 62 bits wrap, and a remainder has a divisor. The seed stands in the place of @.
 const ARITHMETIC: &str =
@@ -78,13 +63,8 @@ fn seeds_change_nothing_alone(rt: HostRuntime) -> Result<(), Fail> {
     Ok(())
 }
 
-/// Two mutators that each add 1 to a word of the board by a load and a store, and print it.
-const ADDERS: &str = "\
+/// Two mutators that each add 1 to a word of the board by a load and a store, and print it: the seed
+/// decides who comes first.
+pub const ADDERS: &str = "\
 seed 2|sim --seed 2|.mutator/li r1 1/get r0 0/add r0 r0 r1/put 0 r0/get r0 0/out r0/halt/.mutator/li r1 1/get r0 0/add r0 r0 r1/put 0 r0/get r0 0/out r0/halt/|0: 1/0: halt/1: 1/1: halt/||0
 seed 3|sim --seed 3|.mutator/li r1 1/get r0 0/add r0 r0 r1/put 0 r0/get r0 0/out r0/halt/.mutator/li r1 1/get r0 0/add r0 r0 r1/put 0 r0/get r0 0/out r0/halt/|0: 1/0: halt/1: 2/1: halt/||0";
-
-/// Where mutators meet on the board, the seed decides who comes first.
-#[test]
-fn seeds_decide_who_comes_first(rt: HostRuntime) -> Result<(), Fail> {
-    check_rows(&rt, ADDERS)
-}

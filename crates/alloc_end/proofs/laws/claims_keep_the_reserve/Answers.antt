@@ -1,0 +1,8 @@
+use Rattle.alloc_end.proofs.Reserving.{claims, loses}
+use Rattle.alloc_end.proofs.laws.claims_keep_the_reserve.Goals as goal
+
+pub returns-clause-claimed : goal.returns-clause-claimed
+returns-clause-claimed c = claims
+
+pub returns-clause-lost : goal.returns-clause-lost
+returns-clause-lost c = loses
