@@ -26,7 +26,7 @@ use Rattle.page_scan.specs.Fields.{IsFieldOn, IsOnBoard}
 use Rattle.page_scan.specs.Scanning.{Scanning, HasStep, address_of, begun, wanted}
 use Rattle.page_scan.specs.Soundness.{IsSound}
 use Rattle.page_scan.specs.Taken.{answered, is_old, scan_end, scan_machine, taken, told}
-use Rattle.page_scan.specs.Worked.{answered_after, board, board_loads, board_asks, board_goes_on, filling, filling_asks, filling_goes_on, full, full_loads, words_with}
+use Rattle.page_scan.specs.Worked.{answered_after, board, board_loads, board_asks, board_goes_on, filling, filling_asks, filling_goes_on, full, full_loads, full_words_with, words_with}
 
 -- ---- one step of a scan
 
@@ -76,9 +76,10 @@ EndsInPlace = (v : Scanning) (reply : Reply) (ending : Ending) → IsSound v →
 
 -- ---- a scan that nobody disturbs
 
--- the worked filling page is one over whose words records lie packed
-abbrev pub WorkedIsPacked : Type 0
-WorkedIsPacked = IsPacked four_pages 4 1 true (words_with 0x301) 259
+-- on the worked pages, the filling one and the full one, records lie packed
+pub record WorkedArePacked : Type 0 where
+  pub filling_page : IsPacked four_pages 4 1 true (words_with 0x301) 259
+  pub full_page : IsPacked four_pages 5 1 false (full_words_with 0x301) 422
 
 -- after so many steps, answered at once
 abbrev pub after_steps : (answer : ℕ → ℕ) → ℕ → Scanning → List ℕ → Working Scanning
@@ -117,3 +118,5 @@ pub record IsWorkedOut : Type 0 where
   pub on_full : ComesTo scan_machine full full_loads (comes_to.Ended false)
   pub words : alone scan_machine 2 (answered_over (alone scan_machine 4 (record { machine = filling; words = words_with 0x301 })) 256)
       ≡ record { machine = record filling { stage = Ended (record { cursor = 259; at_front = true }) }; words = words_with 0x401 }
+  pub full_words : after_steps (λ old. 256) 5 full (full_words_with 0x301)
+      ≡ record { machine = record full { stage = Ended (record { cursor = 422; at_front = false }) }; words = full_words_with 0x401 }
