@@ -79,14 +79,13 @@ pub record Pointed : Type 0 where
   pub addr : ℕ
 
 -- the first of so many registers from one on that holds a pointer
-mutual
-  unfoldable pub first_pointer : List ℕ → (count from : ℕ) → Option Pointed
-  first_pointer registers zero from = None
-  first_pointer registers (suc n) from = pointer_or_next registers n from (pointer_in (decode (slice_index registers from)))
+abbrev pub pointer_at : (from : ℕ) → Option ℕ → Option Pointed → Option Pointed
+pointer_at from (Some addr) later = Some (record { register = from; addr = addr })
+pointer_at from None later = later
 
-  unfoldable pub pointer_or_next : List ℕ → (count from : ℕ) → Option ℕ → Option Pointed
-  pointer_or_next registers n from (Some addr) = Some (record { register = from; addr = addr })
-  pointer_or_next registers n from None = first_pointer registers n (from + 1)
+unfoldable pub first_pointer : List ℕ → (count from : ℕ) → Option Pointed
+first_pointer registers zero from = None
+first_pointer registers (suc n) from = pointer_at from (pointer_in (decode (slice_index registers from))) (first_pointer registers n (from + 1))
 
 -- its record is copied in the epoch that follows the worker's; where there is none, all are forwarded
 abbrev pub forwards_it : Held → After → Option Pointed → Stage
