@@ -26,7 +26,7 @@ use Rattle.gc_worker.specs.Fits.{Fits, Takes}
 use Rattle.gc_worker.specs.Goes.{Is, Goes, Steps, Wins}
 use Rattle.gc_worker.specs.Held.{Held}
 use Rattle.gc_worker.specs.Knows.{knows}
-use Rattle.gc_worker.specs.Turned.{Told, Silent, turned, told, won}
+use Rattle.gc_worker.specs.Turned.{Silent, PageWon, turned, told, won}
 
 -- what the entry fits is a row of the table
 row_is : (n : ℕ) (e : Entry) → EntryFits n e → IsRow n (row_of e)
@@ -53,6 +53,13 @@ module _ (c : Configuration) (p : Plain) (s : Stands c p) (k : ℕ) (x : Held) w
     leads = rw silent (steps_are_lifted c p s e k (knows (turned x reply)) h below l);
     wins = wins;
   }
+
+  -- the same where the worker becomes this, and wins no page
+  pub becomes : (e : Option Entry) (reply : Reply) (y : Held) (h : Ghost) → turned x reply ≡ y → k < length c.workers → Law e (knows y) h → told x reply ≡ Silent
+      → won x reply ≡ None → Takes x reply → Fits c.pages c.mutators k y → Goes c p s k e x reply
+  becomes e reply y h same below l silent none takes fits =
+      quiet e reply h below (subst (λ (z : Held). Law e (knows z) h) (sym same) l) silent takes (subst (Fits c.pages c.mutators k) (sym same) fits)
+      (subst (λ (w : Option PageWon). Wins c e k (turned x reply) w) (sym none) tt)
 
   -- the row that a law says is written is one of the table
   pub row_fits : (e : Entry) (w : Worker) (h : Ghost) → k < length c.workers → Law (Some e) w h → IsRow c.pages (row_of e)
