@@ -2,6 +2,7 @@
 use Rattle.std.specs.Prelude.{◌≡◌, ℕ, ◌+◌, ◌≤◌, ◌↔◌, ⊤, Bool, true, false, List, Some, length}
 use Rattle.atom_store.specs.Machine.{ComesTo}
 use Rattle.atom_store.specs.Runs.{Working, alone}
+use Rattle.atom_store.specs.Step.{reply_of}
 use Rattle.atom_store.specs.declared.reply.Reply.{Reply}
 use Rattle.atom_store.specs.declared.reply.Reply.TheVariants.{Value}
 use Rattle.atom_store.specs.declared.step.Step.{Step}
@@ -23,6 +24,7 @@ use Rattle.page_scan.specs.declared.scanned_record.ScannedRecord.{ScannedRecord}
 use Rattle.page_scan.specs.declared.spot.Spot.{Spot}
 use Rattle.page_scan.specs.Answering.{IsPacked, ReplacesPointers, answering, crossing_in, heap_in}
 use Rattle.page_scan.specs.Fields.{IsFieldOn, IsOnBoard}
+use Rattle.page_scan.specs.Left.{IsHeldUp, advances}
 use Rattle.page_scan.specs.Scanning.{Scanning, HasStep, address_of, begun, wanted}
 use Rattle.page_scan.specs.Soundness.{IsSound}
 use Rattle.page_scan.specs.Taken.{answered, is_old, scan_end, scan_machine, taken, told}
@@ -73,6 +75,11 @@ pub record EndsAt (v : Scanning) (reply : Reply) (ending : Ending) : Type 0 wher
 
 abbrev pub EndsInPlace : Type 0
 EndsInPlace = (v : Scanning) (reply : Reply) (ending : Ending) → IsSound v → HasStep v.stage → (taken v reply).stage ≡ Ended ending → EndsAt v reply ending
+
+-- whatever words a step meets, its reply takes the scan on, where what is left falls, or the word is one that can't be there
+abbrev pub GoesOn : Type 0
+GoesOn = (v : Scanning) (step : Step) (met : List ℕ) → wanted v ≡ Some step
+    → advances v.stage (reply_of step met) ≡ false → IsHeldUp v.stage (reply_of step met)
 
 -- ---- a scan that nobody disturbs
 
