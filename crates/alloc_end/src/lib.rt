@@ -1,4 +1,13 @@
-//! Allocation.
+//! The allocation of new records, at the high end of the to-space.
+//!
+//! Copied records fill the space from its low end up to FRONT. New records lie apart from them, on pages that are claimed from
+//! the high end down to LOW and are open from the start: they lead to records of the to-space alone, so nobody scans them in
+//! the epoch in which they are made. A mutator has a run of such pages and places its records in it one behind the other.
+//! Where one doesn't fit there, it claims pages for it. While the epoch is not traced, the words between FRONT and LOW have
+//! to suffice for all records that may still be copied, so a claim is made only where that many are left.
+//!
+//! [`Place`] is a machine: it names its next atomic step, and takes the reply. [`PlaceStage`] lists what it does in turn. After
+//! its result it tells the [`Run`] that the mutator has then.
 #![tactic(auto)]
 
 mod allocated;

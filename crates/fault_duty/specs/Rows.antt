@@ -6,12 +6,12 @@ use Rattle.atom_store.specs.declared.step.Step.TheVariants.{Load, Store, Exchang
 use Rattle.atom_store.specs.declared.reply.Reply.{Reply}
 use Rattle.atom_store.specs.declared.reply.Reply.TheVariants.{Value, Done, Won, Lost}
 use Rattle.atom_store.specs.Machine.{ComesTo}
-use Rattle.space_map.specs.Spaces.{Layout}
+use Rattle.space_map.specs.Worked.{four_pages}
 use Rattle.fault_duty.specs.declared.caller.Caller.{Caller}
 use Rattle.fault_duty.specs.declared.caller.Caller.TheVariants.{Faulted, Allocates, Scans}
 use Rattle.fault_duty.specs.declared.round_end.RoundEnd.{RoundEnd}
 use Rattle.fault_duty.specs.declared.round_end.RoundEnd.TheVariants.{ScanPage, ScanInPlace, Marked, AllLeft, NothingNow}
-use Rattle.page_slots.specs.Rows.{four_pages, nothing_announced}
+use Rattle.page_slots.specs.Rows.{nothing_announced}
 use Rattle.fault_duty.specs.Duty.{begun, duty_machine}
 
 -- a round of scanner 1 beside one mutator makes these steps, and comes to this
