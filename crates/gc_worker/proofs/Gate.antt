@@ -1,2 +1,4 @@
 pub mod Words
 pub mod Looking
+pub mod Resuming
+pub mod Passing
