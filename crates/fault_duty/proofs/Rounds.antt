@@ -1,5 +1,5 @@
 -- What a round's step does to the words, by what it then tells.
-use Rattle.std.proofs.Common.{◌≡◌, ◌≢◌, ℕ, ◌+◌, ◌<◌, ◌≤◌, Bool, true, false, cond, nat_eq, ◌⊎◌, inl, inr, List, slice_index, Option, Some, None, arith, refl, sym, ap, subst, ◌∙◌}
+use Rattle.std.proofs.Common.{◌≡◌, ℕ, ◌+◌, Bool, true, false, cond, nat_eq, ◌⊎◌, inl, inr, List, slice_index, Option, Some, None, arith, refl, sym, ap, subst, ◌∙◌}
 use Rattle.atom_store.specs.declared.reply.Reply.{Reply}
 use Rattle.atom_store.specs.declared.reply.Reply.TheVariants as reply
 use Rattle.atom_store.specs.declared.step.Step.{Step}
@@ -18,16 +18,14 @@ use Rattle.space_map.specs.GateWord.{decode_gate}
 use Rattle.space_map.specs.PageWord.{encode_page, decode_page}
 use Rattle.space_map.specs.Spaces.{to_space, page_of}
 use Rattle.space_map.specs.Table.{Gate, Traced, Area, Page, place_of}
-use Rattle.space_map.specs.TableWords.{word_in, HoldsTable}
+use Rattle.space_map.specs.TableWords.{HoldsTable}
 use Rattle.space_map.proofs.PageWords.{encode_page-decode_page}
 use Rattle.space_map.proofs.Rows.{place_of-lt}
-use Rattle.page_slots.specs.declared.claimed.Claimed.TheVariants as claimed
 use Rattle.page_slots.specs.Claim.{Claiming, claim_machine}
 use Rattle.page_slots.specs.Claim as claim
 use Rattle.page_slots.proofs.Claiming as claims
 use Rattle.fault_duty.specs.declared.caller.Caller.{Caller}
 use Rattle.fault_duty.specs.declared.caller.Caller.TheVariants.{Faulted, Allocates, Scans}
-use Rattle.fault_duty.specs.declared.findings.Findings.{Findings}
 use Rattle.fault_duty.specs.declared.choice.Choice.{Choice}
 use Rattle.fault_duty.specs.declared.end_look.EndLook.{EndLook}
 use Rattle.fault_duty.specs.declared.round_end.RoundEnd.{RoundEnd}
@@ -37,7 +35,7 @@ use Rattle.fault_duty.specs.declared.duty_stage.DutyStage.TheVariants.{LoadsGate
 use Rattle.fault_duty.specs.Duty
 use Rattle.fault_duty.specs.Duty.{Round, at_stage, duty_machine, told, told_at, taken_at}
 use Rattle.fault_duty.specs.Soundness.{Forbids, PageInScan, IsHindrance, IsSoundRound}
-use Rattle.fault_duty.specs.Theorems.{row_of, OtherEpoch, NotStill, IsServed, IsPastPage, FrontMoved, ShowsNothing, SeesAllLeft, MarksEpoch, ClaimsPage}
+use Rattle.fault_duty.specs.Theorems.{row_of, IsPastPage, ShowsNothing, SeesAllLeft, MarksEpoch, ClaimsPage}
 use Rattle.fault_duty.proofs.Telling.{gate_ends, left_ends, traced_ends, wanted_ends, front_for_ends, front_never, ChoiceEnds, ByHindrance, ByScan, ByPast, page_ends, claim_nothing, claim_scans, claim_scans_in_place, claim_never, end_gate_ends, end_area_never, end_page_ends, filling_ends, AreaAgainEnds, ByFront, ByFilling, area_again_ends}
 
 told_word : (word other : ℕ) → NothingNow word ≡ NothingNow other → word ≡ other

@@ -1,10 +1,10 @@
 -- Worked rows of the duty, in a heap of 4 pages a space whose mutator has one record, copied to the first words of space 1: each
 -- step with its reply, words as numbers.
-use Rattle.std.specs.Prelude.{ℕ, ◌++◌, List, [], ◌∷◌, true, false}
+use Rattle.std.specs.Prelude.{◌++◌, List, [], ◌∷◌}
 use Rattle.atom_store.specs.declared.step.Step.{Step}
-use Rattle.atom_store.specs.declared.step.Step.TheVariants.{Load, Store, Exchange}
+use Rattle.atom_store.specs.declared.step.Step.TheVariants.{Load, Exchange}
 use Rattle.atom_store.specs.declared.reply.Reply.{Reply}
-use Rattle.atom_store.specs.declared.reply.Reply.TheVariants.{Value, Done, Won, Lost}
+use Rattle.atom_store.specs.declared.reply.Reply.TheVariants.{Value, Won, Lost}
 use Rattle.atom_store.specs.Machine.{ComesTo}
 use Rattle.space_map.specs.Worked.{four_pages}
 use Rattle.fault_duty.specs.declared.caller.Caller.{Caller}
