@@ -3,7 +3,7 @@ use Rattle.std.proofs.Common.{◌≡◌, ℕ, ◌+◌, ◌-◌, ◌≤◌, inl, 
 use Rattle.heap_state.specs.Kept.{Kept, reserved_in}
 use Rattle.heap_state.specs.Table.{Table}
 use Rattle.heap_state.specs.Walk.{Walked, walk}
-use Rattle.heap_state.proofs.Walking.{walk_end}
+use Rattle.heap_state.proofs.Walks.Walking.{walk_end}
 use Rattle.crossing_map.specs.declared.area.Area.{Area}
 use Rattle.crossing_map.specs.declared.walked.Walked.{Walked as Next}
 use Rattle.crossing_map.specs.declared.walked.Walked.TheVariants as next

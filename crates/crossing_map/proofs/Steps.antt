@@ -5,7 +5,7 @@ use Rattle.heap_words.specs.Decoded.{Decoded, NumberWord, PointerWord, HeaderWor
 use Rattle.space_map.specs.Table.{HeapWord, Page, Cross, place_of}
 use Rattle.heap_state.specs.Table.{page_said, table_of}
 use Rattle.heap_state.specs.Walk.{Met, Nothing, Reserved, meets, met_word, next_place}
-use Rattle.heap_state.proofs.Places.{word_in-row}
+use Rattle.heap_state.proofs.Table.Places.{word_in-row}
 use Rattle.crossing_map.specs.declared.walked.Walked.{Walked as Next}
 use Rattle.crossing_map.specs.declared.walked.Walked.TheVariants as next
 use Rattle.crossing_map.specs.FirstWord.{item_by}

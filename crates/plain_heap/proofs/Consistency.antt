@@ -1,6 +1,5 @@
 -- An instruction keeps what each state is like.
-use Rattle.std.proofs.Common.{◌≡◌, ℕ, ◌+◌, ◌*◌, ◌/◌, ◌%◌, ◌==◌, ◌<◌, ◌≤◌, ◌⊎◌, inl, inr, Bool, true, false, ◌&&◌, cond, nat_lt, nat_le, List, [], ◌∷◌, ◌++◌, length, replicate, Option, Some, None, Result, Ok, Err, slice_get, slice_set, refl, ap, sym, ◌∙◌, subst, arith, length-set, length-append}
-use Rattle.std.specs.Bool.{⊤}
+use Rattle.std.proofs.Common.{◌≡◌, ℕ, ◌+◌, ◌/◌, ◌%◌, ◌==◌, ◌<◌, ◌≤◌, ◌⊎◌, inl, inr, Bool, true, false, cond, nat_lt, nat_le, List, [], ◌∷◌, length, Option, Some, None, Result, Ok, Err, slice_get, slice_set, refl, sym, ◌∙◌, subst, arith, length-set, length-append}
 use Rattle.std.specs.List.{All}
 use Rattle.std.specs.Option.{ok_or, option_map_or}
 use Rattle.std.specs.Result.{IfOk}
@@ -30,7 +29,7 @@ use Rattle.plain_state.proofs.Stored.{stored_made, stored_makers}
 use Rattle.mutator_asm.specs.declared.instr.Instr.{Instr}
 use Rattle.mutator_asm.specs.declared.instr.Instr.TheVariants as instrs
 use Rattle.mutator_asm.specs.declared.operand.Operand.{Operand}
-use Rattle.mutator_asm.specs.Program.{is_valid, is_register, is_number, is_operand, is_target}
+use Rattle.mutator_asm.specs.Program.{is_valid, is_register, is_number, is_target}
 use Rattle.plain_heap.specs.Call.{After, ◌>>=◌, register, number_in, reference_in, operand, values_of, value_in, board_word, may_hold, store_in, zeros, length_of, next_of, jumped, went_on, set_register, loads, allocated, prints, computes, allocates, call, is_zero, is_reference, are_same}
 use Rattle.plain_heap.proofs.Counting.{if_ok-bind}
 use Rattle.plain_heap.proofs.Owning.{read_all, found_all, found_serial}

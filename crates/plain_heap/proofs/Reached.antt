@@ -1,5 +1,5 @@
 -- Each state that a program comes to is consistent.
-use Rattle.std.proofs.Common.{◌≡◌, ℕ, ◌<◌, ◌⊎◌, inl, inr, Bool, true, false, nat_lt, nat_le, List, [], ◌∷◌, length, replicate, Option, Some, None, Result, Ok, Err, slice_get, slice_set, refl, ap, sym, ◌∙◌, subst, arith, length-set}
+use Rattle.std.proofs.Common.{◌≡◌, ℕ, ◌<◌, Bool, true, false, nat_lt, nat_le, List, [], ◌∷◌, length, replicate, Option, Some, None, Result, Ok, Err, slice_get, refl, sym, ◌∙◌, arith, length-set}
 use Rattle.std.specs.Bool.{IsTrue}
 use Rattle.std.specs.List.{All, list_all}
 use Rattle.std.specs.Option.{ok_or, option_map_or, IfSome}
@@ -12,12 +12,12 @@ use Rattle.plain_state.specs.declared.end.End.TheVariants.{HeapFull, JumpOut}
 use Rattle.plain_state.specs.declared.sizes.TheConstants.{NUMBERS, REGISTERS, BOARD_WORDS}
 use Rattle.plain_state.specs.declared.value.Value.TheVariants.{Number}
 use Rattle.plain_state.specs.Consistent.{IsRecord, IsMutator, IsConsistent}
-use Rattle.plain_state.specs.State.{Record, Heap, Mutator, Plain, IsValue}
+use Rattle.plain_state.specs.State.{Heap, Mutator, Plain, IsValue}
 use Rattle.mutator_asm.specs.declared.instr.Instr.{Instr}
 use Rattle.mutator_asm.specs.Program.{instr_at, is_valid}
 use Rattle.mutator_asm.proofs.Programs.{valid_at}
 use Rattle.plain_heap.specs.Call.{After, call}
-use Rattle.plain_heap.specs.Step.{fetch, executes, ended, settled, stepped_if, stepped_as, mutator_in, stepped, asked_by}
+use Rattle.plain_heap.specs.Step.{fetch, executes, ended, settled, stepped_if, stepped_as, stepped, asked_by}
 use Rattle.plain_heap.specs.declared.mark.Mark.{Mark}
 use Rattle.plain_heap.specs.declared.mark.Mark.TheVariants.{Step, Flip, Full}
 use Rattle.plain_heap.specs.Order.{fresh, opening, is_asked, marked, state_after, plain}

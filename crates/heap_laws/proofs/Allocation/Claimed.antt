@@ -13,7 +13,7 @@ use Rattle.heap_state.specs.Parts.Pages.{Shut}
 use Rattle.heap_state.specs.Parts.Records.{Laid, NewArea, NewWritten}
 use Rattle.heap_state.specs.Parts.Stocks.{Stocks, Stocked}
 use Rattle.heap_state.specs.Worker.{Worker, Team, Stock, is_running, Reset}
-use Rattle.heap_state.proofs.Frames.{counted_put, staffed_put, scanned_put, stocks_anew, numbered_put, rooted_put}
+use Rattle.heap_state.proofs.Workers.Frames.{counted_put, staffed_put, scanned_put, stocks_anew, numbered_put, rooted_put}
 use Rattle.heap_state.proofs.Puts.{team_put, some_same}
 use Rattle.heap_laws.specs.Steps.{Ready, Preserves}
 use Rattle.heap_laws.proofs.Allocation.Stocks.{stocked_knows, with_stock}

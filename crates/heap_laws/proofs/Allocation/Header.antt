@@ -12,7 +12,7 @@ use Rattle.heap_state.specs.Inductive.{Invariant, Knows}
 use Rattle.heap_state.specs.Parts.Stocks.{Stocks, Stocked, Numbered}
 use Rattle.heap_state.specs.Values.{value_of}
 use Rattle.heap_state.specs.Worker.{Worker, Team, Stock}
-use Rattle.heap_state.proofs.Frames.{counted_put, staffed_put, scanned_put, stocks_anew}
+use Rattle.heap_state.proofs.Workers.Frames.{counted_put, staffed_put, scanned_put, stocks_anew}
 use Rattle.heap_state.proofs.Puts.{put_at, put_other, put_same, each_put, team_put, some_same}
 use Rattle.heap_laws.specs.Allocation.Records.{next_identity, allocated}
 use Rattle.heap_laws.specs.Fields.Held.{HoldsValue}

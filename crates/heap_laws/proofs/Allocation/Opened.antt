@@ -13,7 +13,7 @@ use Rattle.heap_state.specs.Parts.Pages.{Shut, Filling}
 use Rattle.heap_state.specs.Parts.Records.{NewArea}
 use Rattle.heap_state.specs.Parts.Stocks.{Stocks, Stocked}
 use Rattle.heap_state.specs.Worker.{Worker, Team, Stock}
-use Rattle.heap_state.proofs.Frames.{counted_put, staffed_put, scanned_put, stocks_anew, numbered_put, rooted_put}
+use Rattle.heap_state.proofs.Workers.Frames.{counted_put, staffed_put, scanned_put, stocks_anew, numbered_put, rooted_put}
 use Rattle.heap_state.proofs.Puts.{put_at, put_other, each_put, team_put, some_same}
 use Rattle.heap_laws.specs.Allocation.Stocks.{opened_further}
 use Rattle.heap_laws.specs.Steps.{Ready, Preserves, with_page}

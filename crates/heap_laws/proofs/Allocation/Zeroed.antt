@@ -8,7 +8,7 @@ use Rattle.heap_state.specs.Parts.Records.{NewArea}
 use Rattle.heap_state.specs.Parts.Stocks.{Stocks, Stocked}
 use Rattle.heap_state.specs.Values.{value_of}
 use Rattle.heap_state.specs.Worker.{Team, Stock, Worker}
-use Rattle.heap_state.proofs.Frames.{counted_put, staffed_put, scanned_put, stocks_anew, numbered_put, rooted_put}
+use Rattle.heap_state.proofs.Workers.Frames.{counted_put, staffed_put, scanned_put, stocks_anew, numbered_put, rooted_put}
 use Rattle.heap_state.proofs.Puts.{each_put, team_put, some_same}
 use Rattle.heap_laws.specs.Allocation.Stocks.{zeroed_further}
 use Rattle.heap_laws.specs.Steps.{Ready, Preserves, with_word}

@@ -17,7 +17,7 @@ use Rattle.heap_state.specs.Parts.Pages.{Shut}
 use Rattle.heap_state.specs.Parts.Records.{Headed, RawWords}
 use Rattle.heap_state.specs.Parts.Scanning.{Scans, Stepping, Claims}
 use Rattle.heap_state.specs.Worker.{Worker, Team, Quest, Copy, Scan, Claim, Access, Origin, Register, Scanned, is_late, is_mutator}
-use Rattle.heap_state.proofs.Frames.{counted_put, staffed_put, scanned_put, stocks_put, numbered_put}
+use Rattle.heap_state.proofs.Workers.Frames.{counted_put, staffed_put, scanned_put, stocks_put, numbered_put}
 use Rattle.heap_state.proofs.Puts.{put_at, put_other, put_same, team_put, each_put, some_same, none≢some}
 use Rattle.heap_laws.specs.Copying.{published}
 use Rattle.heap_laws.specs.Steps.{Ready, with_worker, with_word}

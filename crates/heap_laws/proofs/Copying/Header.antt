@@ -15,8 +15,8 @@ use Rattle.heap_state.specs.Parts.OldSpace.{OldSpace}
 use Rattle.heap_state.specs.Parts.Records.{Headed}
 use Rattle.heap_state.specs.Reachable.{Reachable}
 use Rattle.heap_state.specs.Worker.{Worker, Team, Quest, Copy, Scan, Origin, Register, Scanned, is_late}
-use Rattle.heap_state.proofs.Frames.{counted_put, staffed_put, scanned_put, stocks_put, numbered_put, accounts_put, registers_put, rooted_put}
-use Rattle.heap_state.proofs.Holding.{First, OwnHeader, KeptBy, GoneTo, first}
+use Rattle.heap_state.proofs.Workers.Frames.{counted_put, staffed_put, scanned_put, stocks_put, numbered_put, accounts_put, registers_put, rooted_put}
+use Rattle.heap_state.proofs.Records.Holding.{First, OwnHeader, KeptBy, GoneTo, first}
 use Rattle.heap_state.proofs.Puts.{put_at, put_other, put_same, team_put, some_same, none≢some}
 use Rattle.heap_laws.specs.Copying.{copying, begun, taken}
 use Rattle.heap_laws.specs.Steps.{Ready, with_worker, with_word, Preserves}

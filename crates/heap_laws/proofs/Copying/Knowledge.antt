@@ -9,7 +9,7 @@ use Rattle.heap_state.specs.Inductive.{Invariant, Knows}
 use Rattle.heap_state.specs.Parts.Copying.{Copies, IsOrigin, Seeks, Licensed}
 use Rattle.heap_state.specs.Parts.Crossing.{Crossing}
 use Rattle.heap_state.specs.Worker.{Worker, Team, Quest, Copy, is_late}
-use Rattle.heap_state.proofs.Holding.{First, OwnHeader, KeptBy, GoneTo, first}
+use Rattle.heap_state.proofs.Records.Holding.{First, OwnHeader, KeptBy, GoneTo, first}
 use Rattle.heap_state.proofs.Puts.{put_at, put_other, put_same, some_same, none≢some, true_false}
 use Rattle.heap_laws.specs.Copying.{copying}
 use Rattle.heap_laws.specs.Steps.{Ready, Alike, with_worker, with_crossing, with_announced, Preserves}

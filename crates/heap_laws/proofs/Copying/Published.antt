@@ -15,7 +15,7 @@ use Rattle.heap_state.specs.Inductive.{Invariant}
 use Rattle.heap_state.specs.Reachable.{Reachable, FromRecord}
 use Rattle.heap_state.specs.Values.{ShowsAll, Shows, value_of}
 use Rattle.heap_state.specs.Worker.{Worker, Team, Quest, Copy}
-use Rattle.heap_state.proofs.Frames.{accounts_put, registers_put, rooted_put}
+use Rattle.heap_state.proofs.Workers.Frames.{accounts_put, registers_put, rooted_put}
 use Rattle.heap_state.proofs.Puts.{put_at, put_other, some_same}
 use Rattle.heap_laws.specs.Copying.{published}
 use Rattle.heap_laws.specs.Steps.{with_worker, with_word, Preserves, Ready}

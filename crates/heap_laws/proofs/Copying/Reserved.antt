@@ -14,7 +14,7 @@ use Rattle.heap_state.specs.Ghost.{Ghost, Here, IsField, Lands}
 use Rattle.heap_state.specs.Inductive.{Invariant, Knows}
 use Rattle.heap_state.specs.Values.{Shown, ShowsAll, Shows, RegistersShow, value_of}
 use Rattle.heap_state.specs.Worker.{Team, Copy, is_mutator}
-use Rattle.heap_state.proofs.Frames.{accounts_put, registers_put, rooted_put}
+use Rattle.heap_state.proofs.Workers.Frames.{accounts_put, registers_put, rooted_put}
 use Rattle.heap_state.proofs.Puts.{put_at, put_other, put_same}
 use Rattle.heap_laws.specs.Copying.{reserved, copying as in_progress}
 use Rattle.heap_laws.specs.Steps.{with_worker, with_area, Preserves, Ready}

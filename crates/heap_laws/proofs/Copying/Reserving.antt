@@ -13,9 +13,9 @@ use Rattle.heap_state.specs.Parts.Knowledge.{Clean, Accesses, Resets}
 use Rattle.heap_state.specs.Parts.Pages.{Shut, Quiet, Filling, Tracing}
 use Rattle.heap_state.specs.Parts.Scanning.{Scans, Stepping, Rounds, Claims, Looks, LastLooks}
 use Rattle.heap_state.specs.Worker.{Worker, Team, Quest, Copy, Scan, Claim, Look, LastLook, Round, Reset, Access, Origin, Register, Scanned, is_late, is_mutator}
-use Rattle.heap_state.proofs.Frames.{counted_put, staffed_put, scanned_put, stocks_put, numbered_put}
+use Rattle.heap_state.proofs.Workers.Frames.{counted_put, staffed_put, scanned_put, stocks_put, numbered_put}
 use Rattle.heap_state.proofs.Puts.{put_at, put_other, put_same, team_put, some_same, none≢some, sum_below-change}
-use Rattle.heap_state.proofs.Still.{open_scanning, still}
+use Rattle.heap_state.proofs.Holds.Still.{open_scanning, still}
 use Rattle.heap_laws.specs.Copying.{copying, reserved}
 use Rattle.heap_laws.specs.Steps.{Ready, with_worker, with_area}
 use Rattle.heap_laws.proofs.Copying.Reservation.{Reservation, empty, not_new, was, is, source_other, old_side, laid_reserved, headed_reserved, copied_reserved, once_reserved, written_on, here_back, here_on, lands_reserved, opened_reserved, landing_reserved, older_reserved, raw_reserved, new_reserved, written_reserved, space_reserved, crossing_reserved, stocks_reserved, numbered_reserved}

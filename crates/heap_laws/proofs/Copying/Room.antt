@@ -10,7 +10,7 @@ use Rattle.heap_state.specs.Parts.Copying.{IsOrigin}
 use Rattle.heap_state.specs.Parts.Pages.{Quiet}
 use Rattle.heap_state.specs.Worker.{Team, Copy, Scan, Origin, Register, Scanned, is_late}
 use Rattle.heap_state.proofs.Puts.{some_same}
-use Rattle.heap_state.proofs.Still.{still, nobody_copies}
+use Rattle.heap_state.proofs.Holds.Still.{still, nobody_copies}
 use Rattle.heap_laws.specs.Copying.{HasRoomForCopy, CopiesHaveRoom}
 use Rattle.heap_laws.specs.Steps.{Ready}
 use Rattle.heap_laws.proofs.Flipping.Sums.{sum_below-term}

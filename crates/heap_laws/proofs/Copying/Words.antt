@@ -18,7 +18,7 @@ use Rattle.heap_state.specs.Parts.Leading.{Older}
 use Rattle.heap_state.specs.Parts.OldSpace.{OldSpace}
 use Rattle.heap_state.specs.Parts.Records.{Headed}
 use Rattle.heap_state.specs.Worker.{Worker, Team, Quest, Copy, Scan}
-use Rattle.heap_state.proofs.Frames.{counted_put, staffed_put, scanned_put, stocks_put, numbered_put, accounts_put, registers_put, rooted_put}
+use Rattle.heap_state.proofs.Workers.Frames.{counted_put, staffed_put, scanned_put, stocks_put, numbered_put, accounts_put, registers_put, rooted_put}
 use Rattle.heap_state.proofs.Puts.{put_at, put_other, team_put, none≢some}
 use Rattle.heap_laws.specs.Copying.{copying, IsNextWord}
 use Rattle.heap_laws.specs.Steps.{Ready, with_worker, with_word, Preserves}

@@ -16,9 +16,9 @@ use Rattle.heap_state.specs.Ghost.{Ghost, header_kind}
 use Rattle.heap_state.specs.Parts.Knowledge.{HasRole}
 use Rattle.heap_state.specs.Values.{value_of, Shown, Shows}
 use Rattle.heap_state.specs.Worker.{Team, Role, FieldRole, NumberRole, Access}
-use Rattle.heap_state.proofs.Headers.{said_kind-header_kind}
-use Rattle.heap_state.proofs.Holding.{uncopied_here}
-use Rattle.heap_state.proofs.Layouts.{raw_is_no_field}
+use Rattle.heap_state.proofs.Records.Headers.{said_kind-header_kind}
+use Rattle.heap_state.proofs.Records.Holding.{uncopied_here}
+use Rattle.heap_state.proofs.Records.Layouts.{raw_is_no_field}
 use Rattle.heap_state.proofs.Puts.{some_same, true_false, none≢some}
 use Rattle.heap_laws.specs.Fields.Effects.{MutatorsAreShown, RegistersHold, HeadersSay, word_held, word_stored, FitsRole, IsValueOf, AccessesAreValues, BoardWordsAreValues}
 use Rattle.heap_laws.specs.Fields.Words.{IsWordOf, IsAccessed, MayStore, StandsFor}

@@ -15,7 +15,7 @@ use Rattle.heap_state.specs.Parts.Copying.{IsOrigin}
 use Rattle.heap_state.specs.Reachable.{Reachable}
 use Rattle.heap_state.specs.Values.{Accounts, RegistersShow, value_of, Shown}
 use Rattle.heap_state.specs.Worker.{Worker, Team, Post, Running, Outside, Scanner, Stopped, Flipping, Gone, Origin, Register, Scanned, Quest, Scan, is_mutator, is_live, is_running, is_flipper, is_gone, is_late}
-use Rattle.heap_state.proofs.Frames.{counted_put, staffed_put, scanned_put, stocks_put, numbered_put}
+use Rattle.heap_state.proofs.Workers.Frames.{counted_put, staffed_put, scanned_put, stocks_put, numbered_put}
 use Rattle.heap_state.proofs.Puts.{put_at, put_other, each_put, team_put, none≢some, true_false}
 use Rattle.heap_laws.specs.Fields.Held.{GoesOn, with_mutator}
 use Rattle.heap_laws.specs.Steps.{with_worker}

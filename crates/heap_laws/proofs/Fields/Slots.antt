@@ -17,7 +17,7 @@ use Rattle.heap_state.specs.Parts.Stocks.{Stocks, Stocked}
 use Rattle.heap_state.specs.Values.{Shows, ShowsAll, BoardShows, value_of}
 use Rattle.heap_state.specs.Worker.{Worker, Copy, Scan, Stock, Origin, Register, Scanned}
 use Rattle.heap_state.proofs.Puts.{put_other, each_put}
-use Rattle.heap_state.proofs.Layouts.{raw_is_no_field}
+use Rattle.heap_state.proofs.Records.Layouts.{raw_is_no_field}
 use Rattle.heap_laws.specs.Fields.Held.{MayHold}
 use Rattle.heap_laws.proofs.Frames.OtherWords.{has_place, headed_same, area_same, old_space_same, stocked_same, copies_same}
 use Rattle.heap_laws.proofs.Frames.Values.{one_place}

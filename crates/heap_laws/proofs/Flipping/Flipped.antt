@@ -19,8 +19,8 @@ use Rattle.heap_state.specs.Reachable.{Reachable, FromRegister, FromBoard}
 use Rattle.heap_state.specs.Table.{Table}
 use Rattle.heap_state.specs.Values.{Shown, value_of}
 use Rattle.heap_state.specs.Worker.{Worker, Team, Post, Stopped, Reset, is_mutator, is_live, is_running, is_flipper, is_gone, is_behind, is_late}
-use Rattle.heap_state.proofs.Following.{follows}
-use Rattle.heap_state.proofs.Holding.{uncopied_here}
+use Rattle.heap_state.proofs.Table.Seen.{follows}
+use Rattle.heap_state.proofs.Records.Holding.{uncopied_here}
 use Rattle.heap_state.proofs.Puts.{each_put, proj_put, team_put, sum_below-same}
 use Rattle.heap_state.specs.Entries.{GateIs, with_entry}
 use Rattle.heap_laws.specs.Steps as laws

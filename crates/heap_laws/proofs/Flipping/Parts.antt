@@ -13,7 +13,7 @@ use Rattle.heap_state.specs.Parts.OldSpace.{OldSpace, OldArea}
 use Rattle.heap_state.specs.Parts.Pages.{Shut, Filling, Tracing, Aged, OldPages, ScannedBy}
 use Rattle.heap_state.specs.Parts.Records.{Laid, Headed, NewArea, NewWritten, RawWords, SpaceOf}
 use Rattle.heap_state.specs.Worker.{Team, Worker}
-use Rattle.heap_state.proofs.Holding.{uncopied_here}
+use Rattle.heap_state.proofs.Records.Holding.{uncopied_here}
 use Rattle.heap_laws.specs.Flipping.Flip.{next_era, only_in}
 use Rattle.heap_laws.specs.Tracing.{NothingLeads}
 use Rattle.heap_laws.proofs.Flipping.Sums.{stood, inside, only_cases, space_total, owing_only}

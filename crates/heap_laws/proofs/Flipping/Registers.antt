@@ -16,7 +16,7 @@ use Rattle.heap_state.specs.Parts.Knowledge.{Clean, Passes, Timely}
 use Rattle.heap_state.specs.Reachable.{Reachable}
 use Rattle.heap_state.specs.Values.{Shown, RegistersShow, value_of}
 use Rattle.heap_state.specs.Worker.{Worker, Team, Post, Passage, Outside, Enter, Park, Request, Forwarded, Resume, Leave, Origin, Register, Quest, Copy, is_mutator, is_live, is_late, GateStep}
-use Rattle.heap_state.proofs.Frames.{counted_put, staffed_put, scanned_put, stocks_put, numbered_put, accounts_put}
+use Rattle.heap_state.proofs.Workers.Frames.{counted_put, staffed_put, scanned_put, stocks_put, numbered_put, accounts_put}
 use Rattle.heap_state.proofs.Puts.{put_at, put_other, put_same, each_put, team_put, none≢some, some_same, put_is}
 use Rattle.heap_laws.specs.Flipping.Registers.{forwarded, HasRegister, PassingRegisterKeeps, asking_for, AskingForRegisterKeeps, HasFoundCopy, past_register}
 use Rattle.heap_laws.specs.Steps.{with_worker, Ready, Steps, Preserves}

@@ -9,7 +9,7 @@ use Rattle.heap_state.specs.Parts.Knowledge.{Resets}
 use Rattle.heap_state.specs.Parts.OldSpace.{OldSpace, OldArea}
 use Rattle.heap_state.specs.Parts.Pages.{OldPages}
 use Rattle.heap_state.specs.Worker.{Worker, Team, Reset, is_flipper}
-use Rattle.heap_state.proofs.Frames.{counted_put, staffed_put, scanned_put, stocks_put, numbered_put, rooted_put}
+use Rattle.heap_state.proofs.Workers.Frames.{counted_put, staffed_put, scanned_put, stocks_put, numbered_put, rooted_put}
 use Rattle.heap_state.proofs.Puts.{team_put, some_same, none≢some}
 use Rattle.heap_laws.specs.Flipping.Reset.{resetting, FindingStillKeeps, ReadingUsedKeeps, StoringAreaKeeps, whole_area}
 use Rattle.heap_laws.specs.Steps.{with_worker, with_old_area, InOldArea, Preserves}

@@ -4,7 +4,7 @@ use Rattle.std.proofs.lemmas.Bool.{cases_eq, cases_lt, lt-ltb, le-ltb, lt-leb, l
 use Rattle.heap_state.specs.Functions.{put, sum_below, count_one}
 use Rattle.heap_state.specs.Parts.Copies.{owing}
 use Rattle.heap_state.proofs.Puts.{put_at, put_other, sum_below-same, sum_below-change}
-use Rattle.heap_state.proofs.Walking.{sum_below-from}
+use Rattle.heap_state.proofs.Walks.Walking.{sum_below-from}
 use Rattle.heap_laws.specs.Flipping.Flip.{only_in}
 
 -- ---- terms

@@ -9,7 +9,7 @@ use Rattle.heap_state.specs.Parts.Gate.{Counted}
 use Rattle.heap_state.specs.Parts.Knowledge.{Resets}
 use Rattle.heap_state.specs.Parts.Pages.{Filling, Tracing}
 use Rattle.heap_state.specs.Worker.{Worker, Team, Stock, Reset, is_mutator, is_late}
-use Rattle.heap_state.proofs.Frames.{staffed_put, scanned_put, stocks_put, numbered_put, rooted_put}
+use Rattle.heap_state.proofs.Workers.Frames.{staffed_put, scanned_put, stocks_put, numbered_put, rooted_put}
 use Rattle.heap_state.proofs.Puts.{team_put}
 use Rattle.heap_laws.specs.Steps.{with_worker, with_gate, Preserves}
 use Rattle.heap_laws.proofs.Gate.Worker.{no_reset}

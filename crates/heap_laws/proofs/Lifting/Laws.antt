@@ -7,7 +7,7 @@ use Rattle.heap_state.specs.Configuration.{Configuration, table, era, memory, te
 use Rattle.heap_state.specs.Entries.{Entry, GateIs}
 use Rattle.heap_state.specs.Era.{Memory, era_of, era_at, memory_of, from_space}
 use Rattle.heap_state.specs.Table.{Table}
-use Rattle.heap_state.proofs.Following.{follows}
+use Rattle.heap_state.proofs.Table.Seen.{follows}
 use Rattle.heap_laws.specs.Lifting.{table_after, RowFits, StepsAreLifted, PlainStepsAreLifted, Flipped, FlipsAreLifted}
 use Rattle.heap_laws.specs.Steps.{Writes, NoRow, InGate, InTraced, InArea, InOldArea, InPage, InCross, InWord, InAnnounce}
 use Rattle.heap_laws.proofs.Lifting.Configurations.{board_at, seen, stand, ready}

@@ -19,9 +19,9 @@ use Rattle.heap_state.specs.Parts.Pages.{Quiet}
 use Rattle.heap_state.specs.Table.{Table}
 use Rattle.heap_state.specs.Values.{value_of, Accounts, RegistersShow, Shown}
 use Rattle.heap_state.specs.Worker.{Worker, Outside, Scanner, fresh}
-use Rattle.heap_state.proofs.Idle.{idle_knows}
+use Rattle.heap_state.proofs.Workers.Idle.{idle_knows}
 use Rattle.heap_state.proofs.Puts.{put_at, put_other, none≢some, true_false}
-use Rattle.heap_state.proofs.Writing.{writes_tables}
+use Rattle.heap_state.proofs.Table.Writing.{writes_tables}
 use Rattle.heap_laws.specs.Opening.{opening_entries, opening_plain, opening_mutator, OpeningStands}
 use Rattle.heap_laws.proofs.Opening.Workers.{opening_team, each_fresh, counted, staffed}
 use Rattle.plain_state.proofs.Lists.{slice_get-replicate, slice_get-of_replicate}

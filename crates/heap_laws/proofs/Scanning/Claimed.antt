@@ -13,8 +13,8 @@ use Rattle.heap_state.specs.Parts.Leading.{Opened}
 use Rattle.heap_state.specs.Parts.Pages.{Shut, Quiet, Filling, ScannedBy}
 use Rattle.heap_state.specs.Parts.Scanning.{Scans, Stepping, Claims}
 use Rattle.heap_state.specs.Worker.{Worker, Team, Origin, Register, Scanned, Scan, Claim, is_late, Quest}
-use Rattle.heap_state.proofs.Frames.{counted_put, staffed_put, stocks_put, numbered_put, rooted_put}
-use Rattle.heap_state.proofs.Holding.{writer}
+use Rattle.heap_state.proofs.Workers.Frames.{counted_put, staffed_put, stocks_put, numbered_put, rooted_put}
+use Rattle.heap_state.proofs.Records.Holding.{writer}
 use Rattle.heap_state.proofs.Puts.{put_at, put_other, put_same, team_put, some_same, none≢some}
 use Rattle.heap_state.specs.Entries.{PageIs}
 use Rattle.heap_laws.specs.Scanning.Claims.{WinsPage, scan_from, begins_scan, ClaimsPage, SleeperLosesPage}

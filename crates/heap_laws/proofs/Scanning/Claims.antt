@@ -6,7 +6,7 @@ use Rattle.heap_state.specs.Ghost.{Ghost}
 use Rattle.heap_state.specs.Inductive.{Invariant}
 use Rattle.heap_state.specs.Parts.Scanning.{Claims}
 use Rattle.heap_state.specs.Worker.{Team, Claim}
-use Rattle.heap_state.proofs.Holding.{writer}
+use Rattle.heap_state.proofs.Records.Holding.{writer}
 use Rattle.heap_state.proofs.Puts.{some_same}
 use Rattle.heap_laws.specs.Scanning.Claims.{claiming, claim_of, BeginningClaimKeeps, LookingAtPlaceKeeps, LookingAtGateKeeps}
 use Rattle.heap_laws.specs.Steps.{with_worker, Preserves}

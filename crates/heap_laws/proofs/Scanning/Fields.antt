@@ -10,10 +10,10 @@ use Rattle.heap_state.specs.Parts.Copying.{IsOrigin, Seeks, Licensed}
 use Rattle.heap_state.specs.Parts.Pages.{ScannedBy}
 use Rattle.heap_state.specs.Parts.Scanning.{Stepping}
 use Rattle.heap_state.specs.Worker.{Worker, Team, Origin, Scanned, Quest, Copy, Scan, Seen, is_late}
-use Rattle.heap_state.proofs.Frames.{counted_put, staffed_put, stocks_put, numbered_put, rooted_put}
+use Rattle.heap_state.proofs.Workers.Frames.{counted_put, staffed_put, stocks_put, numbered_put, rooted_put}
 use Rattle.heap_state.proofs.Puts.{put_same, team_put, some_same, none≢some}
 use Rattle.heap_state.specs.FieldSpan.{next_in, next_from}
-use Rattle.heap_state.proofs.FieldSpans.{passes_no_field, next_within, span-within, field-span}
+use Rattle.heap_state.proofs.Records.FieldSpans.{passes_no_field, next_within, span-within, field-span}
 use Rattle.heap_state.specs.Entries.{WordIs}
 use Rattle.heap_laws.specs.Scanning.Words.{scanning, on_to, AtField, PassingFieldKeeps, asking, AskingKeeps, HasFound, past_word}
 use Rattle.heap_laws.specs.Steps.{with_worker, with_word, Ready, Steps, InWord, Preserves}

@@ -8,7 +8,7 @@ use Rattle.heap_state.specs.Inductive.{Invariant, Knows}
 use Rattle.heap_state.specs.Parts.Copying.{Copies, IsOrigin, Keeps, Licensed, Seeks}
 use Rattle.heap_state.specs.Parts.Scanning.{Scans, Stepping}
 use Rattle.heap_state.specs.Worker.{Worker, Team, Copy, Scan, Seen, Quest, is_late}
-use Rattle.heap_state.proofs.Holding.{writer}
+use Rattle.heap_state.proofs.Records.Holding.{writer}
 use Rattle.heap_state.proofs.Puts.{some_same, none≢some}
 use Rattle.heap_laws.specs.Scanning.Words.{scanning, is_past, on_to}
 use Rattle.heap_laws.specs.Steps.{with_worker, Preserves}

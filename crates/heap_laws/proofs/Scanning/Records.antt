@@ -10,11 +10,11 @@ use Rattle.heap_state.specs.Ghost.{Ghost, Here, said_kind}
 use Rattle.heap_state.specs.Inductive.{Invariant, Knows}
 use Rattle.heap_state.specs.Parts.Scanning.{Scans, Stepping, IsIn}
 use Rattle.heap_state.specs.Worker.{Team, Copy, Scan, Seen}
-use Rattle.heap_state.proofs.Holding.{writer, uncopied_here}
+use Rattle.heap_state.proofs.Records.Holding.{writer, uncopied_here}
 use Rattle.heap_state.proofs.Puts.{some_same, none≢some}
-use Rattle.heap_state.proofs.Headers.{said_kind-header_kind}
+use Rattle.heap_state.proofs.Records.Headers.{said_kind-header_kind}
 use Rattle.heap_state.specs.FieldSpan.{seen_at, entry_of}
-use Rattle.heap_state.proofs.FieldSpans.{enters_within, enters_past_no_field}
+use Rattle.heap_state.proofs.Records.FieldSpans.{enters_within, enters_past_no_field}
 use Rattle.heap_laws.specs.Scanning.Words.{scanning, in_record, IsScanning, ReadingCrossingKeeps, ReadingFirstHeaderKeeps, ReadingFrontKeeps, ReadingNextHeaderKeeps}
 use Rattle.heap_laws.specs.Steps.{with_worker, Preserves}
 use Rattle.heap_laws.proofs.Fields.Slots.{here_field}

@@ -9,7 +9,7 @@ use Rattle.heap_state.specs.Ghost.{Ghost, IsField, Here, OnBoard}
 use Rattle.heap_state.specs.Inductive.{Invariant}
 use Rattle.heap_state.specs.Parts.Pages.{Quiet}
 use Rattle.heap_state.specs.Worker.{Team, Worker, Post, Copy, Scan, is_live, is_behind, is_late}
-use Rattle.heap_state.proofs.Holding.{writer}
+use Rattle.heap_state.proofs.Records.Holding.{writer}
 use Rattle.heap_state.proofs.Puts.{true_false}
 
 -- ---- page words

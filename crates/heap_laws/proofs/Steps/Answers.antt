@@ -12,9 +12,9 @@ use Rattle.heap_state.specs.Functions.{count_one}
 use Rattle.heap_state.specs.Ghost.{Ghost, header_kind}
 use Rattle.heap_state.specs.Parts.Knowledge.{Passes}
 use Rattle.heap_state.specs.Worker.{Team, Post, Outside, Stopped, Passage, Enter, Park, Request, Forwarded, Resume, Leave, Scan, is_live, is_running, is_late, is_gone, Flipping, Gone, Running, Scanner}
-use Rattle.heap_state.proofs.Holding.{First, OwnHeader, KeptBy as KeptByWorker, GoneTo, first, uncopied_here}
-use Rattle.heap_state.proofs.Placing.{table_pages, table_in_use, to_space-before}
-use Rattle.heap_state.proofs.Spelled.{spelled}
+use Rattle.heap_state.proofs.Records.Holding.{First, OwnHeader, KeptBy as KeptByWorker, GoneTo, first, uncopied_here}
+use Rattle.heap_state.proofs.Table.LaidOut.{table_pages, table_in_use, to_space-before}
+use Rattle.heap_state.proofs.Table.Spelled.{spelled}
 use Rattle.heap_state.specs.Parts.Copying.{Copies}
 use Rattle.heap_state.specs.Parts.Gate.{Counted}
 use Rattle.heap_laws.specs.Answers.{OldHeader, InPlace, KeptBy, Forwards, OldHeadersAreRead, CopiesAreThere, MeetsHeader, ScanAnswers, ScansAreAnswered, IsCounted, PassagesFit, AreaAnswers, AreasAnswer, AreasAreRead}

@@ -10,7 +10,7 @@ use Rattle.heap_state.specs.Parts.OldSpace.{OldSpace}
 use Rattle.heap_state.specs.Parts.Pages.{Quiet, IsLastOpen, Tracing}
 use Rattle.heap_state.specs.Parts.Scanning.{Rounds, LastLooks}
 use Rattle.heap_state.specs.Worker.{Worker, Team, Copy, Scan, Round, LastLook, is_mutator, is_running, is_flipper}
-use Rattle.heap_state.proofs.Frames.{counted_put, staffed_put, scanned_put, stocks_put, numbered_put, rooted_put}
+use Rattle.heap_state.proofs.Workers.Frames.{counted_put, staffed_put, scanned_put, stocks_put, numbered_put, rooted_put}
 use Rattle.heap_state.proofs.Puts.{team_put, none≢some}
 use Rattle.heap_state.specs.Entries.{TracedIs}
 use Rattle.heap_laws.specs.Steps.{with_worker, Ready, Steps, InTraced, with_traced}
