@@ -4,7 +4,7 @@ use Rattle.plain_state.specs.State.{Plain}
 use Rattle.heap_state.specs.Entries.{Entry}
 use Rattle.heap_state.specs.Era.{Era, Memory}
 use Rattle.heap_state.specs.Ghost.{Ghost}
-use Rattle.heap_state.specs.Worker.{Worker, Team, is_flipper}
+use Rattle.heap_state.specs.Worker.{Worker, Team, Scan, Round, is_flipper}
 use Rattle.heap_laws.specs.Steps.{Ready, Steps, StepsTo, with_worker}
 
 -- ---- what may be forgotten
@@ -13,8 +13,30 @@ use Rattle.heap_laws.specs.Steps.{Ready, Steps, StepsTo, with_worker}
 abbrev pub IsLess : {X : Type 0} → Option X → Option X → Type 0
 IsLess {X} less more = (x : X) → less ≡ Some x → more ≡ Some x
 
--- Worker w knows at most what v knows. What others read of it is the same, and so are its searches, copies and scans. Who flips, or
--- is about to exchange the gate, still knows whether the epoch is traced.
+-- the first is the same scan, of a page of which it knows at most the records that the second knows
+pub record IsLessScan (s u : Scan) : Type 0 where
+  pub page : s.page ≡ u.page
+  pub cursor : s.cursor ≡ u.cursor
+  pub in_place : s.in_place ≡ u.in_place
+  pub over : IsLess s.over u.over
+  pub current : IsLess s.current u.current
+  pub inner : s.inner ≡ true → u.inner ≡ true
+  pub ended : s.ended ≡ u.ended
+
+-- of a worker that scans or does not: its scan is the same, or knows less
+pub data IsScanWithin (o p : Option Scan) : Type 0 where
+  SameScan : o ≡ p → IsScanWithin o p
+  LessScan : (s u : Scan) → o ≡ Some s → p ≡ Some u → IsLessScan s u → IsScanWithin o p
+
+-- there is such a round, which has read the same TRACED, and FRONT if this one has
+pub record IsLessRound (r : Round) (o : Option Round) : Type 0 where
+  pub more : Round
+  pub is : o ≡ Some more
+  pub traced : r.traced ≡ more.traced
+  pub front : IsLess r.front more.front
+
+-- Worker w knows at most what v knows. What others read of it is the same, and so are its searches and copies. It scans the same page
+-- as far. Who flips, or is about to exchange the gate, still knows whether the epoch is traced.
 pub record IsAtMost (w v : Worker) : Type 0 where
   pub post : w.post ≡ v.post
   pub epoch : w.epoch ≡ v.epoch
@@ -23,11 +45,11 @@ pub record IsAtMost (w v : Worker) : Type 0 where
   pub done : w.done ≡ v.done
   pub quest : w.quest ≡ v.quest
   pub copy : w.copy ≡ v.copy
-  pub scan : w.scan ≡ v.scan
+  pub scan : IsScanWithin w.scan v.scan
   pub stock : IsLess w.stock v.stock
   pub access : IsLess w.access v.access
   pub opened : IsLess w.opened v.opened
-  pub round : IsLess w.round v.round
+  pub round : (r : Round) → w.round ≡ Some r → IsLessRound r v.round
   pub claim : IsLess w.claim v.claim
   pub look : IsLess w.look v.look
   pub last_look : IsLess w.last_look v.last_look
@@ -49,6 +71,20 @@ unaware w = record w { traced_seen = false }
 
 abbrev pub TracedIsForgotten : Type 0
 TracedIsForgotten = (w : Worker) → is_flipper w.post ≡ false → w.gate_step ≡ None → IsAtMost (unaware w) w
+
+-- a scan of which it is not known which record the cursor is in
+abbrev pub of_no_record : Scan → Scan
+of_no_record s = record s { over = None; current = None }
+
+abbrev pub ScannedRecordsAreForgotten : Type 0
+ScannedRecordsAreForgotten = (w : Worker) (s : Scan) → w.scan ≡ Some s → IsAtMost (record w { scan = Some (of_no_record s) }) w
+
+-- a round that keeps TRACED alone
+abbrev pub without_front : Round → Round
+without_front r = record r { front = None }
+
+abbrev pub RoundFrontsAreForgotten : Type 0
+RoundFrontsAreForgotten = (w : Worker) (r : Round) → w.round ≡ Some r → IsAtMost (record w { round = Some (without_front r) }) w
 
 -- ---- the laws
 

@@ -120,5 +120,5 @@ pub copies_are_published : CopiesArePublished
 copies_are_published E m team g k c q v ready has asks res full crossed word = record {
   later = with_word m c.from v;
   writes = InWord c.from v (from_below ready c has);
-  keeps = copy_published_by E m team g k c q v ready has asks res full crossed word;
+  keeps = copy_published_by E m team g k c q v ready has asks res (omega (arith, full)) crossed word;
 }

@@ -1,22 +1,72 @@
 -- Steps one after another, and what a worker forgets.
-use Rattle.std.proofs.Common.{◌≡◌, ℕ, ◌<◌, true, Option, Some, None, is_some, refl, sym, ap, ◌∙◌, inl, inr}
+use Rattle.std.proofs.Common.{◌≡◌, ℕ, ◌<◌, true, Option, Some, None, is_some, refl, sym, ap, ◌∙◌, inl, inr, ⊎_elim}
 use Rattle.plain_state.specs.State.{Plain}
+use Rattle.plain_state.specs.declared.kind.Kind.{Kind}
+use Rattle.space_map.specs.declared.page_word.PageWord.{PageWord}
 use Rattle.heap_state.specs.Cycle.{Cycle}
 use Rattle.heap_state.specs.Entries.{Entry}
 use Rattle.heap_state.specs.Era.{Era, Memory}
 use Rattle.heap_state.specs.Functions.{put}
 use Rattle.heap_state.specs.Ghost.{Ghost}
 use Rattle.heap_state.specs.Inductive.{Invariant, Knows}
-use Rattle.heap_state.specs.Parts.Copying.{IsOrigin}
+use Rattle.heap_state.specs.Parts.Copying.{IsOrigin, Licensed}
+use Rattle.heap_state.specs.Parts.Scanning.{Scans, Stepping, Rounds}
 use Rattle.heap_state.specs.Values.{Shown}
-use Rattle.heap_state.specs.Worker.{Worker, Team, Account, Quest, is_mutator, is_flipper, is_late}
-use Rattle.heap_state.proofs.Workers.Frames.{counted_put, staffed_put, scanned_put, stocks_put, numbered_put, rooted_put}
-use Rattle.heap_state.proofs.Puts.{put_same, put_twice, each_put}
-use Rattle.heap_laws.specs.Composing.{IsAtMost, StepsForget, StepsAreReady, StepsFollow, PlainStepsForget, PlainStepsAreReady, PlainStepsFollow}
+use Rattle.heap_state.specs.Worker.{Worker, Team, Account, Quest, Scan, Round, Origin, Register, Scanned, is_mutator, is_flipper, is_late}
+use Rattle.heap_state.proofs.Workers.Frames.{counted_put, staffed_put, stocks_put, numbered_put, rooted_put}
+use Rattle.heap_state.proofs.Puts.{put_same, put_twice, each_put, some_same}
+use Rattle.heap_laws.specs.Composing.{IsAtMost, IsLess, IsLessScan, IsScanWithin, SameScan, LessScan, StepsForget, StepsAreReady, StepsFollow, PlainStepsForget, PlainStepsAreReady, PlainStepsFollow}
 use Rattle.heap_laws.specs.Steps.{Writes, NoRow, InGate, InTraced, InArea, InOldArea, InPage, InCross, InWord, InAnnounce, with_worker, Preserves, Steps}
-use Rattle.heap_laws.proofs.Steps.Learning.{shown_put}
+use Rattle.heap_laws.proofs.Steps.Learning.{shown_put, scanned_on}
 
 -- ---- forgetting
+
+-- who scans as much scans that page to that place, and has ended where that has ended
+record ScansWithin (o p : Option Scan) : Type 0 where
+  has : (u : Scan) → p ≡ Some u → (s : Scan) × (o ≡ Some s) × IsLessScan s u
+  had : (s : Scan) → o ≡ Some s → (u : Scan) × (p ≡ Some u) × IsLessScan s u
+
+all_of : (s u : Scan) → s ≡ u → IsLessScan s u
+all_of s u e = record {
+  page = ap (λ (z : Scan). z.page) e;
+  cursor = ap (λ (z : Scan). z.cursor) e;
+  in_place = ap (λ (z : Scan). z.in_place) e;
+  over = λ x y. ap (λ (z : Scan). z.over) (sym e) ∙ y;
+  current = λ x y. ap (λ (z : Scan). z.current) (sym e) ∙ y;
+  inner = λ y. ap (λ (z : Scan). z.inner) (sym e) ∙ y;
+  ended = ap (λ (z : Scan). z.ended) e;
+}
+
+within : {o p : Option Scan} → IsScanWithin o p → ScansWithin o p
+within {o} {p} (SameScan e) = record { has = λ u f. (u, e ∙ f, all_of u u refl); had = λ s f. (s, sym e ∙ f, all_of s s refl) }
+within {o} {p} (LessScan s u e f less) = record {
+  has = λ z y. (s, e, rw (← some_same (sym f ∙ y)) less);
+  had = λ z y. (u, f, rw (← some_same (sym e ∙ y)) less);
+}
+
+-- what is known of a scan is so of one that knows less
+less_scans : {E : Era} {front : ℕ} {size writer : ℕ → ℕ} {kind : ℕ → Kind} {heap : ℕ → ℕ} {page : ℕ → PageWord} {k : ℕ} {s u : Scan} → IsLessScan s u
+    → Scans E front size writer kind heap page k u → Scans E front size writer kind heap page k s
+less_scans {s = s} {u = u} less p = record {
+  claimed = rw less.page p.claimed;
+  place = rw less.page p.place;
+  passed = λ x h y l. p.passed x h (y ∙ less.page) (rw less.cursor at l);
+  cursor = rw (less.page, less.cursor) p.cursor;
+  above = λ b x st w l n y. rw less.cursor (p.above b x st w l n (y ∙ less.page));
+}
+
+less_steps : {E : Era} {front : ℕ} {size writer : ℕ → ℕ} {kind : ℕ → Kind} {s u : Scan} → IsLessScan s u → Stepping E front size writer kind u → Stepping E front size writer kind s
+less_steps {s = s} {u = u} less p = record {
+  over = λ a e. rw less.page (p.over a (less.over a e));
+  current = λ r e. rw less.cursor (p.current r (less.current r e));
+  inner = λ e. rw less.cursor (p.inner (less.inner e));
+  begun = rw (less.page, less.cursor) p.begun;
+  full = λ e. rw less.page (p.full (sym less.in_place ∙ e));
+  ended = λ e. rw (less.page, less.cursor) (p.ended (sym less.ended ∙ e));
+}
+
+less_rounds : {E : Era} {traced front d : ℕ} {r u : Round} → r.traced ≡ u.traced → IsLess r.front u.front → Rounds E traced front d u → Rounds E traced front d r
+less_rounds same less p = record { traced_then = rw same p.traced_then; front_then = λ f e n. p.front_then f (less f e) n }
 
 -- a worker that knows at most what another knows is right
 module _ (E : Era) (n : Memory) (h : Ghost) (k : ℕ) (w v : Worker) (most : IsAtMost w v)
@@ -25,7 +75,22 @@ module _ (E : Era) (n : Memory) (h : Ghost) (k : ℕ) (w v : Worker) (most : IsA
   late = rw (most.post, most.epoch) refl
 
   origin : (q : Quest) → w.quest ≡ Some q → IsOrigin E h.size h.writer h.kind n.heap (is_late E.epoch w) w.done w.registers w.scan q.old q.origin
-  origin q e = rw (late, most.done, most.registers, most.scan) (me.origin q (sym most.quest ∙ e))
+  origin q e = rw (late, most.done, most.registers) (from q.origin (me.origin q (sym most.quest ∙ e)))
+    where
+      from : (o : Origin) → IsOrigin E h.size h.writer h.kind n.heap (is_late E.epoch v) v.done v.registers v.scan q.old o → IsOrigin E h.size h.writer h.kind n.heap (is_late E.epoch v) v.done v.registers w.scan q.old o
+      from (Register r) p = p
+      from (Scanned x) p = let z = (within most.scan).has p.0.0 p.0.1 in ((z.0, z.1, z.2.cursor ∙ p.0.2, p.0.3 ∙ sym z.2.page, z.2.ended ∙ p.0.4), p.1, p.2)
+
+  licensed : Licensed n.gate.behind h.kept k (is_late E.epoch w) w.copy w.quest w.scan
+  licensed = rw (late, most.copy, most.quest) (record {
+    licensed = λ c e. ⊎_elim
+        (λ (y : (s : Scan) × (v.scan ≡ Some s)). let z = (within most.scan).has y.0 y.1 in inl (z.0, z.1))
+        (λ (y : is_late E.epoch v ≡ true). inr y)
+        (me.licensed.licensed c e);
+    asked = me.licensed.asked;
+    counted = me.licensed.counted;
+    idle = me.licensed.idle;
+  })
 
   pub knows_less : Knows E n.gate n.traced n.front n.low n.old_front n.old_low n.old_owed h n.page n.cross n.announced n.heap k w
   knows_less = record {
@@ -39,13 +104,13 @@ module _ (E : Era) (n : Memory) (h : Ghost) (k : ℕ) (w v : Worker) (most : IsA
     opened = λ p e. rw most.post (me.opened p (most.opened p e));
     origin = origin;
     quest = λ q e. me.quest q (sym most.quest ∙ e);
-    licensed = rw (late, most.copy, most.quest, most.scan) me.licensed;
+    licensed = licensed;
     copy = λ c e. me.copy c (sym most.copy ∙ e);
     keeps = λ c e. me.keeps c (sym most.copy ∙ e);
-    present = λ s e. most.epoch ∙ me.present s (sym most.scan ∙ e);
-    scan = λ s e. me.scan s (sym most.scan ∙ e);
-    stepping = λ s e. me.stepping s (sym most.scan ∙ e);
-    round = λ r e. rw most.epoch (me.round r (most.round r e));
+    present = λ s e. let z = (within most.scan).had s e in most.epoch ∙ me.present z.0 z.1;
+    scan = λ s e. let z = (within most.scan).had s e in less_scans z.2 (me.scan z.0 z.1);
+    stepping = λ s e. let z = (within most.scan).had s e in less_steps z.2 (me.stepping z.0 z.1);
+    round = λ r e. let z = most.round r e in rw most.epoch (less_rounds z.traced z.front (me.round z.more z.is));
     claim = λ c e. rw most.epoch (me.claim c (most.claim c e));
     look = λ l e. rw most.epoch (me.look l (most.look l e));
     last_look = λ l e. rw most.epoch (me.last_look l (most.last_look l e));
@@ -76,11 +141,14 @@ module _ (E : Era) (n : Memory) (team : Team) (h : Ghost) (k : ℕ) (w v : Worke
       same : {X : Type 0} (f : Worker → X) → f w ≡ f v → f w ≡ f (before.worker k)
       same f e = e ∙ ap f (sym there)
 
+      on : (u : Scan) → (before.worker k).scan ≡ Some u → (s : Scan) × (w.scan ≡ Some s) × (s.page ≡ u.page)
+      on u e = let z = (within most.scan).has u (ap (λ (x : Worker). x.scan) (sym there) ∙ e) in (z.0, z.1, z.2.page)
+
       kept : Invariant E n (with_worker before k w) h
       kept =
           let p1 = counted_put before.worker k w (same (λ u. u.post) most.post) (same (λ u. u.epoch) most.epoch) inv.counted in
           let p2 = staffed_put before.worker k w (same (λ u. is_mutator u.post) (ap is_mutator most.post)) inv.staffed in
-          let p3 = scanned_put before.worker k w (same (λ u. u.scan) most.scan) inv.scanned in
+          let p3 = scanned_on before.worker k w on inv.scanned in
           let p4 = stocks_put before.worker k w (λ q e. ap (λ (u : Worker). u.stock) there ∙ most.stock q e) inv.stocks in
           let p5 = numbered_put before.worker k w (same (λ u. u.account.serial) (ap (λ (a : Account). a.serial) most.account)) inv.numbered in
           let p6 : (j : ℕ) → j < before.count → KnowsThen j (put before.worker k w j) = λ j l. each_put KnowsThen before.worker k w j (λ d. inv.workers j l) (λ e. rw e (own (rw e at l))) in
