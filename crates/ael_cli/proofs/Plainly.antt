@@ -5,7 +5,7 @@ use Rattle.mutator_asm.specs.declared.instr.Instr.{Instr}
 use Rattle.mutator_asm.specs.declared.item.Item.{Item}
 use Rattle.mutator_asm.specs.Text.{IsText}
 use Rattle.mutator_asm.specs.Theorems.{MeansOneProgram, MeansWellFormed, HasNoFault, ListsText}
-use Rattle.plain_heap.specs.Solo.{AlwaysTheSame}
+use Rattle.plain_heap.specs.Alone.{AlwaysTheSame}
 use Rattle.ael_cli.specs.declared.job.Job.{Job}
 use Rattle.ael_cli.specs.declared.job.Job.TheVariants.{Asm, Sim}
 use Rattle.ael_cli.specs.declared.options.SimOptions.{SimOptions}

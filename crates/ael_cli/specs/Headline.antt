@@ -7,7 +7,7 @@ use Rattle.mutator_asm.specs.Text.{IsText}
 use Rattle.plain_state.specs.State.{Mutator}
 use Rattle.plain_heap.specs.Order.{opening, plain}
 use Rattle.plain_heap.specs.Print.{lines_from, print_of}
-use Rattle.plain_heap.specs.Solo.{IsAsAlone, is_alone}
+use Rattle.plain_heap.specs.Alone.{IsAsAlone, shares_nothing}
 use Rattle.gc_core.specs.Whole.{EachActs}
 use Rattle.ael_cli.specs.declared.job.Job.{Job}
 use Rattle.ael_cli.specs.declared.job.Job.TheVariants.{Asm, Sim}
@@ -75,7 +75,7 @@ pub record IsPrintedAsAlone (call : Call) (options : SimOptions) (program : List
 -- where `sim` succeeds, the mutators of a program without `get`, `put` and `swap` print what they print alone
 abbrev pub IsAlwaysTheSame : Call → Type 0
 IsAlwaysTheSame call = (options : SimOptions) (program : List (List Instr)) (items : List Item) → Succeeds call (Sim options) program items
-    → IsTrue (is_alone program) → IsPrintedAsAlone call options program items
+    → IsTrue (shares_nothing program) → IsPrintedAsAlone call options program items
 
 -- all of it
 pub record Holds (call : Call) : Type 0 where

@@ -1,3 +1,4 @@
 pub mod Place
 pub mod Soundness
 pub mod Rows
+pub mod Theorems

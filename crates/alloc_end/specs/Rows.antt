@@ -7,7 +7,7 @@ use Rattle.atom_store.specs.declared.step.Step.TheVariants.{Load, Store, Exchang
 use Rattle.atom_store.specs.declared.reply.Reply.{Reply}
 use Rattle.atom_store.specs.declared.reply.Reply.TheVariants.{Value, Done, Won, Lost}
 use Rattle.atom_store.specs.Machine.{ComesTo}
-use Rattle.space_map.specs.Spaces.{Layout}
+use Rattle.space_map.specs.Worked.{four_pages}
 use Rattle.heap_words.specs.declared.kind.Kind.{Kind}
 use Rattle.heap_words.specs.declared.kind.Kind.TheVariants.{Fields, Raw}
 use Rattle.record_layout.specs.declared.header.Header.{Header}
@@ -15,9 +15,6 @@ use Rattle.alloc_end.specs.declared.run.Run.{Run}
 use Rattle.alloc_end.specs.declared.allocated.Allocated.{Allocated}
 use Rattle.alloc_end.specs.declared.allocated.Allocated.TheVariants.{Placed, Full}
 use Rattle.alloc_end.specs.Place.{Placing, begun, place_machine}
-
-abbrev pub four_pages : Layout
-four_pages = record { pages = 4 }
 
 abbrev pub no_run : Run
 no_run = record { at = 0; end = 0 }
@@ -53,15 +50,16 @@ NextRecordIsPlaced =
 -- with 64 words owed in an epoch that isn't traced, the page is claimed only where they are left
 abbrev pub ReserveIsKept : Type 0
 ReserveIsKept =
-    ComesTo place_machine (begun four_pages no_run pair 1)
-    ((Load 2, Value 1) ∷ (Load 5, Value 0x0000_0400_01fc_0000) ∷ [])
-    (Full (record { asked = 1; room = 127; owed = 64; traced = false; live = 0 }))
+    ComesTo place_machine (begun four_pages no_run pair 1) ((Load 2, Value 1) ∷ (Load 5, Value 0x0000_0400_0200_0001) ∷ [])
+    (Full (record { asked = 1; room = 127; owed = 64; traced = false; live = 1 }))
 
 -- once it is traced, nothing is owed any more
 abbrev pub ReserveIsFreeOnceTraced : Type 0
 ReserveIsFreeOnceTraced =
     ComesTo place_machine (begun four_pages no_run pair 1)
-    (((Load 2, Value 2) ∷ (Load 5, Value 0x0000_0400_01fc_0000) ∷ (Exchange 5 0x0000_0400_01fc_0000 0x0000_0000_00fc_0000, Won) ∷ []) ++ zeros_stored 352 64 ++ ((Store 20 65537, Done) ∷ (Store 352 65570, Done) ∷ [])) (Placed 319)
+    (((Load 2, Value 2) ∷ (Load 5, Value 0x0000_0400_0200_0001) ∷ (Exchange 5 0x0000_0400_0200_0001 0x0000_0000_0100_0001, Won) ∷ [])
+    ++ zeros_stored 353 64 ++ ((Store 21 65537, Done) ∷ (Store 353 65570, Done) ∷ []))
+    (Placed 320)
 
 -- a heap that is full of live records tells its numbers
 abbrev pub FullTellsItsNumbers : Type 0

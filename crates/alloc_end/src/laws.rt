@@ -1,6 +1,26 @@
 //! What holds of the machines. Each function here does nothing: its contract is what is proved.
 
 ghost use Rattle.alloc_end.specs.Rows.{FirstPairIsPlaced, NextRecordIsPlaced, ReserveIsKept, ReserveIsFreeOnceTraced, FullTellsItsNumbers, LongestIsFull, LostClaimIsTriedAgain};
+ghost use Rattle.alloc_end.specs.Theorems.{TracedIsRead, PagesAreClaimed, PagesAreLost, PagesAreMadeReady, RecordsArePlaced, FullHeapsAreShort, ShortHeapsAreFull};
+
+/// Pages are claimed only where the room that has to be kept is left, by an exchange of the area that was read.
+pub fn claims_keep_the_reserve()
+    ensures traced { TracedIsRead }
+    ensures claimed { PagesAreClaimed }
+    ensures lost { PagesAreLost }
+{}
+
+/// A record is placed on open pages, in words that are 0.
+pub fn records_are_placed_in_cleared_pages()
+    ensures ready { PagesAreMadeReady }
+    ensures placed { RecordsArePlaced }
+{}
+
+/// A heap is told to be full exactly where the claim of the pages doesn't fit, with the numbers read.
+pub fn full_heaps_are_short_of_room()
+    ensures short { FullHeapsAreShort }
+    ensures full { ShortHeapsAreFull }
+{}
 
 /// Allocations, worked out step by step with all words as numbers.
 pub fn rows_are_worked_out()

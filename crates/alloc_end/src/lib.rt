@@ -1,4 +1,13 @@
-//! Allocation.
+//! The allocation of new records, at the high end of the to-space.
+//!
+//! Copied records fill the space from its low end up to FRONT. New records lie apart from them, on pages that are claimed from
+//! the high end down to LOW and are open from the start: they lead to records of the to-space alone, so nobody scans them in
+//! the epoch in which they are made. A mutator has a run of such pages and places its records in it one behind the other.
+//! Where one doesn't fit there, it claims pages for it. While the epoch is not traced, the words between FRONT and LOW have
+//! to suffice for all records that may still be copied, so a claim is made only where that many are left.
+//!
+//! [`Place`] is a machine: it names its next atomic step, and takes the reply. [`PlaceStage`] lists what it does in turn. After
+//! its result it tells the [`Run`] that the mutator has then.
 #![tactic(auto)]
 
 mod allocated;
@@ -12,7 +21,10 @@ mod shortage;
 
 pub use allocated::Allocated;
 pub use fitting::Fitting;
-pub use laws::rows_are_worked_out;
+pub use laws::{
+    claims_keep_the_reserve, full_heaps_are_short_of_room, records_are_placed_in_cleared_pages,
+    rows_are_worked_out,
+};
 pub use new_pages::NewPages;
 pub use place::Place;
 pub use place_stage::PlaceStage;

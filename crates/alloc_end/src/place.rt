@@ -1,8 +1,9 @@
 ghost use Rattle.std.specs.Prelude.{◌≡◌, ◌+◌, ◌*◌, ◌^◌, ◌<◌, ◌≤◌, Some, IsTrue};
+ghost use Rattle.atom_store.specs.Step.{place_in};
 ghost use Rattle.record_layout.specs.declared.header.Header.{Header};
 ghost use Rattle.space_map.specs.AreaWord.{AreaFits, decode_area};
 ghost use Rattle.space_map.specs.Spaces.{to_space};
-ghost use Rattle.space_map.specs.Table.{Area, place_of};
+ghost use Rattle.space_map.specs.Table.{Area, place_of, table_length};
 ghost use Rattle.alloc_end.specs.Place.{begun, wanted, taken, told, left, advances, size_of, pages_for, words_for, kept_room, looked_at_area, area_after, shortage, cleared, opened, placed, at_stage, first_claimed};
 ghost use Rattle.alloc_end.specs.Soundness.{IsRun, IsSoundPlacing, IsPlacingGoing, FitsPlaceStage, HasRoom};
 
@@ -72,7 +73,8 @@ impl Place {
     /// The next step.
     pub fn want(&self) -> Step
         requires { IsPlacingGoing self.now.stage }
-        ensures { wanted self.now ≡ Some result }
+        ensures wanted { wanted self.now ≡ Some result }
+        ensures in_table { place_in result < table_length self.now.layout.pages }
     {
         let spaces = self.spaces;
         match self.stage {
@@ -224,7 +226,8 @@ impl Place {
     }
 
     fn area_place(&self) -> usize
-        ensures { result ≡ place_of self.now.layout.pages (Area (to_space self.now.epoch)) }
+        ensures place { result ≡ place_of self.now.layout.pages (Area (to_space self.now.epoch)) }
+        ensures in_table { result < table_length self.now.layout.pages }
     {
         self.spaces.area_place(self.spaces.to_space(self.epoch))
     }

@@ -1,3 +1,4 @@
 pub mod Step
 pub mod Machine
 pub mod Runs
+pub mod Acts

@@ -1,5 +1,5 @@
 -- What a machine does over words: alone, and among others.
-use Rattle.std.specs.Prelude.{ℕ, zero, suc, List, Option, Some, None}
+use Rattle.std.specs.Prelude.{ℕ, zero, suc, List, [], ◌∷◌, Option, Some, None, slice_set}
 use Rattle.atom_store.specs.declared.step.Step.{Step}
 use Rattle.atom_store.specs.Machine.{Machine}
 use Rattle.atom_store.specs.Step.{reply_of, words_after}
@@ -35,3 +35,10 @@ alone k (suc n) w = alone k n (record {
 unfoldable pub among : {M R : Type 0} → Machine M R → M → (met : ℕ → List ℕ) → ℕ → M
 among k m met zero = m
 among k m met (suc n) = after_step k (among k m met n) (k.wanted (among k m met n)) (met n)
+
+-- ---- words
+
+-- the words with these values in these places
+abbrev pub with_words : List (ℕ × ℕ) → List ℕ → List ℕ
+with_words [] words = words
+with_words (entry ∷ entries) words = with_words entries (slice_set words entry.0 entry.1)

@@ -20,7 +20,7 @@ use Rattle.page_slots.specs.declared.claimed.Claimed.{Claimed}
 use Rattle.page_slots.proofs.ClaimsLeft as claims_left
 use Rattle.fault_duty.specs.declared.caller.Caller.{Caller}
 use Rattle.fault_duty.specs.declared.caller.Caller.TheVariants.{Faulted, Allocates, Scans}
-use Rattle.fault_duty.specs.declared.seen.Seen.{Seen}
+use Rattle.fault_duty.specs.declared.findings.Findings.{Findings}
 use Rattle.fault_duty.specs.declared.choice.Choice.{Choice}
 use Rattle.fault_duty.specs.declared.end_look.EndLook.{EndLook}
 use Rattle.fault_duty.specs.declared.wanted_page.WantedPage.{WantedPage}
@@ -57,7 +57,7 @@ by_gate : (d : Round) (word : ℕ) (o : Option GateWord) → IsTrue (is_some o) 
 by_gate d word (Some gate) t = by_caller d d.caller word gate
 by_gate d word None t = cc
 
-first_look-le : (d : Round) (caller : Caller) (seen : Seen) → left_at d (Duty.first_look caller seen) ≤ 2 * d.layout.pages + 30
+first_look-le : (d : Round) (caller : Caller) (seen : Findings) → left_at d (Duty.first_look caller seen) ≤ 2 * d.layout.pages + 30
 first_look-le d (Faulted page) seen = omega arith
 first_look-le d Allocates seen = omega arith
 first_look-le d (Scans mutators) seen = omega arith
@@ -78,24 +78,24 @@ claimed_by-le d page says in_place Past = omega arith
 claimed_by-le d page says in_place Opened = omega arith
 claimed_by-le d page says in_place Scanned = omega arith
 
-wanted_one-le : (d : Round) (seen : Seen) (w : WantedPage) → left_at d (Duty.wanted_one d seen w) ≤ 2 * d.layout.pages + 29
+wanted_one-le : (d : Round) (seen : Findings) (w : WantedPage) → left_at d (Duty.wanted_one d seen w) ≤ 2 * d.layout.pages + 29
 wanted_one-le d seen w =
     by_test (λ (s : DutyStage). left_at d s ≤ 2 * d.layout.pages + 29) (nat_eq w.page (board_page d.layout.pages)) (Duty.claimed_by d w.page w.says false _) (LoadsFrontFor seen w)
     (λ _. let claim = claimed_by-le d w.page w.says false (Duty.state_of w.says d.epoch) in omega (arith, claim)) (λ _. omega arith)
 
-by_wanted_state : (d : Round) (seen : Seen) (page word : ℕ) (says : PageWord) (state : PageState)
+by_wanted_state : (d : Round) (seen : Findings) (page word : ℕ) (says : PageWord) (state : PageState)
     → left_at d (Duty.wanted_by d seen page word says state) < 2 * d.layout.pages + 30
 by_wanted_state d seen page word says Opened = omega arith
 by_wanted_state d seen page word says Scanned = omega arith
 by_wanted_state d seen page word says Waits = let one = wanted_one-le d seen (record { page = page; says = says }) in omega (arith, one)
 by_wanted_state d seen page word says Past = let one = wanted_one-le d seen (record { page = page; says = says }) in omega (arith, one)
 
-by_wanted : (d : Round) (seen : Seen) (page word : ℕ) (o : Option PageWord) → IsTrue (is_some o)
+by_wanted : (d : Round) (seen : Findings) (page word : ℕ) (o : Option PageWord) → IsTrue (is_some o)
     → left_at d (Duty.looked_at_wanted d seen page word o) < 2 * d.layout.pages + 30
 by_wanted d seen page word (Some says) t = by_wanted_state d seen page word says (Duty.state_of says d.epoch)
 by_wanted d seen page word None t = cc
 
-by_front_for : (d : Round) (seen : Seen) (w : WantedPage) (o : Option AreaWord) → IsTrue (is_some o)
+by_front_for : (d : Round) (seen : Findings) (w : WantedPage) (o : Option AreaWord) → IsTrue (is_some o)
     → left_at d (Duty.found_front_for d seen w o) < 2 * d.layout.pages + 29
 by_front_for d seen w (Some area) t =
     by_test (λ (s : DutyStage). left_at d s < 2 * d.layout.pages + 29) (Duty.is_full (Duty.front_of d area) w.page) (Duty.claimed_by d w.page w.says false _) (LoadsFront seen)
@@ -105,7 +105,7 @@ by_front_for d seen w None t = cc
 board_tested : (n : ℕ) → nat_eq (board_page n) (board_page n) ≡ true
 board_tested n = grind (arith, nat_tests)
 
-by_front : (d : Round) (seen : Seen) (o : Option AreaWord) → IsTrue (is_some o) → left_at d (Duty.found_front d seen o) < 2 * d.layout.pages + 28
+by_front : (d : Round) (seen : Findings) (o : Option AreaWord) → IsTrue (is_some o) → left_at d (Duty.found_front d seen o) < 2 * d.layout.pages + 28
 by_front d seen (Some area) t = rw (board_tested d.layout.pages) (omega arith)
 by_front d seen None t = cc
 
@@ -167,7 +167,7 @@ further : (d : Round) (front page : ℕ) → IsPageCount d.layout.pages → IsCh
     → Duty.pages_left d (Duty.page_after d page) < Duty.pages_left d page
 further d front page few choice full = further_by d front page (nat_eq page (board_page d.layout.pages)) refl few choice full
 
-after_choice-le : (d : Round) (seen : Seen) (hindrance : Option ℕ) → left_at d (Duty.after_choice seen hindrance) ≤ d.layout.pages + 6
+after_choice-le : (d : Round) (seen : Findings) (hindrance : Option ℕ) → left_at d (Duty.after_choice seen hindrance) ≤ d.layout.pages + 6
 after_choice-le d seen (Some word) = omega arith
 after_choice-le d seen None = omega arith
 
@@ -268,7 +268,7 @@ lowers d (LoadsPage choice page) (Value word) few fits t = by_page d choice page
 lowers d (Claims c) r few fits t = by_claim d c r fits t
 lowers d (EndGate traced) (Value word) few fits t = by_end_gate d traced word (decode_gate word) t
 lowers d (EndArea traced) (Value word) few fits t = by_end_area d traced (decode_area word) t
-lowers d (EndPage look page) (Value word) few fits t = by_end_page d look page word few fits
+lowers d (EndPage look page) (Value word) few fits t = by_end_page d look page word few fits.1
 lowers d (EndFilling look) (Value word) few fits t = by_filling d look word (decode_page word) t
 lowers d (EndAreaAgain look filling) (Value word) few fits t = by_end_area_again d look filling word (decode_area word) t
 lowers d (Traces traced) Won few fits t = omega arith

@@ -22,7 +22,7 @@ use Rattle.page_slots.specs.Claim.{Claiming}
 use Rattle.page_slots.specs.Claim as claim
 use Rattle.fault_duty.specs.declared.caller.Caller.{Caller}
 use Rattle.fault_duty.specs.declared.caller.Caller.TheVariants.{Faulted, Allocates, Scans}
-use Rattle.fault_duty.specs.declared.seen.Seen.{Seen}
+use Rattle.fault_duty.specs.declared.findings.Findings.{Findings}
 use Rattle.fault_duty.specs.declared.wanted_page.WantedPage.{WantedPage}
 use Rattle.fault_duty.specs.declared.choice.Choice.{Choice}
 use Rattle.fault_duty.specs.declared.end_look.EndLook.{EndLook}
@@ -131,7 +131,7 @@ looked_at_gate d word (Some gate) = looked_by d d.caller word gate
 looked_at_gate d word None = at_stage d LoadsGate
 
 -- where to look first
-abbrev pub first_look : Caller → Seen → DutyStage
+abbrev pub first_look : Caller → Findings → DutyStage
 first_look (Faulted page) seen = LoadsWanted seen page
 first_look Allocates seen = LoadsFront seen
 first_look (Scans mutators) seen = LoadsFront seen
@@ -152,32 +152,32 @@ claimed_by d page says in_place Opened = Ended (NothingNow (encode_page says))
 claimed_by d page says in_place Scanned = Ended (NothingNow (encode_page says))
 
 -- the page that is wanted, which nobody has opened or scanned: the board is always full
-abbrev pub wanted_one : Round → Seen → WantedPage → DutyStage
+abbrev pub wanted_one : Round → Findings → WantedPage → DutyStage
 wanted_one d seen w =
     if w.page == board_page d.layout.pages then claimed_by d w.page w.says false (state_of w.says d.epoch) else LoadsFrontFor seen w
 
-abbrev pub wanted_by : Round → Seen → (page word : ℕ) → PageWord → PageState → DutyStage
+abbrev pub wanted_by : Round → Findings → (page word : ℕ) → PageWord → PageState → DutyStage
 wanted_by d seen page word says Opened = Ended (NothingNow word)
 wanted_by d seen page word says Scanned = Ended (NothingNow word)
 wanted_by d seen page word says Waits = wanted_one d seen (record { page = page; says = says })
 wanted_by d seen page word says Past = wanted_one d seen (record { page = page; says = says })
 
-abbrev pub looked_at_wanted : Round → Seen → (page word : ℕ) → Option PageWord → DutyStage
+abbrev pub looked_at_wanted : Round → Findings → (page word : ℕ) → Option PageWord → DutyStage
 looked_at_wanted d seen page word (Some says) = wanted_by d seen page word says (state_of says d.epoch)
 looked_at_wanted d seen page word None = LoadsWanted seen page
 
 -- a wanted page that isn't full is left to the choice
-abbrev pub found_front_for : Round → Seen → WantedPage → Option AreaWord → DutyStage
+abbrev pub found_front_for : Round → Findings → WantedPage → Option AreaWord → DutyStage
 found_front_for d seen w (Some area) =
     if is_full (front_of d area) w.page then claimed_by d w.page w.says false (state_of w.says d.epoch) else LoadsFront seen
 found_front_for d seen w None = LoadsFrontFor seen w
 
-abbrev pub found_front : Round → Seen → Option AreaWord → DutyStage
+abbrev pub found_front : Round → Findings → Option AreaWord → DutyStage
 found_front d seen (Some area) = LoadsPage (record { seen = seen; front = front_of d area }) (board_page d.layout.pages)
 found_front d seen None = LoadsFront seen
 
 -- after the last full page the end of the area is looked at, if nothing forbids it
-abbrev pub after_choice : Seen → Option ℕ → DutyStage
+abbrev pub after_choice : Findings → Option ℕ → DutyStage
 after_choice seen (Some word) = Ended (NothingNow word)
 after_choice seen None = EndGate seen.traced
 

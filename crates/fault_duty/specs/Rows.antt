@@ -6,12 +6,12 @@ use Rattle.atom_store.specs.declared.step.Step.TheVariants.{Load, Store, Exchang
 use Rattle.atom_store.specs.declared.reply.Reply.{Reply}
 use Rattle.atom_store.specs.declared.reply.Reply.TheVariants.{Value, Done, Won, Lost}
 use Rattle.atom_store.specs.Machine.{ComesTo}
-use Rattle.space_map.specs.Spaces.{Layout}
+use Rattle.space_map.specs.Worked.{four_pages}
 use Rattle.fault_duty.specs.declared.caller.Caller.{Caller}
 use Rattle.fault_duty.specs.declared.caller.Caller.TheVariants.{Faulted, Allocates, Scans}
 use Rattle.fault_duty.specs.declared.round_end.RoundEnd.{RoundEnd}
 use Rattle.fault_duty.specs.declared.round_end.RoundEnd.TheVariants.{ScanPage, ScanInPlace, Marked, AllLeft, NothingNow}
-use Rattle.page_slots.specs.Rows.{four_pages, nothing_announced}
+use Rattle.page_slots.specs.Rows.{nothing_announced}
 use Rattle.fault_duty.specs.Duty.{begun, duty_machine}
 
 -- a round of scanner 1 beside one mutator makes these steps, and comes to this
@@ -80,24 +80,35 @@ ScannedBoardForbidsEnd =
 -- a mutator that faults on a full page claims that one, after the looks at announced places
 abbrev pub FullPageIsWanted : Type 0
 FullPageIsWanted =
-    MutatorComesTo (Faulted 5) (((Load 0, Value 0x0000_0001_0000_0001) ∷ (Load 2, Value 1) ∷ (Load 21, Value 0) ∷ (Load 5, Value 0x0000_00a0_0300_0082) ∷ []) ++ nothing_announced 609 24 ++ ((Load 0, Value 0x0000_0001_0000_0001) ∷ (Exchange 21 0 65538, Won) ∷ [])) (ScanPage 5)
+    MutatorComesTo (Faulted 5) (((Load 0, Value 0x0000_0101_0000_0001) ∷ (Load 2, Value 1) ∷ (Load 21, Value 0) ∷ (Load 5, Value 0x0000_00a0_0300_0082) ∷ []) ++ nothing_announced 609 24 ++ ((Load 0, Value 0x0000_0101_0000_0001) ∷ (Exchange 21 0 65538, Won) ∷ [])) (ScanPage 5)
 
 -- one that lacks room takes the first that nobody has: the board and page 4 are open, page 5 is not
 abbrev pub NextFullPageIsChosen : Type 0
 NextFullPageIsChosen =
-    MutatorComesTo Allocates (((Load 0, Value 0x0000_0001_0000_0001) ∷ (Load 2, Value 1) ∷ (Load 5, Value 0x0000_00a0_0300_0082) ∷ (Load 24, Value 65537) ∷ (Load 20, Value 65537) ∷ (Load 21, Value 0) ∷ []) ++ nothing_announced 609 24 ++ ((Load 0, Value 0x0000_0001_0000_0001) ∷ (Exchange 21 0 65538, Won) ∷ [])) (ScanPage 5)
+    MutatorComesTo Allocates (((Load 0, Value 0x0000_0101_0000_0001) ∷ (Load 2, Value 1) ∷ (Load 5, Value 0x0000_00a0_0300_0082) ∷ (Load 24, Value 65537) ∷ (Load 20, Value 65537) ∷ (Load 21, Value 0) ∷ []) ++ nothing_announced 609 24 ++ ((Load 0, Value 0x0000_0101_0000_0001) ∷ (Exchange 21 0 65538, Won) ∷ [])) (ScanPage 5)
 
 -- a wanted page that was opened meanwhile is left
 abbrev pub OpenPageIsLeft : Type 0
 OpenPageIsLeft =
-    MutatorComesTo (Faulted 5) ((Load 0, Value 0x0000_0001_0000_0001) ∷ (Load 2, Value 1) ∷ (Load 21, Value 65537) ∷ []) (NothingNow 65537)
+    MutatorComesTo (Faulted 5) ((Load 0, Value 0x0000_0101_0000_0001) ∷ (Load 2, Value 1) ∷ (Load 21, Value 65537) ∷ []) (NothingNow 65537)
 
 -- a wanted page that isn't full is left to the choice, here of the board
 abbrev pub FillingPageIsNotWanted : Type 0
 FillingPageIsNotWanted =
-    MutatorComesTo (Faulted 6) ((Load 0, Value 0x0000_0001_0000_0001) ∷ (Load 2, Value 1) ∷ (Load 22, Value 0) ∷ (Load 5, Value 0x0000_00a0_0300_0082) ∷ (Load 5, Value 0x0000_00a0_0300_0082) ∷ (Load 24, Value 1) ∷ (Load 0, Value 0x0000_0001_0000_0001) ∷ (Exchange 24 1 65538, Won) ∷ []) (ScanPage 8)
+    MutatorComesTo (Faulted 6) ((Load 0, Value 0x0000_0101_0000_0001) ∷ (Load 2, Value 1) ∷ (Load 22, Value 0) ∷ (Load 5, Value 0x0000_00a0_0300_0082) ∷ (Load 5, Value 0x0000_00a0_0300_0082) ∷ (Load 24, Value 1) ∷ (Load 0, Value 0x0000_0101_0000_0001) ∷ (Exchange 24 1 65538, Won) ∷ []) (ScanPage 8)
 
 -- where FRONT is a page's first word there is no filling page
 abbrev pub NoFillingPage : Type 0
 NoFillingPage =
-    MutatorComesTo Allocates ((Load 0, Value 0x0000_0001_0000_0001) ∷ (Load 2, Value 1) ∷ (Load 5, Value 0x0000_00a0_0300_0080) ∷ (Load 24, Value 65537) ∷ (Load 20, Value 65537) ∷ (Load 21, Value 65537) ∷ (Load 0, Value 0x0000_0001_0000_0001) ∷ (Load 5, Value 0x0000_00a0_0300_0080) ∷ (Load 24, Value 65537) ∷ (Load 20, Value 65537) ∷ (Load 21, Value 65537) ∷ (Load 5, Value 0x0000_00a0_0300_0080) ∷ (Exchange 2 1 2, Won) ∷ []) Marked
+    MutatorComesTo Allocates ((Load 0, Value 0x0000_0101_0000_0001) ∷ (Load 2, Value 1) ∷ (Load 5, Value 0x0000_00a0_0300_0080) ∷ (Load 24, Value 65537) ∷ (Load 20, Value 65537) ∷ (Load 21, Value 65537) ∷ (Load 0, Value 0x0000_0101_0000_0001) ∷ (Load 5, Value 0x0000_00a0_0300_0080) ∷ (Load 24, Value 65537) ∷ (Load 20, Value 65537) ∷ (Load 21, Value 65537) ∷ (Load 5, Value 0x0000_00a0_0300_0080) ∷ (Exchange 2 1 2, Won) ∷ []) Marked
+
+-- a wanted page of a later epoch, which no mutator comes upon, would end the round where the claim would begin
+abbrev pub LaterWantedPageEnds : Type 0
+LaterWantedPageEnds =
+    (MutatorComesTo (Faulted 5) ((Load 0, Value 0x0000_0101_0000_0001) ∷ (Load 2, Value 1) ∷ (Load 21, Value 131073) ∷ (Load 5, Value 0x0000_00a0_0300_0082) ∷ []) (NothingNow 131073))
+    × (MutatorComesTo (Faulted 8) ((Load 0, Value 0x0000_0101_0000_0001) ∷ (Load 2, Value 1) ∷ (Load 24, Value 131073) ∷ []) (NothingNow 131073))
+
+-- a filling page of a later epoch, which a scanner comes upon that slept through flips, ends it after the second look at the area
+abbrev pub LaterFillingPageEnds : Type 0
+LaterFillingPageEnds =
+    ScannerComesTo ((Load 0, Value 0x0000_0001_0000_0001) ∷ (Load 2, Value 1) ∷ (Load 5, Value 0x0000_03d0_0400_0003) ∷ (Load 24, Value 65537) ∷ (Load 0, Value 0x0000_0001_0000_0001) ∷ (Load 5, Value 0x0000_03d0_0400_0003) ∷ (Load 24, Value 65537) ∷ (Load 20, Value 131073) ∷ (Load 5, Value 0x0000_03d0_0400_0003) ∷ []) (NothingNow 131073)

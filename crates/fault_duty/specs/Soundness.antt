@@ -10,6 +10,7 @@ use Rattle.page_slots.specs.Claim.{Claiming}
 use Rattle.page_slots.specs.Soundness.{IsClaimGoing, IsSoundClaim}
 use Rattle.fault_duty.specs.declared.caller.Caller.{Caller}
 use Rattle.fault_duty.specs.declared.caller.Caller.TheVariants.{Faulted, Allocates, Scans}
+use Rattle.fault_duty.specs.declared.findings.Findings.{Findings}
 use Rattle.fault_duty.specs.declared.duty_stage.DutyStage.{DutyStage}
 use Rattle.fault_duty.specs.declared.duty_stage.DutyStage.TheVariants.{LoadsGate, LoadsTraced, LoadsWanted, LoadsFrontFor, LoadsFront, LoadsPage, Claims, EndGate, EndArea, EndPage, EndFilling, EndAreaAgain, Traces, Ended}
 use Rattle.fault_duty.specs.Duty.{Round, to_start, to_page}
@@ -49,20 +50,25 @@ pub record IsOwnClaim (d : Round) (c : Claiming) : Type 0 where
   pub going : IsClaimGoing c.stage
   pub sound : IsSoundClaim c
 
+-- what a round has found: TRACED isn't that of its epoch, and what is held as forbidding to end the tracing forbids it
+pub record Fits (epoch : ℕ) (found : Findings) : Type 0 where
+  pub untraced : found.traced ≢ epoch + 1
+  pub hindrance : IsHindrance epoch found.hindrance
+
 abbrev pub FitsDutyStage : Round → DutyStage → Type 0
 FitsDutyStage d LoadsGate = ⊤
 FitsDutyStage d (LoadsTraced hindrance) = IsHindrance d.epoch hindrance
-FitsDutyStage d (LoadsWanted seen page) = IsHindrance d.epoch seen.hindrance × (page ≤ board_page d.layout.pages)
-FitsDutyStage d (LoadsFrontFor seen w) = IsHindrance d.epoch seen.hindrance × (w.page ≤ board_page d.layout.pages) × PageFits w.says
-FitsDutyStage d (LoadsFront seen) = IsHindrance d.epoch seen.hindrance
-FitsDutyStage d (LoadsPage choice page) = IsHindrance d.epoch choice.seen.hindrance × IsChoice d choice.front page
+FitsDutyStage d (LoadsWanted seen page) = Fits d.epoch seen × (page ≤ board_page d.layout.pages)
+FitsDutyStage d (LoadsFrontFor seen w) = Fits d.epoch seen × (w.page ≤ board_page d.layout.pages) × PageFits w.says
+FitsDutyStage d (LoadsFront seen) = Fits d.epoch seen
+FitsDutyStage d (LoadsPage choice page) = Fits d.epoch choice.seen × IsChoice d choice.front page
 FitsDutyStage d (Claims c) = IsOwnClaim d c
-FitsDutyStage d (EndGate traced) = ⊤
-FitsDutyStage d (EndArea traced) = ⊤
-FitsDutyStage d (EndPage look page) = IsChoice d look.front page
-FitsDutyStage d (EndFilling look) = FitsFront d look.front × (look.front % 64 ≢ 0)
-FitsDutyStage d (EndAreaAgain look filling) = FitsFront d look.front × PageFits filling
-FitsDutyStage d (Traces traced) = ⊤
+FitsDutyStage d (EndGate traced) = traced ≢ d.epoch + 1
+FitsDutyStage d (EndArea traced) = traced ≢ d.epoch + 1
+FitsDutyStage d (EndPage look page) = (look.traced ≢ d.epoch + 1) × IsChoice d look.front page
+FitsDutyStage d (EndFilling look) = (look.traced ≢ d.epoch + 1) × FitsFront d look.front × (look.front % 64 ≢ 0)
+FitsDutyStage d (EndAreaAgain look filling) = (look.traced ≢ d.epoch + 1) × FitsFront d look.front × PageFits filling
+FitsDutyStage d (Traces traced) = traced ≢ d.epoch + 1
 FitsDutyStage d (Ended result) = ⊤
 
 pub record IsSoundRound (d : Round) : Type 0 where

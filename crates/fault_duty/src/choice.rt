@@ -1,9 +1,9 @@
-use crate::seen::Seen;
+use crate::findings::Findings;
 
 /// The choice of a page among the board and the full pages.
 #[derive(Clone, Copy, Debug)]
 pub struct Choice {
-    pub seen: Seen,
+    pub seen: Findings,
     /// The address of FRONT, below which the full pages lie.
     pub front: u32,
 }

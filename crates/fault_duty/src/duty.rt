@@ -1,10 +1,11 @@
 ghost use Rattle.std.specs.Prelude.{◌≡◌, ◌≢◌, ℕ, ◌+◌, ◌*◌, ◌^◌, ◌<◌, ◌≤◌, Some, IsTrue};
+ghost use Rattle.atom_store.specs.Step.{place_in};
 ghost use Rattle.atom_store.specs.declared.turn.Turn.TheVariants.{More, Finished};
 ghost use Rattle.space_map.specs.AreaWord.{decode_area};
 ghost use Rattle.space_map.specs.GateWord.{decode_gate};
 ghost use Rattle.space_map.specs.PageWord.{decode_page, PageFits};
 ghost use Rattle.space_map.specs.Spaces.{board_page, to_space};
-ghost use Rattle.space_map.specs.Table.{Area, place_of};
+ghost use Rattle.space_map.specs.Table.{Area, place_of, table_length};
 ghost use Rattle.fault_duty.specs.Duty as round;
 ghost use Rattle.fault_duty.specs.Duty.{begun, caller_for, wanted, taken, told, left, advances, at_stage};
 ghost use Rattle.fault_duty.specs.Soundness.{FitsCaller, IsSoundRound, IsRoundGoing, FitsDutyStage, FitsFront, IsChoice, IsOwnClaim};
@@ -90,7 +91,8 @@ impl Duty {
     /// The next step.
     pub fn want(&self) -> Step
         requires { IsRoundGoing self.now.stage }
-        ensures { wanted self.now ≡ Some result }
+        ensures wanted { wanted self.now ≡ Some result }
+        ensures in_table { place_in result < table_length self.now.layout.pages }
     {
         let spaces = self.spaces;
         match self.stage {
@@ -117,7 +119,8 @@ impl Duty {
     }
 
     fn area_place(&self) -> usize
-        ensures { result ≡ place_of self.now.layout.pages (Area (to_space self.now.epoch)) }
+        ensures place { result ≡ place_of self.now.layout.pages (Area (to_space self.now.epoch)) }
+        ensures in_table { result < table_length self.now.layout.pages }
     {
         self.spaces.area_place(self.spaces.to_space(self.epoch))
     }

@@ -1,7 +1,7 @@
 use crate::choice::Choice;
 use crate::end_look::EndLook;
+use crate::findings::Findings;
 use crate::round_end::RoundEnd;
-use crate::seen::Seen;
 use crate::wanted_page::WantedPage;
 use page_slots::Claim;
 use space_map::PageWord;
@@ -14,11 +14,11 @@ pub enum DutyStage {
     /// Load TRACED, whether the epoch is traced already. This is the gate's word, where a mutator is behind.
     LoadsTraced(Option<u64>),
     /// Load the word of the page that a mutator faulted on.
-    LoadsWanted(Seen, u32),
+    LoadsWanted(Findings, u32),
     /// Load the area, whether that page is full.
-    LoadsFrontFor(Seen, WantedPage),
+    LoadsFrontFor(Findings, WantedPage),
     /// Load the area, below whose FRONT a page is to be chosen.
-    LoadsFront(Seen),
+    LoadsFront(Findings),
     /// Load the word of this page: the first that nobody has opened or scanned is claimed.
     LoadsPage(Choice, u32),
     /// Make the next step of the claim.

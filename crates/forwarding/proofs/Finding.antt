@@ -1,7 +1,7 @@
 -- What a copy's address comes from.
-use Rattle.std.proofs.Common.{◌≡◌, ℕ, ◌+◌, Some, None, refl, sym, ap, ◌∙◌, subst, ◌⊎◌, inl, inr, ◌↔◌}
+use Rattle.std.proofs.Common.{◌≡◌, ℕ, ◌+◌, Some, refl, sym, ap, ◌∙◌, subst, ◌⊎◌, inl, inr}
 use Rattle.atom_store.specs.declared.reply.Reply.{Reply}
-use Rattle.atom_store.specs.declared.reply.Reply.TheVariants.{Value, Done, Won, Lost}
+use Rattle.atom_store.specs.declared.reply.Reply.TheVariants.{Value, Done, Won}
 use Rattle.atom_store.specs.declared.turn.Turn.TheVariants.{More, Finished}
 use Rattle.heap_words.specs.declared.kind.Kind.{Kind}
 use Rattle.heap_words.specs.Decoded.{Decoded, NumberWord, PointerWord, HeaderWord, ForwardWord, BusyWord, Malformed, decode}
@@ -15,9 +15,9 @@ use Rattle.forwarding.specs.declared.evac_stage.EvacStage.{EvacStage}
 use Rattle.forwarding.specs.declared.evac_stage.EvacStage.TheVariants.{LoadsHeader, TakesHeader, LoadsArea, Announces, Reserves, StoresHeader, LoadsWord, StoresWord, StoresCross, StoresForward, Clears, Ended}
 use Rattle.forwarding.specs.declared.kept_header.KeptHeader.{KeptHeader}
 use Rattle.forwarding.specs.declared.to.To.{To}
-use Rattle.forwarding.specs.Evacuation.{Evacuation, IsGoing, area_past, front_of, size_of, wanted_at}
+use Rattle.forwarding.specs.Evacuation.{IsGoing, area_past, front_of, size_of, wanted_at}
 use Rattle.forwarding.specs.Keeping.{address_reserved, header_kept}
-use Rattle.forwarding.specs.Taken.{by_first_word, stage_after, told}
+use Rattle.forwarding.specs.Taken.{by_first_word, told}
 use Rattle.forwarding.specs.Theorems.{FollowsForwards, EndsBehindForwards, ReadsHeaders, TakesByExchange, AnnouncesFirst, ReservesByExchange, place}
 use Rattle.forwarding.specs.declared.reserved.Reserved.{Reserved}
 use Rattle.atom_store.specs.declared.turn.Turn.{Turn}
@@ -50,7 +50,7 @@ no_copy r x y copies is never = never (subst (IsCopying r) is copies)
 pub ends_behind_forwards : EndsBehindForwards
 ends_behind_forwards v reply to =
     let P : EvacStage → Reply → EvacStage → Type 0 = λ x reply z. IsGoing x → z ≡ Ended to → (x ≡ LoadsHeader) ⊎ ((x ≡ Clears to) × (reply ≡ Done)) in
-    of_each_way v.spaces v.epoch P (record {
+    of_each_way v.layout v.epoch P (record {
       stays = λ x reply going is. absurd (subst IsGoing is going);
       follows = λ w len a f going is. inl refl;
       finds = λ w kind len serial mutator f going is. inl refl;
@@ -73,7 +73,7 @@ reads_headers v reply kept =
     let P : EvacStage → Reply → EvacStage → Type 0 = λ x reply z. z ≡ TakesHeader kept
     → (x ≡ TakesHeader kept)
     ⊎ ((x ≡ LoadsHeader) × (reply ≡ Value kept.word) × ((kind : Kind) × (serial : ℕ) × (mutator : ℕ) × (decode kept.word ≡ HeaderWord kind kept.len serial mutator))) in
-    of_each_way v.spaces v.epoch P (record {
+    of_each_way v.layout v.epoch P (record {
       stays = λ x reply is. inl is;
       follows = λ w len a f is. absurd (cc);
       finds = λ w kind len serial mutator f is.
@@ -129,8 +129,8 @@ takes_by_exchange v reply kept =
     let P : EvacStage → Reply → EvacStage → Type 0 = λ x reply z. header_kept z ≡ Some kept
     → (header_kept x ≡ Some kept)
     ⊎ ((reply ≡ Won) × (x ≡ TakesHeader kept)
-    × (wanted_at v.spaces v.addr v.epoch v.worker x ≡ Some (Exchange (place v (HeapWord v.addr)) kept.word (busy_word kept.len v.worker)))) in
-    of_each_way v.spaces v.epoch P (record {
+    × (wanted_at v.layout v.addr v.epoch v.worker x ≡ Some (Exchange (place v (HeapWord v.addr)) kept.word (busy_word kept.len v.worker)))) in
+    of_each_way v.layout v.epoch P (record {
       stays = λ x reply is. inl is;
       follows = λ w len a f is. absurd (cc);
       finds = λ w kind len serial mutator f is. absurd (cc);
@@ -155,8 +155,8 @@ announces_first v reply kept area =
     let P : EvacStage → Reply → EvacStage → Type 0 = λ x reply z. z ≡ Reserves kept area
     → ((other : AreaWord) × (x ≡ Reserves kept other) × (other.front ≡ area.front))
     ⊎ ((reply ≡ Done) × (x ≡ Announces kept area)
-    × (wanted_at v.spaces v.addr v.epoch v.worker x ≡ Some (Store (place v (Announce v.worker)) (front_of v.spaces v.epoch area + 1)))) in
-    of_each_way v.spaces v.epoch P (record {
+    × (wanted_at v.layout v.addr v.epoch v.worker x ≡ Some (Store (place v (Announce v.worker)) (front_of v.layout v.epoch area + 1)))) in
+    of_each_way v.layout v.epoch P (record {
       stays = λ x reply is. inl (area, is, refl);
       follows = λ w len a f is. absurd (cc);
       finds = λ w kind len serial mutator f is. absurd (cc);
@@ -166,7 +166,7 @@ announces_first v reply kept area =
       announces = λ of seen is.
           let same_kept : of ≡ kept = cc in
           let same : seen ≡ area = cc in
-          inr (refl, (cc), ap (λ (z : AreaWord). Some (Store (place v (Announce v.worker)) (front_of v.spaces v.epoch z + 1))) same);
+          inr (refl, (cc), ap (λ (z : AreaWord). Some (Store (place v (Announce v.worker)) (front_of v.layout v.epoch z + 1))) same);
       reserves = λ of seen is. absurd (cc);
       tries_again = λ of seen w other front is.
           let same_kept : of ≡ kept = cc in
@@ -182,10 +182,10 @@ pub reserves_by_exchange : ReservesByExchange
 reserves_by_exchange v reply to =
     let P : EvacStage → Reply → EvacStage → Type 0 = λ x reply z. address_reserved z ≡ Some to
     → (address_reserved x ≡ Some to)
-    ⊎ ((kept : KeptHeader) × (area : AreaWord) × (reply ≡ Won) × (x ≡ Reserves kept area) × (to ≡ front_of v.spaces v.epoch area)
-    × (wanted_at v.spaces v.addr v.epoch v.worker x
+    ⊎ ((kept : KeptHeader) × (area : AreaWord) × (reply ≡ Won) × (x ≡ Reserves kept area) × (to ≡ front_of v.layout v.epoch area)
+    × (wanted_at v.layout v.addr v.epoch v.worker x
     ≡ Some (Exchange (place v (Area (to_space v.epoch))) (encode_area area) (encode_area (area_past (size_of kept) area))))) in
-    of_each_way v.spaces v.epoch P (record {
+    of_each_way v.layout v.epoch P (record {
       stays = λ x reply is. inl is;
       follows = λ w len a f is. absurd (cc);
       finds = λ w kind len serial mutator f is. absurd (cc);

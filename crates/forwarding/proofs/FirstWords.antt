@@ -6,7 +6,6 @@ use Rattle.record_layout.specs.declared.header.Header.{Header}
 use Rattle.record_layout.specs.declared.forward.Forward.{Forward}
 use Rattle.record_layout.specs.Layout.{header_in, forward_in, header_says, forward_says}
 use Rattle.record_layout.proofs.Rereading.{header_in-said, forward_in-said}
-use Rattle.forwarding.specs.declared.kept_header.KeptHeader.{KeptHeader}
 use Rattle.forwarding.specs.declared.evac_stage.EvacStage.TheVariants.{LoadsHeader, TakesHeader, Ended}
 use Rattle.forwarding.specs.Taken.{by_first_word}
 

@@ -1,14 +1,14 @@
 -- What the machine does from the reserved address on.
-use Rattle.std.proofs.Common.{◌≡◌, ℕ, zero, suc, ◌+◌, ◌-◌, ◌*◌, ◌/◌, ◌<◌, ◌≤◌, List, Option, Some, refl, sym, ap, ◌∙◌, subst, arith, ⊎_elim, slice_index}
+use Rattle.std.proofs.Common.{◌≡◌, ℕ, zero, suc, ◌+◌, ◌-◌, ◌*◌, ◌<◌, ◌≤◌, List, refl, ap, ◌∙◌, subst, arith, slice_index}
 use Rattle.std.proofs.lemmas.Bool.{lt-ltb, le-ltb}
 use Rattle.atom_store.specs.Runs.{among, after_step}
-use Rattle.space_map.specs.Table.{HeapWord, place_of}
+use Rattle.space_map.specs.Table.{HeapWord}
 use Rattle.forwarding.specs.declared.evac_stage.EvacStage.{EvacStage}
 use Rattle.forwarding.specs.declared.evac_stage.EvacStage.TheVariants.{LoadsWord, StoresWord, StoresHeader, StoresCross, StoresForward, Clears, Ended}
 use Rattle.forwarding.specs.declared.reserved.Reserved.{Reserved}
 use Rattle.forwarding.specs.Evacuation.{Evacuation, size_of, wanted}
 use Rattle.forwarding.specs.Taken.{evac_machine, crossed, copied, first_page, told}
-use Rattle.forwarding.specs.Theorems.{wants, pages_begun, CopiesInOrder, EachCopiesInOrder, place}
+use Rattle.forwarding.specs.Theorems.{pages_begun, CopiesInOrder, EachCopiesInOrder, place}
 
 module _ (v : Evacuation) (r : Reserved) (met : ℕ → List ℕ) (begins : v.stage ≡ StoresHeader r) where
   -- after so many steps the machine is at this stage

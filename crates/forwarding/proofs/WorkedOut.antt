@@ -19,7 +19,11 @@ is_worked_out = record {
   front_moved = record { steps = refl; ends = refl };
   over_two_pages = record { steps = refl; ends = refl };
   header_alone = record { steps = refl; ends = refl };
-  longest = refl;
+  reserves_longest = refl;
+  crosses_first = refl;
+  crosses_last = refl;
+  forwards_longest = refl;
+  ends_longest = refl;
   words = refl;
   words_stay = refl;
 }

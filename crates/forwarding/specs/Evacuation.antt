@@ -13,7 +13,7 @@ use Rattle.forwarding.specs.declared.evac_stage.EvacStage.TheVariants.{LoadsHead
 
 -- the spaces, the old record's address, the epoch whose to-space the copy is made in, the worker, and its stage
 pub record Evacuation : Type 0 where
-  pub spaces : Layout
+  pub layout : Layout
   pub addr : ℕ
   pub epoch : ℕ
   pub worker : ℕ
@@ -21,7 +21,7 @@ pub record Evacuation : Type 0 where
 
 -- a machine that has done nothing yet
 abbrev pub begun : Layout → (addr epoch worker : ℕ) → Evacuation
-begun l addr epoch worker = record { spaces = l; addr = addr; epoch = epoch; worker = worker; stage = LoadsHeader }
+begun l addr epoch worker = record { layout = l; addr = addr; epoch = epoch; worker = worker; stage = LoadsHeader }
 
 -- the machine has not given its result
 abbrev pub IsGoing : EvacStage → Type 0
@@ -58,4 +58,4 @@ wanted_at l a e k (Ended to) = None
 
 -- the next step, if there is one
 abbrev pub wanted : Evacuation → Option Step
-wanted v = wanted_at v.spaces v.addr v.epoch v.worker v.stage
+wanted v = wanted_at v.layout v.addr v.epoch v.worker v.stage

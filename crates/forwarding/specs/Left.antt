@@ -1,8 +1,9 @@
 -- How many steps the copy of a record has left.
-use Rattle.std.specs.Prelude.{ℕ, ◌+◌, ◌-◌, ◌*◌, Bool, true, false, is_some}
+use Rattle.std.specs.Prelude.{ℕ, ◌+◌, ◌-◌, ◌*◌, ◌≡◌, ⊤, Bool, true, false, ◌||◌, None, is_some}
 use Rattle.atom_store.specs.declared.reply.Reply.{Reply}
 use Rattle.atom_store.specs.declared.reply.Reply.TheVariants.{Value, Done, Won, Lost}
-use Rattle.heap_words.specs.Decoded.{Decoded, HeaderWord, decode}
+use Rattle.heap_words.specs.Decoded.{decode}
+use Rattle.heap_words.specs.FirstWords.{is_header, is_forward}
 use Rattle.space_map.specs.AreaWord.{decode_area}
 use Rattle.space_map.specs.Spaces.{first_word}
 use Rattle.forwarding.specs.declared.evac_stage.EvacStage.{EvacStage}
@@ -31,13 +32,10 @@ left_at (Ended to) = 0
 abbrev pub left : Evacuation → ℕ
 left v = left_at v.stage
 
-abbrev pub is_header : Decoded → Bool
-is_header (HeaderWord kind len serial mutator) = true
-is_header _ = false
-
--- the reply takes the machine on: no exchange is lost, and no other worker has taken the record
+-- The reply takes the machine on, or to its end. Else an exchange was lost, another worker has taken the record, or the word is one
+-- that can't be there.
 abbrev pub advances : EvacStage → Reply → Bool
-advances LoadsHeader (Value w) = is_header (decode w)
+advances LoadsHeader (Value w) = is_header (decode w) || is_forward (decode w)
 advances (TakesHeader kept) Won = true
 advances (LoadsArea kept) (Value w) = is_some (decode_area w)
 advances (Announces kept area) Done = true
@@ -49,3 +47,12 @@ advances (StoresCross r page) Done = true
 advances (StoresForward r) Done = true
 advances (Clears to) Done = true
 advances _ _ = false
+
+-- What alone holds the machine up: a lost exchange, the word of another worker that copies the record, or a word that can't be
+-- there.
+abbrev pub IsHeldUp : EvacStage → Reply → Type 0
+IsHeldUp LoadsHeader (Value w) = (is_header (decode w) ≡ false) × (is_forward (decode w) ≡ false)
+IsHeldUp (TakesHeader kept) (Lost w) = ⊤
+IsHeldUp (LoadsArea kept) (Value w) = decode_area w ≡ None
+IsHeldUp (Reserves kept area) (Lost w) = ⊤
+IsHeldUp _ _ = ⊥

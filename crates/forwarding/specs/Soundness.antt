@@ -4,7 +4,7 @@ use Rattle.heap_words.specs.declared.kind.Kind.{Kind}
 use Rattle.heap_words.specs.Decoded.{HeaderWord, decode}
 use Rattle.space_map.specs.declared.area_word.AreaWord.{AreaWord}
 use Rattle.space_map.specs.AreaWord.{AreaFits}
-use Rattle.space_map.specs.Spaces.{Layout, IsPageCount, first_word}
+use Rattle.space_map.specs.Spaces.{IsPageCount, first_word}
 use Rattle.forwarding.specs.declared.kept_header.KeptHeader.{KeptHeader}
 use Rattle.forwarding.specs.declared.reserved.Reserved.{Reserved}
 use Rattle.forwarding.specs.declared.evac_stage.EvacStage.{EvacStage}
@@ -47,7 +47,7 @@ FitsStage n a (Clears to) = to < 2 ^ 32
 FitsStage n a (Ended to) = to < 2 ^ 32
 
 pub record IsSound (v : Evacuation) : Type 0 where
-  pub pages : IsPageCount v.spaces.pages
+  pub pages : IsPageCount v.layout.pages
   pub worker : v.worker ≤ 23
-  pub addr : v.addr < 128 * v.spaces.pages
-  pub fits : FitsStage v.spaces.pages v.addr v.stage
+  pub addr : v.addr < 128 * v.layout.pages
+  pub fits : FitsStage v.layout.pages v.addr v.stage

@@ -1,5 +1,5 @@
 -- What a reply makes of the copy of a record, and what the machine then tells.
-use Rattle.std.specs.Prelude.{ℕ, ◌+◌, ◌-◌, ◌*◌, ◌/◌, ◌==◌, Option, Some, None, nat_lt, if◌then◌else◌}
+use Rattle.std.specs.Prelude.{ℕ, ◌+◌, ◌==◌, Option, Some, None, nat_lt, if◌then◌else◌}
 use Rattle.atom_store.specs.declared.reply.Reply.{Reply}
 use Rattle.atom_store.specs.declared.reply.Reply.TheVariants.{Value, Done, Won, Lost}
 use Rattle.atom_store.specs.declared.turn.Turn.{Turn}
@@ -9,6 +9,7 @@ use Rattle.heap_words.specs.Decoded.{Decoded, NumberWord, PointerWord, HeaderWor
 use Rattle.space_map.specs.declared.area_word.AreaWord.{AreaWord}
 use Rattle.space_map.specs.AreaWord.{decode_area}
 use Rattle.space_map.specs.Spaces.{Layout, first_word}
+use Rattle.crossing_map.specs.Crossing.{first_page_from}
 use Rattle.forwarding.specs.declared.kept_header.KeptHeader.{KeptHeader}
 use Rattle.forwarding.specs.declared.reserved.Reserved.{Reserved}
 use Rattle.forwarding.specs.declared.evac_stage.EvacStage.{EvacStage}
@@ -40,9 +41,9 @@ by_other_area kept area None = Reserves kept area
 abbrev pub reserved_at : Layout → ℕ → KeptHeader → AreaWord → Reserved
 reserved_at l epoch kept area = record { kept = kept; to = front_of l epoch area }
 
--- the first page that begins at the copy's header or after it
+-- the first page that begins at the copy's header or behind it
 abbrev pub first_page : Reserved → ℕ
-first_page r = (r.to + 63) / 64
+first_page r = first_page_from r.to
 
 -- all pages below this one are crossed: it is next if it begins in the copy, else the forward
 abbrev pub crossed : Reserved → ℕ → EvacStage
@@ -71,7 +72,7 @@ stage_after l e stage reply = stage
 
 -- the machine after a reply
 abbrev pub taken : Evacuation → Reply → Evacuation
-taken v reply = record v { stage = stage_after v.spaces v.epoch v.stage reply }
+taken v reply = record v { stage = stage_after v.layout v.epoch v.stage reply }
 
 -- what a machine tells that has come to this stage
 abbrev pub told : EvacStage → Turn To

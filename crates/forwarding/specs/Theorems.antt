@@ -1,7 +1,8 @@
 -- What is proved of the copy of a record.
-use Rattle.std.specs.Prelude.{◌≡◌, ℕ, ◌+◌, ◌-◌, ◌*◌, ◌<◌, ◌≤◌, ◌⊎◌, ◌↔◌, List, Option, Some, slice_index}
+use Rattle.std.specs.Prelude.{◌≡◌, false, ℕ, ◌+◌, ◌-◌, ◌*◌, ◌<◌, ◌≤◌, ◌⊎◌, ◌↔◌, List, Option, Some, slice_index, take}
 use Rattle.atom_store.specs.Machine.{ComesTo, after_replies}
 use Rattle.atom_store.specs.Runs.{alone, among}
+use Rattle.atom_store.specs.Step.{reply_of}
 use Rattle.atom_store.specs.declared.reply.Reply.{Reply}
 use Rattle.atom_store.specs.declared.reply.Reply.TheVariants.{Value, Done, Won}
 use Rattle.atom_store.specs.declared.step.Step.{Step}
@@ -14,17 +15,19 @@ use Rattle.space_map.specs.declared.area_word.AreaWord.{AreaWord}
 use Rattle.space_map.specs.AreaWord.{encode_area}
 use Rattle.space_map.specs.Spaces.{to_space, first_word}
 use Rattle.space_map.specs.Table.{Row, Area, Cross, HeapWord, Announce, place_of}
+use Rattle.crossing_map.specs.Crossing.{first_page_from}
 use Rattle.forwarding.specs.declared.evac_stage.EvacStage.TheVariants.{LoadsHeader, TakesHeader, Announces, Reserves, StoresHeader, Clears, Ended}
 use Rattle.forwarding.specs.declared.kept_header.KeptHeader.{KeptHeader}
 use Rattle.forwarding.specs.declared.reserved.Reserved.{Reserved}
-use Rattle.forwarding.specs.Evacuation.{Evacuation, IsGoing, area_past, begun, front_of, size_of, wanted}
+use Rattle.forwarding.specs.Evacuation.{Evacuation, IsGoing, area_past, front_of, size_of, wanted}
 use Rattle.forwarding.specs.Keeping.{address_reserved, header_kept}
+use Rattle.forwarding.specs.Left.{IsHeldUp, advances}
 use Rattle.forwarding.specs.Taken.{evac_machine, first_page, taken, told}
-use Rattle.forwarding.specs.Worked.{worked, copy, second, taken_by_another, header_lost, low_moved, front_moved, over_two_pages, header_alone, longest_replies, words_before, words_after}
+use Rattle.forwarding.specs.Worked.{worked, copy, second, taken_by_another, header_lost, low_moved, front_moved, over_two_pages, header_alone, longest, longest_replies, words_before, words_after}
 
 -- the place of a row of the machine's table
 abbrev pub place : Evacuation → Row → ℕ
-place v row = place_of v.spaces.pages row
+place v row = place_of v.layout.pages row
 
 -- ---- what a copy's address comes from
 
@@ -54,14 +57,21 @@ TakesByExchange = (v : Evacuation) (reply : Reply) (kept : KeptHeader) → heade
 abbrev pub AnnouncesFirst : Type 0
 AnnouncesFirst = (v : Evacuation) (reply : Reply) (kept : KeptHeader) (area : AreaWord) → (taken v reply).stage ≡ Reserves kept area
     → ((other : AreaWord) × (v.stage ≡ Reserves kept other) × (other.front ≡ area.front))
-    ⊎ ((reply ≡ Done) × (v.stage ≡ Announces kept area) × (wanted v ≡ Some (Store (place v (Announce v.worker)) (front_of v.spaces v.epoch area + 1))))
+    ⊎ ((reply ≡ Done) × (v.stage ≡ Announces kept area) × (wanted v ≡ Some (Store (place v (Announce v.worker)) (front_of v.layout v.epoch area + 1))))
 
 -- an address is reserved only by a won exchange of the area, whose FRONT it was and then is behind the copy
 abbrev pub ReservesByExchange : Type 0
 ReservesByExchange = (v : Evacuation) (reply : Reply) (to : ℕ) → address_reserved (taken v reply).stage ≡ Some to
     → (address_reserved v.stage ≡ Some to)
-    ⊎ ((kept : KeptHeader) × (area : AreaWord) × (reply ≡ Won) × (v.stage ≡ Reserves kept area) × (to ≡ front_of v.spaces v.epoch area)
+    ⊎ ((kept : KeptHeader) × (area : AreaWord) × (reply ≡ Won) × (v.stage ≡ Reserves kept area) × (to ≡ front_of v.layout v.epoch area)
     × (wanted v ≡ Some (Exchange (place v (Area (to_space v.epoch))) (encode_area area) (encode_area (area_past (size_of kept) area)))))
+
+-- ---- the steps left
+
+-- whatever words a step meets, its reply takes the machine on, where what is left falls, or is one of those that hold it up
+abbrev pub GoesOn : Type 0
+GoesOn = (v : Evacuation) (step : Step) (met : List ℕ) → wanted v ≡ Some step
+    → advances v.stage (reply_of step met) ≡ false → IsHeldUp v.stage (reply_of step met)
 
 -- ---- the copy, in order
 
@@ -71,7 +81,7 @@ wants v met n = wanted (among evac_machine v met n)
 
 -- the number of pages that begin in the copy
 abbrev pub pages_begun : Reserved → ℕ
-pages_begun r = first_page (record { kept = r.kept; to = r.to + size_of r.kept }) - first_page r
+pages_begun r = first_page_from (r.to + size_of r.kept) - first_page r
 
 -- From the reserved address on: the header is stored; each word is loaded from the old record and stored; of each page that
 -- begins in the copy it is said that the copy lies over its first word; then the forward is stored, and what was announced
@@ -92,6 +102,10 @@ EachCopiesInOrder = (v : Evacuation) (r : Reserved) (met : ℕ → List ℕ) →
 
 -- ---- the copy worked out by hand
 
+-- what the longest copy wants after so many replies
+abbrev pub after_replies_to : ℕ → Option Step
+after_replies_to n = wanted (after_replies evac_machine longest (take n longest_replies))
+
 -- where it is replied to so, the machine wants these steps and comes to this address
 pub record IsWorkedOut : Type 0 where
   pub copy : ComesTo evac_machine worked copy (record { 0 = 256 })
@@ -102,7 +116,11 @@ pub record IsWorkedOut : Type 0 where
   pub front_moved : ComesTo evac_machine worked front_moved (record { 0 = 261 })
   pub over_two_pages : ComesTo evac_machine worked over_two_pages (record { 0 = 318 })
   pub header_alone : ComesTo evac_machine worked header_alone (record { 0 = 256 })
-  pub longest : evac_machine.told (after_replies evac_machine (begun (record { pages = 64 }) 0 1 1) longest_replies) ≡ Finished (record { 0 = 4096 })
+  pub reserves_longest : after_replies_to 4 ≡ Some (Exchange 5 0x0001_0000_4000_0000 0x0000_0000_4000_1000)
+  pub crosses_first : after_replies_to (6 + 2 * 4095) ≡ Some (Store (17 + 128 + 64) 4096)
+  pub crosses_last : after_replies_to (6 + 2 * 4095 + 63) ≡ Some (Store (17 + 128 + 127) 4096)
+  pub forwards_longest : after_replies_to (6 + 2 * 4095 + 64) ≡ Some (Store (17 + 256 + 0) 0x0000_0000_1000_fff3)
+  pub ends_longest : evac_machine.told (after_replies evac_machine longest longest_replies) ≡ Finished (record { 0 = 4096 })
   pub words : alone evac_machine 13 (record { machine = worked; words = words_before })
       ≡ record { machine = record worked { stage = Ended 256 }; words = words_after }
   pub words_stay : alone evac_machine 1 (record { machine = worked; words = words_after })

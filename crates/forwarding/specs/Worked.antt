@@ -1,19 +1,14 @@
 -- A small heap, worked out by hand: a record of two words is copied by worker 1 in epoch 1.
-use Rattle.std.specs.Prelude.{ℕ, zero, suc, ◌+◌, List, [], ◌∷◌, ◌++◌, replicate, slice_set}
+use Rattle.std.specs.Prelude.{ℕ, zero, suc, ◌+◌, List, [], ◌∷◌, ◌++◌, replicate}
 use Rattle.atom_store.specs.declared.step.Step.{Step}
 use Rattle.atom_store.specs.declared.step.Step.TheVariants.{Load, Store, Exchange}
 use Rattle.atom_store.specs.declared.reply.Reply.{Reply}
 use Rattle.atom_store.specs.declared.reply.Reply.TheVariants.{Value, Done, Won, Lost}
-use Rattle.space_map.specs.Spaces.{Layout}
+use Rattle.atom_store.specs.Runs.{with_words}
+use Rattle.space_map.specs.Worked.{four_pages}
 use Rattle.forwarding.specs.Evacuation.{Evacuation, begun}
-use Rattle.forwarding.specs.Taken.{evac_machine}
 
 -- ---- a copy
-
--- four pages a space, so that the areas stand at places 4 and 5, the crossing words begin at 25, the heap's words at 33, and the
--- announced places at 609
-abbrev pub four_pages : Layout
-four_pages = record { pages = 4 }
 
 -- the record at 192, an address of space 0, is copied by worker 1 in epoch 1 to FRONT of space 1
 abbrev pub worked : Evacuation
@@ -132,20 +127,19 @@ unfoldable pub words_replied : ℕ → List Reply
 words_replied zero = []
 words_replied (suc n) = Value 0 ∷ Done ∷ words_replied n
 
--- the replies to the copy of a record of 4095 words, which begins a space of 64 pages: 64 pages begin in it
+-- a record of 4095 words, at the first address of space 0, is copied to a space of 64 pages that is free and owed
+abbrev pub longest : Evacuation
+longest = begun (record { pages = 64 }) 0 1 1
+
+-- the replies to its copy, in which 64 pages begin
 unfoldable pub longest_replies : List Reply
 longest_replies =
-    (Value 0x0000_0000_0001_fff2 ∷ Won ∷ Value 0x0000_1000_0400_0000 ∷ Done ∷ Won ∷ Done ∷ [])
+    (Value 0x0000_0000_0001_fff2 ∷ Won ∷ Value 0x0001_0000_4000_0000 ∷ Done ∷ Won ∷ Done ∷ [])
     ++ words_replied 4095
     ++ replicate 64 Done
     ++ (Done ∷ Done ∷ [])
 
 -- ---- the words
-
--- the words with these values in these places
-abbrev pub with_words : List (ℕ × ℕ) → List ℕ → List ℕ
-with_words [] words = words
-with_words (entry ∷ entries) words = with_words entries (slice_set words entry.0 entry.1)
 
 -- a table of four pages a space that has nothing but the record, whose fields are the number 7 and a pointer to itself, and
 -- the area that it is copied to

@@ -1,9 +1,11 @@
 ghost use Rattle.std.specs.Prelude.{◌≡◌, ◌+◌, ◌*◌, ◌^◌, ◌<◌, ◌≤◌, Some, IsTrue};
 ghost use Rattle.atom_store.specs.declared.reply.Reply.TheVariants.{Value, Done, Won, Lost};
+ghost use Rattle.atom_store.specs.Step.{place_in};
 ghost use Rattle.heap_words.specs.Decoded.{decode};
 ghost use Rattle.heap_words.specs.Word.{busy_word, forward_word};
 ghost use Rattle.space_map.specs.AreaWord.{AreaFits, decode_area};
 ghost use Rattle.space_map.specs.Spaces.{IsInSpace, to_space};
+ghost use Rattle.space_map.specs.Table.{table_length};
 ghost use Rattle.forwarding.specs.Evacuation.{IsGoing, area_past, begun, front_of, size_of, wanted};
 ghost use Rattle.forwarding.specs.Keeping.{address_reserved, header_kept, kept_word, reserved_word};
 ghost use Rattle.forwarding.specs.Left.{advances, left};
@@ -16,6 +18,7 @@ use crate::loaded_word::LoadedWord;
 use crate::reserved::Reserved;
 use crate::to::To;
 use atom_store::{Reply, Step, Turn};
+use crossing_map::crossed;
 use record_layout::{Busy, Forward, pack_busy, pack_forward, read, read_forward};
 use space_map::{AreaWord, PAGE_WORDS, Spaces};
 use std::marker::Model;
@@ -36,9 +39,9 @@ impl Model for Evac {
 
     ghost Value = { Evacuation };
 
-    ghost view = { λ v. record { spaces = v.spaces; addr = v.addr; epoch = v.epoch; worker = v.worker; stage = v.stage } };
+    ghost view = { λ v. record { layout = v.spaces; addr = v.addr; epoch = v.epoch; worker = v.worker; stage = v.stage } };
 
-    ghost invariant = { λ v. IsSound (record { spaces = v.spaces; addr = v.addr; epoch = v.epoch; worker = v.worker; stage = v.stage }) };
+    ghost invariant = { λ v. IsSound (record { layout = v.spaces; addr = v.addr; epoch = v.epoch; worker = v.worker; stage = v.stage }) };
 }
 
 impl Evac {
@@ -61,7 +64,8 @@ impl Evac {
     /// The next step.
     pub fn want(&self) -> Step
         requires { IsGoing self.now.stage }
-        ensures { wanted self.now ≡ Some result }
+        ensures wanted { wanted self.now ≡ Some result }
+        ensures in_table { place_in result < table_length self.now.layout.pages }
     {
         let spaces = self.spaces;
         let old = spaces.word_place(self.addr);
@@ -198,19 +202,20 @@ impl Evac {
         ensures state { self.new ≡ record self.old { stage = by_other_area kept area (decode_area word) } }
         ensures told { result ≡ Turn.More }
     {
-        match AreaWord::read(word) {
-            Some(other) if other.front == area.front => self.goes_to(EvacStage::Reserves(
-                kept, other,
-            )),
-            Some(other) => self.goes_to(EvacStage::Announces(kept, other)),
-            None => self.goes_to(EvacStage::Reserves(kept, area)),
+        let Some(other) = AreaWord::read(word) else {
+            return self.goes_to(EvacStage::Reserves(kept, area));
+        };
+        if other.front == area.front {
+            self.goes_to(EvacStage::Reserves(kept, other))
+        } else {
+            self.goes_to(EvacStage::Announces(kept, other))
         }
     }
 
     fn has_reserved(&mut self, kept: KeptHeader, area: AreaWord) -> Turn<To>
-        requires room { HasRoom self.old.spaces.pages (size_of kept) area }
-        requires sound { IsSound (record self.old { stage = EvacStage.StoresHeader (reserved_at self.old.spaces self.old.epoch kept area) }) }
-        ensures state { self.new ≡ record self.old { stage = EvacStage.StoresHeader (reserved_at self.old.spaces self.old.epoch kept area) } }
+        requires room { HasRoom self.old.layout.pages (size_of kept) area }
+        requires sound { IsSound (record self.old { stage = EvacStage.StoresHeader (reserved_at self.old.layout self.old.epoch kept area) }) }
+        ensures state { self.new ≡ record self.old { stage = EvacStage.StoresHeader (reserved_at self.old.layout self.old.epoch kept area) } }
         ensures told { result ≡ Turn.More }
     {
         let to = front(self.spaces, self.epoch, kept, area);
@@ -219,7 +224,7 @@ impl Evac {
     }
 
     fn has_copied(&mut self, r: Reserved, count: u32) -> Turn<To>
-        requires room { HasReserved self.old.spaces.pages self.old.addr r }
+        requires room { HasReserved self.old.layout.pages self.old.addr r }
         requires sound { IsSound (record self.old { stage = copied r count }) }
         ensures state { self.new ≡ record self.old { stage = copied r count } }
         ensures told { result ≡ Turn.More }
@@ -228,13 +233,14 @@ impl Evac {
         if count < size(r.kept) {
             self.goes_to(EvacStage::LoadsWord(r, count))
         } else {
-            self.has_crossed(r, (r.to + (PAGE_WORDS - 1)) / PAGE_WORDS)
+            let (first, _) = crossed(r.to, size(r.kept));
+            self.has_crossed(r, first)
         }
     }
 
     fn has_crossed(&mut self, r: Reserved, page: u32) -> Turn<To>
-        requires room { HasReserved self.old.spaces.pages self.old.addr r }
-        requires near { page ≤ 2 * self.old.spaces.pages }
+        requires room { HasReserved self.old.layout.pages self.old.addr r }
+        requires near { page ≤ 2 * self.old.layout.pages }
         requires sound { IsSound (record self.old { stage = crossed r page }) }
         ensures state { self.new ≡ record self.old { stage = crossed r page } }
         ensures told { result ≡ Turn.More }

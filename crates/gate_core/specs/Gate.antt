@@ -13,7 +13,7 @@ use Rattle.space_map.specs.Spaces.{Layout}
 use Rattle.space_map.specs.Table.{place_of}
 use Rattle.space_map.specs.Table as row
 use Rattle.gate_core.specs.declared.passage.Passage.{Passage}
-use Rattle.gate_core.specs.declared.passage.Passage.TheVariants.{Attach, Park, Request, Resume, Forwarded, Leave}
+use Rattle.gate_core.specs.declared.passage.Passage.TheVariants.{Look, Attach, Park, Request, Resume, Forwarded, Leave}
 use Rattle.gate_core.specs.declared.passed.Passed.{Passed}
 use Rattle.gate_core.specs.declared.passed.Passed.TheVariants.{Went, NotYet}
 use Rattle.gate_core.specs.declared.gate_stage.GateStage.{GateStage}
@@ -36,6 +36,7 @@ is_clear gate = not gate.request && (gate.behind == 0)
 
 -- the gate allows the passage
 abbrev pub allows : Passage → GateWord → Bool
+allows Look gate = not gate.request
 allows Attach gate = is_clear gate
 allows Park gate = gate.request
 allows Request gate = not gate.request
@@ -45,6 +46,7 @@ allows Leave gate = true
 
 -- the gate after the passage
 abbrev pub gate_after : Passage → GateWord → GateWord
+gate_after Look gate = gate
 gate_after Attach gate = record gate { live = gate.live + 1; running = gate.running + 1 }
 gate_after Park gate = record gate { running = gate.running - 1 }
 gate_after Request gate = record gate { running = gate.running - 1; request = true }
@@ -64,9 +66,14 @@ wanted p = wanted_at p p.stage
 
 -- ---- what a reply makes of it
 
+-- from a gate that allows the passage: a look is made, anything else is to be written
+abbrev pub allowed : Passage → (word : ℕ) → GateWord → GateStage
+allowed Look word gate = Ended (Went word)
+allowed passage word gate = Exchanges gate
+
 -- by what the gate's word says
 abbrev pub looked : Passage → (word : ℕ) → Option GateWord → GateStage
-looked passage word (Some gate) = if allows passage gate then Exchanges gate else Ended (NotYet word)
+looked passage word (Some gate) = if allows passage gate then allowed passage word gate else Ended (NotYet word)
 looked passage word None = Loads
 
 abbrev pub next_stage : Passage → GateStage → Reply → GateStage
@@ -93,13 +100,18 @@ gate_machine = record { wanted = wanted; taken = taken; told = told }
 
 -- ---- the steps that are left, no exchange being lost
 
-abbrev pub left_at : GateStage → ℕ
-left_at Loads = 2
-left_at (Exchanges gate) = 1
-left_at (Ended result) = 0
+-- before the load
+abbrev pub left_before : Passage → ℕ
+left_before Look = 1
+left_before passage = 2
+
+abbrev pub left_at : Passage → GateStage → ℕ
+left_at passage Loads = left_before passage
+left_at passage (Exchanges g) = 1
+left_at passage (Ended result) = 0
 
 abbrev pub left : Passing → ℕ
-left p = left_at p.stage
+left p = left_at p.passage p.stage
 
 -- the reply is one to the step that it wants, and takes it on: the exchange isn't lost
 abbrev pub advances_at : GateStage → Reply → Bool

@@ -2,3 +2,4 @@ pub mod Gate
 pub mod Flip
 pub mod Soundness
 pub mod Rows
+pub mod Theorems

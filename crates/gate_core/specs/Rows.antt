@@ -5,18 +5,15 @@ use Rattle.atom_store.specs.declared.step.Step.TheVariants.{Load, Store, Exchang
 use Rattle.atom_store.specs.declared.reply.Reply.{Reply}
 use Rattle.atom_store.specs.declared.reply.Reply.TheVariants.{Value, Done, Won, Lost}
 use Rattle.atom_store.specs.Machine.{ComesTo}
-use Rattle.space_map.specs.Spaces.{Layout}
+use Rattle.space_map.specs.Worked.{four_pages}
 use Rattle.gate_core.specs.declared.passage.Passage.{Passage}
-use Rattle.gate_core.specs.declared.passage.Passage.TheVariants.{Attach, Park, Request, Resume, Forwarded, Leave}
+use Rattle.gate_core.specs.declared.passage.Passage.TheVariants.{Look, Attach, Park, Request, Resume, Forwarded, Leave}
 use Rattle.gate_core.specs.declared.passed.Passed.{Passed}
 use Rattle.gate_core.specs.declared.passed.Passed.TheVariants as passed
 use Rattle.gate_core.specs.declared.flipped.Flipped.{Flipped}
 use Rattle.gate_core.specs.declared.flipped.Flipped.TheVariants as flipped
 use Rattle.gate_core.specs.Gate.{begun, gate_machine}
 use Rattle.gate_core.specs.Flip as flip
-
-abbrev pub four_pages : Layout
-four_pages = record { pages = 4 }
 
 -- a passage of the gate makes these steps, and comes to this
 abbrev pub Passes : Passage → List (Step × Reply) → Passed → Type 0
@@ -61,15 +58,19 @@ abbrev pub Parks : Type 0
 Parks =
     Passes Park ((Load 0, Value 0x0100_0102_0000_0000) ∷ (Exchange 0 0x0100_0102_0000_0000 0x0100_0002_0000_0000, Won) ∷ []) (passed.Went 0x0100_0002_0000_0000)
 
--- an exchange that is lost to another mutator is made again from its word
+-- where the exchange is lost to another mutator, the gate is loaded again
 abbrev pub ExchangeIsTriedAgain : Type 0
 ExchangeIsTriedAgain =
     Passes Park ((Load 0, Value 0x0100_0203_0000_0000) ∷ (Exchange 0 0x0100_0203_0000_0000 0x0100_0103_0000_0000, Lost 0x0100_0103_0000_0000) ∷ (Load 0, Value 0x0100_0103_0000_0000) ∷ (Exchange 0 0x0100_0103_0000_0000 0x0100_0003_0000_0000, Won) ∷ []) (passed.Went 0x0100_0003_0000_0000)
 
--- nobody attaches, resumes or requests while a flip is requested
+-- a running mutator goes on, if no flip is requested
+abbrev pub Looks : Type 0
+Looks = Passes Look ((Load 0, Value 0x0000_0202_0000_0000) ∷ []) (passed.Went 0x0000_0202_0000_0000)
+
+-- nobody goes on, attaches, resumes or requests while a flip is requested
 abbrev pub RequestHinders : Type 0
 RequestHinders =
-    (Passes Attach ((Load 0, Value 0x0100_0102_0000_0000) ∷ []) (passed.NotYet 0x0100_0102_0000_0000)) × (Passes Request ((Load 0, Value 0x0100_0102_0000_0000) ∷ []) (passed.NotYet 0x0100_0102_0000_0000)) × (Passes (Resume 0) ((Load 0, Value 0x0100_0102_0000_0000) ∷ []) (passed.NotYet 0x0100_0102_0000_0000))
+    (Passes Look ((Load 0, Value 0x0100_0102_0000_0000) ∷ []) (passed.NotYet 0x0100_0102_0000_0000)) × (Passes Attach ((Load 0, Value 0x0100_0102_0000_0000) ∷ []) (passed.NotYet 0x0100_0102_0000_0000)) × (Passes Request ((Load 0, Value 0x0100_0102_0000_0000) ∷ []) (passed.NotYet 0x0100_0102_0000_0000)) × (Passes (Resume 0) ((Load 0, Value 0x0100_0102_0000_0000) ∷ []) (passed.NotYet 0x0100_0102_0000_0000))
 
 -- nobody attaches or resumes while a mutator is behind
 abbrev pub BehindHinders : Type 0

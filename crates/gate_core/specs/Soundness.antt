@@ -5,7 +5,7 @@ use Rattle.space_map.specs.declared.gate_word.GateWord.{GateWord}
 use Rattle.space_map.specs.GateWord.{GateFits}
 use Rattle.space_map.specs.Spaces.{IsPageCount}
 use Rattle.gate_core.specs.declared.passage.Passage.{Passage}
-use Rattle.gate_core.specs.declared.passage.Passage.TheVariants.{Attach, Park, Request, Resume, Forwarded, Leave}
+use Rattle.gate_core.specs.declared.passage.Passage.TheVariants.{Look, Attach, Park, Request, Resume, Forwarded, Leave}
 use Rattle.gate_core.specs.declared.gate_stage.GateStage.{GateStage}
 use Rattle.gate_core.specs.declared.gate_stage.GateStage.TheVariants as gate_stage
 use Rattle.gate_core.specs.declared.reset.Reset.{Reset}
@@ -16,6 +16,7 @@ use Rattle.gate_core.specs.Flip.{Flipping, is_still}
 
 -- the gate counts those whom the passage takes away, and has room for those whom it brings
 abbrev pub Counts : Passage → GateWord → Type 0
+Counts Look gate = ⊤
 Counts Attach gate = (gate.live + 1 < 2 ^ 8) × (gate.running + 1 < 2 ^ 8)
 Counts Park gate = 0 < gate.running
 Counts Request gate = 0 < gate.running

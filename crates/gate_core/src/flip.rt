@@ -1,8 +1,10 @@
 ghost use Rattle.std.specs.Prelude.{◌≡◌, ◌+◌, ◌*◌, ◌^◌, ◌<◌, ◌≤◌, Some, IsTrue};
+ghost use Rattle.atom_store.specs.Step.{place_in};
 ghost use Rattle.space_map.specs.AreaWord.{AreaFits, decode_area};
 ghost use Rattle.space_map.specs.GateWord.{decode_gate};
 ghost use Rattle.gate_core.specs.Flip.{begun, wanted, taken, told, left, advances, is_still, gate_flipped, used_in, area_reset, looked, read_area};
 ghost use Rattle.gate_core.specs.Soundness.{IsFlippingGoing, IsSoundFlipping, FitsFlipStage, MayFlip};
+ghost use Rattle.space_map.specs.Table.{table_length};
 
 use crate::flip_stage::FlipStage;
 use crate::flipped::Flipped;
@@ -51,7 +53,8 @@ impl Flip {
     /// The next step.
     pub fn want(&self) -> Step
         requires { IsFlippingGoing self.now.stage }
-        ensures { wanted self.now ≡ Some result }
+        ensures wanted { wanted self.now ≡ Some result }
+        ensures in_table { place_in result < table_length self.now.layout.pages }
     {
         let spaces = self.spaces;
         match self.stage {
@@ -79,7 +82,7 @@ impl Flip {
         ensures lowers { IsTrue (advances self.old reply) → left self.new < left self.old }
     {
         match (self.stage, reply) {
-            (FlipStage::LoadsGate, Reply::Value(word)) => self.look(word),
+            (FlipStage::LoadsGate, Reply::Value(word)) => self.read_gate(word),
             (FlipStage::LoadsArea(gate), Reply::Value(word)) => self.read_area(gate, word),
             (FlipStage::StoresArea(reset), Reply::Done) => {
                 self.stage = FlipStage::Exchanges(reset);
@@ -94,7 +97,7 @@ impl Flip {
         }
     }
 
-    fn look(&mut self, word: u64) -> Turn<Flipped>
+    fn read_gate(&mut self, word: u64) -> Turn<Flipped>
         requires { FitsFlipStage self.old.layout.pages (looked word (decode_gate word)) }
         ensures state { self.new ≡ record self.old { stage = looked word (decode_gate word) } }
         ensures tells { result ≡ told self.new }

@@ -1,8 +1,10 @@
 ghost use Rattle.std.specs.Prelude.{◌≡◌, ◌^◌, ◌<◌, Some, IsTrue};
+ghost use Rattle.atom_store.specs.Step.{place_in};
 ghost use Rattle.space_map.specs.declared.gate_word.GateWord.{GateWord};
 ghost use Rattle.space_map.specs.GateWord.{decode_gate, encode_gate};
-ghost use Rattle.gate_core.specs.Gate.{begun, wanted, taken, told, left, advances, allows, gate_after, is_clear, looked};
+ghost use Rattle.gate_core.specs.Gate.{begun, wanted, taken, told, left, advances, allows, allowed, gate_after, is_clear, looked};
 ghost use Rattle.gate_core.specs.Soundness.{IsSoundPassing, IsPassingGoing, FitsGateStage, MayPass};
+ghost use Rattle.space_map.specs.Table.{table_length};
 
 use crate::gate_stage::GateStage;
 use crate::passage::Passage;
@@ -33,6 +35,13 @@ impl Model for Gate {
 }
 
 impl Gate {
+    /// A running mutator goes on, unless a flip is requested.
+    pub fn look(spaces: Spaces) -> Gate
+        ensures { result ≡ begun spaces Passage.Look }
+    {
+        Gate::begin(spaces, Passage::Look)
+    }
+
     /// A mutator comes to the heap.
     pub fn attach(spaces: Spaces) -> Gate
         ensures { result ≡ begun spaces Passage.Attach }
@@ -89,7 +98,8 @@ impl Gate {
     /// The next step.
     pub fn want(&self) -> Step
         requires { IsPassingGoing self.now.stage }
-        ensures { wanted self.now ≡ Some result }
+        ensures wanted { wanted self.now ≡ Some result }
+        ensures in_table { place_in result < table_length self.now.layout.pages }
     {
         let place = self.spaces.gate_place();
         match self.stage {
@@ -110,7 +120,7 @@ impl Gate {
         ensures lowers { IsTrue (advances self.old reply) → left self.new < left self.old }
     {
         match (self.stage, reply) {
-            (GateStage::Loads, Reply::Value(word)) => self.look(word),
+            (GateStage::Loads, Reply::Value(word)) => self.read_gate(word),
             (GateStage::Exchanges(gate), Reply::Won) => self.go_through(gate),
             (GateStage::Exchanges(_), Reply::Lost(_)) => {
                 self.stage = GateStage::Loads;
@@ -120,22 +130,32 @@ impl Gate {
         }
     }
 
-    fn look(&mut self, word: u64) -> Turn<Passed>
+    fn read_gate(&mut self, word: u64) -> Turn<Passed>
         requires { FitsGateStage self.old.passage (looked self.old.passage word (decode_gate word)) }
         ensures state { self.new ≡ record self.old { stage = looked self.old.passage word (decode_gate word) } }
         ensures tells { result ≡ told self.new }
     {
         match GateWord::read(word) {
-            Some(gate) if allowed(self.passage, gate) => {
-                self.stage = GateStage::Exchanges(gate);
-                Turn::More
-            }
+            Some(gate) if is_allowed(self.passage, gate) => self.pass(word, gate),
             Some(_) => self.end(Passed::NotYet(word)),
             None => {
                 self.stage = GateStage::Loads;
                 Turn::More
             }
         }
+    }
+
+    /// Goes on from a gate that allows the passage.
+    fn pass(&mut self, word: u64, gate: GateWord) -> Turn<Passed>
+        requires { FitsGateStage self.old.passage (allowed self.old.passage word gate) }
+        ensures state { self.new ≡ record self.old { stage = allowed self.old.passage word gate } }
+        ensures tells { result ≡ told self.new }
+    {
+        if self.passage == Passage::Look {
+            return self.end(Passed::Went(word));
+        }
+        self.stage = GateStage::Exchanges(gate);
+        Turn::More
     }
 
     fn go_through(&mut self, gate: GateWord) -> Turn<Passed>
@@ -157,13 +177,13 @@ impl Gate {
 }
 
 /// Whether the gate allows the passage.
-fn allowed(passage: Passage, gate: GateWord) -> bool
+fn is_allowed(passage: Passage, gate: GateWord) -> bool
     ensures { result ≡ allows passage gate }
 {
     match passage {
         Passage::Attach => no_flip(gate),
         Passage::Park => gate.request,
-        Passage::Request => !gate.request,
+        Passage::Look | Passage::Request => !gate.request,
         Passage::Resume(epoch) => no_flip(gate) && gate.epoch == epoch,
         Passage::Forwarded | Passage::Leave => true,
     }
@@ -190,6 +210,7 @@ fn after(passage: Passage, gate: GateWord) -> GateWord
         ..
     } = gate;
     match passage {
+        Passage::Look => gate,
         Passage::Attach => GateWord {
             live: live + 1,
             running: running + 1,

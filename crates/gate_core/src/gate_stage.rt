@@ -6,7 +6,7 @@ use space_map::GateWord;
 pub enum GateStage {
     /// Load the gate.
     Loads,
-    /// Exchange the gate that was read, which allows the passage, for the gate after it.
+    /// Exchange the gate that was read, which allows the passage, for the gate after it. A look comes without.
     Exchanges(GateWord),
     /// Nothing more: it has come to this.
     Ended(Passed),

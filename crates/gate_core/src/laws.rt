@@ -1,6 +1,21 @@
 //! What holds of the machines. Each function here does nothing: its contract is what is proved.
 
-ghost use Rattle.gate_core.specs.Rows.{Attaches, Requests, FlipsSpaces, TellsForwarded, Resumes, Leaves, Parks, ExchangeIsTriedAgain, RequestHinders, BehindHinders, NoRequestHinders, LaterEpochHinders, RunningHindersFlip, LostFlipBeginsAgain};
+ghost use Rattle.gate_core.specs.Rows.{Attaches, Requests, FlipsSpaces, TellsForwarded, Resumes, Leaves, Looks, Parks, ExchangeIsTriedAgain, RequestHinders, BehindHinders, NoRequestHinders, LaterEpochHinders, RunningHindersFlip, LostFlipBeginsAgain};
+ghost use Rattle.gate_core.specs.Theorems.{PassagesAreMade, HinderedPassagesShowIt, FlipsKeepWhatTheyRead, FlipsAreMade, HinderedFlipsShowIt};
+
+/// A passage of the gate is made where the gate allows it, and changes what it says as the passage does. Where it isn't made,
+/// the gate's word forbids it.
+pub fn passages_are_made_where_allowed()
+    ensures made { PassagesAreMade }
+    ensures hindered { HinderedPassagesShowIt }
+{}
+
+/// A flip is made where all mutators are stopped and none is behind, after the other space was reset.
+pub fn flips_are_made_where_all_is_still()
+    ensures kept { FlipsKeepWhatTheyRead }
+    ensures made { FlipsAreMade }
+    ensures hindered { HinderedFlipsShowIt }
+{}
 
 /// Each passage of the gate and a flip, worked out step by step with all words as numbers.
 pub fn rows_are_worked_out()
@@ -10,6 +25,7 @@ pub fn rows_are_worked_out()
     ensures tells_forwarded { TellsForwarded }
     ensures resumes { Resumes }
     ensures leaves { Leaves }
+    ensures looks { Looks }
     ensures parks { Parks }
     ensures exchange_is_tried_again { ExchangeIsTriedAgain }
     ensures request_hinders { RequestHinders }

@@ -1,6 +1,8 @@
 /// A mutator's way past the gate.
 #[derive(Clone, Copy, Debug, PartialEq, Eq)]
 pub enum Passage {
+    /// It runs, and goes on if no flip is requested.
+    Look,
     /// It comes to the heap, and runs.
     Attach,
     /// It stops, because a flip is requested.

@@ -1,7 +1,7 @@
 /// What a passage comes to.
 #[derive(Clone, Copy, Debug, PartialEq, Eq)]
 pub enum Passed {
-    /// It was made, and this is now the gate's word.
+    /// It was made, and this is the gate's word since.
     Went(u64),
     /// This word of the gate forbids it.
     NotYet(u64),

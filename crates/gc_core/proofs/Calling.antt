@@ -110,14 +110,14 @@ module _ (p : Placement) (space : Space) (heap : plain.Heap) (m : ℕ) (k : Muta
       (λ n n' is_n is_n' en. loads_number d n n' within en.0 en.1))))
 
   new-same : (kind : Kind) (d : ℕ) (x : Operand) (a n : ℕ) → d < 8 → n ≤ 4095 → called.operand l x ≡ Ok a → length_of a ≡ Ok n
-      → Parallel IsDone (IsWant (option_map pages_of (option_map (zeros kind) (length_named l x)))) (room_for space.low k.run n >>= (λ c. Ok (event.makes m space k (spelled kind) d n c))) (Ok (called.allocated m heap l kind d n))
+      → Parallel IsDone (IsWant (option_map pages_of (option_map (zeros kind) (length_named l x)))) (room_for space.low k.run n >>= (λ c. Ok (event.allocated m space k (spelled kind) d n c))) (Ok (called.allocated m heap l kind d n))
   new-same kind d x a n within short is_operand is_length =
-      subst (λ o. Parallel IsDone (IsWant o) (room_for space.low k.run n >>= (λ c. Ok (event.makes m space k (spelled kind) d n c))) (Ok (called.allocated m heap l kind d n)))
+      subst (λ o. Parallel IsDone (IsWant o) (room_for space.low k.run n >>= (λ c. Ok (event.allocated m space k (spelled kind) d n c))) (Ok (called.allocated m heap l kind d n)))
       (sym (ap (λ o. option_map pages_of (option_map (zeros kind) o)) (length_named-is l x a n is_operand is_length) ∙ ap Some (pages_of-zeros kind n))) (makes-same p space heap m k l h r running in_heap kind d n within short)
 
-  makes_new-same : (kind : Kind) (d : ℕ) (x : Operand) → d < 8
-      → Parallel IsDone (IsWant (option_map pages_of (option_map (zeros kind) (length_named l x)))) (event.makes_new m space k (spelled kind) d x) (called.allocates m heap l kind d x)
-  makes_new-same kind d x within =
+  allocates-same : (kind : Kind) (d : ℕ) (x : Operand) → d < 8
+      → Parallel IsDone (IsWant (option_map pages_of (option_map (zeros kind) (length_named l x)))) (event.allocates m space k (spelled kind) d x) (called.allocates m heap l kind d x)
+  allocates-same kind d x within =
       let F = IsWant (option_map pages_of (option_map (zeros kind) (length_named l x))) in
       parallel-bind (λ a b. a ≡ b) IsDone F _ _ _ _ (operand_read p space heap h size counted m k l r running x)
       (λ a b is_a is_b e. rw e (parallel-bind (λ a b. (a ≡ b) × (a ≤ 4095)) IsDone F _ _ _ _ (length_of-same b)
@@ -183,8 +183,8 @@ module _ (p : Placement) (space : Space) (heap : plain.Heap) (m : ℕ) (k : Muta
   call-same (instrs.Jr a) valid =
       parallel-bind (λ a b. (a ≡ b) × (b < 2 ^ 62)) IsDone (IsWantAt (instrs.Jr a)) _ _ _ _ (number_read p space heap h size counted m k l r running a)
       (λ n n' is is' e. done-jumps p space heap m k l h r running in_heap n n' e.0)
-  call-same (instrs.New d x) valid = makes_new-same Fields d x (valid_register d (and_parts (is_register d) (is_operand x) valid).0)
-  call-same (instrs.Raw d x) valid = makes_new-same Raw d x (valid_register d (and_parts (is_register d) (is_operand x) valid).0)
+  call-same (instrs.New d x) valid = allocates-same Fields d x (valid_register d (and_parts (is_register d) (is_operand x) valid).0)
+  call-same (instrs.Raw d x) valid = allocates-same Raw d x (valid_register d (and_parts (is_register d) (is_operand x) valid).0)
   call-same (instrs.Ld d a x) valid =
       let within = valid_register d (and_parts (is_register d) (is_register a) (and_parts (is_register d && is_register a) (is_operand x) valid).0).0 in
       at_word (IsWantAt (instrs.Ld d a x)) a x _ _

@@ -186,7 +186,7 @@ module _ (p : Placement) (space : Space) (heap : plain.Heap) (m : ℕ) (k : Muta
       (loaded-same heap p (length space.words) m k l d old_word old within is r)
 
   pub done-makes : (kind : Kind) (d n at end low : ℕ) → d < 8 → n ≤ 4095 → IsRoom p space m n at end low
-      → Done p space heap m (event.makes m space k (spelled kind) d n (record { low = low; run = record { at = at; end = end } })) (called.allocated m heap l kind d n)
+      → Done p space heap m (event.allocated m space k (spelled kind) d n (record { low = low; run = record { at = at; end = end } })) (called.allocated m heap l kind d n)
   done-makes kind d n at end low within short room =
       let zeros : plain.Record = called.zeros kind n in
       let q = placement_with p (newest heap m) m n at end in

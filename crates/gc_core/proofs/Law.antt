@@ -54,7 +54,7 @@ module _ (code : List (List Instr)) (turns : ℕ) (p : Placement) (space : Space
   fetch-same : Same (λ i j. i ≡ j) (event.fetch code turns m k) (step.fetch code turns m l)
   fetch-same = rw (r.executed, r.counter) (fetch_ends (nat_le turns l.executed) (instr_at code m l.counter))
 
-  executes-same : Parallel (Done p space heap m) (IsWant (step.asked_if code turns m l None)) (event.made code turns m space k) (step.executes code turns m heap l)
+  executes-same : Parallel (Done p space heap m) (IsWant (step.asked_if code turns m l None)) (event.executes code turns m space k) (step.executes code turns m heap l)
   executes-same =
       parallel-bind (λ i j. i ≡ j) (Done p space heap m) (IsWant (step.asked_if code turns m l None)) (call m space k) (plain_call m heap l) _ _ fetch-same
       (λ i j is_i is_j e. rw (e, is_j) (call-same p space heap m k l h r running in_heap size counted j (valid_fetched code turns m l j valid is_j)))
@@ -208,7 +208,7 @@ meets_ended code turns p c s w k l steady r is_k is_l None running =
     let l_running : l.end ≡ None = sym r_w.end ∙ running in
     let within = slice_get_within c.mutators w k is_k in
     rw (event-turn code turns c w k is_k running)
-    (turn-meets code turns p c s w k l r is_k is_l l_running (omega (arith, steady.sections, within)) (event.made code turns w c.space k) (step.executes code turns w s.heap l) refl
+    (turn-meets code turns p c s w k l r is_k is_l l_running (omega (arith, steady.sections, within)) (event.executes code turns w c.space k) (step.executes code turns w s.heap l) refl
     (executes-same code turns p c.space s.heap w k l (heap_of p c s r) r_w l_running (omega (arith, r.heaps, r.as_many, within)) steady.size
     (λ m. counted_as code turns p c s steady r m (cases_lt m (length c.mutators))) steady.valid))
 

@@ -5,7 +5,7 @@ use Rattle.plain_state.specs.declared.end.End.{End}
 use Rattle.mutator_asm.specs.declared.instr.Instr.{Instr}
 use Rattle.gc_core.specs.declared.stepped.Stepped.{Stepped}
 use Rattle.gc_core.specs.Configuration.{Space, Mutator, Configuration}
-use Rattle.gc_core.specs.Event.{Event, event, left_by, told_of, made}
+use Rattle.gc_core.specs.Event.{Event, event, left_by, told_of, executes}
 use Rattle.gc_core.specs.Law.{plain_after, IsLawful}
 use Rattle.gc_core.specs.Represents.{Represents}
 use Rattle.gc_core.specs.Steady.{IsSteady}
@@ -20,7 +20,7 @@ no_end (Some why) is = cc
 -- the event of a mutator without an end, as a core's step makes it
 module _ (code : List (List Instr)) (turns : ℕ) (space new_space : Space) (mutators : List Mutator) (w : ℕ) (read k new_k : Mutator) (told : Stepped) where
   pub step-event : w < length mutators → read ≡ get_or mutators w read → is_some read.end ≡ false → k ≡ get_or mutators w k
-      → told ≡ told_of w (made code turns w space k) → new_space ≡ (left_by space k (made code turns w space k)).space → new_k ≡ (left_by space k (made code turns w space k)).mutator
+      → told ≡ told_of w (executes code turns w space k) → new_space ≡ (left_by space k (executes code turns w space k)).space → new_k ≡ (left_by space k (executes code turns w space k)).mutator
       → event code turns (record { space = space; mutators = mutators }) w ≡ record { told = told; after = record { space = new_space; mutators = slice_set mutators w new_k } }
   step-event within is_read running is told_is space_is mutator_is =
       let found = slice_get_read mutators (length mutators) w k refl within is in

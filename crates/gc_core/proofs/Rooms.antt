@@ -65,17 +65,17 @@ module _ (p : Placement) (space : Space) (heap : plain.Heap) (m : ℕ) (k : Muta
     (r : RepresentsMutator heap p (length space.words) m k l) (running : l.end ≡ None) (in_heap : m < length heap.records) where
   -- a record is made, or there is no room for it
   makes_claimed : (kind : Kind) (d n : ℕ) → d < 8 → n ≤ 4095 → k.run.end < k.run.at + n + 1 → (space.low < 64 * pages_for (n + 1)) ⊎ (64 * pages_for (n + 1) ≤ space.low)
-      → Parallel (Done p space heap m) (IsWant (Some (pages_for (n + 1)))) (room_for space.low k.run n >>= (λ c. Ok (event.makes m space k (spelled kind) d n c))) (Ok (called.allocated m heap l kind d n))
+      → Parallel (Done p space heap m) (IsWant (Some (pages_for (n + 1)))) (room_for space.low k.run n >>= (λ c. Ok (event.allocated m space k (spelled kind) d n c))) (Ok (called.allocated m heap l kind d n))
   makes_claimed kind d n within short full (inl past) = rw (run-full space.low k.run n full past) (refl, past, refl)
   makes_claimed kind d n within short full (inr fits) =
       rw (run-claimed space.low k.run n full fits) (done-makes p space heap m k l h r running in_heap kind d n (space.low - 64 * pages_for (n + 1)) space.low (space.low - 64 * pages_for (n + 1)) within short (room-claimed p space heap m k l h r n fits))
 
   makes_as : (kind : Kind) (d n : ℕ) → d < 8 → n ≤ 4095 → (k.run.end < k.run.at + n + 1) ⊎ (k.run.at + n + 1 ≤ k.run.end)
-      → Parallel (Done p space heap m) (IsWant (Some (pages_for (n + 1)))) (room_for space.low k.run n >>= (λ c. Ok (event.makes m space k (spelled kind) d n c))) (Ok (called.allocated m heap l kind d n))
+      → Parallel (Done p space heap m) (IsWant (Some (pages_for (n + 1)))) (room_for space.low k.run n >>= (λ c. Ok (event.allocated m space k (spelled kind) d n c))) (Ok (called.allocated m heap l kind d n))
   makes_as kind d n within short (inl full) = makes_claimed kind d n within short full (cases_lt space.low (64 * pages_for (n + 1)))
   makes_as kind d n within short (inr fits) =
       rw (run-present space.low k.run n fits) (done-makes p space heap m k l h r running in_heap kind d n k.run.at k.run.end space.low within short (room-present p space heap m k l h r n fits))
 
   pub makes-same : (kind : Kind) (d n : ℕ) → d < 8 → n ≤ 4095
-      → Parallel (Done p space heap m) (IsWant (Some (pages_for (n + 1)))) (room_for space.low k.run n >>= (λ c. Ok (event.makes m space k (spelled kind) d n c))) (Ok (called.allocated m heap l kind d n))
+      → Parallel (Done p space heap m) (IsWant (Some (pages_for (n + 1)))) (room_for space.low k.run n >>= (λ c. Ok (event.allocated m space k (spelled kind) d n c))) (Ok (called.allocated m heap l kind d n))
   makes-same kind d n within short = makes_as kind d n within short (cases_lt k.run.end (k.run.at + n + 1))

@@ -16,7 +16,7 @@ use Rattle.mutator_asm.specs.declared.operand.Operand.{Operand}
 use Rattle.mutator_asm.specs.Program.{instr_at}
 use Rattle.plain_heap.specs.Call.{◌>>=◌, length_of}
 use Rattle.gc_core.specs.Configuration.{Space, Mutator, Configuration, fresh}
-use Rattle.gc_core.specs.Event.{After, Claim, call, fetch, made, event, settled, left_by, register, number_of, address_of, operand, place_of, board_place, kind_told, as_held, room_for, prints, loads, jumped, makes, computes, makes_new, with_word, went_on}
+use Rattle.gc_core.specs.Event.{After, Claim, call, fetch, executes, event, settled, left_by, register, number_of, address_of, operand, place_of, board_place, kind_told, as_held, room_for, prints, loads, jumped, allocated, computes, allocates, with_word, went_on}
 use Rattle.gc_core.specs.Steady.{IsCounted, IsSteady}
 use Rattle.gc_core.proofs.Events.{event-scanner, event-ended, event-turn}
 use Rattle.plain_state.proofs.Lists.{slice_get-set_other, set-found}
@@ -42,7 +42,7 @@ module _ (m : ℕ) (space : Space) (k : Mutator) where
   prints-more n true is = rw is (record { size = refl; executed = refl; serial = omega arith })
   prints-more n false is = rw is tt
 
-  makes-more : (kind : Kind) (d n : ℕ) (c : Claim) → IsOneMore space k (makes m space k kind d n c)
+  makes-more : (kind : Kind) (d n : ℕ) (c : Claim) → IsOneMore space k (allocated m space k kind d n c)
   makes-more kind d n c = record { size = length-set space.words c.run.at (header_word kind n (k.serial + 1) m); executed = refl; serial = omega arith }
 
   loads-more : (d word : ℕ) → IsOneMore space k (loads space k d word)
@@ -59,8 +59,8 @@ module _ (m : ℕ) (space : Space) (k : Mutator) where
       made-bind (IsOneMore space k) (number_of (register k a)) _ (λ x is_x. made-bind (IsOneMore space k) (number_of (register k b)) _
       (λ y is_y. made-bind (IsOneMore space k) (applied operation x y) _ (λ n is_n. loads-more d (number_word n))))
 
-  makes_new-more : (kind : Kind) (d : ℕ) (x : Operand) → OnMade (IsOneMore space k) (makes_new m space k kind d x)
-  makes_new-more kind d x =
+  allocates-more : (kind : Kind) (d : ℕ) (x : Operand) → OnMade (IsOneMore space k) (allocates m space k kind d x)
+  allocates-more kind d x =
       made-bind (IsOneMore space k) (operand k x) _ (λ a is_a. made-bind (IsOneMore space k) (length_of a) _
       (λ n is_n. made-bind (IsOneMore space k) (room_for space.low k.run n) _ (λ c is_c. makes-more kind d n c)))
 
@@ -92,8 +92,8 @@ module _ (m : ℕ) (space : Space) (k : Mutator) where
   call-more (instrs.Jz a target) = jumps-more _
   call-more (instrs.Jal d target) = record { size = refl; executed = refl; serial = omega arith }
   call-more (instrs.Jr a) = made-bind (IsOneMore space k) (number_of (register k a)) _ (λ n is_n. jumps-more n)
-  call-more (instrs.New d x) = makes_new-more Fields d x
-  call-more (instrs.Raw d x) = makes_new-more Raw d x
+  call-more (instrs.New d x) = allocates-more Fields d x
+  call-more (instrs.Raw d x) = allocates-more Raw d x
   call-more (instrs.Ld d a x) = word-more a x _ (λ address place. loads-more d _)
   call-more (instrs.St a x b) =
       word-more a x _ (λ address place. made-bind (IsOneMore space k) (as_held (kind_told (slice_index space.words address)) (register k b)) _ (λ word is_word. stores-more place word))
@@ -115,7 +115,7 @@ made-then P Q (Ok a) next is = next a is
 made-then P Q (Err why) next is = tt
 
 module _ (code : List (List Instr)) (turns m : ℕ) (space : Space) (k : Mutator) (counted : IsCounted turns k) where
-  made-left : OnMade (IsLeft turns space) (made code turns m space k)
+  made-left : OnMade (IsLeft turns space) (executes code turns m space k)
   made-left = made-bind (IsLeft turns space) (fetch code turns m k) (call m space k) (λ i is_i.
       let turn : k.executed < turns = leb-false turns k.executed (fetched (nat_le turns k.executed) (instr_at code m k.counter) i is_i).0 in
       made-then (IsOneMore space k) (IsLeft turns space) (call m space k i) (λ a more. record {
@@ -146,8 +146,8 @@ module _ (code : List (List Instr)) (turns : ℕ) (c : Configuration) (w : ℕ) 
   keeps_ended k is_k None running =
       let counted = steady.counted w k is_k in
       rw (event-turn code turns c w k is_k running)
-      (settled-steady (made code turns w c.space k) (left_by c.space k (made code turns w c.space k)) (slice_get_within c.mutators w k is_k)
-      (left code turns w c.space k counted (made code turns w c.space k) (made-left code turns w c.space k counted)))
+      (settled-steady (executes code turns w c.space k) (left_by c.space k (executes code turns w c.space k)) (slice_get_within c.mutators w k is_k)
+      (left code turns w c.space k counted (executes code turns w c.space k) (made-left code turns w c.space k counted)))
 
   keeps_as : (w < length c.mutators) ⊎ (length c.mutators ≤ w) → IsSteady code turns (event code turns c w).after
   keeps_as (inl within) = keeps_ended _ (slice_get-get_or c.mutators w fresh within) _ refl

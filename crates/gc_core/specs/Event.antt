@@ -1,6 +1,6 @@
 -- One event: what one turn of a worker does to the configuration, and what is told of it. As long
 -- as the heap has no pages that are scanned, an event is one whole instruction of a mutator.
-use Rattle.std.specs.Prelude.{ℕ, ◌+◌, ◌-◌, ◌*◌, ◌%◌, ◌^◌, Bool, List, [], ◌∷◌, ◌++◌, length, Option, Some, None, Result, Ok, Err, nat_lt, nat_le, ◌==◌, if◌then◌else◌, slice_get, slice_index, slice_set}
+use Rattle.std.specs.Prelude.{ℕ, ◌+◌, ◌-◌, ◌*◌, ◌%◌, Bool, List, [], ◌∷◌, ◌++◌, length, Option, Some, None, Result, Ok, Err, nat_lt, nat_le, ◌==◌, if◌then◌else◌, slice_get, slice_index, slice_set}
 use Rattle.std.specs.Option.{is_some, ok_or, option_map_or}
 use Rattle.heap_words.specs.Word.{number_word, pointer_word, header_word}
 use Rattle.heap_words.specs.Decoded.{decode, number_in, pointer_in}
@@ -11,6 +11,7 @@ use Rattle.plain_state.specs.declared.end.End.{End}
 use Rattle.plain_state.specs.declared.end.End.TheVariants.{Halt, NotPointer, NotNumber, OutOfRange, IntoRaw, JumpOut, TurnsOut, OutputFull, HeapFull}
 use Rattle.plain_state.specs.declared.operation.Operation.{Operation}
 use Rattle.plain_state.specs.declared.operation.Operation.TheVariants as operations
+use Rattle.plain_state.specs.declared.sizes.TheConstants.{NUMBERS, MOST_PRINTED, BOARD_WORDS, PAGE_WORDS}
 use Rattle.plain_state.specs.Operation.{one_if, applied}
 use Rattle.mutator_asm.specs.declared.instr.Instr.{Instr}
 use Rattle.mutator_asm.specs.declared.instr.Instr.TheVariants as instrs
@@ -24,7 +25,7 @@ use Rattle.gc_core.specs.declared.stepped.Stepped.{Stepped}
 use Rattle.gc_core.specs.declared.stepped.Stepped.TheVariants.{Idle, Effect, Ended}
 use Rattle.gc_core.specs.Configuration.{Space, Mutator, Configuration, CoreState, board_of}
 
--- what an instruction leaves: the heap, and the mutator that made it
+-- what an instruction leaves: the heap, and the mutator that executed it
 pub record After : Type 0 where
   pub space : Space
   pub mutator : Mutator
@@ -61,18 +62,18 @@ place_of space a x = if nat_lt x (length_told (slice_index space.words a)) then 
 
 -- where word x of the board stands
 abbrev pub board_place : Space → ℕ → Result ℕ End
-board_place space x = if nat_lt x 16 then Ok (board_of space + x) else Err OutOfRange
+board_place space x = if nat_lt x BOARD_WORDS then Ok (board_of space + x) else Err OutOfRange
 
 -- a word of a record as a register holds it: a word of a raw record is a number of 62 bits
 abbrev pub as_read : Kind → ℕ → ℕ
 as_read Fields word = word
-as_read Raw word = number_word (word % 2 ^ 62)
+as_read Raw word = number_word (word % NUMBERS)
 
 -- ---- what an instruction writes
 
 -- the number of the next instruction
 abbrev pub next_of : Mutator → ℕ
-next_of k = (k.counter + 1) % 2 ^ 62
+next_of k = (k.counter + 1) % NUMBERS
 
 -- the mutator goes on at an instruction
 abbrev pub jumped : Mutator → ℕ → Mutator
@@ -99,13 +100,13 @@ as_held Raw word = ok_or (number_in (decode word)) IntoRaw
 
 abbrev pub prints : Space → Mutator → ℕ → Result After End
 prints space k n =
-    if nat_lt (length k.printed) 65536
+    if nat_lt (length k.printed) MOST_PRINTED
     then Ok (record { space = space; mutator = went_on (record k { printed = k.printed ++ n ∷ [] }) })
     else Err OutputFull
 
 -- ---- new records
 
--- the run in which a record is made, and the address from which pages are claimed then
+-- the run in which a record is allocated, and the address from which pages are claimed then
 pub record Claim : Type 0 where
   pub low : ℕ
   pub run : Run
@@ -114,22 +115,22 @@ pub record Claim : Type 0 where
 abbrev pub claim : ℕ → ℕ → Result Claim End
 claim low n =
     let pages = pages_for (n + 1) in
-    if nat_le (64 * pages) low
-    then Ok (record { low = low - 64 * pages; run = record { at = low - 64 * pages; end = low } })
+    if nat_le (PAGE_WORDS * pages) low
+    then Ok (record { low = low - PAGE_WORDS * pages; run = record { at = low - PAGE_WORDS * pages; end = low } })
     else Err (HeapFull pages low 0)
 
 -- the present run, where a record of n words and its header fit there
 abbrev pub room_for : ℕ → Run → ℕ → Result Claim End
 room_for low run n = if nat_le (run.at + n + 1) run.end then Ok (record { low = low; run = run }) else claim low n
 
--- mutator m makes a record of n words, all 0 already, and register d points to it
-abbrev pub makes : ℕ → Space → Mutator → Kind → ℕ → ℕ → Claim → After
-makes m space k kind d n c = record {
+-- mutator m allocates a record of n words, all 0 already, and register d points to it
+abbrev pub allocated : ℕ → Space → Mutator → Kind → ℕ → ℕ → Claim → After
+allocated m space k kind d n c = record {
   space = record { words = slice_set space.words c.run.at (header_word kind n (k.serial + 1) m); low = c.low };
   mutator = went_on (record (set_register k d (pointer_word c.run.at)) { serial = k.serial + 1; run = record { at = c.run.at + n + 1; end = c.run.end } });
 }
 
--- ---- the instructions, made by mutator m
+-- ---- the instructions, executed by mutator m
 
 -- register d takes what an operation computes of the numbers in registers a and b
 abbrev pub computes : Operation → Space → Mutator → ℕ → ℕ → ℕ → Result After End
@@ -140,12 +141,12 @@ computes operation space k d a b = do
   Ok (loads space k d (number_word n))
 
 -- register d points to a new record, whose length an operand names
-abbrev pub makes_new : ℕ → Space → Mutator → Kind → ℕ → Operand → Result After End
-makes_new m space k kind d x = do
+abbrev pub allocates : ℕ → Space → Mutator → Kind → ℕ → Operand → Result After End
+allocates m space k kind d x = do
   x ← operand k x
   n ← length_of x
   c ← room_for space.low k.run n
-  Ok (makes m space k kind d n c)
+  Ok (allocated m space k kind d n c)
 
 unfoldable pub call : ℕ → Space → Mutator → Instr → Result After End
 call m space k (instrs.Li d n) = Ok (loads space k d (number_word n))
@@ -163,8 +164,8 @@ call m space k (instrs.Jal d target) = Ok (record { space = space; mutator = jum
 call m space k (instrs.Jr a) = do
   n ← number_of (register k a)
   Ok (record { space = space; mutator = jumped k n })
-call m space k (instrs.New d x) = makes_new m space k Fields d x
-call m space k (instrs.Raw d x) = makes_new m space k Raw d x
+call m space k (instrs.New d x) = allocates m space k Fields d x
+call m space k (instrs.Raw d x) = allocates m space k Raw d x
 call m space k (instrs.Ld d a x) = do
   a ← address_of (register k a)
   x ← operand k x
@@ -199,13 +200,13 @@ call m space k instrs.Halt = Err Halt
 
 -- ---- the event
 
--- the instruction that a mutator makes next, or the end that stands in its place
+-- the instruction that a mutator executes next, or the end that stands in its place
 abbrev pub fetch : List (List Instr) → ℕ → ℕ → Mutator → Result Instr End
 fetch code turns m k = if nat_le turns k.executed then Err TurnsOut else ok_or (instr_at code m k.counter) JumpOut
 
 -- what the next instruction of mutator m, which is k, does
-abbrev pub made : List (List Instr) → ℕ → ℕ → Space → Mutator → Result After End
-made code turns m space k = do
+abbrev pub executes : List (List Instr) → ℕ → ℕ → Space → Mutator → Result After End
+executes code turns m space k = do
   i ← fetch code turns m k
   call m space k i
 
@@ -232,7 +233,7 @@ settled c m outcome after = record { told = told_of m outcome; after = record { 
 abbrev pub event_if : List (List Instr) → ℕ → Configuration → ℕ → Mutator → Option End → Event
 event_if code turns c m k (Some why) = idle c
 event_if code turns c m k None =
-    let outcome = made code turns m c.space k in
+    let outcome = executes code turns m c.space k in
     settled c m outcome (left_by c.space k outcome)
 
 -- a worker that is no mutator is a scanner, and has nothing to scan; nor has a number that is no worker

@@ -4,6 +4,7 @@ use Rattle.std.specs.Prelude.{◌≡◌, ◌≢◌, ⊤, ℕ, ◌*◌, ◌<◌, 
 use Rattle.std.specs.Option.{option_map, option_to_list}
 use Rattle.plain_state.specs.declared.end.End.{End}
 use Rattle.plain_state.specs.declared.end.End.TheVariants as ends
+use Rattle.plain_state.specs.declared.sizes.TheConstants.{PAGE_WORDS}
 use Rattle.plain_state.specs.State.{Plain}
 use Rattle.mutator_asm.specs.declared.instr.Instr.{Instr}
 use Rattle.plain_heap.specs.Step.{asked_by}
@@ -26,7 +27,7 @@ end_of s m = option_map (λ k. k.end) (slice_get s.mutators m)
 
 -- an end for want of room comes where the next step of mutator m asks for more than there is
 abbrev pub IsForWant : List (List Instr) → ℕ → Plain → ℕ → End → Type 0
-IsForWant code turns s m (ends.HeapFull asked room live) = (asked_by code turns s m ≡ Some asked) × (room < 64 * asked) × (live ≡ 0)
+IsForWant code turns s m (ends.HeapFull asked room live) = (asked_by code turns s m ≡ Some asked) × (room < PAGE_WORDS * asked) × (live ≡ 0)
 IsForWant code turns s m ends.Halt = ⊤
 IsForWant code turns s m ends.NotPointer = ⊤
 IsForWant code turns s m ends.NotNumber = ⊤
@@ -37,7 +38,7 @@ IsForWant code turns s m ends.JumpOut = ⊤
 IsForWant code turns s m ends.TurnsOut = ⊤
 IsForWant code turns s m ends.OutputFull = ⊤
 
--- What is told of an event of worker w is so: an idle worker has no instruction to make, and
+-- What is told of an event of worker w is so: an idle worker has no instruction to execute, and
 -- nothing changed. An effect or an end is of mutator w, which had no end, and has just the end
 -- that is told.
 abbrev pub IsTold : List (List Instr) → ℕ → Configuration → ℕ → Plain → Configuration → Stepped → Type 0

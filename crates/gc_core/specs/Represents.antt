@@ -1,10 +1,11 @@
 -- What it means that a configuration represents a state of the plain machine.
-use Rattle.std.specs.Prelude.{◌≡◌, ℕ, ◌+◌, ◌-◌, ◌^◌, ◌<◌, ◌≤◌, Bool, true, false, List, length, Some, None, slice_get, slice_index}
+use Rattle.std.specs.Prelude.{◌≡◌, ℕ, ◌+◌, ◌-◌, ◌<◌, ◌≤◌, Bool, true, false, List, length, Some, None, slice_get, slice_index}
 use Rattle.heap_words.specs.Word.{number_word, pointer_word, header_word}
 use Rattle.heap_words.specs.declared.kind.Kind as words
 use Rattle.heap_words.specs.declared.kind.Kind.TheVariants as kinds
 use Rattle.plain_state.specs.declared.kind.Kind.{Kind}
 use Rattle.plain_state.specs.declared.kind.Kind.TheVariants.{Fields, Raw}
+use Rattle.plain_state.specs.declared.sizes.TheConstants.{NUMBERS, REGISTERS, LONGEST_RECORD, BOARD_WORDS}
 use Rattle.plain_state.specs.declared.value.Identity.{Identity}
 use Rattle.plain_state.specs.declared.value.Value.{Value}
 use Rattle.plain_state.specs.declared.value.Value.TheVariants.{Number, Reference}
@@ -51,7 +52,7 @@ spelled Raw = kinds.Raw
 -- a word of a raw record is the number itself, without a tag
 pub record IsUntagged (word : ℕ) (v : Value) : Type 0 where
   pub number : v ≡ Number word
-  pub small : word < 2 ^ 62
+  pub small : word < NUMBERS
 
 -- a word of a record of this kind denotes a value
 abbrev pub DenotesIn : Kind → plain.Heap → (Identity → ℕ) → ℕ → Value → Type 0
@@ -61,13 +62,13 @@ DenotesIn Raw heap place word v = IsUntagged word v
 -- a record stands at its place, with its kind, its length and its identity, and each of its words
 -- denotes its value
 pub record StandsAt (heap : plain.Heap) (p : Placement) (words : List ℕ) (i : Identity) (r : plain.Record) : Type 0 where
-  pub short : length r.values ≤ 4095
-  pub within : p.place i + length r.values + 16 < length words
+  pub short : length r.values ≤ LONGEST_RECORD
+  pub within : p.place i + length r.values + BOARD_WORDS < length words
   pub own : (x : ℕ) → x ≤ length r.values → p.owner (p.place i + x) ≡ Part i x
   pub header : slice_index words (p.place i) ≡ header_word (spelled r.kind) (length r.values) i.serial i.mutator
   pub fields : (x : ℕ) (v : Value) → slice_get r.values x ≡ Some v → DenotesIn r.kind heap p.place (slice_index words (p.place i + 1 + x)) v
 
--- a word that belongs to a record is that word of a record that was made
+-- a word that belongs to a record is that word of a record that was allocated
 pub record IsOfRecord (heap : plain.Heap) (p : Placement) (a : ℕ) (i : Identity) (x : ℕ) : Type 0 where
   pub made : plain.IsMade heap i
   pub place : a ≡ p.place i + x
@@ -75,10 +76,10 @@ pub record IsOfRecord (heap : plain.Heap) (p : Placement) (a : ℕ) (i : Identit
 
 -- ---- the board
 
--- each of the 16 words behind the heap denotes its value
+-- each of the board's words behind the heap denotes its value
 pub record RepresentsBoard (heap : plain.Heap) (place : Identity → ℕ) (words : List ℕ) : Type 0 where
-  pub sixteen : length heap.board ≡ 16
-  pub values : (x : ℕ) (v : Value) → slice_get heap.board x ≡ Some v → Denotes heap place (slice_index words (length words - 16 + x)) v
+  pub sixteen : length heap.board ≡ BOARD_WORDS
+  pub values : (x : ℕ) (v : Value) → slice_get heap.board x ≡ Some v → Denotes heap place (slice_index words (length words - BOARD_WORDS + x)) v
 
 -- ---- mutators
 
@@ -88,11 +89,11 @@ pub record RepresentsMutator (heap : plain.Heap) (p : Placement) (size m : ℕ) 
   pub executed : k.executed ≡ s.executed
   pub end : k.end ≡ s.end
   pub serial : k.serial ≡ plain.serial_of heap m
-  pub eight : length k.registers ≡ 8
-  pub eight_values : length s.registers ≡ 8
-  pub registers : s.end ≡ None → (r : ℕ) → r < 8 → Denotes heap p.place (slice_index k.registers r) (register s r)
+  pub eight : length k.registers ≡ REGISTERS
+  pub eight_values : length s.registers ≡ REGISTERS
+  pub registers : s.end ≡ None → (r : ℕ) → r < REGISTERS → Denotes heap p.place (slice_index k.registers r) (register s r)
   pub run_from : k.run.at ≤ k.run.end
-  pub run_to : k.run.end + 16 ≤ size
+  pub run_to : k.run.end + BOARD_WORDS ≤ size
   pub run_own : (a : ℕ) → k.run.at ≤ a → a < k.run.end → p.owner a ≡ InRun m
 
 -- ---- the whole
@@ -104,8 +105,8 @@ pub record RepresentsMutator (heap : plain.Heap) (p : Placement) (size m : ℕ) 
 pub record RepresentsBy (p : Placement) (c : Configuration) (s : plain.Plain) : Type 0 where
   pub records : (i : Identity) (r : plain.Record) → plain.record_of s.heap i ≡ Some r → StandsAt s.heap p c.space.words i r
   pub parts : (a : ℕ) (i : Identity) (x : ℕ) → p.owner a ≡ Part i x → IsOfRecord s.heap p a i x
-  pub rest : (a : ℕ) → a + 16 < length c.space.words → is_part (p.owner a) ≡ false → slice_index c.space.words a ≡ 0
-  pub low : c.space.low + 16 ≤ length c.space.words
+  pub rest : (a : ℕ) → a + BOARD_WORDS < length c.space.words → is_part (p.owner a) ≡ false → slice_index c.space.words a ≡ 0
+  pub low : c.space.low + BOARD_WORDS ≤ length c.space.words
   pub unclaimed : (a : ℕ) → a < c.space.low → p.owner a ≡ Free
   pub board : RepresentsBoard s.heap p.place c.space.words
   pub as_many : length c.mutators ≡ length s.mutators

@@ -2,6 +2,7 @@
 -- in the end, and each mark of the order acts.
 use Rattle.std.specs.Prelude.{◌≡◌, ⊤, ℕ, ◌*◌, ◌≤◌, ◌<◌, List, [], ◌∷◌, map, Option, Some, None, IsTrue}
 use Rattle.plain_state.specs.declared.end.End.{End}
+use Rattle.plain_state.specs.declared.sizes.TheConstants.{PAGE_WORDS}
 use Rattle.plain_state.specs.State as plain
 use Rattle.mutator_asm.specs.declared.instr.Instr.{Instr}
 use Rattle.mutator_asm.specs.declared.item.Item.{Item}
@@ -21,7 +22,7 @@ use Rattle.gc_core.specs.Run.{Ran, run_from}
 abbrev pub Acts : List (List Instr) → ℕ → plain.Plain → Mark → Type 0
 Acts code turns s (Step m) = end_of s m ≡ Some None
 Acts code turns s (Flip asked) = ⊥
-Acts code turns s (Full m asked room live) = (end_of s m ≡ Some None) × (asked_by code turns s m ≡ Some asked) × (room < 64 * asked) × (live ≡ 0)
+Acts code turns s (Full m asked room live) = (end_of s m ≡ Some None) × (asked_by code turns s m ≡ Some asked) × (room < PAGE_WORDS * asked) × (live ≡ 0)
 
 -- each mark of an order acts on the state that the marks before it leave
 abbrev pub EachActs : List (List Instr) → ℕ → plain.Plain → List Mark → Type 0

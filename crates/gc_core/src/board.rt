@@ -3,7 +3,7 @@
 ghost use Rattle.std.specs.Prelude.{ℕ, ◌<◌, ◌+◌, ◌^◌};
 ghost use Rattle.mutator_asm.specs.declared.instr.Instr.TheVariants as instrs;
 ghost use Rattle.gc_core.specs.Event.{call};
-ghost use Rattle.gc_core.specs.Outcome.{IsMade};
+ghost use Rattle.gc_core.specs.Outcome.{IsExecuted};
 
 use crate::mutator::Mutator;
 use crate::space::Space;
@@ -14,7 +14,7 @@ use plain_heap::End;
 #[tactic(auto, unfolding(crate::specs::Event::call))]
 pub fn get(space: &Space, k: &mut Mutator, d: u8, x: Operand) -> Result<(), End>
     requires { k.old.executed + 1 < 2 ^ 32 }
-    ensures { (m : ℕ) → IsMade (call m space.now k.old (instrs.Get d x)) result space.now k.old space.now k.new }
+    ensures { (m : ℕ) → IsExecuted (call m space.now k.old (instrs.Get d x)) result space.now k.old space.now k.new }
 {
     let x = k.operand(x)?;
     let place = space.board_place(x)?;
@@ -26,7 +26,7 @@ pub fn get(space: &Space, k: &mut Mutator, d: u8, x: Operand) -> Result<(), End>
 #[tactic(auto, unfolding(crate::specs::Event::call))]
 pub fn put(space: &mut Space, k: &mut Mutator, x: Operand, a: u8) -> Result<(), End>
     requires { k.old.executed + 1 < 2 ^ 32 }
-    ensures { (m : ℕ) → IsMade (call m space.old k.old (instrs.Put x a)) result space.old k.old space.new k.new }
+    ensures { (m : ℕ) → IsExecuted (call m space.old k.old (instrs.Put x a)) result space.old k.old space.new k.new }
 {
     let x = k.operand(x)?;
     let place = space.board_place(x)?;
@@ -39,7 +39,7 @@ pub fn put(space: &mut Space, k: &mut Mutator, x: Operand, a: u8) -> Result<(), 
 #[tactic(auto, unfolding(crate::specs::Event::call))]
 pub fn swap(space: &mut Space, k: &mut Mutator, d: u8, x: Operand) -> Result<(), End>
     requires { k.old.executed + 1 < 2 ^ 32 }
-    ensures { (m : ℕ) → IsMade (call m space.old k.old (instrs.Swap d x)) result space.old k.old space.new k.new }
+    ensures { (m : ℕ) → IsExecuted (call m space.old k.old (instrs.Swap d x)) result space.old k.old space.new k.new }
 {
     let x = k.operand(x)?;
     let place = space.board_place(x)?;

@@ -5,12 +5,13 @@ ghost use Rattle.heap_words.specs.Word.{header_word};
 ghost use Rattle.gc_core.specs.Event.{length_told, kind_told};
 
 use heap_words::Kind;
+use plain_state::LONGEST_RECORD;
 use record_layout::{Header, pack, read};
 
 /// The length that a word tells, which is 0 where it is no header.
 pub fn len_of(word: u64) -> u64
     ensures exact { result ≡ length_told word }
-    ensures small { result ≤ 4095 }
+    ensures small { result ≤ LONGEST_RECORD }
 {
     match read(word) {
         Some(header) => u64::from(header.len),
@@ -31,7 +32,7 @@ pub fn kind_of(word: u64) -> Kind
 /// The header of a record.
 pub fn header(kind: Kind, mutator: u8, serial: u64, len: u16) -> u64
     requires serial { serial < 2 ^ 40 }
-    requires len { len ≤ 4095 }
+    requires len { len ≤ LONGEST_RECORD }
     ensures { result ≡ header_word kind len serial mutator }
 {
     pack(&Header {

@@ -32,7 +32,7 @@ pub fn runs_follow()
     ensures { RunsFollow }
 {}
 
-/// A mutator that has the heap to itself goes on: the longer the run, the more instructions it made,
+/// A mutator that has the heap to itself goes on: the longer the run, the more instructions it executed,
 /// or it has its end.
 pub fn lone_mutators_go_on()
     ensures { LoneMutatorsGoOn }

@@ -16,6 +16,7 @@ use crate::stepped::Stepped;
 use crate::turn::turn;
 use mutator_asm::Program;
 use plain_heap::End;
+use plain_state::REGISTERS;
 use std::alloc::{AllocError, Global};
 use std::marker::Model;
 
@@ -55,8 +56,8 @@ fn mutators(alloc: Global, count: usize) -> Result<Vec<Mutator>, AllocError>
 }
 
 impl<'p> Core<'p> {
-    /// A core in which no mutator has made an instruction. `BadPages` comes exactly for fewer than 4
-    /// pages or more than 2048. The words of the heap and the room for 65,536 numbers of each
+    /// A core in which no mutator has executed an instruction. `BadPages` comes exactly for fewer than 4
+    /// pages or more than 2048. The words of the heap and the room for the most numbers of each
     /// mutator are taken here; no later call takes memory.
     pub fn open(alloc: Global, program: &'p Program, config: &Config) -> Result<Core<'p>, OpenError>
         requires scanners { config.now.scanners ≤ 8 }
@@ -126,7 +127,7 @@ impl<'p> Core<'p> {
         self.mutators.iter().all(|k| k.end().is_some())
     }
 
-    /// The words of the heap by their addresses, then the 16 of the board.
+    /// The words of the heap by their addresses, then those of the board.
     pub fn words(&self) -> &[u64]
         ensures { result.now ≡ self.now.configuration.space.words }
     {
@@ -134,7 +135,7 @@ impl<'p> Core<'p> {
     }
 
     /// The words in a mutator's registers.
-    pub fn regs(&self, m: u8) -> [u64; 8]
+    pub fn regs(&self, m: u8) -> [u64; REGISTERS]
         requires { m < length self.now.configuration.mutators }
         ensures { result ≡ (mutator_of self.now m).registers }
     {

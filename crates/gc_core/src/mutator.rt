@@ -7,20 +7,15 @@ use crate::run::Run;
 use heap_words::{Kind, Word};
 use mutator_asm::Operand;
 use plain_heap::End;
+use plain_state::{MOST_PRINTED, NUMBERS, REGISTERS};
 use std::alloc::{AllocError, Global};
 use std::marker::Model;
-
-/// The most numbers that a mutator prints.
-const MAX_PRINTED: usize = 65536;
-
-/// One more than the greatest number.
-const MODULUS: u64 = 1 << 62;
 
 /// A mutator between two instructions. Its registers are words of the heap. Contracts see it so.
 #[derive(Debug, Drop)]
 pub struct Mutator {
     counter: u64,
-    registers: [u64; 8],
+    registers: [u64; REGISTERS],
     printed: Vec<u64>,
     serial: u64,
     executed: u32,
@@ -50,8 +45,8 @@ impl Mutator {
     {
         Ok(Mutator {
             counter: 0,
-            registers: [0; 8],
-            printed: Vec::with_capacity(alloc, MAX_PRINTED)?,
+            registers: [0; REGISTERS],
+            printed: Vec::with_capacity(alloc, MOST_PRINTED)?,
             serial: 0,
             executed: 0,
             end: None,
@@ -67,7 +62,7 @@ impl Mutator {
     }
 
     /// The words in its registers.
-    pub fn registers(&self) -> [u64; 8]
+    pub fn registers(&self) -> [u64; REGISTERS]
         ensures { result ≡ self.now.registers }
     {
         self.registers
@@ -80,7 +75,7 @@ impl Mutator {
         self.printed.as_slice()
     }
 
-    /// How many instructions it has made.
+    /// How many instructions it has executed.
     pub fn executed(&self) -> u32
         ensures { result ≡ self.now.executed }
     {
@@ -102,7 +97,7 @@ impl Mutator {
         self.serial
     }
 
-    /// Where it makes its next record.
+    /// Where it allocates its next record.
     pub fn run(&self) -> Run
         ensures exact { result ≡ self.now.run }
         ensures in_order { result.at ≤ result.end }
@@ -124,7 +119,7 @@ impl Mutator {
     /// The number in a register, else the end for a reference.
     pub fn number(&self, r: u8) -> Result<u64, End>
         ensures exact { result ≡ number_of (register self.now r) }
-        ensures in_range { IfOk result (λ n. n < 2 ^ 62) }
+        ensures in_range { IfOk result (λ n. n < NUMBERS) }
     {
         Word(self.register(r)).as_number().ok_or(End::NotNumber)
     }
@@ -160,9 +155,9 @@ impl Mutator {
     /// The number of the next instruction.
     pub fn next(&self) -> u64
         ensures exact { result ≡ next_of self.now }
-        ensures number { result < 2 ^ 62 }
+        ensures number { result < NUMBERS }
     {
-        (self.counter % MODULUS + 1) % MODULUS
+        (self.counter % NUMBERS + 1) % NUMBERS
     }
 
     /// Goes on at an instruction.
@@ -201,20 +196,20 @@ impl Mutator {
         self.go_on();
     }
 
-    /// Prints a number, where fewer than 65,536 were printed.
+    /// Prints a number, where fewer than the most were printed.
     pub fn print(&mut self, number: u64) -> Result<(), End>
         ensures { MatchResult result
-            (λ _. (length self.old.printed < 65536) × (self.new ≡ record self.old { printed = self.old.printed ++ number ∷ [] }))
-            (λ why. (why ≡ End.OutputFull) × (65536 ≤ length self.old.printed) × (self.new ≡ self.old)) }
+            (λ _. (length self.old.printed < MOST_PRINTED) × (self.new ≡ record self.old { printed = self.old.printed ++ number ∷ [] }))
+            (λ why. (why ≡ End.OutputFull) × (MOST_PRINTED ≤ length self.old.printed) × (self.new ≡ self.old)) }
     {
-        if self.printed.len() >= MAX_PRINTED {
+        if self.printed.len() >= MOST_PRINTED {
             return Err(End::OutputFull);
         }
         self.printed.push_reserved(number);
         Ok(())
     }
 
-    /// A record was made in this run, and register `d` points to it; goes on with the next instruction.
+    /// A record was allocated in this run, and register `d` points to it; goes on with the next instruction.
     pub fn take_record(&mut self, d: u8, pointer: u64, run: Run)
         requires executed { self.old.executed + 1 < 2 ^ 32 }
         requires in_order { run.at ≤ run.end }

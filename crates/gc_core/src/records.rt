@@ -2,8 +2,8 @@
 
 ghost use Rattle.std.specs.Prelude.{ℕ, ◌<◌, ◌+◌, ◌^◌};
 ghost use Rattle.mutator_asm.specs.declared.instr.Instr.TheVariants as instrs;
-ghost use Rattle.gc_core.specs.Event.{call, makes_new};
-ghost use Rattle.gc_core.specs.Outcome.{IsMade};
+ghost use Rattle.gc_core.specs.Event.{call, allocates};
+ghost use Rattle.gc_core.specs.Outcome.{IsExecuted};
 
 use crate::header::header;
 use crate::mutator::Mutator;
@@ -12,12 +12,10 @@ use crate::space::Space;
 use heap_words::{Kind, Word};
 use mutator_asm::Operand;
 use plain_heap::End;
-
-/// The most words of a record.
-const MAX_LENGTH: u64 = 4095;
+use plain_state::LONGEST_RECORD;
 
 /// `new rd x` and `raw rd x`
-pub fn make(
+pub fn allocate(
     space: &mut Space,
     k: &mut Mutator,
     m: u8,
@@ -26,10 +24,10 @@ pub fn make(
     x: Operand,
 ) -> Result<(), End>
     requires { k.old.executed + 1 < 2 ^ 32 }
-    ensures { IsMade (makes_new m space.old k.old kind d x) result space.old k.old space.new k.new }
+    ensures { IsExecuted (allocates m space.old k.old kind d x) result space.old k.old space.new k.new }
 {
     let len = k.operand(x)?;
-    if len > MAX_LENGTH {
+    if len > LONGEST_RECORD {
         return Err(End::OutOfRange);
     }
     let run = space.room_for(k.run(), len)?;
@@ -47,7 +45,7 @@ pub fn make(
 #[tactic(auto, unfolding(crate::specs::Event::call))]
 pub fn load(space: &Space, k: &mut Mutator, d: u8, a: u8, x: Operand) -> Result<(), End>
     requires { k.old.executed + 1 < 2 ^ 32 }
-    ensures { (m : ℕ) → IsMade (call m space.now k.old (instrs.Ld d a x)) result space.now k.old space.now k.new }
+    ensures { (m : ℕ) → IsExecuted (call m space.now k.old (instrs.Ld d a x)) result space.now k.old space.now k.new }
 {
     let address = k.address(a)?;
     let x = k.operand(x)?;
@@ -60,7 +58,7 @@ pub fn load(space: &Space, k: &mut Mutator, d: u8, a: u8, x: Operand) -> Result<
 #[tactic(auto, unfolding(crate::specs::Event::call))]
 pub fn store(space: &mut Space, k: &mut Mutator, a: u8, x: Operand, b: u8) -> Result<(), End>
     requires { k.old.executed + 1 < 2 ^ 32 }
-    ensures { (m : ℕ) → IsMade (call m space.old k.old (instrs.St a x b)) result space.old k.old space.new k.new }
+    ensures { (m : ℕ) → IsExecuted (call m space.old k.old (instrs.St a x b)) result space.old k.old space.new k.new }
 {
     let address = k.address(a)?;
     let x = k.operand(x)?;
@@ -75,7 +73,7 @@ pub fn store(space: &mut Space, k: &mut Mutator, a: u8, x: Operand, b: u8) -> Re
 #[tactic(auto, unfolding(crate::specs::Event::call))]
 pub fn measure(space: &Space, k: &mut Mutator, d: u8, a: u8) -> Result<(), End>
     requires { k.old.executed + 1 < 2 ^ 32 }
-    ensures { (m : ℕ) → IsMade (call m space.now k.old (instrs.Len d a)) result space.now k.old space.now k.new }
+    ensures { (m : ℕ) → IsExecuted (call m space.now k.old (instrs.Len d a)) result space.now k.old space.now k.new }
 {
     let address = k.address(a)?;
     k.load(d, Word::number(space.len(address)).0);

@@ -1,7 +1,9 @@
-//! Where a mutator makes its next records.
+//! Where a mutator allocates its next records.
+
+use plain_state::PAGE_WORDS;
 
 /// The most words that a heap has: those of 2048 pages.
-pub const MAX_HEAP: u32 = 64 * 2048;
+pub const MAX_HEAP: u32 = PAGE_WORDS as u32 * 2048;
 
 /// The pages that a mutator has claimed and not yet filled.
 #[derive(Clone, Copy, Debug, PartialEq, Eq)]

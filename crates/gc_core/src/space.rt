@@ -7,19 +7,17 @@ use crate::header::{kind_of, len_of};
 use crate::run::{MAX_HEAP, Run};
 use heap_words::{Kind, Word};
 use plain_heap::End;
+use plain_state::{BOARD_WORDS, LONGEST_RECORD, NUMBERS, PAGE_WORDS};
 use std::alloc::{AllocError, Global};
 use std::marker::Model;
 
-/// The words of the board, which stand behind those of the heap.
-const BOARD: usize = 16;
-
 /// The most words that a heap and the board have.
-const MAX_WORDS: usize = MAX_HEAP as usize + BOARD;
+const MAX_WORDS: usize = MAX_HEAP as usize + BOARD_WORDS;
 
-/// One more than the greatest number.
-const MODULUS: u64 = 1 << 62;
+/// The words of a page, as addresses count them.
+const PAGE: u32 = PAGE_WORDS as u32;
 
-/// The words of the heap by their addresses, and those of the board. New records are made in pages
+/// The words of the heap by their addresses, and those of the board. New records are allocated in pages
 /// claimed downward from the end of the heap. Contracts see the words, and the address from which
 /// pages were claimed.
 #[derive(Debug, Drop)]
@@ -32,12 +30,13 @@ impl Model for Space {
     ghost use Rattle.std.specs.Prelude.{◌+◌, ◌≤◌, vec_len};
     ghost use Rattle.gc_core.specs.Configuration.{Space};
     ghost use Rattle.gc_core.specs.declared.space.TheConstants.{MAX_WORDS};
+    ghost use Rattle.plain_state.specs.declared.sizes.TheConstants.{BOARD_WORDS};
 
     ghost Value = { Space };
 
     ghost view = { λ s. record { words = s.words.items; low = s.low } };
 
-    ghost invariant = { λ s. (s.low + 16 ≤ vec_len s.words) × (vec_len s.words ≤ MAX_WORDS) };
+    ghost invariant = { λ s. (s.low + BOARD_WORDS ≤ vec_len s.words) × (vec_len s.words ≤ MAX_WORDS) };
 }
 
 impl Space {
@@ -49,9 +48,9 @@ impl Space {
         requires { pages ≤ 2048 }
         ensures { IfOk result (λ space. space ≡ empty_space pages) }
     {
-        let size = 64 * pages;
+        let size = PAGE * pages;
         Ok(Space {
-            words: vec![in alloc; 0; size as usize + BOARD]?,
+            words: vec![in alloc; 0; size as usize + BOARD_WORDS]?,
             low: size,
         })
     }
@@ -88,8 +87,8 @@ impl Space {
     pub fn board_place(&self, x: u64) -> Result<usize, End>
         ensures { result ≡ board_place self.now x }
     {
-        if x < BOARD as u64 {
-            Ok(self.words.len() - BOARD + x as usize)
+        if x < BOARD_WORDS as u64 {
+            Ok(self.words.len() - BOARD_WORDS + x as usize)
         } else {
             Err(End::OutOfRange)
         }
@@ -105,7 +104,7 @@ impl Space {
     /// The length of the record at an address.
     pub fn len(&self, address: u32) -> u64
         ensures exact { result ≡ length_told (slice_index self.now.words address) }
-        ensures small { result ≤ 4095 }
+        ensures small { result ≤ LONGEST_RECORD }
     {
         len_of(self.word(address as usize))
     }
@@ -117,7 +116,7 @@ impl Space {
         let word = self.word(place);
         match kind {
             Kind::Fields => word,
-            Kind::Raw => Word::number(word % MODULUS).0,
+            Kind::Raw => Word::number(word % NUMBERS).0,
         }
     }
 
@@ -130,10 +129,10 @@ impl Space {
         }
     }
 
-    /// The run in which a record of `len` words is made: the present one where it fits there, else
+    /// The run in which a record of `len` words is allocated: the present one where it fits there, else
     /// new pages below those claimed, else the end for a full heap.
     pub fn room_for(&mut self, run: Run, len: u64) -> Result<Run, End>
-        requires len { len ≤ 4095 }
+        requires len { len ≤ LONGEST_RECORD }
         requires in_order { run.at ≤ run.end }
         requires within { run.end ≤ MAX_HEAP }
         ensures exact { MatchResult result
@@ -147,16 +146,16 @@ impl Space {
         if run.at + len + 1 <= run.end {
             return Ok(run);
         }
-        let asked = (len + 1 + 63) / 64;
+        let asked = (len + 1).div_ceil(PAGE);
         let room = self.low;
-        if 64 * asked > room {
+        if PAGE * asked > room {
             return Err(End::HeapFull {
                 asked,
                 room,
                 live: 0,
             });
         }
-        self.low -= 64 * asked;
+        self.low -= PAGE * asked;
         Ok(Run {
             at: self.low,
             end: room,

@@ -9,7 +9,7 @@ pub enum Stepped {
     Idle,
     /// The step was no step of the plain machine.
     Moved,
-    /// The mutator made its next instruction.
+    /// The mutator executed its next instruction.
     Effect(u8),
     /// The spaces were exchanged, since a mutator had asked for so many pages.
     Flipped(u32),

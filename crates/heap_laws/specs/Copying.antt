@@ -3,11 +3,14 @@
 use Rattle.std.specs.Prelude.{◌≡◌, ℕ, ◌+◌, ◌-◌, ◌*◌, ◌/◌, ◌<◌, ◌≤◌, ◌⊎◌, true, false, Some, None}
 use Rattle.heap_words.specs.declared.kind.Kind.{Kind}
 use Rattle.heap_words.specs.Decoded.{HeaderWord, BusyWord, ForwardWord, decode}
+use Rattle.space_map.specs.declared.area_word.AreaWord.{AreaWord}
+use Rattle.space_map.specs.Spaces.{to_space}
 use Rattle.heap_state.specs.Era.{Era, Memory}
 use Rattle.heap_state.specs.Functions.{put}
 use Rattle.heap_state.specs.Ghost.{Ghost}
 use Rattle.heap_state.specs.Worker.{Worker, Team, Quest, Copy}
-use Rattle.heap_laws.specs.Steps.{Ready, with_worker, with_word, with_area, with_crossing, with_announced, Preserves}
+use Rattle.heap_state.specs.Entries.{WordIs, AreaIs, CrossIs, AnnounceIs}
+use Rattle.heap_laws.specs.Steps.{Ready, Steps, IsAreaNow}
 
 -- the worker with this copy in progress
 abbrev pub copying : Worker → Copy → Worker
@@ -30,27 +33,27 @@ abbrev pub HeadersAreTaken : Type 0
 HeadersAreTaken = (E : Era) (m : Memory) (team : Team) (g : Ghost) (k : ℕ) (q : Quest) (kind : Kind) (len serial mutator v : ℕ) → Ready E m team g k
     → (team.worker k).copy ≡ None → (team.worker k).quest ≡ Some q → q.found ≡ None
     → decode (m.heap q.old) ≡ HeaderWord kind len serial mutator → decode v ≡ BusyWord len k
-    → Preserves E m (with_word m q.old v) team (with_worker team k (copying (team.worker k) (begun (m.heap q.old) q.old (len + 1)))) g (taken g k q.old)
+    → Steps E m team g k (Some (WordIs q.old v)) (copying (team.worker k) (begun (m.heap q.old) q.old (len + 1))) (taken g k q.old)
 
 -- The worker loads a forward in place of the old record's header: the copy is where it says.
 abbrev pub ForwardsAreFound : Type 0
 ForwardsAreFound = (E : Era) (m : Memory) (team : Team) (g : Ghost) (k : ℕ) (q : Quest) (len b : ℕ) → Ready E m team g k
     → (team.worker k).copy ≡ None → (team.worker k).quest ≡ Some q → decode (m.heap q.old) ≡ ForwardWord len b
-    → Preserves E m m team (with_worker team k (record (team.worker k) { quest = Some (record q { found = Some b }) })) g g
+    → Steps E m team g k None (record (team.worker k) { quest = Some (record q { found = Some b }) }) g
 
 -- ---- the place
 
 -- FRONT is loaded as the place of the copy
 abbrev pub PlacesAreAimed : Type 0
-PlacesAreAimed = (E : Era) (m : Memory) (team : Team) (g : Ghost) (k : ℕ) (c : Copy) → Ready E m team g k
-    → (team.worker k).copy ≡ Some c → c.reserved ≡ false
-    → Preserves E m m team (with_worker team k (copying (team.worker k) (record c { to = m.front; aimed = true; announced = false }))) g g
+PlacesAreAimed = (E : Era) (m : Memory) (team : Team) (g : Ghost) (k : ℕ) (c : Copy) (place : ℕ) → Ready E m team g k
+    → (team.worker k).copy ≡ Some c → c.reserved ≡ false → place ≡ m.front
+    → Steps E m team g k None (copying (team.worker k) (record c { to = place; aimed = true; announced = false })) g
 
 -- the place is announced
 abbrev pub PlacesAreAnnounced : Type 0
 PlacesAreAnnounced = (E : Era) (m : Memory) (team : Team) (g : Ghost) (k : ℕ) (c : Copy) → Ready E m team g k
     → (team.worker k).copy ≡ Some c → c.aimed ≡ true → c.reserved ≡ false
-    → Preserves E m (with_announced m k (c.to + 1)) team (with_worker team k (copying (team.worker k) (record c { announced = true }))) g g
+    → Steps E m team g k (Some (AnnounceIs k (c.to + 1))) (copying (team.worker k) (record c { announced = true })) g
 
 -- The place at b, of this size, is worker k's, for the copy of the record at a.
 abbrev pub reserved : Ghost → (k a b size : ℕ) → Ghost
@@ -63,26 +66,30 @@ reserved g k a b size = record g {
 }
 
 -- there is room for a copy that has no place yet
-pub record HasRoom (m : Memory) (c : Copy) : Type 0 where
+pub record HasRoomForCopy (m : Memory) (c : Copy) : Type 0 where
   pub owed : c.size ≤ m.owed
   pub below_low : m.front + c.size ≤ m.low
 
 abbrev pub CopiesHaveRoom : Type 0
 CopiesHaveRoom = (E : Era) (m : Memory) (team : Team) (g : Ghost) (k : ℕ) (c : Copy) → Ready E m team g k
-    → (team.worker k).copy ≡ Some c → c.reserved ≡ false → HasRoom m c
+    → (team.worker k).copy ≡ Some c → c.reserved ≡ false → HasRoomForCopy m c
+
+-- FRONT moved by so many words, of those owed
+abbrev pub moved_by : ℕ → AreaWord → AreaWord
+moved_by size area = record { front = area.front + size; low = area.low; owed = area.owed - size }
 
 -- The exchange of the area is won that moves FRONT from the announced place by the copy's size. The first crossing to be stored
 -- is that of the first page that begins at the place or after.
 abbrev pub PlacesAreReserved : Type 0
-PlacesAreReserved = (E : Era) (m : Memory) (team : Team) (g : Ghost) (k : ℕ) (c : Copy) → Ready E m team g k
-    → (team.worker k).copy ≡ Some c → c.announced ≡ true → c.reserved ≡ false → c.to ≡ m.front
-    → Preserves E m (with_area m (c.to + c.size) m.low (m.owed - c.size)) team
-    (with_worker team k (copying (team.worker k) (record c { reserved = true; crossed = (c.to + 63) / 64 }))) g (reserved g k c.from c.to c.size)
+PlacesAreReserved = (E : Era) (m : Memory) (team : Team) (g : Ghost) (k : ℕ) (c : Copy) (area : AreaWord) → Ready E m team g k
+    → (team.worker k).copy ≡ Some c → c.announced ≡ true → c.reserved ≡ false → c.to ≡ m.front → IsAreaNow E m area
+    → Steps E m team g k (Some (AreaIs (to_space E.epoch) (moved_by c.size area))) (copying (team.worker k) (record c { reserved = true; crossed = (c.to + 63) / 64 }))
+    (reserved g k c.from c.to c.size)
 
 -- who copies nothing announces no place any more
 abbrev pub AnnouncesAreCleared : Type 0
 AnnouncesAreCleared = (E : Era) (m : Memory) (team : Team) (g : Ghost) (k : ℕ) → Ready E m team g k → (team.worker k).copy ≡ None
-    → Preserves E m (with_announced m k 0) team (with_worker team k (team.worker k)) g g
+    → Steps E m team g k (Some (AnnounceIs k 0)) (team.worker k) g
 
 -- ---- the words
 
@@ -90,7 +97,7 @@ AnnouncesAreCleared = (E : Era) (m : Memory) (team : Team) (g : Ghost) (k : ℕ)
 abbrev pub OldWordsAreLoaded : Type 0
 OldWordsAreLoaded = (E : Era) (m : Memory) (team : Team) (g : Ghost) (k : ℕ) (c : Copy) → Ready E m team g k
     → (team.worker k).copy ≡ Some c → c.reserved ≡ true → 0 < c.done → c.done < c.size
-    → Preserves E m m team (with_worker team k (copying (team.worker k) (record c { word = Some (m.heap (c.from + c.done)) }))) g g
+    → Steps E m team g k None (copying (team.worker k) (record c { word = Some (m.heap (c.from + c.done)) })) g
 
 -- the word is the next one to be stored in the copy: the header that was kept, or the word that was loaded
 abbrev pub IsNextWord : Copy → ℕ → Type 0
@@ -100,7 +107,7 @@ IsNextWord c v = ((c.done ≡ 0) × (v ≡ c.header)) ⊎ (c.word ≡ Some v)
 abbrev pub WordsAreCopied : Type 0
 WordsAreCopied = (E : Era) (m : Memory) (team : Team) (g : Ghost) (k : ℕ) (c : Copy) (v : ℕ) → Ready E m team g k
     → (team.worker k).copy ≡ Some c → c.reserved ≡ true → IsNextWord c v
-    → Preserves E m (with_word m (c.to + c.done) v) team (with_worker team k (copying (team.worker k) (record c { done = c.done + 1; word = None }))) g g
+    → Steps E m team g k (Some (WordIs (c.to + c.done) v)) (copying (team.worker k) (record c { done = c.done + 1; word = None })) g
 
 -- ---- the crossings
 
@@ -108,7 +115,7 @@ WordsAreCopied = (E : Era) (m : Memory) (team : Team) (g : Ghost) (k : ℕ) (c :
 abbrev pub CrossingsAreStored : Type 0
 CrossingsAreStored = (E : Era) (m : Memory) (team : Team) (g : Ghost) (k : ℕ) (c : Copy) → Ready E m team g k
     → (team.worker k).copy ≡ Some c → c.reserved ≡ true → c.to ≤ 64 * c.crossed → 64 * c.crossed < c.to + c.size
-    → Preserves E m (with_crossing m c.crossed c.to) team (with_worker team k (copying (team.worker k) (record c { crossed = c.crossed + 1 }))) g g
+    → Steps E m team g k (Some (CrossIs c.crossed c.to)) (copying (team.worker k) (record c { crossed = c.crossed + 1 })) g
 
 -- ---- the forward
 
@@ -122,4 +129,4 @@ abbrev pub CopiesArePublished : Type 0
 CopiesArePublished = (E : Era) (m : Memory) (team : Team) (g : Ghost) (k : ℕ) (c : Copy) (q : Quest) (v : ℕ) → Ready E m team g k
     → (team.worker k).copy ≡ Some c → (team.worker k).quest ≡ Some q → c.reserved ≡ true → c.done ≡ c.size → c.to + c.size ≤ 64 * c.crossed
     → decode v ≡ ForwardWord (c.size - 1) c.to
-    → Preserves E m (with_word m c.from v) team (with_worker team k (record (team.worker k) { copy = None; quest = Some (record q { found = Some c.to }) })) g (published g k c.from c.to)
+    → Steps E m team g k (Some (WordIs c.from v)) (record (team.worker k) { copy = None; quest = Some (record q { found = Some c.to }) }) (published g k c.from c.to)

@@ -1,18 +1,18 @@
--- From the laws to configurations: a step writes a row of the table, or none, and one worker becomes another.
+-- From the laws to configurations, once for all: a step writes a row of the table, or none, and one worker becomes another.
 use Rattle.std.specs.Prelude.{◌≡◌, ℕ, ◌<◌, ⊤, List, length, Option, Some, None, slice_set, ◌≤◌}
 use Rattle.plain_state.specs.State.{Plain}
 use Rattle.space_map.specs.Table.{place_of}
 use Rattle.space_map.specs.PageWord.{age_of}
+use Rattle.space_map.specs.declared.gate_word.GateWord.{GateWord}
+use Rattle.space_map.specs.GateWord.{GateFits}
 use Rattle.heap_state.specs.Configuration.{Configuration, Stands, table, era, memory, team}
 use Rattle.heap_state.specs.Cycle.{Cycle}
-use Rattle.heap_state.specs.Entries.{Entry, row_of, word_of, EntryFits, with_entry}
-use Rattle.heap_state.specs.Era.{era_of, memory_of}
+use Rattle.heap_state.specs.Entries.{Entry, row_of, word_of, EntryFits, with_entry, GateIs}
 use Rattle.heap_state.specs.Ghost.{Ghost}
-use Rattle.heap_state.specs.Inductive.{Invariant}
-use Rattle.heap_state.specs.Table.{Table, IsFormed}
-use Rattle.heap_state.specs.Values.{Shown}
-use Rattle.heap_state.specs.Worker.{Worker, Team}
-use Rattle.heap_laws.specs.Steps.{Ready, with_worker, Preserves, Steps, StepsTo}
+use Rattle.heap_state.specs.Table.{Table}
+use Rattle.heap_state.specs.Worker.{Worker, Reset}
+use Rattle.heap_laws.specs.Steps.{Ready, Steps, StepsTo}
+use Rattle.heap_laws.specs.Flipping.Flip.{Flips, flipped_gate, after_flip, next_ghost}
 
 -- ---- one step
 
@@ -35,17 +35,7 @@ RowFits n (Some e) = EntryFits n e
 abbrev pub stepped : Configuration → Option Entry → ℕ → Worker → Configuration
 stepped c e k w = record c { words = words_after c.pages c.words e; workers = slice_set c.workers k w }
 
--- ---- what it makes of a configuration
-
--- the configuration has this table and this team
-pub record Says (c : Configuration) (t : Table) (all : Team) : Type 0 where
-  pub formed : IsFormed c.pages c.words
-  pub table_said : table c ≡ t
-  pub team_said : team c ≡ all
-
-abbrev pub StepsAreSeen : Type 0
-StepsAreSeen = (c : Configuration) (e : Option Entry) (k : ℕ) (w : Worker) → IsFormed c.pages c.words → k < length c.workers → RowFits c.pages e
-    → Says (stepped c e k w) (table_after (table c) e) (with_worker (team c) k w)
+-- ---- the lifting
 
 -- each worker of a configuration that stands is ready for a step
 abbrev pub StandingIsReady : Type 0
@@ -56,32 +46,6 @@ StandingIsReady = (c : Configuration) (p : Plain) (s : Stands c p) (k : ℕ) →
 pub record StandsWith (c : Configuration) (p : Plain) (g : Ghost) : Type 0 where
   pub stands : Stands c p
   pub with_ghost : stands.ghost ≡ g
-
-abbrev pub StepsStand : Type 0
-StepsStand = (c : Configuration) (p q : Plain) (e : Option Entry) (k : ℕ) (w : Worker) (h : Ghost) → Stands c p → k < length c.workers → RowFits c.pages e
-    → Invariant (era_of (table_after (table c) e)) (memory_of (table_after (table c) e)) (with_worker (team c) k w) h
-    → Shown (era_of (table_after (table c) e)) (memory_of (table_after (table c) e)) (with_worker (team c) k w) h q
-    → StandsWith (stepped c e k w) q h
-
--- The configuration stands as the earlier one did, and what a cycle kept of that it keeps of this.
-pub record StandsAsBefore (c later : Configuration) (p : Plain) (g h : Ghost) : Type 0 where
-  pub standing : StandsWith later p h
-  pub cycle : (o : Plain) → Cycle (era c) (memory c) (team c) g o → Cycle (era later) (memory later) (team later) h o
-
--- a law by which a step preserves all is one of configurations
-abbrev pub LawsAreLifted : Type 0
-LawsAreLifted = (c : Configuration) (p : Plain) (s : Stands c p) (e : Option Entry) (k : ℕ) (w : Worker) (h : Ghost) → k < length c.workers → RowFits c.pages e
-    → era_of (table_after (table c) e) ≡ era c
-    → Preserves (era c) (memory c) (memory_of (table_after (table c) e)) (team c) (with_worker (team c) k w) s.ghost h
-    → StandsAsBefore c (stepped c e k w) p s.ghost h
-
--- what a cycle keeps of the table and the team after a step it keeps of the configuration
-abbrev pub CyclesAreLifted : Type 0
-CyclesAreLifted = (c : Configuration) (e : Option Entry) (k : ℕ) (w : Worker) (h : Ghost) (o : Plain) → IsFormed c.pages c.words → k < length c.workers → RowFits c.pages e
-    → Cycle (era_of (table_after (table c) e)) (memory_of (table_after (table c) e)) (with_worker (team c) k w) h o
-    → Cycle (era (stepped c e k w)) (memory (stepped c e k w)) (team (stepped c e k w)) h o
-
--- ---- one lifting
 
 -- The step of worker k leaves a configuration that stands for the plain state q. The row that it writes is one of the table, what
 -- a cycle kept of the earlier configuration it keeps of this, and no page word's epoch fell.
@@ -100,3 +64,15 @@ StepsAreLifted = (c : Configuration) (p : Plain) (s : Stands c p) (e : Option En
 abbrev pub PlainStepsAreLifted : Type 0
 PlainStepsAreLifted = (c : Configuration) (p q : Plain) (s : Stands c p) (e : Option Entry) (k : ℕ) (w : Worker) (h : Ghost) → k < length c.workers
     → StepsTo (era c) (memory c) (team c) s.ghost k e w h q → Leaves c e k w q s.ghost h
+
+-- The flip leaves a configuration that stands for the same plain state, of which a cycle begins. The gate's word fits, and no page
+-- word changed.
+pub record Flipped (c : Configuration) (gate : GateWord) (k : ℕ) (w : Worker) (p : Plain) (h : Ghost) : Type 0 where
+  pub fits : GateFits gate
+  pub standing : StandsWith (stepped c (Some (GateIs gate)) k w) p h
+  pub begins : Cycle (era (stepped c (Some (GateIs gate)) k w)) (memory (stepped c (Some (GateIs gate)) k w)) (team (stepped c (Some (GateIs gate)) k w)) h p
+  pub pages : (table (stepped c (Some (GateIs gate)) k w)).page ≡ (table c).page
+
+abbrev pub FlipsAreLifted : Type 0
+FlipsAreLifted = (c : Configuration) (p : Plain) (s : Stands c p) (k : ℕ) (r : Reset) → k < length c.workers → Flips (era c) (team c) k r
+    → Flipped c (flipped_gate r.read) k (after_flip ((team c).worker k)) p (next_ghost (era c) s.ghost)

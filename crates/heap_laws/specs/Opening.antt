@@ -3,22 +3,18 @@ use Rattle.std.specs.Prelude.{ℕ, ◌+◌, ◌*◌, ◌≤◌, List, [], ◌∷
 use Rattle.plain_state.specs.declared.value.Value.TheVariants.{Number}
 use Rattle.plain_state.specs.State as plain
 use Rattle.space_map.specs.Spaces.{IsPageCount, board_page}
-use Rattle.space_map.specs.declared.area_word.AreaWord.{AreaWord}
 use Rattle.space_map.specs.declared.page_word.PageWord.TheVariants.{Open}
 use Rattle.heap_state.specs.Configuration.{Configuration, Stands, era, memory, team}
 use Rattle.heap_state.specs.Cycle.{Cycle}
 use Rattle.heap_state.specs.Entries.{Entry, TracedIs, AreaIs, PageIs, written}
 use Rattle.heap_state.specs.Worker.{Worker, Outside, Scanner, fresh}
+use Rattle.heap_laws.specs.Flipping.Reset.{whole_area}
 
 -- ---- the table
 
--- the area word of a space of n pages in which nothing was placed
-abbrev pub whole_area : ℕ → AreaWord
-whole_area n = record { front = 0; low = 64 * n; owed = 0 }
-
 -- both spaces are whole, the epoch is traced, the board is open, and every other word is 0
 abbrev pub opening_entries : ℕ → List Entry
-opening_entries n = TracedIs 1 ∷ AreaIs 0 (whole_area n) ∷ AreaIs 1 (whole_area n) ∷ PageIs (board_page n) (Open 0) ∷ []
+opening_entries n = TracedIs 1 ∷ AreaIs 0 (whole_area (64 * n) 0) ∷ AreaIs 1 (whole_area (64 * n) 0) ∷ PageIs (board_page n) (Open 0) ∷ []
 
 -- ---- the workers
 

@@ -11,12 +11,8 @@ use Rattle.heap_state.specs.Ghost.{Ghost, Here, Leads}
 use Rattle.heap_state.specs.Inductive.{Invariant}
 use Rattle.heap_state.specs.Reachable.{Reachable}
 use Rattle.heap_state.specs.Worker.{Worker, Team, Copy, Scan, Round, Claim, Look, LastLook, is_mutator}
-use Rattle.heap_laws.specs.Keeping.{Keeps}
-use Rattle.heap_laws.specs.Steps.{with_worker}
-
--- the memory in which TRACED is another word
-abbrev pub with_traced : Memory → ℕ → Memory
-with_traced m word = record m { traced = word }
+use Rattle.heap_state.specs.Entries.{TracedIs}
+use Rattle.heap_laws.specs.Steps.{Ready, Steps}
 
 -- ---- a round
 
@@ -26,8 +22,8 @@ in_round w r = record w { round = Some r }
 
 -- TRACED is read, and isn't the one that says that the worker's epoch is traced
 abbrev pub ReadingTracedKeeps : Type 0
-ReadingTracedKeeps = (E : Era) (m : Memory) (team : Team) (g : Ghost) (k : ℕ) → Invariant E m team g → k < team.count → m.traced ≢ (team.worker k).epoch + 1
-    → Keeps E m m team (with_worker team k (in_round (team.worker k) (record { traced = m.traced; front = None }))) g
+ReadingTracedKeeps = (E : Era) (m : Memory) (team : Team) (g : Ghost) (k : ℕ) → Ready E m team g k → m.traced ≢ (team.worker k).epoch + 1
+    → Steps E m team g k None (in_round (team.worker k) (record { traced = m.traced; front = None })) g
 
 -- f is FRONT as the area of the worker's own epoch has it: a worker of a past epoch reads the area of another space
 pub record IsFrontFor (E : Era) (m : Memory) (w : Worker) (f : ℕ) : Type 0 where
@@ -36,8 +32,8 @@ pub record IsFrontFor (E : Era) (m : Memory) (w : Worker) (f : ℕ) : Type 0 whe
 
 -- FRONT is read in a round
 abbrev pub ReadingRoundFrontKeeps : Type 0
-ReadingRoundFrontKeeps = (E : Era) (m : Memory) (team : Team) (g : Ghost) (k : ℕ) (r : Round) (f : ℕ) → Invariant E m team g → k < team.count → (team.worker k).round ≡ Some r
-    → IsFrontFor E m (team.worker k) f → Keeps E m m team (with_worker team k (in_round (team.worker k) (record r { front = Some f }))) g
+ReadingRoundFrontKeeps = (E : Era) (m : Memory) (team : Team) (g : Ghost) (k : ℕ) (r : Round) (f : ℕ) → Ready E m team g k → (team.worker k).round ≡ Some r
+    → IsFrontFor E m (team.worker k) f → Steps E m team g k None (in_round (team.worker k) (record r { front = Some f })) g
 
 -- ---- the first look
 
@@ -47,14 +43,11 @@ looking w l = record w { look = Some l }
 
 -- worker k is at this look
 pub record IsLooking (team : Team) (k : ℕ) (l : Look) : Type 0 where
-  pub below : k < team.count
   pub looks : (team.worker k).look ≡ Some l
 
 -- the gate is of the worker's epoch, and nobody is behind: the look begins
-pub record BeginsLook (E : Era) (m : Memory) (team : Team) (k : ℕ) (r : Round) : Type 0 where
-  pub below : k < team.count
+pub record BeginsLook (m : Memory) (team : Team) (k : ℕ) (r : Round) : Type 0 where
   pub round : (team.worker k).round ≡ Some r
-  pub at_gate : m.gate.epoch ≡ E.epoch
   pub same : m.gate.epoch ≡ (team.worker k).epoch
   pub none : m.gate.behind ≡ 0
 
@@ -62,34 +55,33 @@ abbrev pub first_look : Era → Round → Look
 first_look E r = record { traced = r.traced; start = E.start; front = E.start; board = false; upto = 0; filled = false }
 
 abbrev pub BeginningLookKeeps : Type 0
-BeginningLookKeeps = (E : Era) (m : Memory) (team : Team) (g : Ghost) (k : ℕ) (r : Round) → Invariant E m team g → BeginsLook E m team k r
-    → Keeps E m m team (with_worker team k (looking (team.worker k) (first_look E r))) g
+BeginningLookKeeps = (E : Era) (m : Memory) (team : Team) (g : Ghost) (k : ℕ) (r : Round) → Ready E m team g k → BeginsLook m team k r
+    → Steps E m team g k None (looking (team.worker k) (first_look E r)) g
 
 -- FRONT is read, before any page
 abbrev pub LookingAtFrontKeeps : Type 0
-LookingAtFrontKeeps = (E : Era) (m : Memory) (team : Team) (g : Ghost) (k : ℕ) (l : Look) (f : ℕ) → Invariant E m team g → IsLooking team k l
-    → l.board ≡ false → l.filled ≡ false → IsFrontFor E m (team.worker k) f → Keeps E m m team (with_worker team k (looking (team.worker k) (record l { front = f }))) g
+LookingAtFrontKeeps = (E : Era) (m : Memory) (team : Team) (g : Ghost) (k : ℕ) (l : Look) (f : ℕ) → Ready E m team g k → IsLooking team k l
+    → l.board ≡ false → l.filled ≡ false → IsFrontFor E m (team.worker k) f → Steps E m team g k None (looking (team.worker k) (record l { front = f })) g
 
 -- the board is found open
 abbrev pub LookingAtBoardKeeps : Type 0
-LookingAtBoardKeeps = (E : Era) (m : Memory) (team : Team) (g : Ghost) (k : ℕ) (l : Look) → Invariant E m team g → IsLooking team k l
-    → m.page (E.board / 64) ≡ Open (team.worker k).epoch → Keeps E m m team (with_worker team k (looking (team.worker k) (record l { board = true }))) g
+LookingAtBoardKeeps = (E : Era) (m : Memory) (team : Team) (g : Ghost) (k : ℕ) (l : Look) → Ready E m team g k → IsLooking team k l
+    → m.page (E.board / 64) ≡ Open (team.worker k).epoch → Steps E m team g k None (looking (team.worker k) (record l { board = true })) g
 
 -- the next page is found open
 abbrev pub LookingAtPageKeeps : Type 0
-LookingAtPageKeeps = (E : Era) (m : Memory) (team : Team) (g : Ghost) (k : ℕ) (l : Look) (p : ℕ) → Invariant E m team g → IsLooking team k l
-    → (p ≡ l.upto) ⊎ (64 * p ≡ l.start) → m.page p ≡ Open (team.worker k).epoch → Keeps E m m team (with_worker team k (looking (team.worker k) (record l { upto = p + 1 }))) g
+LookingAtPageKeeps = (E : Era) (m : Memory) (team : Team) (g : Ghost) (k : ℕ) (l : Look) (p : ℕ) → Ready E m team g k → IsLooking team k l
+    → (p ≡ l.upto) ⊎ (64 * p ≡ l.start) → m.page p ≡ Open (team.worker k).epoch → Steps E m team g k None (looking (team.worker k) (record l { upto = p + 1 })) g
 
 -- the filling page is found open, or there is none
 abbrev pub LookingAtFillingPageKeeps : Type 0
-LookingAtFillingPageKeeps = (E : Era) (m : Memory) (team : Team) (g : Ghost) (k : ℕ) (l : Look) → Invariant E m team g → IsLooking team k l
-    → ((p : ℕ) → 64 * p < l.front → l.front < 64 * p + 64 → m.page p ≡ Open (team.worker k).epoch) → Keeps E m m team (with_worker team k (looking (team.worker k) (record l { filled = true }))) g
+LookingAtFillingPageKeeps = (E : Era) (m : Memory) (team : Team) (g : Ghost) (k : ℕ) (l : Look) → Ready E m team g k → IsLooking team k l
+    → ((p : ℕ) → 64 * p < l.front → l.front < 64 * p + 64 → m.page p ≡ Open (team.worker k).epoch) → Steps E m team g k None (looking (team.worker k) (record l { filled = true })) g
 
 -- ---- the second look
 
 -- AREA is read again and has the same FRONT; the board and all full pages were found open
 pub record LooksAgain (E : Era) (m : Memory) (team : Team) (k : ℕ) (l : Look) : Type 0 where
-  pub below : k < team.count
   pub looks : (team.worker k).look ≡ Some l
   pub front : IsFrontFor E m (team.worker k) l.front
   pub board : l.board ≡ true
@@ -100,8 +92,8 @@ abbrev pub about_to_trace : Worker → Look → Worker
 about_to_trace w l = record w { look = None; last_look = Some (record { traced = l.traced }) }
 
 abbrev pub LookingAgainKeeps : Type 0
-LookingAgainKeeps = (E : Era) (m : Memory) (team : Team) (g : Ghost) (k : ℕ) (l : Look) → Invariant E m team g → LooksAgain E m team k l
-    → l.filled ≡ true → Keeps E m m team (with_worker team k (about_to_trace (team.worker k) l)) g
+LookingAgainKeeps = (E : Era) (m : Memory) (team : Team) (g : Ghost) (k : ℕ) (l : Look) → Ready E m team g k → LooksAgain E m team k l
+    → l.filled ≡ true → Steps E m team g k None (about_to_trace (team.worker k) l) g
 
 -- where the filling page had the word of an epoch before, it is claimed
 abbrev pub filling_claim : ℕ → PageWord → Claim
@@ -111,15 +103,14 @@ abbrev pub about_to_fill : Worker → ℕ → PageWord → Worker
 about_to_fill w p old = record w { look = None; claim = Some (filling_claim p old) }
 
 abbrev pub ClaimingFillingPageKeeps : Type 0
-ClaimingFillingPageKeeps = (E : Era) (m : Memory) (team : Team) (g : Ghost) (k : ℕ) (l : Look) (p : ℕ) (old : PageWord) → Invariant E m team g → LooksAgain E m team k l
+ClaimingFillingPageKeeps = (E : Era) (m : Memory) (team : Team) (g : Ghost) (k : ℕ) (l : Look) (p : ℕ) (old : PageWord) → Ready E m team g k → LooksAgain E m team k l
     → l.start ≤ 64 * p → 64 * p < l.front → l.front < 64 * p + 64 → age_of old ≤ (team.worker k).epoch
-    → Keeps E m m team (with_worker team k (about_to_fill (team.worker k) p old)) g
+    → Steps E m team g k None (about_to_fill (team.worker k) p old) g
 
 -- ---- TRACED is exchanged
 
 -- worker k wins the exchange: TRACED is the word that was read
 pub record WinsTraced (m : Memory) (team : Team) (k : ℕ) (l : LastLook) : Type 0 where
-  pub below : k < team.count
   pub looks : (team.worker k).last_look ≡ Some l
   pub unchanged : m.traced ≡ l.traced
 
@@ -129,14 +120,14 @@ has_traced w = record w { last_look = None }
 -- only a worker of the current epoch wins it, and what it does keeps all
 pub record Traces (E : Era) (m : Memory) (team : Team) (g : Ghost) (k : ℕ) : Type 0 where
   pub now : (team.worker k).epoch ≡ E.epoch
-  pub keeps : Keeps E m (with_traced m (E.epoch + 1)) team (with_worker team k (has_traced (team.worker k))) g
+  pub steps : Steps E m team g k (Some (TracedIs ((team.worker k).epoch + 1))) (has_traced (team.worker k)) g
 
 abbrev pub TracingKeeps : Type 0
-TracingKeeps = (E : Era) (m : Memory) (team : Team) (g : Ghost) (k : ℕ) (l : LastLook) → Invariant E m team g → WinsTraced m team k l → Traces E m team g k
+TracingKeeps = (E : Era) (m : Memory) (team : Team) (g : Ghost) (k : ℕ) (l : LastLook) → Ready E m team g k → WinsTraced m team k l → Traces E m team g k
 
 -- who slept past a flip finds that TRACED is another word
 abbrev pub SleeperLosesTraced : Type 0
-SleeperLosesTraced = (E : Era) (m : Memory) (team : Team) (g : Ghost) (k : ℕ) (l : LastLook) → Invariant E m team g → k < team.count
+SleeperLosesTraced = (E : Era) (m : Memory) (team : Team) (g : Ghost) (k : ℕ) (l : LastLook) → Ready E m team g k
     → (team.worker k).last_look ≡ Some l → (team.worker k).epoch < E.epoch → m.traced ≢ l.traced
 
 -- ---- the epoch is traced

@@ -1,30 +1,9 @@
-//! Steps of a mutator that stores nothing, and its stores and loads.
+//! Steps of a mutator that are steps of the plain machine, and what its loads may read.
 
-ghost use Rattle.heap_laws.specs.Fields.{WordsAreStored, StoresShow, StoresKeepCycle, BoardIsStored, BoardStoresShow, BoardStoresKeepCycle, AccessesAreAllowed, WordsAreLoaded, BoardIsLoaded, HeadersAreRead, RegistersAreHeld, NumbersAreHeld};
-ghost use Rattle.heap_laws.specs.MutatorsStand.{MutatorsStand};
-ghost use Rattle.heap_laws.specs.MutatorStores.{MutatorsStep, MutatorsStore, MutatorsStoreOnBoard, MutatorsEnd, MutatorsFindNoRoom};
-ghost use Rattle.heap_laws.specs.MutatorSteps.{MutatorsGoOn, GoingOnShows, GoingOnKeepsCycle};
-
-/// A running mutator goes on with other registers, another account or another access.
-pub fn mutators_go_on()
-    ensures keeps { MutatorsGoOn }
-    ensures shows { GoingOnShows }
-    ensures cycle { GoingOnKeepsCycle }
-{}
-
-/// A mutator stores in a word of a record, whose page is open: the plain heap changes at that word.
-pub fn words_are_stored()
-    ensures keeps { WordsAreStored }
-    ensures shows { StoresShow }
-    ensures cycle { StoresKeepCycle }
-{}
-
-/// A mutator stores on the open board: the plain board changes at that word. An exchange there is a load and this store.
-pub fn board_is_stored()
-    ensures keeps { BoardIsStored }
-    ensures shows { BoardStoresShow }
-    ensures cycle { BoardStoresKeepCycle }
-{}
+ghost use Rattle.heap_laws.specs.Fields.Effects.{MutatorsAreShown, RegistersHold, HeadersSay, AccessesAreValues, BoardWordsAreValues};
+ghost use Rattle.heap_laws.specs.Fields.Words.{AccessesAreAllowed, WordsAreLoaded, BoardIsLoaded, HeadersAreRead, RegistersAreHeld, NumbersAreHeld};
+ghost use Rattle.heap_laws.specs.Fields.Held.{GoesOnSo};
+ghost use Rattle.heap_laws.specs.Fields.Stores.{MutatorsLearn, MutatorsStep, MutatorsStore, MutatorsStoreOnBoard, MutatorsEnd, MutatorsFindNoRoom};
 
 /// What a mutator loads leads into the epoch's space, to a record that nobody writes, and it may hold it in a register. Where
 /// a register leads, a record's own header stands, and an access to one of its words is what a load or store needs.
@@ -37,17 +16,32 @@ pub fn words_are_loaded()
     ensures numbers { NumbersAreHeld }
 {}
 
+/// What a mutator's registers, the headers that they lead to and the words that it accesses are to the plain machine.
+pub fn mutators_are_shown()
+    ensures mutators { MutatorsAreShown }
+    ensures registers { RegistersHold }
+    ensures headers { HeadersSay }
+    ensures accesses { AccessesAreValues }
+    ensures board { BoardWordsAreValues }
+{}
+
+/// A running mutator learns something, and the plain mutator makes no step; and what it may so become goes on.
+pub fn mutators_learn()
+    ensures learns { MutatorsLearn }
+    ensures goes_on { GoesOnSo }
+{}
+
 /// A step of a running mutator that stores nothing: the plain mutator makes it too.
 pub fn mutators_step()
     ensures { MutatorsStep }
 {}
 
-/// A store in a record with what the mutator does besides, as one step.
+/// A store in a record, whose page is open: the plain heap changes at that word.
 pub fn mutators_store()
     ensures { MutatorsStore }
 {}
 
-/// A store on the board with what the mutator does besides, as one step.
+/// A store on the open board: the plain board changes at that word. An exchange there is a load and this store.
 pub fn mutators_store_on_board()
     ensures { MutatorsStoreOnBoard }
 {}
@@ -56,9 +50,4 @@ pub fn mutators_store_on_board()
 pub fn mutators_end()
     ensures ends { MutatorsEnd }
     ensures full { MutatorsFindNoRoom }
-{}
-
-/// Each of these steps leaves a configuration that stands for the plain state after it, and writes a row that the table has.
-pub fn mutators_stand()
-    ensures { MutatorsStand }
 {}

@@ -1,8 +1,8 @@
 //! The flip, which begins a cycle, and the registers that each stopped mutator then forwards.
 
-ghost use Rattle.heap_state.specs.Table.{Table};
-ghost use Rattle.heap_laws.specs.FlippingReset.{FindingStillKeeps, ReadingUsedKeeps, StoringAreaKeeps};
-ghost use Rattle.heap_laws.specs.Flipping.{FlippingKeeps, TableFlips, PassingRegisterKeeps, AskingForRegisterKeeps, ForwardingRegisterKeeps};
+ghost use Rattle.heap_laws.specs.Flipping.Reset.{FindingStillKeeps, ReadingUsedKeeps, StoringAreaKeeps};
+ghost use Rattle.heap_laws.specs.Flipping.Flip.{FlippingKeeps};
+ghost use Rattle.heap_laws.specs.Flipping.Registers.{PassingRegisterKeeps, AskingForRegisterKeeps, ForwardingRegisterKeeps};
 
 /// The steps of a flipper before the flip.
 pub fn flips_are_made_ready()
@@ -13,8 +13,7 @@ pub fn flips_are_made_ready()
 
 /// The exchange of the gate by the flipper.
 pub fn epochs_are_flipped()
-    ensures flipped { FlippingKeeps }
-    ensures table { (t : Table) → TableFlips t }
+    ensures { FlippingKeeps }
 {}
 
 /// The registers of a mutator that is behind, one by one.

@@ -1,13 +1,11 @@
 //! The gate's other steps: a mutator attaches, parks, asks for a flip, has forwarded its registers, goes on, or leaves.
 
-ghost use Rattle.heap_laws.specs.Forgetting.{ReadingGateKeeps, SeeingTracedKeeps, ForgettingKeeps};
-ghost use Rattle.heap_laws.specs.Gating.{PassingGateKeeps, TakingEpochKeeps, GatesFit};
+ghost use Rattle.heap_laws.specs.Gate.{ReadingGateKeeps, SeeingTracedKeeps, PassingGateKeeps, TakingEpochKeeps, GatesFit};
 
-/// What a worker reads of the gate and of TRACED, and what it may forget.
+/// What a worker reads of the gate and of TRACED.
 pub fn passages_are_made_ready()
     ensures gate { ReadingGateKeeps }
     ensures traced { SeeingTracedKeeps }
-    ensures forgotten { ForgettingKeeps }
 {}
 
 /// The exchange of the gate, whichever passage it is for.

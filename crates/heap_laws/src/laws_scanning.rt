@@ -1,7 +1,7 @@
 //! Pages that are claimed, scanned and opened.
 
-ghost use Rattle.heap_laws.specs.Scanning.{BeginningClaimKeeps, LookingAtPlaceKeeps, LookingAtGateKeeps, ClaimingKeeps, SleeperLosesPage, OpeningKeeps};
-ghost use Rattle.heap_laws.specs.ScanningWords.{ReadingCrossingKeeps, ReadingFirstHeaderKeeps, ReadingFrontKeeps, ReadingNextHeaderKeeps, PassingFieldKeeps, AskingKeeps, StoringCopyKeeps};
+ghost use Rattle.heap_laws.specs.Scanning.Claims.{BeginningClaimKeeps, LookingAtPlaceKeeps, LookingAtGateKeeps, ClaimingKeeps, SleeperLosesPage, OpeningKeeps};
+ghost use Rattle.heap_laws.specs.Scanning.Words.{ReadingCrossingKeeps, ReadingFirstHeaderKeeps, ReadingFrontKeeps, ReadingNextHeaderKeeps, PassingFieldKeeps, AskingKeeps, StoringCopyKeeps};
 
 /// The loads before a claim: of the page's word, of each announced place, of the gate again.
 pub fn claims_are_made_ready()

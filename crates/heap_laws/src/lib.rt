@@ -5,6 +5,8 @@
 #![tactic(auto)]
 
 mod laws_allocating;
+mod laws_answers;
+mod laws_composing;
 mod laws_copying;
 mod laws_fields;
 mod laws_flipping;
@@ -12,12 +14,17 @@ mod laws_gating;
 mod laws_lifting;
 mod laws_opening;
 mod laws_scanning;
-mod laws_standing;
 mod laws_tracing;
 
 pub use laws_allocating::{
-    mutators_place, records_are_placed, stocks_are_claimed, stocks_are_opened, stocks_are_zeroed,
-    stocks_stand,
+    mutators_place, stocks_are_claimed, stocks_are_opened, stocks_are_zeroed,
+};
+pub use laws_answers::{
+    areas_are_answered, copies_are_answered, gates_are_answered, scans_are_answered,
+    words_are_compared,
+};
+pub use laws_composing::{
+    knowledge_is_forgotten, registers_are_settled, rounds_are_ended, steps_follow, steps_forget,
 };
 pub use laws_copying::{
     announces_are_cleared, copies_are_published, copies_have_room, crossings_are_stored,
@@ -26,21 +33,17 @@ pub use laws_copying::{
     words_are_copied,
 };
 pub use laws_fields::{
-    board_is_stored, mutators_end, mutators_go_on, mutators_stand, mutators_step, mutators_store,
-    mutators_store_on_board, words_are_loaded, words_are_stored,
+    mutators_are_shown, mutators_end, mutators_learn, mutators_step, mutators_store,
+    mutators_store_on_board, words_are_loaded,
 };
 pub use laws_flipping::{epochs_are_flipped, flips_are_made_ready, registers_are_forwarded};
 pub use laws_gating::{epochs_are_taken, gates_are_passed, gates_fit, passages_are_made_ready};
-pub use laws_lifting::{
-    copies_stand, cycles_are_lifted, laws_are_lifted, standing_is_ready, steps_are_seen,
-    steps_stand,
-};
+pub use laws_lifting::{standing_is_ready, steps_are_lifted};
 pub use laws_opening::opening_stands;
 pub use laws_scanning::{
     claims_are_made_ready, fields_are_scanned, pages_are_claimed, pages_are_opened,
     records_are_scanned,
 };
-pub use laws_standing::{page_epochs_never_fall, scans_stand};
 pub use laws_tracing::{
     epochs_are_traced, rounds_are_begun, the_end_is_looked_at, traced_epochs_are_clean,
 };

@@ -31,6 +31,13 @@ each_put P f k v j others own =
 pub proj_put : {X Y : Type 0} (g : X → Y) (f : ℕ → X) (k : ℕ) (v : X) (j : ℕ) → g v ≡ g (f k) → g (put f k v j) ≡ g (f j)
 proj_put g f k v j e = each_put (λ j x. g x ≡ g (f j)) f k v j (λ n. refl) (λ i. rw i e)
 
+-- what is put twice at a place is what was put there last
+pub put_twice : {X : Type 0} (f : ℕ → X) (k : ℕ) (a b : X) → put (put f k a) k b ≡ put f k b
+put_twice f k a b = fun_ext (λ j. ⊎_elim
+    (λ (e : j ≡ k). rw (put_at (put f k a) k b j e, put_at f k b j e) refl)
+    (λ (d : j ≢ k). rw (put_other (put f k a) k b j d, put_other f k b j d, put_other f k a j d) refl)
+    (cases_eq j k))
+
 -- both cases of a `put`, for `omega`
 pub put_cases : (f : ℕ → ℕ) (a v x : ℕ) → ((x ≡ a) × (put f a v x ≡ v)) ⊎ ((x ≢ a) × (put f a v x ≡ f x))
 put_cases f a v x = ⊎_elim (λ (e : x ≡ a). inl (e, put_at f a v x e)) (λ (n : x ≢ a). inr (n, put_other f a v x n)) (cases_eq x a)

@@ -13,15 +13,19 @@ abbrev pub fields_end : Kind → (size : ℕ) → ℕ
 fields_end Fields size = size
 fields_end Raw size = 1
 
--- the first place from y on that may be a field of the record
-abbrev pub field_from : Seen → ℕ → ℕ
-field_from r y = max y (r.at + first_field r.kind)
+-- a record of this kind and size as a scan sees it
+abbrev pub seen_at : (at : ℕ) → Kind → (size : ℕ) → Seen
+seen_at at k size = record { at = at; fields_end = at + fields_end k size; next = at + size }
 
--- where a scan that has come to y in a record goes on: at the next field, or at the record's end
+-- where a scan goes on that has come to y in a record: there as long as it is a field, else at the next record
 abbrev pub next_in : Seen → ℕ → ℕ
-next_in r y = if nat_lt (field_from r y) (r.at + fields_end r.kind r.size) then field_from r y else r.at + r.size
+next_in r y = if nat_lt y r.fields_end then y else r.next
 
 -- where it goes on from y on, in a record whose header was read or on the board
 abbrev pub next_from : Option Seen → ℕ → ℕ
 next_from None y = y
 next_from (Some r) y = next_in r y
+
+-- where it goes on in a record that it enters at y: not before the first field
+abbrev pub entry_of : Seen → Kind → ℕ → ℕ
+entry_of r k y = next_in r (max y (r.at + first_field k))

@@ -12,6 +12,6 @@ sum_below zero f = 0
 sum_below (suc n) f = f n + sum_below n f
 
 -- what one that is counted adds to a count
-abbrev pub one_if : Bool → ℕ
-one_if true = 1
-one_if false = 0
+abbrev pub count_one : Bool → ℕ
+count_one true = 1
+count_one false = 0

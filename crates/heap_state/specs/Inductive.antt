@@ -7,7 +7,7 @@ use Rattle.heap_state.specs.Era.{Era, Memory}
 use Rattle.heap_state.specs.Ghost.{Ghost}
 use Rattle.heap_state.specs.Worker.{Worker, Team, Outside, Stock, GateStep, Reset, Access, Quest, Copy, Scan, Round, Claim, Look, LastLook, is_mutator, is_running, is_flipper, is_late}
 use Rattle.heap_state.specs.Parts.Records.{Laid, Headed, NewArea, NewWritten, RawWords}
-use Rattle.heap_state.specs.Parts.Copies.{Copied, Once, Kept, Room}
+use Rattle.heap_state.specs.Parts.Copies.{Copied, Once, Keepers, Room}
 use Rattle.heap_state.specs.Parts.Pages.{Shut, Filling, Tracing, Aged, OldPages, ScannedBy}
 use Rattle.heap_state.specs.Parts.Leading.{Opened, Landing, Older}
 use Rattle.heap_state.specs.Parts.Gate.{Counted, Staffed}
@@ -54,7 +54,7 @@ pub record Invariant (E : Era) (m : Memory) (team : Team) (g : Ghost) : Type 0 w
   pub headed : Headed g.size g.writer g.copy g.keeper g.kind g.identity m.heap
   pub copied : Copied E m.front g.size g.writer g.copy g.keeper g.kind g.identity g.kept
   pub once : Once g.size g.copy g.identity
-  pub kept : Kept g.size g.keeper team.count
+  pub kept : Keepers g.size g.keeper team.count
   pub room : Room E m.traced m.front m.low m.owed g.size g.copy
   pub raw_words : RawWords g.size g.writer g.kind m.heap
   pub shut : Shut E m.front m.low g.size g.writer m.page

@@ -1,5 +1,5 @@
 -- What it means that a dump or a configuration represents a state of the plain machine.
-use Rattle.std.specs.Prelude.{◌≡◌, ◌≢◌, ℕ, ◌+◌, ◌<◌, ◌⊎◌, true, length, Contains, Option, Some, None, slice_get}
+use Rattle.std.specs.Prelude.{◌≡◌, ◌≢◌, ℕ, ◌+◌, ◌<◌, ◌≤◌, ◌⊎◌, true, length, Contains, Option, Some, None, slice_get}
 use Rattle.heap_words.specs.declared.kind.Kind.{Kind as HeaderKind}
 use Rattle.heap_words.specs.Decoded.{Decoded, PointerWord, HeaderWord, decode}
 use Rattle.plain_state.specs.declared.kind.Kind.{Kind}
@@ -70,15 +70,15 @@ pub record BoardWordShows (d : Dump) (p : plain.Plain) (x : ℕ) : Type 0 where
   pub leads : LeadsToRecord d (d.table.heap ((era_of d.table).board + x))
 
 -- A record in the walk of the epoch's space has its own header. One that has its own header has that many words,
--- and shows the plain record of its identity. Its fields lead to records if they are pointers. No other record
--- that has its own header is of its identity.
+-- and shows the plain record of its identity. Its fields lead to records if they are pointers. No record before it
+-- that has its own header is of its identity, so that of two it is the later one that is wrong.
 pub record RecordShows (d : Dump) (p : plain.Plain) (w : Walked) : Type 0 where
   pub owns : Contains (walk_in d.table d.kept) w → HasOwn d w
   pub shows : (kind : Kind) (len serial mutator : ℕ) → IsOwn d w kind len serial mutator
       → (w.size ≡ len + 1)
       × ((r : plain.Record) × (plain.record_of p.heap (record { mutator = mutator; serial = serial }) ≡ Some r) × Shows (denoted_in_dump d) d.table.heap w.at kind w.size r)
   pub leads : (kind : Kind) (len serial mutator i : ℕ) → IsOwn d w kind len serial mutator → IsFieldOf w kind i → LeadsToRecord d (d.table.heap (w.at + i))
-  pub once : (v : Walked) (kind other : Kind) (len longer serial mutator : ℕ) → IsOwn d w kind len serial mutator → IsOwn d v other longer serial mutator → w.at ≡ v.at
+  pub once : (v : Walked) (kind other : Kind) (len longer serial mutator : ℕ) → IsOwn d w kind len serial mutator → IsOwn d v other longer serial mutator → w.at ≤ v.at
 
 -- ---- the whole
 

@@ -1,6 +1,5 @@
 -- What a worker holds between two steps, by component. Each machine's state is read as these, whatever its phases are.
 use Rattle.std.specs.Prelude.{ℕ, ◌+◌, ◌==◌, ◌&&◌, Bool, true, false, List, [], Option, None}
-use Rattle.plain_state.specs.declared.kind.Kind.{Kind}
 use Rattle.plain_state.specs.declared.end.End.{End}
 use Rattle.space_map.specs.declared.gate_word.GateWord.{GateWord}
 use Rattle.space_map.specs.declared.page_word.PageWord.{PageWord}
@@ -72,11 +71,11 @@ pub record Stock : Type 0 where
   pub zeroed : ℕ
   pub opened : ℕ
 
--- a record whose header was read
+-- a record whose header a scan has read: its address, the one where its fields end, and the one where the next record begins
 pub record Seen : Type 0 where
   pub at : ℕ
-  pub size : ℕ
-  pub kind : Kind
+  pub fields_end : ℕ
+  pub next : ℕ
 
 -- what stands at a word of a record: a field, or a plain number
 pub data Role : Type 0 where

@@ -5,7 +5,7 @@ use Rattle.heap_words.specs.declared.kind.Kind.{Kind}
 use Rattle.heap_words.specs.declared.kind.Kind.TheVariants.{Fields, Raw}
 use Rattle.heap_words.specs.declared.tag.Tag.{Tag}
 use Rattle.heap_words.specs.declared.tag.Tag.TheVariants.{Number, Pointer, Header, Forward}
-use Rattle.heap_words.specs.declared.word.TheConstants.{NUMBERS_END}
+use Rattle.heap_words.specs.declared.word.TheConstants.{NUMBERS}
 use Rattle.heap_words.specs.Word.{tag_of, number_word, pointer_word, header_word, forward_word, busy_word}
 
 -- a word by what it was made from; a malformed one was made from nothing
@@ -60,7 +60,7 @@ encode Malformed = 15
 
 -- each part is in the range that its bits can say
 abbrev pub IsInRange : Decoded → Type 0
-IsInRange (NumberWord n) = n < NUMBERS_END
+IsInRange (NumberWord n) = n < NUMBERS
 IsInRange (PointerWord address) = address < 2 ^ 32
 IsInRange (HeaderWord kind len serial mutator) = (len ≤ 4095) × (serial < 2 ^ 40) × (mutator < 2 ^ 8)
 IsInRange (ForwardWord len address) = (len ≤ 4095) × (address < 2 ^ 32)

@@ -14,4 +14,4 @@ mod word;
 pub use kind::Kind;
 pub use laws::words_are_unambiguous;
 pub use tag::Tag;
-pub use word::{NUMBERS_END, Word};
+pub use word::{NUMBERS, Word};

@@ -4,8 +4,8 @@ ghost use Rattle.heap_words.specs.Decoded.{NumberWord, PointerWord, decode, numb
 
 use crate::tag::Tag;
 
-/// The numbers are those below this one.
-pub const NUMBERS_END: u64 = 1 << 62;
+/// How many numbers there are, which is one more than the greatest.
+pub const NUMBERS: u64 = 1 << 62;
 
 const TAG_WIDTH: u32 = 2;
 
@@ -19,7 +19,7 @@ pub struct Word(pub u64);
 
 impl Word {
     pub fn number(n: u64) -> Word
-        requires { n < NUMBERS_END }
+        requires { n < NUMBERS }
         ensures word { result.0 ≡ number_word n }
         ensures reads_back { decode result.0 ≡ NumberWord n }
     {
@@ -38,7 +38,7 @@ impl Word {
         ensures decoded { result ≡ number_in (decode self.0) }
         ensures only_numbers { IsSome result ↔ (tag_of self.0 ≡ Tag.Number) }
         ensures one_spelling { IfSome result (λ n. self.0 ≡ number_word n) }
-        ensures in_range { IfSome result (λ n. n < NUMBERS_END) }
+        ensures in_range { IfSome result (λ n. n < NUMBERS) }
     {
         match self.tag() {
             Tag::Number => Some(self.0 >> TAG_WIDTH),

@@ -1,6 +1,7 @@
 -- What a program is.
-use Rattle.std.specs.Prelude.{ℕ, ◌^◌, ◌≤◌, Bool, true, ◌&&◌, List, [], length, Option, slice_get, slice_index_or, nat_lt, nat_le, sum_by, IsTrue}
+use Rattle.std.specs.Prelude.{ℕ, ◌≤◌, Bool, true, ◌&&◌, List, [], length, Option, slice_get, slice_index_or, nat_lt, nat_le, sum_by, IsTrue}
 use Rattle.std.specs.List.{list_all}
+use Rattle.plain_state.specs.declared.sizes.TheConstants.{NUMBERS, REGISTERS}
 use Rattle.mutator_asm.specs.declared.instr.Instr.{Instr}
 use Rattle.mutator_asm.specs.declared.instr.Instr.TheVariants.{Li, Mov, Add, Sub, Mul, Div, Rem, Lt, Eq, Jmp, Jz, Jal, Jr, New, Raw, Ld, St, Len, Isp, Get, Put, Swap, Out, Halt}
 use Rattle.mutator_asm.specs.declared.item.Item.{Item}
@@ -11,15 +12,15 @@ use Rattle.mutator_asm.specs.declared.operand.Operand.TheVariants.{Reg, Number}
 abbrev pub instr_at : List (List Instr) → ℕ → ℕ → Option Instr
 instr_at code mutator counter = slice_get (slice_index_or code mutator []) counter
 
--- there are eight registers
+-- the number of a register
 abbrev pub is_register : ℕ → Bool
-is_register r = nat_lt r 8
+is_register r = nat_lt r REGISTERS
 
--- a number has 62 bits
+-- a number of the language
 abbrev pub is_number : ℕ → Bool
-is_number n = nat_lt n (2 ^ 62)
+is_number n = nat_lt n NUMBERS
 
--- an operand is one of the registers or a number of 62 bits
+-- an operand is one of the registers or a number
 abbrev pub is_operand : Operand → Bool
 is_operand (Reg r) = is_register r
 is_operand (Number n) = is_number n

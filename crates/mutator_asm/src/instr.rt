@@ -1,6 +1,9 @@
 //! The instructions.
 
 use crate::operand::Operand;
+use crate::spelling::{
+    one_register, register_label, register_operand, three_registers, two_registers,
+};
 use std::fmt;
 
 /// An instruction, its operands in the order of the text. A register is its number, 0 to 7. A jump's
@@ -81,30 +84,30 @@ impl fmt::Display for Instr {
     ghost output = { λ instr. Some (spaced (instr_tokens instr)) };
 
     fn fmt<W: fmt::Write>(&self, f: &mut fmt::Formatter<W>) -> fmt::Result {
-        match self {
+        match *self {
             Instr::Li(d, k) => write!(f, "li r{d} {k}"),
-            Instr::Mov(d, a) => write!(f, "mov r{d} r{a}"),
-            Instr::Add(d, a, b) => write!(f, "add r{d} r{a} r{b}"),
-            Instr::Sub(d, a, b) => write!(f, "sub r{d} r{a} r{b}"),
-            Instr::Mul(d, a, b) => write!(f, "mul r{d} r{a} r{b}"),
-            Instr::Div(d, a, b) => write!(f, "div r{d} r{a} r{b}"),
-            Instr::Rem(d, a, b) => write!(f, "rem r{d} r{a} r{b}"),
-            Instr::Lt(d, a, b) => write!(f, "lt r{d} r{a} r{b}"),
-            Instr::Eq(d, a, b) => write!(f, "eq r{d} r{a} r{b}"),
+            Instr::Mov(d, a) => two_registers(f, "mov", d, a),
+            Instr::Add(d, a, b) => three_registers(f, "add", d, a, b),
+            Instr::Sub(d, a, b) => three_registers(f, "sub", d, a, b),
+            Instr::Mul(d, a, b) => three_registers(f, "mul", d, a, b),
+            Instr::Div(d, a, b) => three_registers(f, "div", d, a, b),
+            Instr::Rem(d, a, b) => three_registers(f, "rem", d, a, b),
+            Instr::Lt(d, a, b) => three_registers(f, "lt", d, a, b),
+            Instr::Eq(d, a, b) => three_registers(f, "eq", d, a, b),
             Instr::Jmp(t) => write!(f, "jmp L{t}"),
-            Instr::Jz(a, t) => write!(f, "jz r{a} L{t}"),
-            Instr::Jal(d, t) => write!(f, "jal r{d} L{t}"),
-            Instr::Jr(a) => write!(f, "jr r{a}"),
-            Instr::New(d, x) => write!(f, "new r{d} {x}"),
-            Instr::Raw(d, x) => write!(f, "raw r{d} {x}"),
+            Instr::Jz(a, t) => register_label(f, "jz", a, t),
+            Instr::Jal(d, t) => register_label(f, "jal", d, t),
+            Instr::Jr(a) => one_register(f, "jr", a),
+            Instr::New(d, x) => register_operand(f, "new", d, x),
+            Instr::Raw(d, x) => register_operand(f, "raw", d, x),
             Instr::Ld(d, a, x) => write!(f, "ld r{d} r{a} {x}"),
             Instr::St(a, x, b) => write!(f, "st r{a} {x} r{b}"),
-            Instr::Len(d, a) => write!(f, "len r{d} r{a}"),
-            Instr::Isp(d, a) => write!(f, "isp r{d} r{a}"),
-            Instr::Get(d, x) => write!(f, "get r{d} {x}"),
+            Instr::Len(d, a) => two_registers(f, "len", d, a),
+            Instr::Isp(d, a) => two_registers(f, "isp", d, a),
+            Instr::Get(d, x) => register_operand(f, "get", d, x),
             Instr::Put(x, a) => write!(f, "put {x} r{a}"),
-            Instr::Swap(d, x) => write!(f, "swap r{d} {x}"),
-            Instr::Out(a) => write!(f, "out r{a}"),
+            Instr::Swap(d, x) => register_operand(f, "swap", d, x),
+            Instr::Out(a) => one_register(f, "out", a),
             Instr::Halt => f.write_str("halt"),
         }
     }

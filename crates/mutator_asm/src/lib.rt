@@ -21,6 +21,7 @@ mod parts;
 mod program;
 mod schedule;
 mod section;
+mod spelling;
 mod text;
 mod token;
 

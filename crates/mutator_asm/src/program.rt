@@ -23,6 +23,15 @@ impl Program {
     ghost use Rattle.std.specs.Prelude.{◌≡◌, IsTrue, IfSome};
     ghost use Rattle.mutator_asm.specs.Program.{instr_at, is_valid};
 
+    /// The program of these instructions and this schedule, which are those of some text.
+    pub fn new(code: Code, schedule: Schedule) -> Program
+        requires { IsWellFormed code schedule }
+        ensures code { result.code ≡ code }
+        ensures schedule { result.schedule ≡ schedule }
+    {
+        Program { code, schedule }
+    }
+
     /// The instruction of a number in a mutator's section, both counted from 0; `None` where there is
     /// none.
     pub fn instr(&self, mutator: u8, counter: u64) -> Option<Instr>

@@ -93,5 +93,5 @@ pub fn assemble(alloc: Global, text: &[u8]) -> Result<Program, AsmError>
     check(&lines, &parts)?;
     let code = code(alloc, &parts)?;
     let schedule = schedule(alloc, &lines)?;
-    Ok(Program { code, schedule })
+    Ok(Program::new(code, schedule))
 }

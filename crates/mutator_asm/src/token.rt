@@ -8,10 +8,11 @@ ghost use Rattle.mutator_asm.specs.Read.{label_view};
 
 use crate::mistake::Mistake;
 use crate::operand::Operand;
+use plain_state::NUMBERS;
 use std::alloc::{AllocError, Global};
 
 /// The numbers of the language are below this one.
-const NUMBERS_END: u128 = 1 << 62;
+const NUMBERS_END: u128 = NUMBERS as u128;
 
 /// Whether a byte stands between tokens.
 fn is_blank(b: u8) -> bool

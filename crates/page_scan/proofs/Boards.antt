@@ -1,5 +1,5 @@
 -- The scan of the board.
-use Rattle.std.proofs.Common.{◌≡◌, ℕ, zero, suc, ◌+◌, ◌*◌, ◌<◌, ◌≤◌, List, length, slice_index, slice_set, Bool, true, false, refl, sym, ap, ◌∙◌, subst, arith, ⊎_elim, if◌then◌else◌}
+use Rattle.std.proofs.Common.{◌≡◌, ℕ, zero, suc, ◌+◌, ◌*◌, ◌<◌, ◌≤◌, List, length, slice_set, Bool, true, false, refl, sym, ap, ◌∙◌, subst, arith, ⊎_elim, if◌then◌else◌}
 use Rattle.std.specs.Prelude.{◌==◌}
 use Rattle.std.proofs.lemmas.Bool.{lt-ltb, le-ltb, cases_lt}
 use Rattle.std.proofs.lemmas.Bool.Decides.{nat_tests}
@@ -95,7 +95,7 @@ module _ (l : Layout) (epoch : ℕ) (in_place : Bool) (words : List ℕ) (answer
   stored-Knows (InRecord r x) old to now known back is = absurd known
 
   abbrev scan_at : ScanStage → List ℕ → Working Scanning
-  scan_at x now = record { machine = record { spaces = l; page = board; epoch = epoch; in_place = in_place; stage = x }; words = now }
+  scan_at x now = record { machine = record { layout = l; page = board; epoch = epoch; in_place = in_place; stage = x }; words = now }
 
   abbrev Running : ℕ → ScanStage → List ℕ → Type 0
   Running n x now = Knows (alone (answering answer) n (scan_at x now)).machine.stage (alone (answering answer) n (scan_at x now)).words
@@ -125,7 +125,7 @@ pub boards : ScansBoards
 boards l epoch in_place words answer n ending whole =
     let start : Bool → Working Scanning = λ b. record {
       machine = record {
-        spaces = l;
+        layout = l;
         page = board_page l.pages;
         epoch = epoch;
         in_place = in_place;

@@ -9,10 +9,10 @@ use Rattle.record_layout.proofs.Rereading.{header_in-said}
 use Rattle.page_scan.specs.declared.scan_stage.ScanStage.{ScanStage}
 use Rattle.page_scan.specs.declared.scan_stage.ScanStage.TheVariants.{LoadsCross, LoadsFirst, LoadsWord, Asks, StoresCopy, LoadsFront, LoadsNext, Ended}
 use Rattle.page_scan.specs.Scanning.{HasStep}
-use Rattle.page_scan.specs.Taken.{by_header, enters, record_at, told}
+use Rattle.page_scan.specs.Taken.{by_header, enters, told}
 
 pub by_header-header : (page : ℕ) (in_place : Bool) (at : ℕ) (stage : ScanStage) (w : ℕ) (h : Header) → w ≡ encode (header_says h)
-    → by_header page in_place at stage (decode w) ≡ enters page in_place (record_at at h.kind h.len)
+    → by_header page in_place at stage (decode w) ≡ enters page in_place at h.kind h.len
 by_header-header page in_place at stage w h spelled =
     ap (by_header page in_place at stage) (ap decode spelled ∙ decode-header_word h.kind h.len h.serial h.mutator h.short h.counted)
 

@@ -1,7 +1,10 @@
 pub mod Headers
 pub mod Lowering
+pub mod Looking
 pub mod Replacing
 pub mod Packed
 pub mod Pages
 pub mod Boards
 pub mod WorkedOut
+pub mod WorkedPacked
+pub mod GoingOn

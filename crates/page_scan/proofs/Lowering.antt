@@ -1,6 +1,5 @@
 -- What is left of a scan goes down where a word is passed or asked about.
-use Rattle.std.proofs.Common.{◌≡◌, ℕ, ◌+◌, ◌-◌, ◌*◌, ◌<◌, ◌≤◌, Bool, true, false, if◌then◌else◌, arith, refl, ⊎_elim}
-use Rattle.std.proofs.lemmas.Bool.{lt-ltb, le-ltb, cases_lt}
+use Rattle.std.proofs.Common.{ℕ, ◌+◌, ◌-◌, ◌*◌, ◌<◌, Bool, true, false, if◌then◌else◌, arith}
 use Rattle.std.proofs.lemmas.Bool.Decides.{nat_tests}
 use Rattle.heap_words.specs.Decoded.{Decoded, NumberWord, PointerWord, HeaderWord, ForwardWord, BusyWord, Malformed}
 use Rattle.space_map.specs.Spaces.{Layout}
@@ -10,7 +9,7 @@ use Rattle.page_scan.specs.declared.spot.Spot.TheVariants.{OnBoard, InRecord}
 use Rattle.page_scan.specs.Left.{left_at}
 use Rattle.page_scan.specs.Scanning.{address_of}
 use Rattle.page_scan.specs.Soundness.{IsOnPage}
-use Rattle.page_scan.specs.Taken.{by_word, goes_on, is_old, passes, scan_end}
+use Rattle.page_scan.specs.Taken.{by_word, is_old, passes, scan_end}
 
 pub passes-lt : (l : Layout) (p : ℕ) (in_place : Bool) (spot : Spot) → IsOnPage l.pages p spot
     → left_at (scan_end l p) (passes p in_place spot) < 7 * (scan_end l p - address_of spot)

@@ -1,15 +1,21 @@
 -- Records that lie packed: where they begin, and where their fields are.
-use Rattle.std.proofs.Common.{◌≡◌, ℕ, zero, suc, ◌+◌, ◌-◌, ◌<◌, ◌≤◌, refl, sym, ap, subst, arith, ⊎_elim}
+use Rattle.std.proofs.Common.{refl, ◌≡◌, ℕ, zero, suc, ◌+◌, ◌-◌, ◌<◌, ◌≤◌, ap, subst, arith, ⊎_elim}
 use Rattle.std.proofs.lemmas.Bool.{cases_lt}
 use Rattle.heap_words.specs.declared.kind.Kind.{Kind}
 use Rattle.heap_words.specs.declared.kind.Kind.TheVariants.{Fields, Raw}
 use Rattle.heap_words.specs.Decoded.{Decoded, NumberWord, PointerWord, HeaderWord, ForwardWord, BusyWord, Malformed, decode}
-use Rattle.page_scan.specs.Fields.{IsField, begins, fields_said, size_said}
-use Rattle.page_scan.specs.Taken.{fields_end}
+use Rattle.heap_state.specs.FieldSpan.{first_field, fields_end}
+use Rattle.heap_state.specs.Ghost.{said_kind}
+use Rattle.heap_state.specs.Kept.{size_said}
+use Rattle.page_scan.specs.Fields.{IsField, begins, fields_said}
 
-pub fields_end-le : (kind : Kind) (size : ℕ) → 0 < size → fields_end kind size ≤ size
+pub fields_end-le : (kind : Kind) (size : ℕ) → 0 < size → fields_end (said_kind kind 0) size ≤ size
 fields_end-le Fields size some = omega arith
 fields_end-le Raw size some = omega arith
+
+pub first_field-is : (kind : Kind) → first_field (said_kind kind 0) ≡ 1
+first_field-is Fields = refl
+first_field-is Raw = refl
 
 fields_said-le : (d : Decoded) → fields_said d ≤ size_said d
 fields_said-le (HeaderWord kind len serial mutator) = fields_end-le kind (len + 1) (omega arith)

@@ -1,18 +1,19 @@
 -- The scan of a page over whose words records lie packed.
-use Rattle.std.proofs.Common.{◌≡◌, ◌≢◌, ℕ, zero, suc, ◌+◌, ◌-◌, ◌*◌, ◌<◌, ◌≤◌, List, length, slice_index, slice_set, Bool, true, false, Option, Some, None, refl, sym, ap, ◌∙◌, subst, arith, ⊎_elim, ◌⊎◌, inl, inr, max, if◌then◌else◌, nat_eq}
-use Rattle.std.specs.Prelude.{◌==◌, ⊤}
+use Rattle.std.proofs.Common.{IsTrue, ◌≡◌, ◌≢◌, ℕ, zero, suc, ◌+◌, ◌*◌, ◌<◌, ◌≤◌, List, length, slice_index, slice_set, Bool, true, false, refl, sym, ap, ◌∙◌, subst, arith, ⊎_elim, ◌⊎◌, inl, inr, max, if◌then◌else◌}
+use Rattle.std.specs.Prelude.{◌==◌}
 use Rattle.std.proofs.lemmas.Bool.{lt-ltb, le-ltb, cases_lt}
 use Rattle.std.proofs.lemmas.Bool.Decides.{nat_tests}
 use Rattle.atom_store.specs.Runs.{Working, alone}
 use Rattle.heap_words.specs.declared.kind.Kind.{Kind}
-use Rattle.heap_words.specs.declared.kind.Kind.TheVariants.{Fields, Raw}
 use Rattle.heap_words.specs.Decoded.{Decoded, NumberWord, PointerWord, HeaderWord, ForwardWord, BusyWord, Malformed, decode}
+use Rattle.heap_state.specs.FieldSpan.{first_field}
+use Rattle.heap_state.specs.Ghost.{said_kind}
+use Rattle.heap_state.specs.Kept.{size_said}
+use Rattle.heap_words.specs.FirstWords.{is_header}
 use Rattle.heap_words.specs.Word.{pointer_word}
-use Rattle.space_map.specs.declared.area_word.AreaWord.{AreaWord}
 use Rattle.space_map.specs.AreaWord.{decode_area}
-use Rattle.space_map.specs.Spaces.{Layout, to_space, space_start, first_word, board_page}
+use Rattle.space_map.specs.Spaces.{Layout, to_space, first_word, board_page}
 use Rattle.space_map.specs.Table.{Area, HeapWord, place_of}
-use Rattle.page_scan.specs.declared.asked.Asked.{Asked}
 use Rattle.page_scan.specs.declared.ending.Ending.{Ending}
 use Rattle.page_scan.specs.declared.scan_stage.ScanStage.{ScanStage}
 use Rattle.page_scan.specs.declared.scan_stage.ScanStage.TheVariants.{LoadsCross, LoadsFirst, LoadsWord, Asks, StoresCopy, LoadsFront, LoadsNext, Ended}
@@ -20,11 +21,11 @@ use Rattle.page_scan.specs.declared.scanned_record.ScannedRecord.{ScannedRecord}
 use Rattle.page_scan.specs.declared.spot.Spot.{Spot}
 use Rattle.page_scan.specs.declared.spot.Spot.TheVariants.{OnBoard, InRecord}
 use Rattle.page_scan.specs.Answering.{IsPacked, LeadsBack, ReplacesPointers, answered_by, answering, crossing_in, heap_in}
-use Rattle.page_scan.specs.Fields.{IsField, IsFieldOn, IsHeader, begins, fields_said, size_said}
+use Rattle.page_scan.specs.Fields.{IsField, IsFieldOn, begins, fields_said}
 use Rattle.page_scan.specs.Scanning.{Scanning, address_of}
-use Rattle.page_scan.specs.Taken.{by_area, by_header, by_word, enters, goes_on, is_old, passes, record_at}
+use Rattle.page_scan.specs.Taken.{by_area, by_header, by_word, goes_on, is_old, passes, record_at}
 use Rattle.page_scan.specs.Theorems.{ScansPages}
-use Rattle.page_scan.proofs.Packed.{begins-next, begins-le, field-below, field-of, no_field-first, fields_end-le}
+use Rattle.page_scan.proofs.Packed.{begins-next, begins-le, field-below, field-of, no_field-first, fields_end-le, first_field-is}
 use Rattle.page_scan.proofs.Replacing.{Replaced, begun-Replaced, unread, area_stays, cross_stays, passed, stored, ended-Replaced}
 
 module _ (l : Layout) (page epoch : ℕ) (in_place : Bool) (words : List ℕ) (front : ℕ) (answer : ℕ → ℕ) (lies : IsPacked l page epoch in_place words front) where
@@ -145,29 +146,29 @@ module _ (l : Layout) (page epoch : ℕ) (in_place : Bool) (words : List ℕ) (f
 
   -- ---- headers
 
-  enters-Knows : (k : ℕ) (r : ScannedRecord) (now : List ℕ) → IsNumber k r → Below (max (at k) (64 * page)) now → 64 * page ≤ at (k + 1)
-      → Knows (enters page in_place r) now
-  enters-Knows k r now n replaced reaches =
-      let first = at-IsNumber k r n in
+  enters-Knows : (k : ℕ) (r : ScannedRecord) (first : ℕ) (now : List ℕ) → first ≡ 1 → IsNumber k r → Below (max (at k) (64 * page)) now
+      → 64 * page ≤ at (k + 1) → Knows (goes_on page in_place r (max (r.at + first) (64 * page))) now
+  enters-Knows k r first now is_first n replaced reaches =
+      let begins = at-IsNumber k r n in
       let next = next-IsNumber k r n in
       let size = ap (λ (z : ScannedRecord). z.next) n.is in
-      let rest : Below (max (r.at + 1) (64 * page)) now =
-      passed l epoch answer words Looked (max (at k) (64 * page)) (max (r.at + 1) (64 * page)) now replaced (omega arith)
+      let rest : Below (max (r.at + first) (64 * page)) now =
+      passed l epoch answer words Looked (max (at k) (64 * page)) (max (r.at + first) (64 * page)) now replaced (omega arith)
       (λ x old back from below.
       let here : x ≡ at k = omega arith in
       no_field-first heap (crossing_in l words page) front k (subst (λ z. IsField heap (crossing_in l words page) front z) here back.looked.0)) in
-      goes_on-Knows k r (max (r.at + 1) (64 * page)) now n rest (omega arith) (omega arith) (omega arith)
+      goes_on-Knows k r (max (r.at + first) (64 * page)) now n rest (omega arith) (omega arith) (omega arith)
 
-  header-Knows : (k : ℕ) (now : List ℕ) (stage : ScanStage) (d : Decoded) → decode (heap (at k)) ≡ d → IsHeader d → at k < front
+  header-Knows : (k : ℕ) (now : List ℕ) (stage : ScanStage) (d : Decoded) → decode (heap (at k)) ≡ d → IsTrue (is_header d) → at k < front
       → Below (max (at k) (64 * page)) now → 64 * page ≤ at (k + 1) → Knows (by_header page in_place (at k) stage d) now
   header-Knows k now stage (HeaderWord kind len serial mutator) says header below replaced reaches =
-      enters-Knows k (record_at (at k) kind len) now
+      enters-Knows k (record_at (at k) kind len) (first_field (said_kind kind 0)) now (first_field-is kind)
       (record { kind = kind; len = len; serial = serial; mutator = mutator; says = says; is = refl; below = below }) replaced reaches
-  header-Knows k now stage (NumberWord n) says header below replaced reaches = absurd header
-  header-Knows k now stage (PointerWord a) says header below replaced reaches = absurd header
-  header-Knows k now stage (ForwardWord len a) says header below replaced reaches = absurd header
-  header-Knows k now stage (BusyWord len worker) says header below replaced reaches = absurd header
-  header-Knows k now stage Malformed says header below replaced reaches = absurd header
+  header-Knows k now stage (NumberWord n) says header below replaced reaches = absurd (cc)
+  header-Knows k now stage (PointerWord a) says header below replaced reaches = absurd (cc)
+  header-Knows k now stage (ForwardWord len a) says header below replaced reaches = absurd (cc)
+  header-Knows k now stage (BusyWord len worker) says header below replaced reaches = absurd (cc)
+  header-Knows k now stage Malformed says header below replaced reaches = absurd (cc)
 
   -- the first word of a record is read
   reads-Knows : (k a : ℕ) (now : List ℕ) (stage : ScanStage) → a ≡ at k → heap_in l now a ≡ heap a → at k < front
@@ -291,7 +292,7 @@ module _ (l : Layout) (page epoch : ℕ) (in_place : Bool) (words : List ℕ) (f
   -- ---- the run
 
   abbrev scan_at : ScanStage → List ℕ → Working Scanning
-  scan_at x now = record { machine = record { spaces = l; page = page; epoch = epoch; in_place = in_place; stage = x }; words = now }
+  scan_at x now = record { machine = record { layout = l; page = page; epoch = epoch; in_place = in_place; stage = x }; words = now }
 
   abbrev Running : ℕ → ScanStage → List ℕ → Type 0
   Running n x now = Knows (alone (answering answer) n (scan_at x now)).machine.stage (alone (answering answer) n (scan_at x now)).words
@@ -335,7 +336,7 @@ pub pages : ScansPages
 pages l page epoch in_place words front answer n ending lies =
     let start : Bool → Working Scanning = λ b. record {
       machine = record {
-        spaces = l;
+        layout = l;
         page = page;
         epoch = epoch;
         in_place = in_place;

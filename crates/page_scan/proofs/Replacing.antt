@@ -1,12 +1,12 @@
 -- The words below a cursor are replaced, and no others changed.
-use Rattle.std.proofs.Common.{◌≡◌, ◌≢◌, ℕ, ◌+◌, ◌*◌, ◌<◌, ◌≤◌, List, length, slice_index, slice_set, Bool, true, refl, sym, ap, ◌∙◌, subst, arith, ⊎_elim}
+use Rattle.std.proofs.Common.{◌≡◌, ◌≢◌, ℕ, ◌+◌, ◌*◌, ◌<◌, ◌≤◌, List, length, slice_index, slice_set, refl, sym, ap, ◌∙◌, subst, arith, ⊎_elim}
 use Rattle.std.proofs.lemmas.Bool.{cases_lt}
 use Rattle.std.proofs.lemmas.List.{get_or-set_same, get_or-set_other}
 use Rattle.std.proofs.Math.ListN.{length-set}
-use Rattle.heap_words.specs.Decoded.{Decoded, NumberWord, PointerWord, HeaderWord, ForwardWord, BusyWord, Malformed, decode}
+use Rattle.heap_words.specs.Decoded.{PointerWord}
 use Rattle.heap_words.specs.Word.{pointer_word}
 use Rattle.space_map.specs.Spaces.{Layout}
-use Rattle.space_map.specs.Table.{Area, Cross, HeapWord, place_of, table_length}
+use Rattle.space_map.specs.Table.{Area, Cross, HeapWord, place_of}
 use Rattle.page_scan.specs.Answering.{LeadsBack, ReplacesPointers, heap_in}
 
 module _ (l : Layout) (epoch : ℕ) (answer : ℕ → ℕ) (words : List ℕ) (IsLooked : ℕ → Type 0) where

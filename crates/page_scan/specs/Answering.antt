@@ -1,7 +1,8 @@
 -- A scan that nobody disturbs, and that is answered at once.
-use Rattle.std.specs.Prelude.{◌≡◌, ◌≢◌, ℕ, ◌+◌, ◌*◌, ◌<◌, ◌≤◌, Bool, false, true, List, Option, Some, length, slice_index, IsTrue}
+use Rattle.std.specs.Prelude.{◌≡◌, ◌≢◌, ℕ, ◌+◌, ◌*◌, ◌<◌, ◌≤◌, Bool, false, true, List, Some, length, slice_index, IsTrue}
 use Rattle.atom_store.specs.Machine.{Machine}
 use Rattle.heap_words.specs.Decoded.{PointerWord, decode}
+use Rattle.heap_words.specs.FirstWords.{is_header}
 use Rattle.heap_words.specs.Word.{pointer_word}
 use Rattle.space_map.specs.declared.area_word.AreaWord.{AreaWord}
 use Rattle.space_map.specs.AreaWord.{decode_area}
@@ -10,7 +11,7 @@ use Rattle.space_map.specs.Table.{Area, Cross, HeapWord, place_of, table_length}
 use Rattle.page_scan.specs.declared.scan_stage.ScanStage.{ScanStage}
 use Rattle.page_scan.specs.declared.scan_stage.ScanStage.TheVariants.{Asks, StoresCopy}
 use Rattle.page_scan.specs.declared.scanned.Scanned.{Scanned}
-use Rattle.page_scan.specs.Fields.{IsHeader, begins}
+use Rattle.page_scan.specs.Fields.{begins}
 use Rattle.page_scan.specs.Scanning.{Scanning, wanted}
 use Rattle.page_scan.specs.Taken.{is_old, taken, told}
 
@@ -47,7 +48,7 @@ pub record IsPacked (l : Layout) (page epoch : ℕ) (in_place : Bool) (words : L
   pub reaches : first_word page < begins (heap_in l words) (crossing_in l words page) 1
   pub below : crossing_in l words page < front
   pub headers : (n : ℕ) → begins (heap_in l words) (crossing_in l words page) n < front
-      → IsHeader (decode (heap_in l words (begins (heap_in l words) (crossing_in l words page) n)))
+      → IsTrue (is_header (decode (heap_in l words (begins (heap_in l words) (crossing_in l words page) n))))
   pub packed : (n : ℕ) → begins (heap_in l words) (crossing_in l words page) n < front
       → begins (heap_in l words) (crossing_in l words page) (n + 1) ≤ front
   pub full : in_place ≡ false → first_word (page + 1) ≤ front

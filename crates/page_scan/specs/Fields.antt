@@ -1,21 +1,15 @@
 -- The words that the scan of a page looks at, by the records that lie on the page.
-use Rattle.std.specs.Prelude.{◌≡◌, ℕ, zero, suc, ◌+◌, ◌<◌, ◌≤◌, ⊤}
+use Rattle.std.specs.Prelude.{ℕ, zero, suc, ◌+◌, ◌<◌, ◌≤◌}
 use Rattle.heap_words.specs.Decoded.{Decoded, HeaderWord, decode}
 use Rattle.space_map.specs.Spaces.{first_word}
-use Rattle.page_scan.specs.Taken.{board_words, fields_end}
+use Rattle.heap_state.specs.FieldSpan.{fields_end}
+use Rattle.heap_state.specs.Ghost.{said_kind}
+use Rattle.heap_state.specs.Kept.{size_said}
+use Rattle.page_scan.specs.Taken.{board_words}
 
-abbrev pub IsHeader : Decoded → Type 0
-IsHeader (HeaderWord kind len serial mutator) = ⊤
-IsHeader _ = ⊥
-
--- the size that a record's header says, 0 where the word is none
-abbrev pub size_said : Decoded → ℕ
-size_said (HeaderWord kind len serial mutator) = len + 1
-size_said _ = 0
-
--- the number of its words up to the end of its fields
+-- the number of words of a record up to the end of its fields, by its header; 0 where the word is none
 abbrev pub fields_said : Decoded → ℕ
-fields_said (HeaderWord kind len serial mutator) = fields_end kind (len + 1)
+fields_said (HeaderWord kind len serial mutator) = fields_end (said_kind kind 0) (len + 1)
 fields_said _ = 0
 
 -- where the record of this number begins, of those that lie packed from an address on

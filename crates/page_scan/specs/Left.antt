@@ -1,10 +1,10 @@
 -- How many steps the scan of a page has left.
-use Rattle.std.specs.Prelude.{ℕ, ◌+◌, ◌-◌, ◌*◌, Bool, true, false, is_some}
+use Rattle.std.specs.Prelude.{◌≡◌, ℕ, ◌+◌, ◌-◌, ◌*◌, Bool, true, false, None, is_some}
 use Rattle.atom_store.specs.declared.reply.Reply.{Reply}
 use Rattle.atom_store.specs.declared.reply.Reply.TheVariants.{Value, Done}
-use Rattle.heap_words.specs.Decoded.{Decoded, HeaderWord, decode}
+use Rattle.heap_words.specs.Decoded.{decode}
+use Rattle.heap_words.specs.FirstWords.{is_header}
 use Rattle.space_map.specs.AreaWord.{decode_area}
-use Rattle.space_map.specs.Spaces.{Layout}
 use Rattle.page_scan.specs.declared.scan_stage.ScanStage.{ScanStage}
 use Rattle.page_scan.specs.declared.scan_stage.ScanStage.TheVariants.{LoadsCross, LoadsFirst, LoadsWord, Asks, StoresCopy, LoadsFront, LoadsNext, Ended}
 use Rattle.page_scan.specs.Scanning.{Scanning, address_of}
@@ -22,11 +22,7 @@ left_at end (LoadsNext r) = 7 * (end - r.next) - 1
 left_at end (Ended ending) = 0
 
 abbrev pub left : Scanning → ℕ
-left v = left_at (scan_end v.spaces v.page) v.stage
-
-abbrev pub is_header : Decoded → Bool
-is_header (HeaderWord kind len serial mutator) = true
-is_header _ = false
+left v = left_at (scan_end v.layout v.page) v.stage
 
 -- the reply takes the scan on, as each does that can be there
 abbrev pub advances : ScanStage → Reply → Bool
@@ -37,3 +33,10 @@ advances (StoresCopy asked to) Done = true
 advances (LoadsFront r) (Value w) = is_some (decode_area w)
 advances (LoadsNext r) (Value w) = is_header (decode w)
 advances _ _ = false
+
+-- what alone holds the scan up: a word that can't be there
+abbrev pub IsHeldUp : ScanStage → Reply → Type 0
+IsHeldUp (LoadsFirst at) (Value w) = is_header (decode w) ≡ false
+IsHeldUp (LoadsFront r) (Value w) = decode_area w ≡ None
+IsHeldUp (LoadsNext r) (Value w) = is_header (decode w) ≡ false
+IsHeldUp _ _ = ⊥

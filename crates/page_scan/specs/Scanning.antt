@@ -1,5 +1,5 @@
 -- The scan of a page: its stages, and the step that each wants.
-use Rattle.std.specs.Prelude.{ℕ, ◌+◌, ◌*◌, ◌==◌, Bool, ⊤, Option, Some, None, if◌then◌else◌}
+use Rattle.std.specs.Prelude.{ℕ, ◌==◌, Bool, ⊤, Option, Some, None, if◌then◌else◌}
 use Rattle.atom_store.specs.declared.step.Step.{Step}
 use Rattle.atom_store.specs.declared.step.Step.TheVariants.{Load, Store}
 use Rattle.heap_words.specs.Word.{pointer_word}
@@ -12,7 +12,7 @@ use Rattle.page_scan.specs.declared.spot.Spot.TheVariants.{OnBoard, InRecord}
 
 -- the layout of the heap, the page, the epoch, whether the page was claimed as the filling page, and the scan's stage
 pub record Scanning : Type 0 where
-  pub spaces : Layout
+  pub layout : Layout
   pub page : ℕ
   pub epoch : ℕ
   pub in_place : Bool
@@ -21,7 +21,7 @@ pub record Scanning : Type 0 where
 -- a scan that has done nothing yet: the board has no records, and all its words are looked at
 abbrev pub begun : Layout → (page epoch : ℕ) → Bool → Scanning
 begun l page epoch in_place = record {
-  spaces = l;
+  layout = l;
   page = page;
   epoch = epoch;
   in_place = in_place;
@@ -62,4 +62,4 @@ wanted_at l p e (Ended ending) = None
 
 -- the next step, if there is one
 abbrev pub wanted : Scanning → Option Step
-wanted v = wanted_at v.spaces v.page v.epoch v.stage
+wanted v = wanted_at v.layout v.page v.epoch v.stage

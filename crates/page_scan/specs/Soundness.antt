@@ -1,7 +1,6 @@
 -- What the scan of a page knows of itself: its steps are in the table, and its words are those of its page.
 use Rattle.std.specs.Prelude.{◌≡◌, ℕ, ◌+◌, ◌*◌, ◌^◌, ◌<◌, ◌≤◌}
 use Rattle.space_map.specs.Spaces.{IsPageCount, first_word, board_page}
-use Rattle.page_scan.specs.declared.asked.Asked.{Asked}
 use Rattle.page_scan.specs.declared.scan_stage.ScanStage.{ScanStage}
 use Rattle.page_scan.specs.declared.scan_stage.ScanStage.TheVariants.{LoadsCross, LoadsFirst, LoadsWord, Asks, StoresCopy, LoadsFront, LoadsNext, Ended}
 use Rattle.page_scan.specs.declared.scanned_record.ScannedRecord.{ScannedRecord}
@@ -38,6 +37,6 @@ FitsStage n p (LoadsNext r) = NextIsOnPage n p r
 FitsStage n p (Ended ending) = ending.cursor < 2 ^ 20
 
 pub record IsSound (v : Scanning) : Type 0 where
-  pub pages : IsPageCount v.spaces.pages
-  pub page : v.page ≤ board_page v.spaces.pages
-  pub fits : FitsStage v.spaces.pages v.page v.stage
+  pub pages : IsPageCount v.layout.pages
+  pub page : v.page ≤ board_page v.layout.pages
+  pub fits : FitsStage v.layout.pages v.page v.stage

@@ -6,13 +6,12 @@ use Rattle.atom_store.specs.declared.turn.Turn.{Turn}
 use Rattle.atom_store.specs.declared.turn.Turn.TheVariants.{More, Finished}
 use Rattle.atom_store.specs.Machine.{Machine}
 use Rattle.heap_words.specs.declared.kind.Kind.{Kind}
-use Rattle.heap_words.specs.declared.kind.Kind.TheVariants.{Fields, Raw}
+use Rattle.heap_state.specs.FieldSpan.{first_field, fields_end}
+use Rattle.heap_state.specs.Ghost.{said_kind}
 use Rattle.heap_words.specs.Decoded.{Decoded, NumberWord, PointerWord, HeaderWord, ForwardWord, BusyWord, Malformed, decode}
 use Rattle.space_map.specs.declared.area_word.AreaWord.{AreaWord}
 use Rattle.space_map.specs.AreaWord.{decode_area}
 use Rattle.space_map.specs.Spaces.{Layout, to_space, space_start, first_word, board_page}
-use Rattle.page_scan.specs.declared.asked.Asked.{Asked}
-use Rattle.page_scan.specs.declared.ending.Ending.{Ending}
 use Rattle.page_scan.specs.declared.scan_stage.ScanStage.{ScanStage}
 use Rattle.page_scan.specs.declared.scan_stage.ScanStage.TheVariants.{LoadsCross, LoadsFirst, LoadsWord, Asks, StoresCopy, LoadsFront, LoadsNext, Ended}
 use Rattle.page_scan.specs.declared.scanned.Scanned.{Scanned}
@@ -32,14 +31,9 @@ board_words = 16
 abbrev pub scan_end : Layout → ℕ → ℕ
 scan_end l page = if page == board_page l.pages then first_word page + board_words else first_word (page + 1)
 
--- the fields of a record are its words from 1 up to this one; a raw record has none
-abbrev pub fields_end : Kind → (size : ℕ) → ℕ
-fields_end Fields size = size
-fields_end Raw size = 1
-
--- the record at this address, by its kind and its length
+-- the record at this address, by the kind and the length that its header says; no kind asks for the word behind the header
 abbrev pub record_at : ℕ → Kind → ℕ → ScannedRecord
-record_at at kind len = record { at = at; fields_end = at + fields_end kind (len + 1); next = at + (len + 1) }
+record_at at kind len = record { at = at; fields_end = at + fields_end (said_kind kind 0) (len + 1); next = at + (len + 1) }
 
 -- the word leads into the space from which records are copied in this epoch, to this address
 abbrev pub is_old : Layout → (epoch address : ℕ) → Bool
@@ -68,8 +62,8 @@ passes page in_place (OnBoard x) =
 passes page in_place (InRecord r x) = goes_on page in_place r (x + 1)
 
 -- a record is entered at its first field on the page
-abbrev pub enters : (page : ℕ) (in_place : Bool) → ScannedRecord → ScanStage
-enters page in_place r = goes_on page in_place r (max (r.at + 1) (first_word page))
+abbrev pub enters : (page : ℕ) (in_place : Bool) (at : ℕ) → Kind → (len : ℕ) → ScanStage
+enters page in_place at kind len = goes_on page in_place (record_at at kind len) (max (at + first_field (said_kind kind 0)) (first_word page))
 
 -- ---- what a word makes of it
 
@@ -85,7 +79,7 @@ by_word l page epoch in_place spot Malformed = passes page in_place spot
 
 -- by the first word at an address: a header is entered; there is no other word
 abbrev pub by_header : (page : ℕ) (in_place : Bool) → (at : ℕ) → ScanStage → Decoded → ScanStage
-by_header page in_place at stage (HeaderWord kind len serial mutator) = enters page in_place (record_at at kind len)
+by_header page in_place at stage (HeaderWord kind len serial mutator) = enters page in_place at kind len
 by_header page in_place at stage (NumberWord n) = stage
 by_header page in_place at stage (PointerWord address) = stage
 by_header page in_place at stage (ForwardWord len address) = stage
@@ -114,7 +108,7 @@ stage_after l p e in_place stage reply = stage
 
 -- the scan after a reply
 abbrev pub taken : Scanning → Reply → Scanning
-taken v reply = record v { stage = stage_after v.spaces v.page v.epoch v.in_place v.stage reply }
+taken v reply = record v { stage = stage_after v.layout v.page v.epoch v.in_place v.stage reply }
 
 -- the stage after an answer
 abbrev pub stage_answered : ScanStage → ℕ → ScanStage

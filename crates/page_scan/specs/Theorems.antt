@@ -1,7 +1,8 @@
 -- What is proved of the scan of a page.
-use Rattle.std.specs.Prelude.{◌≡◌, ℕ, ◌≤◌, ◌↔◌, ⊤, Bool, true, false, List, Option, Some, length}
+use Rattle.std.specs.Prelude.{◌≡◌, ℕ, ◌+◌, ◌≤◌, ◌↔◌, ⊤, Bool, true, false, List, Some, length}
 use Rattle.atom_store.specs.Machine.{ComesTo}
 use Rattle.atom_store.specs.Runs.{Working, alone}
+use Rattle.atom_store.specs.Step.{reply_of}
 use Rattle.atom_store.specs.declared.reply.Reply.{Reply}
 use Rattle.atom_store.specs.declared.reply.Reply.TheVariants.{Value}
 use Rattle.atom_store.specs.declared.step.Step.{Step}
@@ -9,20 +10,25 @@ use Rattle.atom_store.specs.declared.step.Step.TheVariants.{Load, Store, Exchang
 use Rattle.atom_store.specs.declared.turn.Turn.TheVariants.{Finished}
 use Rattle.heap_words.specs.Decoded.{PointerWord, decode}
 use Rattle.heap_words.specs.Word.{pointer_word}
-use Rattle.space_map.specs.Spaces.{Layout, first_word, board_page}
+use Rattle.space_map.specs.declared.area_word.AreaWord.{AreaWord}
+use Rattle.space_map.specs.AreaWord.{decode_area}
+use Rattle.space_map.specs.Spaces.{Layout, to_space, space_start, first_word, board_page}
 use Rattle.space_map.specs.Table.{HeapWord, place_of, table_length}
+use Rattle.space_map.specs.Worked.{four_pages}
 use Rattle.page_scan.specs.declared.asked.Asked.{Asked}
 use Rattle.page_scan.specs.declared.ending.Ending.{Ending}
 use Rattle.page_scan.specs.declared.scan_stage.ScanStage.{ScanStage}
 use Rattle.page_scan.specs.declared.scan_stage.ScanStage.TheVariants.{LoadsCross, LoadsFirst, LoadsWord, Asks, StoresCopy, LoadsFront, LoadsNext, Ended}
 use Rattle.page_scan.specs.declared.scanned.Scanned.TheVariants as comes_to
+use Rattle.page_scan.specs.declared.scanned_record.ScannedRecord.{ScannedRecord}
 use Rattle.page_scan.specs.declared.spot.Spot.{Spot}
 use Rattle.page_scan.specs.Answering.{IsPacked, ReplacesPointers, answering, crossing_in, heap_in}
 use Rattle.page_scan.specs.Fields.{IsFieldOn, IsOnBoard}
+use Rattle.page_scan.specs.Left.{IsHeldUp, advances}
 use Rattle.page_scan.specs.Scanning.{Scanning, HasStep, address_of, begun, wanted}
 use Rattle.page_scan.specs.Soundness.{IsSound}
-use Rattle.page_scan.specs.Taken.{answered, is_old, scan_machine, taken, told}
-use Rattle.page_scan.specs.Worked.{answered_after, board, board_loads, board_asks, board_goes_on, filling, filling_asks, filling_goes_on, full, full_loads, words_with}
+use Rattle.page_scan.specs.Taken.{answered, is_old, scan_end, scan_machine, taken, told}
+use Rattle.page_scan.specs.Worked.{answered_after, board, board_loads, board_asks, board_goes_on, filling, filling_asks, filling_goes_on, full, full_loads, full_words_with, words_with}
 
 -- ---- one step of a scan
 
@@ -41,7 +47,7 @@ cursor_at page (Ended ending) = ending.cursor
 abbrev pub StoresAnswer : Scanning → Step → Type 0
 StoresAnswer v (Load place) = ⊤
 StoresAnswer v (Store place word) = (asked : Asked) × (to : ℕ)
-    × (v.stage ≡ StoresCopy asked to) × (place ≡ place_of v.spaces.pages (HeapWord (address_of asked.spot))) × (word ≡ pointer_word to)
+    × (v.stage ≡ StoresCopy asked to) × (place ≡ place_of v.layout.pages (HeapWord (address_of asked.spot))) × (word ≡ pointer_word to)
 StoresAnswer v (Exchange place old new) = ⊥
 
 abbrev pub StoresOnlyAnswers : Type 0
@@ -50,7 +56,7 @@ StoresOnlyAnswers = (v : Scanning) (step : Step) → wanted v ≡ Some step → 
 -- a copy is asked for exactly where a word that was to be looked at leads into the old space
 abbrev pub AsksOfPointers : Type 0
 AsksOfPointers = (v : Scanning) (spot : Spot) (word old : ℕ) → v.stage ≡ LoadsWord spot
-    → (told (taken v (Value word)).stage ≡ Finished (comes_to.Ask old)) ↔ ((decode word ≡ PointerWord old) × (is_old v.spaces v.epoch old ≡ true))
+    → (told (taken v (Value word)).stage ≡ Finished (comes_to.Ask old)) ↔ ((decode word ≡ PointerWord old) × (is_old v.layout v.epoch old ≡ true))
 
 -- no other stage asks
 abbrev pub AsksAtWords : Type 0
@@ -59,9 +65,28 @@ AsksAtWords = (v : Scanning) (reply : Reply) (asked : Asked) → HasStep v.stage
 
 -- what is passed is not looked at again
 abbrev pub CursorRises : Type 0
-CursorRises = (v : Scanning) (reply : Reply) → IsSound v → cursor_at v.page v.stage ≤ cursor_at v.page (taken v reply).stage
+CursorRises = (v : Scanning) (reply : Reply) → IsSound v → IsSound (taken v reply) → cursor_at v.page v.stage ≤ cursor_at v.page (taken v reply).stage
+
+-- a scan ends at FRONT, as it was read, or behind the last word of what is scanned
+pub record EndsAt (v : Scanning) (reply : Reply) (ending : Ending) : Type 0 where
+  pub at_front : ending.at_front ≡ true → (r : ScannedRecord) × (word : ℕ) × (area : AreaWord) × (v.stage ≡ LoadsFront r) × (reply ≡ Value word)
+      × (decode_area word ≡ Some area) × (space_start v.layout.pages (to_space v.epoch) + area.front ≡ ending.cursor)
+  pub at_end : ending.at_front ≡ false → scan_end v.layout v.page ≤ ending.cursor
+
+abbrev pub EndsInPlace : Type 0
+EndsInPlace = (v : Scanning) (reply : Reply) (ending : Ending) → IsSound v → HasStep v.stage → (taken v reply).stage ≡ Ended ending → EndsAt v reply ending
+
+-- whatever words a step meets, its reply takes the scan on, where what is left falls, or the word is one that can't be there
+abbrev pub GoesOn : Type 0
+GoesOn = (v : Scanning) (step : Step) (met : List ℕ) → wanted v ≡ Some step
+    → advances v.stage (reply_of step met) ≡ false → IsHeldUp v.stage (reply_of step met)
 
 -- ---- a scan that nobody disturbs
+
+-- on the worked pages, the filling one and the full one, records lie packed
+pub record WorkedArePacked : Type 0 where
+  pub filling_page : IsPacked four_pages 4 1 true (words_with 0x301) 259
+  pub full_page : IsPacked four_pages 5 1 false (full_words_with 0x301) 422
 
 -- after so many steps, answered at once
 abbrev pub after_steps : (answer : ℕ → ℕ) → ℕ → Scanning → List ℕ → Working Scanning
@@ -100,3 +125,5 @@ pub record IsWorkedOut : Type 0 where
   pub on_full : ComesTo scan_machine full full_loads (comes_to.Ended false)
   pub words : alone scan_machine 2 (answered_over (alone scan_machine 4 (record { machine = filling; words = words_with 0x301 })) 256)
       ≡ record { machine = record filling { stage = Ended (record { cursor = 259; at_front = true }) }; words = words_with 0x401 }
+  pub full_words : after_steps (λ old. 256) 5 full (full_words_with 0x301)
+      ≡ record { machine = record full { stage = Ended (record { cursor = 422; at_front = false }) }; words = full_words_with 0x401 }

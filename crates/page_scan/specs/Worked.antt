@@ -1,17 +1,14 @@
 -- A small heap, worked out by hand: what was copied into it is scanned in epoch 1.
-use Rattle.std.specs.Prelude.{ℕ, zero, suc, ◌+◌, Bool, true, false, List, [], ◌∷◌, ◌++◌, replicate, slice_set}
+use Rattle.std.specs.Prelude.{ℕ, zero, suc, ◌+◌, true, false, List, [], ◌∷◌, replicate}
 use Rattle.atom_store.specs.declared.step.Step.{Step}
 use Rattle.atom_store.specs.declared.step.Step.TheVariants.{Load, Store}
 use Rattle.atom_store.specs.declared.reply.Reply.{Reply}
 use Rattle.atom_store.specs.declared.reply.Reply.TheVariants.{Value, Done}
 use Rattle.atom_store.specs.Machine.{after_replies, replies_in}
-use Rattle.space_map.specs.Spaces.{Layout}
+use Rattle.atom_store.specs.Runs.{with_words}
+use Rattle.space_map.specs.Worked.{four_pages}
 use Rattle.page_scan.specs.Scanning.{Scanning, begun}
 use Rattle.page_scan.specs.Taken.{answered, scan_machine}
-
--- four pages a space, so that the areas stand at places 4 and 5, the crossing words begin at 25, and the heap's words at 33
-abbrev pub four_pages : Layout
-four_pages = record { pages = 4 }
 
 -- ---- the board
 
@@ -73,12 +70,7 @@ full_loads =
 abbrev pub answered_after : Scanning → List (Step × Reply) → ℕ → Scanning
 answered_after v rows to = answered (after_replies scan_machine v (replies_in rows)) to
 
--- the words with these values in these places
-abbrev pub with_words : List (ℕ × ℕ) → List ℕ → List ℕ
-with_words [] words = words
-with_words (entry ∷ entries) words = with_words entries (slice_set words entry.0 entry.1)
-
--- a table of four pages a space with the copied record, whose second field leads to this word
+-- a table of four pages a space with the record on page 4, whose second field is this word
 unfoldable pub words_with : ℕ → List ℕ
 words_with field =
     with_words
@@ -88,5 +80,19 @@ words_with field =
     ∷ (33 + 256, 0x0000_0000_0001_0022)
     ∷ (33 + 257, 0x1c)
     ∷ (33 + 258, field)
+    ∷ [])
+    (replicate 633 0)
+
+-- one with the records of page 5, of which the first has this word on the page; FRONT is 422, and a word of the raw record is a
+-- number that looks like a pointer
+unfoldable pub full_words_with : ℕ → List ℕ
+full_words_with field =
+    with_words
+    ((5, 0x0000_0000_0400_00a6)
+    ∷ (25 + 5, 318)
+    ∷ (33 + 318, 0x0000_0000_0001_0022)
+    ∷ (33 + 320, field)
+    ∷ (33 + 321, 0x0000_0000_0002_0646)
+    ∷ (33 + 330, 0x301)
     ∷ [])
     (replicate 633 0)

@@ -1,6 +1,6 @@
 //! What holds of the machine by its table. Each function here does nothing: its contract is what is proved.
 
-ghost use Rattle.page_scan.specs.Theorems.{AsksAtWords, AsksOfPointers, CursorRises, IsWorkedOut, ScansBoards, ScansPages, StoresOnlyAnswers};
+ghost use Rattle.page_scan.specs.Theorems.{AsksAtWords, AsksOfPointers, CursorRises, EndsInPlace, GoesOn, IsWorkedOut, ScansBoards, ScansPages, StoresOnlyAnswers, WorkedArePacked};
 
 /// A small heap, worked out by hand: scans of the board, of the filling page, and of a full page over whose first word a
 /// record lies that begins on the page before.
@@ -15,6 +15,7 @@ pub fn each_word_is_looked_at_once()
     ensures asks_of_pointers { AsksOfPointers }
     ensures asks_at_words { AsksAtWords }
     ensures cursor_rises { CursorRises }
+    ensures ends_in_place { EndsInPlace }
 {}
 
 /// Where nobody else changes words, and records lie packed on the page, a scan that has ended has replaced each pointer into the
@@ -22,4 +23,10 @@ pub fn each_word_is_looked_at_once()
 pub fn pages_are_scanned()
     ensures pages { ScansPages }
     ensures boards { ScansBoards }
+    ensures some_pages { WorkedArePacked }
+{}
+
+/// Nothing holds a scan up but a word that can't be there, whatever words its steps meet.
+pub fn scans_go_on()
+    ensures { GoesOn }
 {}

@@ -1,7 +1,11 @@
 ghost use Rattle.std.specs.Prelude.{◌≡◌, ◌+◌, ◌^◌, ◌<◌, ◌≤◌, Some, IsTrue};
+ghost use Rattle.atom_store.specs.Step.{place_in};
+ghost use Rattle.heap_state.specs.FieldSpan.{first_field};
+ghost use Rattle.heap_state.specs.Ghost.{said_kind};
 ghost use Rattle.heap_words.specs.Decoded.{decode};
 ghost use Rattle.space_map.specs.AreaWord.{decode_area};
 ghost use Rattle.space_map.specs.Spaces.{board_page, to_space};
+ghost use Rattle.space_map.specs.Table.{table_length};
 ghost use Rattle.page_scan.specs.Left.{advances, left};
 ghost use Rattle.page_scan.specs.Scanning.{HasStep, IsAsking, address_of, begun, wanted};
 ghost use Rattle.page_scan.specs.Soundness.{IsOnPage, IsSound};
@@ -38,9 +42,9 @@ impl Model for Scan {
 
     ghost Value = { Scanning };
 
-    ghost view = { λ v. record { spaces = v.spaces; page = v.page; epoch = v.epoch; in_place = v.in_place; stage = v.stage } };
+    ghost view = { λ v. record { layout = v.spaces; page = v.page; epoch = v.epoch; in_place = v.in_place; stage = v.stage } };
 
-    ghost invariant = { λ v. IsSound (record { spaces = v.spaces; page = v.page; epoch = v.epoch; in_place = v.in_place; stage = v.stage }) };
+    ghost invariant = { λ v. IsSound (record { layout = v.spaces; page = v.page; epoch = v.epoch; in_place = v.in_place; stage = v.stage }) };
 }
 
 impl Scan {
@@ -67,7 +71,8 @@ impl Scan {
     /// The next step.
     pub fn want(&self) -> Step
         requires { HasStep self.now.stage }
-        ensures { wanted self.now ≡ Some result }
+        ensures wanted { wanted self.now ≡ Some result }
+        ensures in_table { place_in result < table_length self.now.layout.pages }
     {
         let spaces = self.spaces;
         match self.stage {
@@ -153,10 +158,10 @@ impl Scan {
 
     /// A pointer into the old space is asked about.
     fn reads_word(&mut self, spot: Spot, word: u64) -> Turn<Scanned>
-        requires on_page { IsOnPage self.old.spaces.pages self.old.page spot }
-        requires sound { IsSound (record self.old { stage = by_word self.old.spaces self.old.page self.old.epoch self.old.in_place spot (decode word) }) }
-        ensures state { self.new ≡ record self.old { stage = by_word self.old.spaces self.old.page self.old.epoch self.old.in_place spot (decode word) } }
-        ensures told { result ≡ told (by_word self.old.spaces self.old.page self.old.epoch self.old.in_place spot (decode word)) }
+        requires on_page { IsOnPage self.old.layout.pages self.old.page spot }
+        requires sound { IsSound (record self.old { stage = by_word self.old.layout self.old.page self.old.epoch self.old.in_place spot (decode word) }) }
+        ensures state { self.new ≡ record self.old { stage = by_word self.old.layout self.old.page self.old.epoch self.old.in_place spot (decode word) } }
+        ensures told { result ≡ told (by_word self.old.layout self.old.page self.old.epoch self.old.in_place spot (decode word)) }
     {
         let old_space = 1 - self.spaces.to_space(self.epoch);
         match Word(word).as_pointer() {
@@ -174,7 +179,7 @@ impl Scan {
         ensures told { result ≡ told (by_header self.old.page self.old.in_place at stage (decode word)) }
     {
         match read(word) {
-            Some(header) => self.enters(record_at(at, header.kind, header.len)),
+            Some(header) => self.enters(at, header.kind, header.len),
             None => self.goes_to(stage),
         }
     }
@@ -182,9 +187,9 @@ impl Scan {
     /// In place, the scan ends where the next record would be at FRONT.
     fn reads_area(&mut self, r: ScannedRecord, word: u64) -> Turn<Scanned>
         requires at { r.next < 2 ^ 20 }
-        requires sound { IsSound (record self.old { stage = by_area self.old.spaces self.old.epoch r (decode_area word) }) }
-        ensures state { self.new ≡ record self.old { stage = by_area self.old.spaces self.old.epoch r (decode_area word) } }
-        ensures told { result ≡ told (by_area self.old.spaces self.old.epoch r (decode_area word)) }
+        requires sound { IsSound (record self.old { stage = by_area self.old.layout self.old.epoch r (decode_area word) }) }
+        ensures state { self.new ≡ record self.old { stage = by_area self.old.layout self.old.epoch r (decode_area word) } }
+        ensures told { result ≡ told (by_area self.old.layout self.old.epoch r (decode_area word)) }
     {
         let _pages = self.spaces.pages();
         let start = self.spaces.space_start(self.spaces.to_space(self.epoch));
@@ -200,7 +205,7 @@ impl Scan {
 
     /// The word at a spot is passed.
     fn passes(&mut self, spot: Spot) -> Turn<Scanned>
-        requires on_page { IsOnPage self.old.spaces.pages self.old.page spot }
+        requires on_page { IsOnPage self.old.layout.pages self.old.page spot }
         requires sound { IsSound (record self.old { stage = passes self.old.page self.old.in_place spot }) }
         ensures state { self.new ≡ record self.old { stage = passes self.old.page self.old.in_place spot } }
         ensures told { result ≡ told (passes self.old.page self.old.in_place spot) }
@@ -212,7 +217,7 @@ impl Scan {
     }
 
     fn passes_on_board(&mut self, x: u32) -> Turn<Scanned>
-        requires on_page { IsOnPage self.old.spaces.pages self.old.page (Spot.OnBoard x) }
+        requires on_page { IsOnPage self.old.layout.pages self.old.page (Spot.OnBoard x) }
         requires sound { IsSound (record self.old { stage = passes self.old.page self.old.in_place (Spot.OnBoard x) }) }
         ensures state { self.new ≡ record self.old { stage = passes self.old.page self.old.in_place (Spot.OnBoard x) } }
         ensures told { result ≡ told (passes self.old.page self.old.in_place (Spot.OnBoard x)) }
@@ -231,15 +236,15 @@ impl Scan {
     }
 
     /// A record is entered at its first field on the page.
-    fn enters(&mut self, r: ScannedRecord) -> Turn<Scanned>
-        requires at { r.at < 2 ^ 19 }
-        requires sound { IsSound (record self.old { stage = enters self.old.page self.old.in_place r }) }
-        ensures state { self.new ≡ record self.old { stage = enters self.old.page self.old.in_place r } }
-        ensures told { result ≡ told (enters self.old.page self.old.in_place r) }
+    fn enters(&mut self, at: u32, kind: Kind, len: u16) -> Turn<Scanned>
+        requires at { at < 2 ^ 19 }
+        requires sound { IsSound (record self.old { stage = enters self.old.page self.old.in_place at kind len }) }
+        ensures state { self.new ≡ record self.old { stage = enters self.old.page self.old.in_place at kind len } }
+        ensures told { result ≡ told (enters self.old.page self.old.in_place at kind len) }
     {
         let _pages = self.spaces.pages();
         let first = self.spaces.first_word(self.page);
-        self.goes_on(r, first.max(r.at + 1))
+        self.goes_on(record_at(at, kind, len), first.max(at + first_field(kind)))
     }
 
     /// At a word of a record: a field on the page is loaded. Behind the fields the next record is, unless it begins behind the
@@ -266,6 +271,16 @@ impl Scan {
         } else {
             self.goes_to(ScanStage::LoadsNext(r))
         }
+    }
+}
+
+/// The number of a record's first field.
+fn first_field(kind: Kind) -> u32
+    ensures first { result ≡ first_field (said_kind kind 0) }
+    ensures behind_header { result ≡ 1 }
+{
+    match kind {
+        Kind::Fields | Kind::Raw => 1,
     }
 }
 

@@ -1,1 +1,3 @@
 pub mod ClaimsLeft
+pub mod Claiming
+pub mod Opening

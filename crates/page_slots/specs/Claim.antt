@@ -31,7 +31,8 @@ pub record Claiming : Type 0 where
 
 -- ---- how it begins
 
--- a copy may come to lie on a full page alone: not on the board, and on the filling page only one that the claim hinders
+-- a copy may still be in progress on a full page: not on the board, and not where the filling page is claimed, since that waits
+-- until the board and all full pages are open and nobody is behind, when nobody copies
 abbrev pub first_stage : (pages page : ℕ) (in_place : Bool) → ClaimStage
 first_stage n page true = Exchanges
 first_stage n page false = if page == board_page n then LooksAtGate else LooksAtPlace 0

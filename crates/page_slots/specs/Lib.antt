@@ -2,3 +2,4 @@ pub mod Claim
 pub mod Open
 pub mod Soundness
 pub mod Rows
+pub mod Theorems

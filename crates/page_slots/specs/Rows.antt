@@ -7,13 +7,10 @@ use Rattle.atom_store.specs.declared.reply.Reply.{Reply}
 use Rattle.atom_store.specs.declared.reply.Reply.TheVariants as reply
 use Rattle.atom_store.specs.Machine.{ComesTo}
 use Rattle.space_map.specs.declared.page_word.PageWord.TheVariants as page_word
-use Rattle.space_map.specs.Spaces.{Layout}
+use Rattle.space_map.specs.Worked.{four_pages}
 use Rattle.page_slots.specs.declared.claimed.Claimed.TheVariants as claimed
 use Rattle.page_slots.specs.Claim.{Claiming, begun, claim_machine}
 use Rattle.page_slots.specs.Open as opening
-
-abbrev pub four_pages : Layout
-four_pages = record { pages = 4 }
 
 -- page 4, the first of space 1, claimed by worker 3 in epoch 1 when nobody has opened it yet
 abbrev pub claim_of_page_4 : Claiming
@@ -46,4 +43,19 @@ LostClaimEnds = ComesTo claim_machine (begun four_pages 4 1 3 page_word.Unset tr
 
 -- a page is opened by one store
 abbrev pub PageIsOpened : Type 0
-PageIsOpened = ComesTo opening.open_machine (opening.begun four_pages 8 1) ((Store 24 65537, reply.Done) ∷ []) (record {})
+PageIsOpened =
+    (ComesTo opening.open_machine (opening.begun four_pages 8 1) ((Store 24 65537, reply.Done) ∷ []) (record {}))
+    × (ComesTo opening.open_machine (opening.begun four_pages 4 1) ((Store 20 65537, reply.Done) ∷ []) (record {}))
+
+-- the board is claimed by worker 1 in epoch 1, from OPEN of epoch 0
+abbrev pub BoardIsClaimed : Type 0
+BoardIsClaimed =
+    ComesTo claim_machine (begun four_pages 8 1 1 (page_word.Open 0) false) ((Load 0, reply.Value 0x0000_0001_0000_0001) ∷ (Exchange 24 1 65542, reply.Won) ∷ []) claimed.Won
+
+-- and the filling page
+abbrev pub FillingPageIsClaimed : Type 0
+FillingPageIsClaimed = ComesTo claim_machine (begun four_pages 4 1 1 page_word.Unset true) ((Exchange 20 0 65542, reply.Won) ∷ []) claimed.Won
+
+-- a page that was opened in a later epoch meanwhile isn't claimed
+abbrev pub LaterEpochWins : Type 0
+LaterEpochWins = ComesTo claim_machine (begun four_pages 4 1 3 page_word.Unset true) ((Exchange 20 0 65550, reply.Lost 131073) ∷ []) (claimed.Taken 131073)

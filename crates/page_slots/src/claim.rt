@@ -1,9 +1,11 @@
 ghost use Rattle.std.specs.Prelude.{◌≡◌, ◌<◌, ◌≤◌, ◌^◌, Some, IsTrue};
-ghost use Rattle.space_map.specs.PageWord.{IsEarlier};
+ghost use Rattle.atom_store.specs.Step.{place_in};
+ghost use Rattle.space_map.specs.PageWord.{IsEarlier, encode_page};
 ghost use Rattle.space_map.specs.Spaces.{board_page};
 ghost use Rattle.page_slots.specs.Claim.{begun, wanted, taken, told, left, advances, looked_at_place, looked_at_gate, first_stage};
 ghost use Rattle.page_slots.specs.Soundness.{IsSoundClaim, IsClaimGoing};
 ghost use Rattle.space_map.specs.GateWord.{decode_gate};
+ghost use Rattle.space_map.specs.Table.{Page, place_of, table_length};
 
 use crate::claim_stage::ClaimStage;
 use crate::claimed::Claimed;
@@ -89,19 +91,34 @@ impl Claim {
     /// The next step.
     pub fn want(&self) -> Step
         requires { IsClaimGoing self.now.stage }
-        ensures { wanted self.now ≡ Some result }
+        ensures wanted { wanted self.now ≡ Some result }
+        ensures in_table { place_in result < table_length self.now.layout.pages }
     {
         let spaces = self.spaces;
         match self.stage {
             ClaimStage::LooksAtPlace(worker) => Step::Load(spaces.announce_place(worker)),
             ClaimStage::LooksAtGate => Step::Load(spaces.gate_place()),
             ClaimStage::Exchanges => Step::Exchange(
-                spaces.page_place(self.page),
+                self.page_place(),
                 pack(self.found),
-                pack(PageWord::Scanning(self.epoch, self.worker)),
+                self.own_word(),
             ),
             ClaimStage::Ended(_) => unreachable!(),
         }
+    }
+
+    fn page_place(&self) -> usize
+        ensures place { result ≡ place_of self.now.layout.pages (Page self.now.page) }
+        ensures in_table { result < table_length self.now.layout.pages }
+    {
+        self.spaces.page_place(self.page)
+    }
+
+    /// The page's word, once it is claimed.
+    fn own_word(&self) -> u64
+        ensures { result ≡ encode_page (PageWord.Scanning self.now.epoch self.now.worker) }
+    {
+        pack(PageWord::Scanning(self.epoch, self.worker))
     }
 
     /// Takes the reply to it.

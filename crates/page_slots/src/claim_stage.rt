@@ -3,7 +3,7 @@ use crate::claimed::Claimed;
 /// What a claim is about to do.
 #[derive(Clone, Copy, Debug, PartialEq, Eq)]
 pub enum ClaimStage {
-    /// Load the place that this worker has announced, where a copy of its may come to lie.
+    /// Load the place that this worker has announced for a copy.
     LooksAtPlace(u8),
     /// Load the gate, whether the epoch is still the claim's.
     LooksAtGate,

@@ -1,6 +1,19 @@
 //! What holds of the machines. Each function here does nothing: its contract is what is proved.
 
-ghost use Rattle.page_slots.specs.Rows.{FullPageIsClaimed, AnnouncedPlaceHinders, LaterGateHinders, LostClaimEnds, PageIsOpened};
+ghost use Rattle.page_slots.specs.Rows.{FullPageIsClaimed, AnnouncedPlaceHinders, LaterGateHinders, LostClaimEnds, PageIsOpened, BoardIsClaimed, FillingPageIsClaimed, LaterEpochWins};
+ghost use Rattle.page_slots.specs.Theorems.{WonPagesAreClaimed, TakenPagesShowIt, OpenedPagesAreOpen};
+
+/// A claim wins a page that nobody has opened or scanned in its epoch or a later one, and makes it this worker's. Where it
+/// doesn't, a word shows why.
+pub fn claims_win_pages_of_earlier_epochs()
+    ensures won { WonPagesAreClaimed }
+    ensures taken { TakenPagesShowIt }
+{}
+
+/// An opened page is open in its epoch.
+pub fn openings_open_pages()
+    ensures opened { OpenedPagesAreOpen }
+{}
 
 /// A claim and an opening, worked out step by step with all words as numbers.
 pub fn rows_are_worked_out()
@@ -8,5 +21,8 @@ pub fn rows_are_worked_out()
     ensures announced { AnnouncedPlaceHinders }
     ensures later_gate { LaterGateHinders }
     ensures lost { LostClaimEnds }
+    ensures board { BoardIsClaimed }
+    ensures filling_page { FillingPageIsClaimed }
+    ensures later_epoch { LaterEpochWins }
     ensures opened { PageIsOpened }
 {}

@@ -1,7 +1,9 @@
 ghost use Rattle.std.specs.Prelude.{◌≡◌, ◌<◌, ◌≤◌, Some, IsTrue};
+ghost use Rattle.atom_store.specs.Step.{place_in};
 ghost use Rattle.space_map.specs.Spaces.{board_page};
 ghost use Rattle.page_slots.specs.Open.{begun, wanted, taken, told, left, advances};
 ghost use Rattle.page_slots.specs.Soundness.{IsOpeningGoing};
+ghost use Rattle.space_map.specs.Table.{table_length};
 
 use crate::open_stage::OpenStage;
 use crate::opened::Opened;
@@ -49,7 +51,8 @@ impl Open {
     /// The next step.
     pub fn want(&self) -> Step
         requires { IsOpeningGoing self.now.stage }
-        ensures { wanted self.now ≡ Some result }
+        ensures wanted { wanted self.now ≡ Some result }
+        ensures in_table { place_in result < table_length self.now.layout.pages }
     {
         match self.stage {
             OpenStage::StoresOpen => Step::Store(

@@ -7,6 +7,7 @@ use Rattle.plain_state.specs.declared.kind.Kind.{Kind}
 use Rattle.plain_state.specs.declared.kind.Kind.TheVariants.{Fields, Raw}
 use Rattle.plain_state.specs.declared.operation.Operation.{Operation}
 use Rattle.plain_state.specs.declared.operation.Operation.TheVariants as operations
+use Rattle.plain_state.specs.declared.sizes.TheConstants.{MOST_PRINTED}
 use Rattle.plain_state.specs.declared.value.Identity.{Identity}
 use Rattle.plain_state.specs.declared.value.Value.{Value}
 use Rattle.plain_state.specs.declared.value.Value.TheVariants.{Number, Reference}
@@ -17,7 +18,7 @@ use Rattle.mutator_asm.specs.declared.instr.Instr.{Instr}
 use Rattle.mutator_asm.specs.declared.instr.Instr.TheVariants as instrs
 use Rattle.mutator_asm.specs.declared.operand.Operand.{Operand}
 use Rattle.plain_heap.specs.Call.{After, ◌>>=◌, register, number_in, reference_in, operand, value_in, values_of, may_hold, store_in, length_of, zeros, next_of, jumped, went_on, set_register, loads, allocated, prints, computes, allocates, call, is_zero, is_reference, are_same}
-use Rattle.plain_heap.specs.Solo.{leaves_board}
+use Rattle.plain_heap.specs.Alone.{leaves_board}
 use Rattle.plain_heap.proofs.Owning.{IsOf, IsOwn, register-own, word-own, held-own, loads-own, jumps-own, stores-own, gains-own}
 
 -- two outcomes with the same end, or both with none
@@ -136,7 +137,7 @@ module _ (m : ℕ) (heap other : Heap) (k : Mutator) (same : made_by other m ≡
       (store_in other (own_record n) o x (register k b) >>= (λ h. Ok (record { heap = h; mutator = went_on k }))))
       (sym (record-same n)) (store_as n (record_of heap (own_record n)) x (register k b) refl (register-own m k b own.registers))
 
-  prints_as : (n : ℕ) (b : Bool) → nat_lt (length k.printed) 65536 ≡ b → IsAlike (prints heap k n) (prints other k n)
+  prints_as : (n : ℕ) (b : Bool) → nat_lt (length k.printed) MOST_PRINTED ≡ b → IsAlike (prints heap k n) (prints other k n)
   prints_as n true is = rw is (stays (went_on (record k { printed = k.printed ++ n ∷ [] })) (record { registers = own.registers; words = own.words }))
   prints_as n false is = rw is refl
 
@@ -170,5 +171,5 @@ module _ (m : ℕ) (heap other : Heap) (k : Mutator) (same : made_by other m ≡
   call-alike (instrs.Get d x) leaves = cc
   call-alike (instrs.Put x a) leaves = cc
   call-alike (instrs.Swap d x) leaves = cc
-  call-alike (instrs.Out a) leaves = same-bind (Alike m heap other) (number_in (register k a)) _ _ (λ n is. prints_as n (nat_lt (length k.printed) 65536) refl)
+  call-alike (instrs.Out a) leaves = same-bind (Alike m heap other) (number_in (register k a)) _ _ (λ n is. prints_as n (nat_lt (length k.printed) MOST_PRINTED) refl)
   call-alike instrs.Halt leaves = refl

@@ -5,6 +5,7 @@ use Rattle.std.proofs.lemmas.Bool.{cases_eq}
 use Rattle.std.proofs.lemmas.List.{length-replicate, get_or-set_same, get_or-set_other, set-get_or}
 use Rattle.std.proofs.lemmas.List.Elements.{All-nil, All-replicate}
 use Rattle.plain_state.specs.declared.end.End.{End}
+use Rattle.plain_state.specs.declared.sizes.TheConstants.{BOARD_WORDS}
 use Rattle.plain_state.specs.declared.value.Value.TheVariants.{Number}
 use Rattle.plain_state.specs.State.{Record, Mutator, Plain, made_by}
 use Rattle.mutator_asm.specs.declared.instr.Instr.{Instr}
@@ -13,7 +14,7 @@ use Rattle.plain_heap.specs.Step.{ended}
 use Rattle.plain_heap.specs.Order.{fresh, opening}
 use Rattle.plain_heap.proofs.Opening.{opening-replicate}
 use Rattle.plain_heap.proofs.Owning.{IsOf, AllOf, IsOwn, read_all}
-use Rattle.plain_heap.proofs.Lone.{mutator_of}
+use Rattle.plain_heap.proofs.Alone.{mutator_of}
 
 -- no mutator of the state is led to a record of another
 pub record IsApart (code : List (List Instr)) (s : Plain) : Type 0 where
@@ -43,15 +44,15 @@ pub record Meets (m : ℕ) (s u : Plain) : Type 0 where
 moved-same : (s : Plain) (m : ℕ) (records : List Record) (k : Mutator) → m < length s.mutators → mutator_of (moved s m records k) m ≡ k
 moved-same s m records k within = get_or-set_same s.mutators m k fresh within
 
-made-same : (s : Plain) (m : ℕ) (records : List Record) (k : Mutator) → m < length s.heap.records → made_by (moved s m records k).heap m ≡ records
-made-same s m records k within = get_or-set_same s.heap.records m records [] within
+records-same : (s : Plain) (m : ℕ) (records : List Record) (k : Mutator) → m < length s.heap.records → made_by (moved s m records k).heap m ≡ records
+records-same s m records k within = get_or-set_same s.heap.records m records [] within
 
 -- the same move from two states
 pub moved-meets : (m : ℕ) (s u : Plain) (records : List Record) (k : Mutator) → m < length s.mutators → m < length s.heap.records → m < length u.mutators → m < length u.heap.records
     → Meets m (moved s m records k) (moved u m records k)
 moved-meets m s u records k within in_heap other_within other_in_heap = record {
   mutator = moved-same u m records k other_within ∙ sym (moved-same s m records k within);
-  records = made-same u m records k other_in_heap ∙ sym (made-same s m records k in_heap);
+  records = records-same u m records k other_in_heap ∙ sym (records-same s m records k in_heap);
 }
 
 pub moves-other : (m j : ℕ) (s after : Plain) → Moves j s after → (m ≡ j → ⊥) → Meets m s after
@@ -62,7 +63,7 @@ moves-other m j s after moves other = rw moves.is (record {
 
 apart_same : (m : ℕ) (s after : Plain) (moves : Moves m s after) → m < length s.mutators → m < length s.heap.records → IsOwn m (made_by after.heap m) (mutator_of after m)
 apart_same m s after moves within in_heap = rw moves.is
-    (rw (moved-same s m moves.records moves.mutator within, made-same s m moves.records moves.mutator in_heap) moves.own)
+    (rw (moved-same s m moves.records moves.mutator within, records-same s m moves.records moves.mutator in_heap) moves.own)
 
 apart_other : (m j : ℕ) (s after : Plain) → Meets m s after → IsOwn m (made_by s.heap m) (mutator_of s m) → IsOwn m (made_by after.heap m) (mutator_of after m)
 apart_other m j s after meets own = rw (meets.mutator, meets.records) own
@@ -112,7 +113,7 @@ module _ (code : List (List Instr)) (s : Plain) (apart : IsApart code s) where
 
 module _ (code : List (List Instr)) where
   abbrev begun : Plain
-  begun = record { heap = record { records = replicate (length code) []; board = replicate 16 (Number 0) }; mutators = replicate (length code) fresh }
+  begun = record { heap = record { records = replicate (length code) []; board = replicate BOARD_WORDS (Number 0) }; mutators = replicate (length code) fresh }
 
   begun-own : (m : ℕ) → IsOwn m (made_by begun.heap m) (mutator_of begun m)
   begun-own m =

@@ -6,6 +6,7 @@ use Rattle.plain_state.specs.declared.kind.Kind.{Kind}
 use Rattle.plain_state.specs.declared.kind.Kind.TheVariants.{Fields, Raw}
 use Rattle.plain_state.specs.declared.operation.Operation.{Operation}
 use Rattle.plain_state.specs.declared.operation.Operation.TheVariants as operations
+use Rattle.plain_state.specs.declared.sizes.TheConstants.{MOST_PRINTED}
 use Rattle.plain_state.specs.Operation.{applied}
 use Rattle.plain_state.specs.State.{Heap, Mutator, record_of}
 use Rattle.mutator_asm.specs.declared.instr.Instr.{Instr}
@@ -30,7 +31,7 @@ pub record Went (k l : Mutator) : Type 0 where
   pub executed : l.executed ≡ k.executed + 1
   pub going : l.end ≡ k.end
 
-if_ok-bind : {A : Type 0} (P : After → Type 0) (o : Result A End) (f : A → Result After End) → ((a : A) → IfOk (f a) P) → IfOk (o >>= f) P
+pub if_ok-bind : {A : Type 0} (P : After → Type 0) (o : Result A End) (f : A → Result After End) → ((a : A) → IfOk (f a) P) → IfOk (o >>= f) P
 if_ok-bind P (Ok a) f next = next a
 if_ok-bind P (Err why) f next = tt
 
@@ -49,7 +50,7 @@ module _ (m : ℕ) (heap : Heap) (k : Mutator) where
   allocates-went : (kind : Kind) (d : ℕ) (x : Operand) → IfOk (allocates m heap k kind d x) WentOn
   allocates-went kind d x = if_ok-bind WentOn (operand k x) _ (λ y. if_ok-bind WentOn (length_of y) _ (λ n. quiet _ refl refl refl))
 
-  prints_as : (n : ℕ) (b : Bool) → nat_lt (length k.printed) 65536 ≡ b → IfOk (prints heap k n) WentOn
+  prints_as : (n : ℕ) (b : Bool) → nat_lt (length k.printed) MOST_PRINTED ≡ b → IfOk (prints heap k n) WentOn
   prints_as n true is = rw is (record { printed = record { rest = n ∷ []; is = refl }; executed = refl; going = refl })
   prints_as n false is = rw is tt
 
@@ -78,5 +79,5 @@ module _ (m : ℕ) (heap : Heap) (k : Mutator) where
   call-went (instrs.Get d x) = if_ok-bind WentOn (operand k x) _ (λ y. if_ok-bind WentOn (board_word heap y) _ (λ v. quiet _ refl refl refl))
   call-went (instrs.Put x a) = if_ok-bind WentOn (operand k x) _ (λ y. if_ok-bind WentOn (board_word heap y) _ (λ old. quiet _ refl refl refl))
   call-went (instrs.Swap d x) = if_ok-bind WentOn (operand k x) _ (λ y. if_ok-bind WentOn (board_word heap y) _ (λ old. quiet _ refl refl refl))
-  call-went (instrs.Out a) = if_ok-bind WentOn (number_in (register k a)) _ (λ n. prints_as n (nat_lt (length k.printed) 65536) refl)
+  call-went (instrs.Out a) = if_ok-bind WentOn (number_in (register k a)) _ (λ n. prints_as n (nat_lt (length k.printed) MOST_PRINTED) refl)
   call-went instrs.Halt = tt

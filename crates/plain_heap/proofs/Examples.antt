@@ -9,21 +9,21 @@ use Rattle.mutator_asm.specs.declared.operand.Operand.TheVariants as operands
 use Rattle.plain_heap.specs.Call.{call}
 use Rattle.plain_heap.specs.Step.{stepped}
 use Rattle.plain_heap.specs.Order.{marked}
-use Rattle.plain_heap.specs.Solo.{is_alone, solo}
+use Rattle.plain_heap.specs.Alone.{shares_nothing, run_alone}
 
 abbrev code : List (List Instr)
 code = (instrs.Li 1 7 ∷ instrs.Out 1 ∷ instrs.Halt ∷ []) ∷ (instrs.Li 1 8 ∷ instrs.Out 1 ∷ instrs.Jmp 1 ∷ []) ∷ []
 
-code-alone : is_alone code ≡ true
+code-alone : shares_nothing code ≡ true
 code-alone = refl
 
 -- the board is shared
-board-not_alone : is_alone ((instrs.Get 0 (operands.Number 0) ∷ []) ∷ code) ≡ false
+board-not_alone : shares_nothing ((instrs.Get 0 (operands.Number 0) ∷ []) ∷ code) ≡ false
 board-not_alone = refl
 
 -- numbers and end of a mutator that is run alone, where it has five turns
 shown : ℕ → Option (List ℕ × Option End)
-shown m = option_map {U = List ℕ × Option End} (λ k. (k.printed, k.end)) (slice_get (solo code 5 m).mutators m)
+shown m = option_map {U = List ℕ × Option End} (λ k. (k.printed, k.end)) (slice_get (run_alone code 5 m).mutators m)
 
 first-alone : shown 0 ≡ Some ((7 ∷ []), Some Halt)
 unfolding shown marked stepped call

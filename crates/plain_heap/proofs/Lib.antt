@@ -3,9 +3,11 @@ pub mod Stepping
 pub mod Owning
 pub mod Alike
 pub mod Counting
-pub mod Lone
+pub mod Alone
 pub mod Apart
 pub mod Moving
 pub mod Ordering
 mod Examples
 pub mod Stories
+pub mod Consistency
+pub mod Reached

@@ -16,11 +16,11 @@ use Rattle.plain_heap.specs.Step.{fetch, executes, ended, settled, stepped, aske
 use Rattle.plain_heap.specs.declared.mark.Mark.{Mark}
 use Rattle.plain_heap.specs.declared.mark.Mark.TheVariants.{Step, Flip, Full}
 use Rattle.plain_heap.specs.Order.{fresh, is_asked, marked}
-use Rattle.plain_heap.specs.Solo.{leaves_board, is_alone}
+use Rattle.plain_heap.specs.Alone.{leaves_board, shares_nothing}
 use Rattle.plain_heap.proofs.Stepping.{stepped-past}
 use Rattle.plain_heap.proofs.Owning.{IsOwn, found_all, read_all}
 use Rattle.plain_heap.proofs.Alike.{Same, Alike, call-alike, same-bind}
-use Rattle.plain_heap.proofs.Lone.{mutator_of, stepped-rests, stepped-goes}
+use Rattle.plain_heap.proofs.Alone.{mutator_of, stepped-rests, stepped-goes}
 use Rattle.plain_heap.proofs.Apart.{IsApart, moved, Moves, Meets, moves-other, moved-meets, moves-apart, moves-mutator, stays-moves, full-moves}
 
 -- both states take these records of mutator m, and in both it becomes the same
@@ -40,13 +40,13 @@ pub record StepsAlike (m : ℕ) (s u s_after u_after : Plain) : Type 0 where
 -- ---- a step
 
 -- an instruction of a program whose mutators share nothing
-fetched-leaves : (code : List (List Instr)) (m counter : ℕ) (i : Instr) → is_alone code ≡ true → instr_at code m counter ≡ Some i → leaves_board i ≡ true
+fetched-leaves : (code : List (List Instr)) (m counter : ℕ) (i : Instr) → shares_nothing code ≡ true → instr_at code m counter ≡ Some i → leaves_board i ≡ true
 fetched-leaves code m counter i alone is =
     let sections = AllPass-from_list_all (list_all leaves_board) code alone in
     let section = read_all (λ is. list_all leaves_board is ≡ true) code m [] sections refl in
     found_all (λ i. leaves_board i ≡ true) (get_or code m []) counter i (AllPass-from_list_all leaves_board (get_or code m []) section) is
 
-module _ (code : List (List Instr)) (turns : ℕ) (alone : is_alone code ≡ true) (m : ℕ) (s u : Plain) (apart : IsApart code s) (other_apart : IsApart code u) (meets : Meets m s u) (has : m < length code) where
+module _ (code : List (List Instr)) (turns : ℕ) (alone : shares_nothing code ≡ true) (m : ℕ) (s u : Plain) (apart : IsApart code s) (other_apart : IsApart code u) (meets : Meets m s u) (has : m < length code) where
   at_counter : (k : Mutator) (i : Instr) (o : Option Instr) → instr_at code m k.counter ≡ o → ok_or o JumpOut ≡ Ok i → leaves_board i ≡ true
   at_counter k i None found is = cc
   at_counter k i (Some j) found is = subst (λ i. leaves_board i ≡ true) (same_Ok is) (fetched-leaves code m k.counter j alone found)
@@ -121,7 +121,7 @@ abbrev pub Fills : List (List Instr) → ℕ → Plain → ℕ → ℕ → ℕ �
 Fills code turns s m asked room live =
     (m < length code) × (is_some (mutator_of s m).end ≡ false) × (marked code turns s (Full m asked room live) ≡ ended s m (mutator_of s m) (HeapFull asked room live))
 
-module _ (code : List (List Instr)) (turns : ℕ) (alone : is_alone code ≡ true) (s : Plain) (apart : IsApart code s) where
+module _ (code : List (List Instr)) (turns : ℕ) (alone : shares_nothing code ≡ true) (s : Plain) (apart : IsApart code s) where
   itself : (m : ℕ) → Meets m s s
   itself m = record { mutator = refl; records = refl }
 

@@ -11,10 +11,10 @@ use Rattle.plain_heap.specs.Step.{ended, stepped}
 use Rattle.plain_heap.specs.declared.mark.Mark.{Mark}
 use Rattle.plain_heap.specs.declared.mark.Mark.TheVariants.{Step, Flip, Full}
 use Rattle.plain_heap.specs.Order.{fresh, opening, marked, state_after, plain}
-use Rattle.plain_heap.specs.Solo.{is_alone, solo, is_full, IsAsAlone}
+use Rattle.plain_heap.specs.Alone.{shares_nothing, run_alone, is_full, IsAsAlone}
 use Rattle.plain_heap.proofs.Stepping.{stepped-past}
 use Rattle.plain_heap.proofs.Counting.{Grown}
-use Rattle.plain_heap.proofs.Lone.{mutator_of, after_steps, stepped-rests, steps-come, steps-end}
+use Rattle.plain_heap.proofs.Alone.{mutator_of, after_steps, stepped-rests, steps-come, steps-end}
 use Rattle.plain_heap.proofs.Apart.{IsApart, Meets, moves-apart, full-moves, ended-mutator, opening-apart, opening-begun}
 use Rattle.plain_heap.proofs.Moving.{step-alike, mover, Fills, fills, marked-apart, marked-other, marked-rests}
 
@@ -36,7 +36,7 @@ full_end asked room live why is other = none (ap full_in is ∙ other)
     none : true ≡ false → ⊥
     none e = cc
 
-module _ (code : List (List Instr)) (turns : ℕ) (alone : is_alone code ≡ true) where
+module _ (code : List (List Instr)) (turns : ℕ) (alone : shares_nothing code ≡ true) where
   -- an order leads from one state without a way between mutators to another
   pub order-apart : (order : List Mark) (s : Plain) → IsApart code s → IsApart code (state_after code turns s order)
   order-apart [] s apart = apart
@@ -48,7 +48,7 @@ module _ (code : List (List Instr)) (turns : ℕ) (alone : is_alone code ≡ tru
       let same = marked-rests code turns alone s apart m mark is in
       order-rests m marks (marked code turns s mark) (marked-apart code turns alone s apart mark) (ap (λ k. is_some k.end) same ∙ is) ∙ same
 
-module _ (code : List (List Instr)) (turns : ℕ) (alone : is_alone code ≡ true) (m : ℕ) (has : m < length code) where
+module _ (code : List (List Instr)) (turns : ℕ) (alone : shares_nothing code ≡ true) (m : ℕ) (has : m < length code) where
   -- wherever two states have the same mutator m, what it comes to by an order agrees with what it
   -- comes to alone
   abbrev Agree : List Mark → Type 0
@@ -124,7 +124,7 @@ module _ (code : List (List Instr)) (turns : ℕ) (alone : is_alone code ≡ tru
 
 -- ---- from the opening on
 
-same_from_opening : (code : List (List Instr)) (turns : ℕ) (order : List Mark) (m : ℕ) (k : Mutator) → is_alone code ≡ true → slice_get (plain code turns order).mutators m ≡ Some k → m < length code
+same_from_opening : (code : List (List Instr)) (turns : ℕ) (order : List Mark) (m : ℕ) (k : Mutator) → shares_nothing code ≡ true → slice_get (plain code turns order).mutators m ≡ Some k → m < length code
     → IsAsAlone code turns m k
 same_from_opening code turns order m k alone found has =
     let opened = opening-apart code in
@@ -133,14 +133,14 @@ same_from_opening code turns order m k alone found has =
     let is = get_or_from_slice_get (plain code turns order).mutators m k fresh found in
     let counted = (order-apart code turns alone (replicate (turns + 1) (Step m)) (opening code) opened).counted in
     rw (← is) (record {
-      alone = mutator_of (solo code turns m) m;
-      run_alone = slice_get-get_or (solo code turns m).mutators m fresh (subst (λ n. m < n) (sym counted) has);
+      alone = mutator_of (run_alone code turns m) m;
+      reached = slice_get-get_or (run_alone code turns m).mutators m fresh (subst (λ n. m < n) (sym counted) has);
       numbers = rw agrees.numbers.is (take-append_seam _ agrees.numbers.rest);
       whole = agrees.whole;
     })
 
 -- each mutator of an order is as it is alone
-pub order-same : (code : List (List Instr)) (turns : ℕ) (order : List Mark) (m : ℕ) (k : Mutator) → is_alone code ≡ true → slice_get (plain code turns order).mutators m ≡ Some k → IsAsAlone code turns m k
+pub order-same : (code : List (List Instr)) (turns : ℕ) (order : List Mark) (m : ℕ) (k : Mutator) → shares_nothing code ≡ true → slice_get (plain code turns order).mutators m ≡ Some k → IsAsAlone code turns m k
 order-same code turns order m k alone found =
     let counted = (order-apart code turns alone order (opening code) (opening-apart code)).counted in
     same_from_opening code turns order m k alone found (subst (λ n. m < n) counted (slice_get_within (plain code turns order).mutators m k found))
@@ -151,9 +151,9 @@ unfolding marked
 steps-past code turns m zero s past = refl
 steps-past code turns m (suc n) s past = ap (λ t. after_steps code turns t n m) (stepped-past code turns s m past) ∙ steps-past code turns m n s past
 
-ends_as : (code : List (List Instr)) (turns m : ℕ) (k : Mutator) → slice_get (solo code turns m).mutators m ≡ Some k → (m < length code) ⊎ (length code ≤ m) → is_some k.end ≡ true
+ends_as : (code : List (List Instr)) (turns m : ℕ) (k : Mutator) → slice_get (run_alone code turns m).mutators m ≡ Some k → (m < length code) ⊎ (length code ≤ m) → is_some k.end ≡ true
 ends_as code turns m k found (inl has) =
-    subst (λ k. is_some k.end ≡ true) (get_or_from_slice_get (solo code turns m).mutators m k fresh found)
+    subst (λ k. is_some k.end ≡ true) (get_or_from_slice_get (run_alone code turns m).mutators m k fresh found)
     (steps-end code turns m (opening code) has (opening-apart code).counted (opening-begun code m))
 ends_as code turns m k found (inr past) =
     let none = slice_get_past (opening code).mutators m (subst (λ n. n ≤ m) (sym (opening-apart code).counted) past) in
@@ -164,5 +164,5 @@ ends_as code turns m k found (inr past) =
     nothing e = cc
 
 -- a mutator that is run alone has its end
-pub solo-ends : (code : List (List Instr)) (turns m : ℕ) (k : Mutator) → slice_get (solo code turns m).mutators m ≡ Some k → is_some k.end ≡ true
-solo-ends code turns m k found = ends_as code turns m k found (cases_lt m (length code))
+pub run_alone-ends : (code : List (List Instr)) (turns m : ℕ) (k : Mutator) → slice_get (run_alone code turns m).mutators m ≡ Some k → is_some k.end ≡ true
+run_alone-ends code turns m k found = ends_as code turns m k found (cases_lt m (length code))

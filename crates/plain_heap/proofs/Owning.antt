@@ -46,7 +46,7 @@ pub register-own : (m : ℕ) (k : Mutator) (r : ℕ) → All (IsOf m) k.register
 register-own m k r all = read_all (IsOf m) k.registers r (Number 0) all tt
 
 -- what holds of each record holds of one found by its serial
-found_serial : (P : Record → Type 0) (records : List Record) (n : ℕ) (r : Record) → All P records → at_serial records n ≡ Some r → P r
+pub found_serial : (P : Record → Type 0) (records : List Record) (n : ℕ) (r : Record) → All P records → at_serial records n ≡ Some r → P r
 found_serial P records zero r all is = cc
 found_serial P records (suc n) r all is = found_all P records n r all is
 

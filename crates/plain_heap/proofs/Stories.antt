@@ -32,7 +32,11 @@ module _ (code : List (List Instr)) (turns : ℕ) where
 pub story-now : (code : List (List Instr)) (turns : ℕ) (order : List Mark) → (story code turns order).now ≡ plain code turns order
 story-now code turns order = story_after-now code turns (record { flip = opening code; now = opening code }) order
 
--- the other is what it came to at the last flip
+-- the other is the opening where there was no flip
+pub story-no_flip : (code : List (List Instr)) (turns : ℕ) (order : List Mark) → list_any is_flip order ≡ false → (story code turns order).flip ≡ opening code
+story-no_flip code turns order none = story_after-flip code turns (record { flip = opening code; now = opening code }) order none
+
+-- and else what the plain machine came to at the last flip
 pub story-flip : (code : List (List Instr)) (turns asked : ℕ) (before after : List Mark) → list_any is_flip after ≡ false
     → (story code turns (before ++ Flip asked ∷ after)).flip ≡ plain code turns before
 story-flip code turns asked before after none =

@@ -1,5 +1,5 @@
 -- One instruction on the plain heap: its ends in the order in which they are tried, else its effect.
-use Rattle.std.specs.Prelude.{ℕ, ◌+◌, ◌%◌, ◌^◌, Bool, true, false, ◌&&◌, List, [], ◌∷◌, ◌++◌, length, Option, Some, None, Result, Ok, Err, nat_lt, nat_le, ◌==◌, if◌then◌else◌, slice_get, slice_index_or, slice_set, replicate}
+use Rattle.std.specs.Prelude.{ℕ, ◌+◌, ◌%◌, Bool, true, false, ◌&&◌, List, [], ◌∷◌, ◌++◌, length, Option, Some, None, Result, Ok, Err, nat_lt, nat_le, ◌==◌, if◌then◌else◌, slice_get, slice_index_or, slice_set}
 use Rattle.std.specs.Option.{ok_or, option_map_or}
 use Rattle.plain_state.specs.declared.end.End.{End}
 use Rattle.plain_state.specs.declared.end.End.TheVariants.{Halt, NotPointer, NotNumber, OutOfRange, IntoRaw, OutputFull}
@@ -7,11 +7,13 @@ use Rattle.plain_state.specs.declared.kind.Kind.{Kind}
 use Rattle.plain_state.specs.declared.kind.Kind.TheVariants.{Fields, Raw}
 use Rattle.plain_state.specs.declared.operation.Operation.{Operation}
 use Rattle.plain_state.specs.declared.operation.Operation.TheVariants as operations
+use Rattle.plain_state.specs.declared.sizes.TheConstants.{NUMBERS, MOST_PRINTED, LONGEST_RECORD}
 use Rattle.plain_state.specs.declared.value.Identity.{Identity}
 use Rattle.plain_state.specs.declared.value.Value.{Value}
 use Rattle.plain_state.specs.declared.value.Value.TheVariants.{Number, Reference}
 use Rattle.plain_state.specs.Operation.{one_if, applied}
 use Rattle.plain_state.specs.State.{Record, Heap, Mutator, record_of, serial_of}
+pub use Rattle.plain_state.specs.Writing.{zeros}
 use Rattle.plain_state.specs.Writing.{stored, with_board, gained}
 use Rattle.mutator_asm.specs.declared.instr.Instr.{Instr}
 use Rattle.mutator_asm.specs.declared.instr.Instr.TheVariants as instrs
@@ -79,7 +81,7 @@ board_word heap x = ok_or (slice_get heap.board x) OutOfRange
 
 -- the number of the next instruction
 abbrev pub next_of : Mutator → ℕ
-next_of k = (k.counter + 1) % 2 ^ 62
+next_of k = (k.counter + 1) % NUMBERS
 
 -- the mutator goes on at an instruction
 abbrev pub jumped : Mutator → ℕ → Mutator
@@ -109,10 +111,6 @@ store_in heap i (Some r) x v = do
   v ← may_hold r.kind v
   Ok (stored heap i r x v)
 
--- a record of n values, each the number 0
-abbrev pub zeros : Kind → ℕ → Record
-zeros kind n = record { kind = kind; values = replicate n (Number 0) }
-
 -- mutator m allocates a record of n values, all 0, and register d refers to it
 abbrev pub allocated : ℕ → Heap → Mutator → Kind → ℕ → ℕ → After
 allocated m heap k kind d n = record {
@@ -120,14 +118,14 @@ allocated m heap k kind d n = record {
   mutator = went_on (set_register k d (Reference (record { mutator = m; serial = serial_of heap m + 1 })));
 }
 
--- a record has at most 4095 values
+-- the number as the length of a record, where it is none too long
 abbrev pub length_of : ℕ → Result ℕ End
-length_of n = if nat_le n 4095 then Ok n else Err OutOfRange
+length_of n = if nat_le n LONGEST_RECORD then Ok n else Err OutOfRange
 
--- a mutator prints at most 65,536 numbers
+-- a mutator prints a number, where it has not printed the most
 abbrev pub prints : Heap → Mutator → ℕ → Result After End
 prints heap k n =
-    if nat_lt (length k.printed) 65536
+    if nat_lt (length k.printed) MOST_PRINTED
     then Ok (record { heap = heap; mutator = went_on (record k { printed = k.printed ++ n ∷ [] }) })
     else Err OutputFull
 

@@ -4,4 +4,5 @@ pub mod Step
 pub mod Memory
 pub mod Order
 pub mod Print
-pub mod Solo
+pub mod Alone
+pub mod Consistent

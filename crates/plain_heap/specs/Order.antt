@@ -3,6 +3,7 @@ use Rattle.std.specs.Prelude.{◌≡◌, ℕ, Bool, true, false, List, [], ◌�
 use Rattle.std.specs.List.{list_any}
 use Rattle.std.specs.Option.{option_map_or}
 use Rattle.plain_state.specs.declared.end.End.TheVariants.{HeapFull}
+use Rattle.plain_state.specs.declared.sizes.TheConstants.{REGISTERS, BOARD_WORDS}
 use Rattle.plain_state.specs.declared.value.Value.TheVariants.{Number}
 use Rattle.plain_state.specs.State.{Mutator, Plain}
 use Rattle.mutator_asm.specs.declared.instr.Instr.{Instr}
@@ -12,12 +13,12 @@ use Rattle.plain_heap.specs.Step.{stepped, asked_by, ended}
 
 -- a mutator before its first instruction
 abbrev pub fresh : Mutator
-fresh = record { counter = 0; registers = replicate 8 (Number 0); printed = []; executed = 0; end = None }
+fresh = record { counter = 0; registers = replicate REGISTERS (Number 0); printed = []; executed = 0; end = None }
 
 -- the state in which a program begins
 abbrev pub opening : List (List Instr) → Plain
 opening code = record {
-  heap = record { records = map (λ section. []) code; board = replicate 16 (Number 0) };
+  heap = record { records = map (λ section. []) code; board = replicate BOARD_WORDS (Number 0) };
   mutators = map (λ section. fresh) code;
 }
 
@@ -41,7 +42,7 @@ abbrev pub state_after : List (List Instr) → ℕ → Plain → List Mark → P
 state_after code turns s [] = s
 state_after code turns s (mark ∷ marks) = state_after code turns (marked code turns s mark) marks
 
--- the plain machine executing a program in an order, each mutator making at most so many turns
+-- the plain machine executing a program in an order, each mutator at most so many instructions
 abbrev pub plain : List (List Instr) → ℕ → List Mark → Plain
 plain code turns order = state_after code turns (opening code) order
 
@@ -76,7 +77,11 @@ is_flip (Full m asked room live) = false
 abbrev pub StoryIsPlain : Type 0
 StoryIsPlain = (code : List (List Instr)) (turns : ℕ) (order : List Mark) → (story code turns order).now ≡ plain code turns order
 
--- the other is what it came to at the last flip
+-- where no spaces were flipped the other is the opening
+abbrev pub StoryHasOpening : Type 0
+StoryHasOpening = (code : List (List Instr)) (turns : ℕ) (order : List Mark) → list_any is_flip order ≡ false → (story code turns order).flip ≡ opening code
+
+-- else it is what the plain machine came to at the last flip
 abbrev pub StoryHasLastFlip : Type 0
 StoryHasLastFlip = (code : List (List Instr)) (turns asked : ℕ) (before after : List Mark) → list_any is_flip after ≡ false
     → (story code turns (before ++ Flip asked ∷ after)).flip ≡ plain code turns before

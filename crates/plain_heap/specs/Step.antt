@@ -1,10 +1,11 @@
 -- One step of a mutator on the plain machine.
-use Rattle.std.specs.Prelude.{ℕ, ◌+◌, ◌/◌, List, Option, Some, None, Result, Ok, Err, length, nat_le, nat_lt, if◌then◌else◌, slice_get, slice_set}
+use Rattle.std.specs.Prelude.{ℕ, ◌+◌, ◌-◌, ◌/◌, List, Option, Some, None, Result, Ok, Err, length, nat_le, nat_lt, if◌then◌else◌, slice_get, slice_set}
 use Rattle.std.specs.Option.{ok_or, option_and_then, option_map}
 use Rattle.std.specs.Result.{result_ok}
 use Rattle.plain_state.specs.declared.end.End.{End}
 use Rattle.plain_state.specs.declared.end.End.TheVariants.{JumpOut, TurnsOut}
 use Rattle.plain_state.specs.declared.kind.Kind.TheVariants.{Fields, Raw}
+use Rattle.plain_state.specs.declared.sizes.TheConstants.{PAGE_WORDS}
 use Rattle.plain_state.specs.Layout.{size_of}
 use Rattle.plain_state.specs.State.{Record, Heap, Mutator, Plain}
 use Rattle.mutator_asm.specs.declared.instr.Instr.{Instr}
@@ -63,9 +64,9 @@ new_record k (instrs.New d x) = option_map (zeros Fields) (length_named k x)
 new_record k (instrs.Raw d x) = option_map (zeros Raw) (length_named k x)
 new_record k _ = None
 
--- the pages that so many words take, a page having 64 words
+-- the pages that so many words take
 abbrev pub pages_for : (size : ℕ) → ℕ
-pages_for size = (size + 63) / 64
+pages_for size = (size + (PAGE_WORDS - 1)) / PAGE_WORDS
 
 -- the pages that a record takes with its header
 abbrev pub pages_of : Record → ℕ

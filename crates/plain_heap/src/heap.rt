@@ -5,7 +5,7 @@ ghost use Rattle.plain_state.specs.declared.value.Value.TheVariants.{Number};
 
 use crate::record::PlainRecord;
 use crate::record_list::RecordList;
-use plain_state::{End, Identity, Kind, NoMemory, Value};
+use plain_state::{BOARD_WORDS, End, Identity, Kind, NoMemory, Value};
 use std::alloc::Global;
 use std::marker::Model;
 
@@ -13,18 +13,19 @@ use std::marker::Model;
 #[derive(Debug, Drop)]
 pub struct PlainHeap {
     records: Vec<RecordList>,
-    board: [Value; 16],
+    board: [Value; BOARD_WORDS],
 }
 
 impl Model for PlainHeap {
     ghost use Rattle.std.specs.Prelude.{◌≡◌, length};
+    ghost use Rattle.plain_state.specs.declared.sizes.TheConstants.{BOARD_WORDS};
     ghost use Rattle.plain_state.specs.State.{Heap};
 
     ghost Value = { Heap };
 
     ghost view = { λ h. record { records = h.records.items; board = h.board } };
 
-    ghost invariant = { λ h. length h.board ≡ 16 };
+    ghost invariant = { λ h. length h.board ≡ BOARD_WORDS };
 }
 
 impl PlainHeap {
@@ -35,7 +36,7 @@ impl PlainHeap {
     /// The heap of so many mutators, none of which has allocated a record.
     pub fn new(alloc: Global, mutators: usize) -> Result<PlainHeap, NoMemory>
         ensures { IfOk result (λ heap.
-            heap ≡ record { records = replicate mutators []; board = replicate 16 (Number 0) }) }
+            heap ≡ record { records = replicate mutators []; board = replicate BOARD_WORDS (Number 0) }) }
     {
         let mut records = Vec::new(alloc);
         for _mutator in 0..mutators {
@@ -43,7 +44,7 @@ impl PlainHeap {
         }
         Ok(PlainHeap {
             records,
-            board: [Value::Number(0); 16],
+            board: [Value::Number(0); BOARD_WORDS],
         })
     }
 

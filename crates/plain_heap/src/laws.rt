@@ -1,7 +1,8 @@
 //! What holds of all runs. Each function here does nothing: its contract is what is proved.
 
-ghost use Rattle.plain_heap.specs.Order.{StoryIsPlain, StoryHasLastFlip};
-ghost use Rattle.plain_heap.specs.Solo.{AlwaysTheSame, EndsAlone};
+ghost use Rattle.plain_heap.specs.Consistent.{OpensConsistent, MarksKeepConsistent, RunsStayConsistent};
+ghost use Rattle.plain_heap.specs.Order.{StoryIsPlain, StoryHasOpening, StoryHasLastFlip};
+ghost use Rattle.plain_heap.specs.Alone.{AlwaysTheSame, EndsAlone};
 
 /// In a program without `get`, `put` and `swap`, whatever the order, each mutator has printed the
 /// first of the numbers that it prints alone, and all of them where it has its end and that isn't
@@ -11,8 +12,18 @@ pub fn alone_mutators_are_independent()
     ensures ends { EndsAlone }
 {}
 
-/// A story of a run has beside the state that the run comes to the one in which its last flip came.
+/// A story of a run has beside the state that the run comes to the one in which its last flip came,
+/// or the opening where none came.
 pub fn stories_keep_the_last_flip()
     ensures now { StoryIsPlain }
-    ensures flip { StoryHasLastFlip }
+    ensures no_flip { StoryHasOpening }
+    ensures last_flip { StoryHasLastFlip }
+{}
+
+/// Whatever the order, in each state that a program comes to the board and the registers are all
+/// there, numbers are numbers of the language, and references lead to records that were allocated.
+pub fn reached_states_are_consistent()
+    ensures opening { OpensConsistent }
+    ensures marks { MarksKeepConsistent }
+    ensures runs { RunsStayConsistent }
 {}

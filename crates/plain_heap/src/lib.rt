@@ -20,12 +20,11 @@ mod step;
 mod stop;
 mod values;
 
-pub use laws::{alone_mutators_are_independent, stories_keep_the_last_flip};
+pub use laws::{
+    alone_mutators_are_independent, reached_states_are_consistent, stories_keep_the_last_flip,
+};
 pub use mark::Mark;
 pub use order::plain_run;
 pub use plain_state::{End, NoMemory};
 pub use printing::{print, push_lines, push_order};
 pub use state::{PlainState, plain_step};
-
-#[cfg(test)]
-mod tests;

@@ -3,18 +3,15 @@
 ghost use Rattle.std.specs.Prelude.{◌≡◌, ◌+◌, ◌<◌, ◌^◌, ◌++◌, [], ◌∷◌, Some, OnOk, OnErr};
 
 use mutator_asm::Operand;
-use plain_state::{End, Identity, NoMemory, Value};
+use plain_state::{End, Identity, NUMBERS, NoMemory, REGISTERS, Value};
 use std::alloc::Global;
 use std::marker::Model;
-
-/// One more than the greatest number that a counter holds.
-const MODULUS: u64 = 1 << 62;
 
 /// What a mutator is between two instructions. Contracts see it so.
 #[derive(Debug, Drop)]
 pub struct PlainMutator {
     counter: u64,
-    registers: [Value; 8],
+    registers: [Value; REGISTERS],
     printed: Vec<u64>,
     executed: u32,
     end: Option<End>,
@@ -22,6 +19,7 @@ pub struct PlainMutator {
 
 impl Model for PlainMutator {
     ghost use Rattle.std.specs.Prelude.{◌≡◌, length};
+    ghost use Rattle.plain_state.specs.declared.sizes.TheConstants.{REGISTERS};
     ghost use Rattle.plain_state.specs.State.{Mutator};
 
     ghost Value = { Mutator };
@@ -34,7 +32,7 @@ impl Model for PlainMutator {
       end = k.end;
     } };
 
-    ghost invariant = { λ k. length k.registers ≡ 8 };
+    ghost invariant = { λ k. length k.registers ≡ REGISTERS };
 }
 
 impl PlainMutator {
@@ -47,7 +45,7 @@ impl PlainMutator {
     {
         PlainMutator {
             counter: 0,
-            registers: [Value::Number(0); 8],
+            registers: [Value::Number(0); REGISTERS],
             printed: Vec::new(alloc),
             executed: 0,
             end: None,
@@ -122,7 +120,7 @@ impl PlainMutator {
     pub fn next(&self) -> u64
         ensures { result ≡ next_of self.now }
     {
-        (self.counter % MODULUS + 1) % MODULUS
+        (self.counter % NUMBERS + 1) % NUMBERS
     }
 
     /// Goes on at an instruction.

@@ -8,10 +8,7 @@ ghost use Rattle.plain_heap.specs.Outcome.{IsExecuted, IsTried};
 
 use crate::mutator::PlainMutator;
 use crate::stop::Stop;
-use plain_state::{End, Operation, Value};
-
-/// How many numbers a mutator may print.
-const MOST_PRINTED: usize = 65_536;
+use plain_state::{End, MOST_PRINTED, Operation, Value};
 
 /// `li rd k`
 #[tactic(auto, unfolding(crate::specs::Call::call))]

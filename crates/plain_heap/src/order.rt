@@ -39,8 +39,8 @@ fn apply(
     }
 }
 
-/// The state after the marks of an order, one after another, each mutator making at most so many
-/// turns.
+/// The state after the marks of an order, one after another, each mutator executing at most so many
+/// instructions.
 pub fn plain_run(
     alloc: Global,
     p: &Program,

@@ -11,7 +11,7 @@ use std::alloc::Global;
 
 /// Adds a line for each number that mutator m printed, and one for its end, or for `stopped`.
 ///
-/// Where memory is out, `out` may have got a part of them.
+/// Where memory is out, nothing is said of what `out` then has.
 pub fn push_lines(
     out: &mut String,
     m: usize,
@@ -32,7 +32,7 @@ pub fn push_lines(
 
 /// Adds the line of an order.
 ///
-/// Where memory is out, `out` may have got a part of it.
+/// Where memory is out, nothing is said of what `out` then has.
 pub fn push_order(out: &mut String, order: &[Mark]) -> Result<(), NoMemory>
     ensures { OnOk result (string_bytes out.new ≡ string_bytes out.old ++ order_line order.now) }
 {

@@ -9,18 +9,15 @@ use crate::heap::PlainHeap;
 use crate::mutator::PlainMutator;
 use crate::stop::Stop;
 use mutator_asm::Operand;
-use plain_state::{End, Kind, Value};
+use plain_state::{End, Kind, LONGEST_RECORD, Value};
 use std::alloc::Global;
-
-/// The greatest length of a record.
-const LONGEST: u64 = 4095;
 
 /// The number as the length of a record, else the end for one that is too long.
 pub fn length_of(number: u64) -> Result<usize, End>
     ensures exact { result ≡ length_of number }
-    ensures short { IfOk result (λ len. len ≤ 4095) }
+    ensures short { IfOk result (λ len. len ≤ LONGEST_RECORD) }
 {
-    if number <= LONGEST {
+    if number <= LONGEST_RECORD {
         Ok(number as usize)
     } else {
         Err(End::OutOfRange)

@@ -1,6 +1,6 @@
 //! What a mutator does next.
 
-ghost use Rattle.std.specs.Prelude.{◌≡◌, ◌<◌, ◌≤◌, length, Ok, Err, IfErr, IfSome, OnOk, OnErr, option_map};
+ghost use Rattle.std.specs.Prelude.{◌≡◌, ◌+◌, ◌<◌, ◌≤◌, length, Ok, Err, IfErr, IfSome, OnOk, OnErr, option_map};
 ghost use Rattle.plain_state.specs.Layout.{size_of};
 ghost use Rattle.plain_heap.specs.declared.stop.Stop.TheVariants.{OutOfMemory};
 ghost use Rattle.plain_heap.specs.Memory.{TurnTakesMemory};
@@ -13,11 +13,8 @@ use crate::mutator::PlainMutator;
 use crate::records::length_of;
 use crate::stop::Stop;
 use mutator_asm::{Code, Instr, Operand};
-use plain_state::End;
+use plain_state::{End, LONGEST_RECORD, PAGE_WORDS};
 use std::alloc::Global;
-
-/// The words of a page.
-const PAGE: usize = 64;
 
 /// The instruction that mutator m executes next, or the end that stands in its place.
 fn fetch(code: &Code, turns: u32, m: u8, mutator: &PlainMutator) -> Result<Instr, End>
@@ -54,7 +51,7 @@ pub fn take_turn(
 /// The length of the record that an operand would give it.
 fn length_named(mutator: &PlainMutator, x: Operand) -> Option<usize>
     ensures exact { result ≡ length_named mutator.now x }
-    ensures short { IfSome result (λ len. len ≤ 4095) }
+    ensures short { IfSome result (λ len. len ≤ LONGEST_RECORD) }
 {
     let number = mutator.operand(x).ok()?;
     length_of(number).ok()
@@ -63,7 +60,7 @@ fn length_named(mutator: &PlainMutator, x: Operand) -> Option<usize>
 /// The words of the record that an instruction would allocate, with its header.
 fn size_allocated(mutator: &PlainMutator, instr: Instr) -> Option<usize>
     ensures exact { result ≡ option_map size_of (new_record mutator.now instr) }
-    ensures short { IfSome result (λ size. size ≤ 4096) }
+    ensures short { IfSome result (λ size. size ≤ LONGEST_RECORD + 1) }
 {
     match instr {
         Instr::New(_, x) | Instr::Raw(_, x) => Some(length_named(mutator, x)? + 1),
@@ -73,10 +70,10 @@ fn size_allocated(mutator: &PlainMutator, instr: Instr) -> Option<usize>
 
 /// The pages that so many words take.
 fn pages_for(size: usize) -> u32
-    requires { size ≤ 4096 }
+    requires { size ≤ LONGEST_RECORD + 1 }
     ensures { result ≡ pages_for size }
 {
-    size.div_ceil(PAGE) as u32
+    size.div_ceil(PAGE_WORDS) as u32
 }
 
 /// The pages that the record would take which mutator m's next step would allocate.

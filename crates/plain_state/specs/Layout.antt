@@ -1,4 +1,4 @@
--- How a record's values lie in its words. A record's words are counted from its first, which says what it is: word 0.
+-- How a record's values lie in its words. Word 0 is its header; the others are counted from there.
 use Rattle.std.specs.Prelude.{ℕ, ◌+◌, Bool, true, false, length}
 use Rattle.plain_state.specs.declared.kind.Kind.{Kind}
 use Rattle.plain_state.specs.declared.kind.Kind.TheVariants.{Fields, Raw}
@@ -18,6 +18,6 @@ is_raw Raw word = true
 abbrev pub word_of : Kind → (x : ℕ) → ℕ
 word_of kind x = x + 1
 
--- how many words the record takes, with its first
+-- how many words the record takes, with its header
 abbrev pub size_of : Record → ℕ
 size_of r = length r.values + 1

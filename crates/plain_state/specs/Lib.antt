@@ -3,3 +3,4 @@ pub mod State
 pub mod Operation
 pub mod Layout
 pub mod Writing
+pub mod Consistent

@@ -1,8 +1,9 @@
 -- The state of the plain machine.
-use Rattle.std.specs.Prelude.{ℕ, ◌^◌, ◌<◌, ◌≤◌, List, [], length, Option, None, slice_get, slice_index_or}
+use Rattle.std.specs.Prelude.{ℕ, ◌<◌, ◌≤◌, List, [], length, Option, None, slice_get, slice_index_or}
 use Rattle.std.proofs.Common.{zero, suc}
 use Rattle.plain_state.specs.declared.end.End.{End}
 use Rattle.plain_state.specs.declared.kind.Kind.{Kind}
+use Rattle.plain_state.specs.declared.sizes.TheConstants.{NUMBERS}
 use Rattle.plain_state.specs.declared.value.Identity.{Identity}
 use Rattle.plain_state.specs.declared.value.Value.{Value}
 use Rattle.plain_state.specs.declared.value.Value.TheVariants.{Number, Reference}
@@ -31,11 +32,11 @@ pub record Plain : Type 0 where
   pub heap : Heap
   pub mutators : List Mutator
 
--- the records that a mutator has made
+-- the records that a mutator has allocated
 abbrev pub made_by : Heap → ℕ → List Record
 made_by heap m = slice_index_or heap.records m []
 
--- the record with this serial among those that a mutator has made; serials count from 1
+-- the record with this serial among those of one mutator; serials count from 1
 abbrev pub at_serial : List Record → ℕ → Option Record
 at_serial records zero = None
 at_serial records (suc n) = slice_get records n
@@ -44,18 +45,18 @@ at_serial records (suc n) = slice_get records n
 abbrev pub record_of : Heap → Identity → Option Record
 record_of heap i = at_serial (made_by heap i.mutator) i.serial
 
--- how many records a mutator has made, which is the serial of its latest
+-- how many records a mutator has allocated, which is the serial of its latest
 abbrev pub serial_of : Heap → ℕ → ℕ
 serial_of heap m = length (made_by heap m)
 
 -- ---- what a state holds
 
--- the identity names a record that was made
+-- the identity names a record that was allocated
 pub record IsMade (heap : Heap) (i : Identity) : Type 0 where
   pub first : 1 ≤ i.serial
   pub last : i.serial ≤ serial_of heap i.mutator
 
--- a number below 2^62, or a reference to a record that was made
+-- a number, or a reference to a record that was allocated
 abbrev pub IsValue : Heap → Value → Type 0
-IsValue heap (Number n) = n < 2 ^ 62
+IsValue heap (Number n) = n < NUMBERS
 IsValue heap (Reference i) = IsMade heap i

@@ -1,7 +1,9 @@
--- The plain heap after a word was stored, or a record was made.
-use Rattle.std.specs.Prelude.{ℕ, ◌-◌, List, [], ◌∷◌, ◌++◌, slice_set}
+-- The plain heap after a word was stored, or a record was allocated.
+use Rattle.std.specs.Prelude.{ℕ, ◌-◌, List, [], ◌∷◌, ◌++◌, replicate, slice_set}
 use Rattle.plain_state.specs.declared.value.Identity.{Identity}
+use Rattle.plain_state.specs.declared.kind.Kind.{Kind}
 use Rattle.plain_state.specs.declared.value.Value.{Value}
+use Rattle.plain_state.specs.declared.value.Value.TheVariants.{Number}
 use Rattle.plain_state.specs.State.{Record, Heap, Plain, made_by}
 
 abbrev pub with_word : Record → ℕ → Value → Record
@@ -21,6 +23,10 @@ stored heap i r x v = with_records heap i.mutator (slice_set (made_by heap i.mut
 abbrev pub with_board : Heap → ℕ → Value → Heap
 with_board heap x v = record heap { board = slice_set heap.board x v }
 
--- mutator m has made one more record
+-- a record of this kind with n values, each the number 0
+abbrev pub zeros : Kind → ℕ → Record
+zeros kind n = record { kind = kind; values = replicate n (Number 0) }
+
+-- mutator m has one more record
 abbrev pub gained : Heap → ℕ → Record → Heap
 gained heap m r = with_records heap m (made_by heap m ++ r ∷ [])

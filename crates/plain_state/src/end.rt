@@ -8,7 +8,7 @@ use std::fmt;
 /// Why a mutator runs no further.
 #[derive(Clone, Copy, Debug, PartialEq, Eq)]
 pub enum End {
-    /// It made `halt`.
+    /// It executed `halt`.
     Halt,
     /// A number stood where a reference is asked for.
     NotPointer,

@@ -1,6 +1,6 @@
 //! What a record may hold.
 
-/// The kind of a record, fixed when it is made.
+/// The kind of a record, fixed when it is allocated.
 #[derive(Clone, Copy, Debug, PartialEq, Eq)]
 pub enum Kind {
     /// Each word is a number or a reference.

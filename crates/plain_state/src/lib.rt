@@ -6,13 +6,12 @@ mod end;
 mod kind;
 mod no_memory;
 mod operation;
+mod sizes;
 mod value;
 
 pub use end::End;
 pub use kind::Kind;
 pub use no_memory::NoMemory;
 pub use operation::Operation;
+pub use sizes::{BOARD_WORDS, LONGEST_RECORD, MOST_PRINTED, NUMBERS, PAGE_WORDS, REGISTERS};
 pub use value::{Identity, Value};
-
-#[cfg(test)]
-mod tests;

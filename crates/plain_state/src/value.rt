@@ -3,7 +3,7 @@
 /// The name of a record, which it keeps for ever.
 #[derive(Clone, Copy, Debug, PartialEq, Eq)]
 pub struct Identity {
-    /// The number of the mutator that made it, from 0.
+    /// The number of the mutator that allocated it, from 0.
     pub mutator: u8,
     /// Which of that mutator's records it is, counted from 1.
     pub serial: u64,

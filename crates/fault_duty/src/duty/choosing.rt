@@ -13,9 +13,9 @@ use super::{Duty, is_full};
 use crate::caller::Caller;
 use crate::choice::Choice;
 use crate::duty_stage::DutyStage;
+use crate::findings::Findings;
 use crate::page_state::PageState;
 use crate::round_end::RoundEnd;
-use crate::seen::Seen;
 use crate::wanted_page::WantedPage;
 use atom_store::{Reply, Turn};
 use mmu_model::{pack, read};
@@ -52,7 +52,7 @@ impl Duty {
         if word == u64::from(self.epoch) + 1 {
             return self.end(RoundEnd::NothingNow(word));
         }
-        let seen = Seen {
+        let seen = Findings {
             traced: word,
             hindrance,
         };
@@ -62,7 +62,7 @@ impl Duty {
         }
     }
 
-    pub(super) fn look_at_wanted(&mut self, seen: Seen, page: u32, word: u64) -> Turn<RoundEnd>
+    pub(super) fn look_at_wanted(&mut self, seen: Findings, page: u32, word: u64) -> Turn<RoundEnd>
         requires { IsSoundRound (at_stage self.old (round.looked_at_wanted self.old seen page word (decode_page word))) }
         ensures state { self.new ≡ at_stage self.old (round.looked_at_wanted self.old seen page word (decode_page word)) }
         ensures tells { result ≡ told self.new }
@@ -84,7 +84,7 @@ impl Duty {
 
     pub(super) fn find_front_for(
         &mut self,
-        seen: Seen,
+        seen: Findings,
         wanted: WantedPage,
         word: u64,
     ) -> Turn<RoundEnd>
@@ -103,7 +103,7 @@ impl Duty {
         }
     }
 
-    pub(super) fn find_front(&mut self, seen: Seen, word: u64) -> Turn<RoundEnd>
+    pub(super) fn find_front(&mut self, seen: Findings, word: u64) -> Turn<RoundEnd>
         requires { IsSoundRound (at_stage self.old (round.found_front self.old seen (decode_area word))) }
         ensures state { self.new ≡ at_stage self.old (round.found_front self.old seen (decode_area word)) }
         ensures tells { result ≡ told self.new }
@@ -128,7 +128,7 @@ impl Duty {
         match self.state_of(says) {
             PageState::Opened => self.pass(choice, page),
             PageState::Scanned => {
-                let seen = Seen {
+                let seen = Findings {
                     traced: choice.seen.traced,
                     hindrance: Some(word),
                 };

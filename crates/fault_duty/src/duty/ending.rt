@@ -20,6 +20,7 @@ use space_map::{AreaWord, GateWord, PAGE_WORDS, PageWord};
 
 impl Duty {
     pub(super) fn end_at_gate(&mut self, traced: u64, word: u64) -> Turn<RoundEnd>
+        requires { IsSoundRound (at_stage self.old (round.ended_gate self.old traced word (decode_gate word))) }
         ensures state { self.new ≡ at_stage self.old (round.ended_gate self.old traced word (decode_gate word)) }
         ensures tells { result ≡ told self.new }
     {

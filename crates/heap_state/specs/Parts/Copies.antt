@@ -21,7 +21,7 @@ pub record Once (size copy : ℕ → ℕ) (identity : ℕ → Identity) : Type 0
   pub once : (a b : ℕ) → 0 < size a → 0 < size b → identity a ≡ identity b → (a ≡ b) ⊎ ((copy a ≡ b + 1) ⊎ (copy b ≡ a + 1))
 
 -- a header is kept by a worker that there is
-pub record Kept (size keeper : ℕ → ℕ) (count : ℕ) : Type 0 where
+pub record Keepers (size keeper : ℕ → ℕ) (count : ℕ) : Type 0 where
   pub kept : (a k : ℕ) → 0 < size a → keeper a ≡ k + 1 → k < count
 
 -- the words that the record at a still needs in the epoch's space

@@ -1,17 +1,17 @@
 -- What the gate counts.
 use Rattle.std.specs.Prelude.{◌≡◌, ℕ, ◌^◌, ◌<◌, ◌≤◌, false, nat_lt}
 use Rattle.space_map.specs.declared.gate_word.GateWord.{GateWord}
-use Rattle.heap_state.specs.Functions.{sum_below, one_if}
+use Rattle.heap_state.specs.Functions.{sum_below, count_one}
 use Rattle.heap_state.specs.Worker.{Worker, is_mutator, is_live, is_running, is_flipper, is_gone, is_late}
 
 -- The gate counts the mutators that are live, run, are behind and are gone; request is set where one of them flips, and no
 -- two do. While one is behind nobody runs, and no flip is requested.
 pub record Counted (gate : GateWord) (count : ℕ) (worker : ℕ → Worker) : Type 0 where
-  pub live : gate.live ≡ sum_below count (λ k. one_if (is_live (worker k).post))
-  pub running : gate.running ≡ sum_below count (λ k. one_if (is_running (worker k).post))
-  pub behind : gate.behind ≡ sum_below count (λ k. one_if (is_late gate.epoch (worker k)))
-  pub left : gate.left ≡ sum_below count (λ k. one_if (is_gone (worker k).post))
-  pub request : one_if gate.request ≡ sum_below count (λ k. one_if (is_flipper (worker k).post))
+  pub live : gate.live ≡ sum_below count (λ k. count_one (is_live (worker k).post))
+  pub running : gate.running ≡ sum_below count (λ k. count_one (is_running (worker k).post))
+  pub behind : gate.behind ≡ sum_below count (λ k. count_one (is_late gate.epoch (worker k)))
+  pub left : gate.left ≡ sum_below count (λ k. count_one (is_gone (worker k).post))
+  pub request : count_one gate.request ≡ sum_below count (λ k. count_one (is_flipper (worker k).post))
   pub still : 0 < gate.behind → (gate.running ≡ 0) × (gate.request ≡ false)
   pub epoch_fits : gate.epoch < 2 ^ 32
 

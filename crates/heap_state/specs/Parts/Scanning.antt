@@ -8,6 +8,7 @@ use Rattle.heap_state.specs.Era.{Era}
 use Rattle.heap_state.specs.Ghost.{Leads, Here}
 use Rattle.heap_state.specs.Worker.{Seen, Scan, Round, Claim, Look, LastLook}
 use Rattle.heap_state.specs.Parts.Pages.{Quiet, IsLastOpen}
+use Rattle.heap_state.specs.FieldSpan.{first_field, fields_end}
 
 -- ---- the page being scanned
 
@@ -20,13 +21,23 @@ pub record Scans (E : Era) (front : ℕ) (size writer : ℕ → ℕ) (kind : ℕ
   pub cursor : (s.page ≡ E.board / 64) ⊎ (s.cursor ≤ front)
   pub above : (b x : ℕ) → 0 < size b → writer b ≡ k + 1 → b ≤ x → x < b + size b → x / 64 ≡ s.page → s.cursor ≤ x
 
+-- The record that a scan at x is in stands below FRONT, and nobody writes it. Its fields end and the next record begins where the
+-- scan has read it. The scan is past its header and what is before its fields.
+pub record IsIn (E : Era) (front : ℕ) (size writer : ℕ → ℕ) (kind : ℕ → Kind) (x : ℕ) (r : Seen) : Type 0 where
+  pub stands : 0 < size r.at
+  pub written : writer r.at ≡ 0
+  pub fields : r.fields_end ≡ r.at + fields_end (kind r.at) (size r.at)
+  pub whole : r.next ≡ r.at + size r.at
+  pub inside : (E.start ≤ r.at) × (r.next ≤ front)
+  pub entered : r.at + first_field (kind r.at) ≤ x
+  pub cursor : x ≤ r.next
+
 -- Which record the cursor is in: the one over the page's first word once its place is read; the one whose header is read.
 -- One begins at the cursor that FRONT was seen past. The cursor is never before the page. At the end it is past the page or at
 -- FRONT. A page that wasn't claimed as the filling one is full or the board.
 pub record Stepping (E : Era) (front : ℕ) (size writer : ℕ → ℕ) (kind : ℕ → Kind) (s : Scan) : Type 0 where
   pub over : (a : ℕ) → s.over ≡ Some a → (0 < size a) × (writer a ≡ 0) × (a ≤ 64 * s.page) × (64 * s.page < a + size a)
-  pub current : (r : Seen) → s.current ≡ Some r
-      → (0 < r.size) × (size r.at ≡ r.size) × (kind r.at ≡ r.kind) × (writer r.at ≡ 0) × (E.start ≤ r.at) × (r.at + r.size ≤ front) × (r.at < s.cursor) × (s.cursor ≤ r.at + r.size)
+  pub current : (r : Seen) → s.current ≡ Some r → IsIn E front size writer kind s.cursor r
   pub inner : s.inner ≡ true → s.cursor < front
   pub begun : 64 * s.page ≤ s.cursor
   pub full : s.in_place ≡ false → (s.page ≡ E.board / 64) ⊎ (64 * s.page + 64 ≤ front)

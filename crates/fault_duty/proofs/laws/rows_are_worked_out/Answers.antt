@@ -68,3 +68,11 @@ returns-clause-filling_page_is_not_wanted c = record { steps = refl; ends = refl
 pub returns-clause-no_filling_page : goal.returns-clause-no_filling_page
 unfolding decode_area area_in decode_gate gate_in encode_page decode_page place_of
 returns-clause-no_filling_page c = record { steps = refl; ends = refl }
+
+pub returns-clause-later_wanted_page : goal.returns-clause-later_wanted_page
+unfolding decode_area area_in decode_gate gate_in encode_page decode_page place_of
+returns-clause-later_wanted_page c = (record { steps = refl; ends = refl }, record { steps = refl; ends = refl })
+
+pub returns-clause-later_filling_page : goal.returns-clause-later_filling_page
+unfolding decode_area area_in decode_gate gate_in encode_page decode_page place_of
+returns-clause-later_filling_page c = record { steps = refl; ends = refl }

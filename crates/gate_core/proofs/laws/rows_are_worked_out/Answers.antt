@@ -28,6 +28,10 @@ pub returns-clause-leaves : goal.returns-clause-leaves
 unfolding decode_area area_in encode_area decode_gate gate_in encode_gate place_of
 returns-clause-leaves c = record { steps = refl; ends = refl }
 
+pub returns-clause-looks : goal.returns-clause-looks
+unfolding decode_area area_in encode_area decode_gate gate_in encode_gate place_of
+returns-clause-looks c = record { steps = refl; ends = refl }
+
 pub returns-clause-parks : goal.returns-clause-parks
 unfolding decode_area area_in encode_area decode_gate gate_in encode_gate place_of
 returns-clause-parks c = record { steps = refl; ends = refl }
@@ -38,7 +42,7 @@ returns-clause-exchange_is_tried_again c = record { steps = refl; ends = refl }
 
 pub returns-clause-request_hinders : goal.returns-clause-request_hinders
 unfolding decode_area area_in encode_area decode_gate gate_in encode_gate place_of
-returns-clause-request_hinders c = (record { steps = refl; ends = refl }, record { steps = refl; ends = refl }, record { steps = refl; ends = refl })
+returns-clause-request_hinders c = (record { steps = refl; ends = refl }, record { steps = refl; ends = refl }, record { steps = refl; ends = refl }, record { steps = refl; ends = refl })
 
 pub returns-clause-behind_hinders : goal.returns-clause-behind_hinders
 unfolding decode_area area_in encode_area decode_gate gate_in encode_gate place_of

@@ -5,7 +5,7 @@ pub returns-in-Li : goal.returns-in-Li
 returns-in-Li c = rw c.in-Li.is (c.load_number.ensures _ _)
 
 pub returns-in-Mov : goal.returns-in-Mov
-returns-in-Mov c = rw c.in-Mov.is (c.copy.ensures _ _)
+returns-in-Mov c = rw c.in-Mov.is (c.move_register.ensures _ _)
 
 pub returns-in-Eq : goal.returns-in-Eq
 returns-in-Eq c = rw c.in-Eq.is (c.compare.ensures _ _)

@@ -1,5 +1,5 @@
-use Rattle.heap_laws.proofs.CopyingKnown.{crossing_stored}
+use Rattle.heap_laws.proofs.Copying.Laws.{crossings_are_stored}
 use Rattle.heap_laws.proofs.laws_copying.crossings_are_stored.Goals as goal
 
 pub returns : goal.returns
-returns c = λ E m team g k c ready has res begins inside. crossing_stored E m team g k ready c has res begins inside
+returns c = crossings_are_stored

@@ -1,4 +1,4 @@
-use Rattle.heap_laws.proofs.MutatorStores.{mutators_end, mutators_find_no_room}
+use Rattle.heap_laws.proofs.Fields.Laws.{mutators_end, mutators_find_no_room}
 use Rattle.heap_laws.proofs.laws_fields.mutators_end.Goals as goal
 
 pub returns-clause-ends : goal.returns-clause-ends

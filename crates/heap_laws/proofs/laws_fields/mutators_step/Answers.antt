@@ -1,4 +1,4 @@
-use Rattle.heap_laws.proofs.MutatorStores.{mutators_step}
+use Rattle.heap_laws.proofs.Fields.Laws.{mutators_step}
 use Rattle.heap_laws.proofs.laws_fields.mutators_step.Goals as goal
 
 pub returns : goal.returns

@@ -1,4 +1,4 @@
-use Rattle.heap_laws.proofs.MutatorStores.{mutators_store}
+use Rattle.heap_laws.proofs.Fields.Laws.{mutators_store}
 use Rattle.heap_laws.proofs.laws_fields.mutators_store.Goals as goal
 
 pub returns : goal.returns

@@ -1,5 +1,5 @@
-use Rattle.heap_laws.proofs.FieldShown.{headers_are_read, registers_are_held, numbers_are_held}
-use Rattle.heap_laws.proofs.FieldStore.{accesses_are_allowed, words_are_loaded, board_is_loaded}
+use Rattle.heap_laws.proofs.Fields.Shown.{headers_are_read, registers_are_held, numbers_are_held}
+use Rattle.heap_laws.proofs.Fields.Stored.{accesses_are_allowed, words_are_loaded, board_is_loaded}
 use Rattle.heap_laws.proofs.laws_fields.words_are_loaded.Goals as goal
 
 pub returns-clause-words : goal.returns-clause-words

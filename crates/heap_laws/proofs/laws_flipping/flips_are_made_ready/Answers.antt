@@ -1,4 +1,4 @@
-use Rattle.heap_laws.proofs.FlippingReset.{finds_still, reads_used, stores_area}
+use Rattle.heap_laws.proofs.Flipping.Reset.{finds_still, reads_used, stores_area_word}
 use Rattle.heap_laws.proofs.laws_flipping.flips_are_made_ready.Goals as goal
 
 pub returns-clause-still : goal.returns-clause-still
@@ -8,4 +8,4 @@ pub returns-clause-used : goal.returns-clause-used
 returns-clause-used c = reads_used
 
 pub returns-clause-area : goal.returns-clause-area
-returns-clause-area c = stores_area
+returns-clause-area c = stores_area_word

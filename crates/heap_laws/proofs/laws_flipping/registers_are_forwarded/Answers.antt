@@ -1,4 +1,4 @@
-use Rattle.heap_laws.proofs.FlippingRegisters.{passes_register, asks_for_register, forwards_register}
+use Rattle.heap_laws.proofs.Flipping.Registers.{passes_register, asks_for_register, forwards_register}
 use Rattle.heap_laws.proofs.laws_flipping.registers_are_forwarded.Goals as goal
 
 pub returns-clause-passed : goal.returns-clause-passed

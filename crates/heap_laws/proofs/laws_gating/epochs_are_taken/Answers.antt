@@ -1,4 +1,4 @@
-use Rattle.heap_laws.proofs.GatingScanner.{takes_epoch_of_gate}
+use Rattle.heap_laws.proofs.Gate.Scanner.{takes_epoch_of_gate}
 use Rattle.heap_laws.proofs.laws_gating.epochs_are_taken.Goals as goal
 
 pub returns : goal.returns

@@ -1,4 +1,4 @@
-use Rattle.heap_laws.proofs.ForgettingLess.{reads_gate, sees_traced, forgets}
+use Rattle.heap_laws.proofs.Gate.Reading.{reads_gate, sees_traced}
 use Rattle.heap_laws.proofs.laws_gating.passages_are_made_ready.Goals as goal
 
 pub returns-clause-gate : goal.returns-clause-gate
@@ -6,6 +6,3 @@ returns-clause-gate c = reads_gate
 
 pub returns-clause-traced : goal.returns-clause-traced
 returns-clause-traced c = sees_traced
-
-pub returns-clause-forgotten : goal.returns-clause-forgotten
-returns-clause-forgotten c = forgets

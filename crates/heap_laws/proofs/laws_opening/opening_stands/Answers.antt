@@ -1,4 +1,4 @@
-use Rattle.heap_laws.proofs.Opening.{opening_stands}
+use Rattle.heap_laws.proofs.Opening.Heap.{opening_stands}
 use Rattle.heap_laws.proofs.laws_opening.opening_stands.Goals as goal
 
 pub returns : goal.returns

@@ -1,4 +1,4 @@
-use Rattle.heap_laws.proofs.ScanningReady.{begins_claim, looks_at_place, looks_at_gate}
+use Rattle.heap_laws.proofs.Scanning.Claims.{begins_claim, looks_at_place, looks_at_gate}
 use Rattle.heap_laws.proofs.laws_scanning.claims_are_made_ready.Goals as goal
 
 pub returns-clause-begun : goal.returns-clause-begun

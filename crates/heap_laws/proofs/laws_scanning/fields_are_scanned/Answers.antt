@@ -1,4 +1,4 @@
-use Rattle.heap_laws.proofs.ScanningFields.{passes, asks, stores}
+use Rattle.heap_laws.proofs.Scanning.Fields.{passes, asks, stores}
 use Rattle.heap_laws.proofs.laws_scanning.fields_are_scanned.Goals as goal
 
 pub returns-clause-passed : goal.returns-clause-passed

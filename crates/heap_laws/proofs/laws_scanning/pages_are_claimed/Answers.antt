@@ -1,4 +1,4 @@
-use Rattle.heap_laws.proofs.ScanningClaimed.{claims, sleeper_loses}
+use Rattle.heap_laws.proofs.Scanning.Claimed.{claims, sleeper_loses}
 use Rattle.heap_laws.proofs.laws_scanning.pages_are_claimed.Goals as goal
 
 pub returns-clause-claimed : goal.returns-clause-claimed

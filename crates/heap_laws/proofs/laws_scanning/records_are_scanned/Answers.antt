@@ -1,4 +1,4 @@
-use Rattle.heap_laws.proofs.ScanningRecords.{reads_crossing, reads_first_header, reads_front, reads_next_header}
+use Rattle.heap_laws.proofs.Scanning.Records.{reads_crossing, reads_first_header, reads_front, reads_next_header}
 use Rattle.heap_laws.proofs.laws_scanning.records_are_scanned.Goals as goal
 
 pub returns-clause-crossing : goal.returns-clause-crossing

@@ -1,4 +1,4 @@
-use Rattle.heap_laws.proofs.TracingWon.{traces, sleeper_loses_traced}
+use Rattle.heap_laws.proofs.Tracing.Traced.{traces, sleeper_loses_traced}
 use Rattle.heap_laws.proofs.laws_tracing.epochs_are_traced.Goals as goal
 
 pub returns-clause-traced : goal.returns-clause-traced

@@ -1,4 +1,4 @@
-use Rattle.heap_laws.proofs.TracingLooks.{reads_traced, reads_front}
+use Rattle.heap_laws.proofs.Tracing.Looks.{reads_traced, reads_front}
 use Rattle.heap_laws.proofs.laws_tracing.rounds_are_begun.Goals as goal
 
 pub returns-clause-traced : goal.returns-clause-traced

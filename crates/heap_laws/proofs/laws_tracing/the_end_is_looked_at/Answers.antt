@@ -1,4 +1,4 @@
-use Rattle.heap_laws.proofs.TracingLooks.{begins_look, looks_at_front, looks_at_board, looks_at_page, looks_at_filling, looks_again, claims_filling}
+use Rattle.heap_laws.proofs.Tracing.Looks.{begins_look, looks_at_front, looks_at_board, looks_at_page, looks_at_filling, looks_again, claims_filling}
 use Rattle.heap_laws.proofs.laws_tracing.the_end_is_looked_at.Goals as goal
 
 pub returns-clause-gate : goal.returns-clause-gate

@@ -1,5 +1,5 @@
-use Rattle.heap_laws.proofs.TracingCopied.{copies_reachable}
-use Rattle.heap_laws.proofs.TracingWon.{leads_nowhere}
+use Rattle.heap_laws.proofs.Tracing.Copied.{copies_reachable}
+use Rattle.heap_laws.proofs.Tracing.Traced.{leads_nowhere}
 use Rattle.heap_laws.proofs.laws_tracing.traced_epochs_are_clean.Goals as goal
 
 pub returns-clause-clean : goal.returns-clause-clean

@@ -1,4 +1,4 @@
-use Rattle.heap_state.proofs.Broken.{wrong, early, short}
+use Rattle.heap_state.proofs.Worked.Broken.{wrong, early, short}
 use Rattle.heap_state.proofs.laws.broken_configurations_are_told.Goals as goal
 
 pub returns : goal.returns

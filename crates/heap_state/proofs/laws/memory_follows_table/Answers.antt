@@ -1,4 +1,4 @@
-use Rattle.heap_state.proofs.Following.{follows}
+use Rattle.heap_state.proofs.Table.Seen.{follows}
 use Rattle.heap_state.proofs.laws.memory_follows_table.Goals as goal
 
 pub returns : goal.returns

@@ -1,6 +1,6 @@
-use Rattle.heap_state.proofs.Frames.{frames_of_workers}
+use Rattle.heap_state.proofs.Workers.Frames.{frames_of_workers}
 use Rattle.heap_state.proofs.Puts.{put_same, put_other}
-use Rattle.heap_state.proofs.Teams.{team_changes, sums_by_terms}
+use Rattle.heap_state.proofs.Workers.Teams.{team_changes, sums_by_terms}
 use Rattle.heap_state.proofs.laws.one_place_changes_alone.Goals as goal
 
 pub returns-clause-functions : goal.returns-clause-functions

@@ -1,6 +1,6 @@
 use Rattle.std.proofs.Common.{sym}
-use Rattle.heap_state.proofs.Places.{word_in-row}
-use Rattle.heap_state.proofs.Spelled.{spelled}
+use Rattle.heap_state.proofs.Table.Places.{word_in-row}
+use Rattle.heap_state.proofs.Table.Spelled.{spelled}
 use Rattle.heap_state.proofs.laws.rows_are_read.Goals as goal
 
 pub returns-clause-rows : goal.returns-clause-rows

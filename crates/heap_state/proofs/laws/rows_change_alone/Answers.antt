@@ -1,5 +1,5 @@
-use Rattle.heap_state.proofs.Stores.{stores_gate, stores_traced, stores_area, stores_page, stores_cross, stores_heap_word, stores_announce}
-use Rattle.heap_state.proofs.Writing.{stores_entry, writes_tables}
+use Rattle.heap_state.proofs.Table.Stores.{stores_gate, stores_traced, stores_area, stores_page, stores_cross, stores_heap_word, stores_announce}
+use Rattle.heap_state.proofs.Table.Writing.{stores_entry, writes_tables}
 use Rattle.heap_state.proofs.laws.rows_change_alone.Goals as goal
 
 pub returns-clause-gate : goal.returns-clause-gate

@@ -1,5 +1,5 @@
-use Rattle.heap_state.proofs.Keeping.{holds}
-use Rattle.heap_state.proofs.Representing.{represents}
+use Rattle.heap_state.proofs.Holds.Keeping.{holds}
+use Rattle.heap_state.proofs.Represents.Representing.{represents}
 use Rattle.heap_state.proofs.laws.what_stands_is_sound.Goals as goal
 
 pub returns : goal.returns

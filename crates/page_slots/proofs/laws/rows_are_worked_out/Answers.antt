@@ -22,4 +22,16 @@ returns-clause-lost c = record { steps = refl; ends = refl }
 
 pub returns-clause-opened : goal.returns-clause-opened
 unfolding encode_page place_of
-returns-clause-opened c = record { steps = refl; ends = refl }
+returns-clause-opened c = (record { steps = refl; ends = refl }, record { steps = refl; ends = refl })
+
+pub returns-clause-board : goal.returns-clause-board
+unfolding decode_gate gate_in encode_page place_of
+returns-clause-board c = record { steps = refl; ends = refl }
+
+pub returns-clause-filling_page : goal.returns-clause-filling_page
+unfolding decode_gate gate_in encode_page place_of
+returns-clause-filling_page c = record { steps = refl; ends = refl }
+
+pub returns-clause-later_epoch : goal.returns-clause-later_epoch
+unfolding decode_gate gate_in encode_page place_of
+returns-clause-later_epoch c = record { steps = refl; ends = refl }

@@ -1,7 +1,4 @@
-use Rattle.std.proofs.Common.{arith, ap, sym, ◌∙◌, subst}
-use Rattle.forwarding.specs.Evacuation.{Evacuation}
-use Rattle.forwarding.specs.Soundness.{IsSound}
-use Rattle.forwarding.specs.Taken.{told}
+use Rattle.std.proofs.Common.{arith}
 use Rattle.forwarding.proofs.FirstWords.{by_first_word-forward, by_first_word-header, by_first_word-neither}
 use Rattle.forwarding.proofs.evac.Evac.reads_header.Goals as goal
 

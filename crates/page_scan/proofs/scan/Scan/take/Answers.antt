@@ -15,5 +15,5 @@ returns-in-LoadsWord-Value-clause-lowers c =
     let d = decode c.in-LoadsWord-Value.word in
     let on_page = subst (λ (x : ScanStage). FitsStage v.spaces.pages v.page x) c.in-LoadsWord-Value.is-0 c.self.invariant.fits in
     rw c.reads_word.ensures.state
-    (subst (λ (z : Scanning). IsTrue (advances z.stage c.args.reply) → left_at (scan_end z.spaces z.page) (by_word z.spaces z.page z.epoch z.in_place spot d) < left z) c.self.view_is
+    (subst (λ (z : Scanning). IsTrue (advances z.stage c.args.reply) → left_at (scan_end z.layout z.page) (by_word z.layout z.page z.epoch z.in_place spot d) < left z) c.self.view_is
     (λ t. rw c.in-LoadsWord-Value.is-0 (by_word-lt v.spaces v.page v.epoch v.in_place spot d on_page)))

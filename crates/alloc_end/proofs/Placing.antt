@@ -1,0 +1,238 @@
+-- What an allocation's step does to the words, by its stage.
+use Rattle.std.proofs.Common.{◌≡◌, ◌≢◌, ℕ, ◌+◌, ◌-◌, ◌*◌, ◌/◌, ◌^◌, ◌<◌, ◌≤◌, Bool, true, false, cond, nat_eq, nat_lt, nat_le, ◌⊎◌, inl, inr, List, slice_index, Option, Some, None, arith, refl, sym, ap, subst, ◌∙◌}
+use Rattle.std.proofs.lemmas.Bool.{cases_lt}
+use Rattle.std.proofs.lemmas.Bool.Decides.{nat_tests}
+use Rattle.atom_store.specs.declared.reply.Reply.{Reply}
+use Rattle.atom_store.specs.declared.reply.Reply.TheVariants as reply
+use Rattle.atom_store.specs.declared.step.Step.TheVariants.{Store, Exchange}
+use Rattle.atom_store.specs.declared.turn.Turn.{Turn}
+use Rattle.atom_store.specs.declared.turn.Turn.TheVariants.{More, Finished}
+use Rattle.atom_store.specs.Acts.{Acts, stepped}
+use Rattle.atom_store.specs.Step.{reply_of, words_after}
+use Rattle.atom_store.proofs.Acting.{no_step}
+use Rattle.atom_store.proofs.Steps.{slice_index-words_after, slice_index-stored}
+use Rattle.heap_words.specs.Decoded.{encode}
+use Rattle.record_layout.specs.declared.header.Header.{Header}
+use Rattle.record_layout.specs.Layout.{header_says}
+use Rattle.space_map.specs.declared.area_word.AreaWord.{AreaWord}
+use Rattle.space_map.specs.declared.page_word.PageWord.TheVariants.{Open}
+use Rattle.space_map.specs.AreaWord.{AreaFits, decode_area, encode_area}
+use Rattle.space_map.specs.PageWord.{decode_page, encode_page}
+use Rattle.space_map.specs.Spaces.{to_space, page_of}
+use Rattle.space_map.specs.Table.{Area, Page, HeapWord, place_of}
+use Rattle.space_map.specs.TableWords.{word_in, HoldsTable}
+use Rattle.space_map.proofs.AreaWords.{decode_area-encode_area}
+use Rattle.space_map.proofs.PageWords.{decode_page-encode_page}
+use Rattle.space_map.proofs.Rows.{place_of-apart, place_of-lt}
+use Rattle.alloc_end.specs.declared.fitting.Fitting.{Fitting}
+use Rattle.alloc_end.specs.declared.new_pages.NewPages.{NewPages}
+use Rattle.alloc_end.specs.declared.shortage.Shortage.{Shortage}
+use Rattle.alloc_end.specs.declared.allocated.Allocated.{Allocated}
+use Rattle.alloc_end.specs.declared.allocated.Allocated.TheVariants.{Placed, Full}
+use Rattle.alloc_end.specs.declared.place_stage.PlaceStage.{PlaceStage}
+use Rattle.alloc_end.specs.declared.place_stage.PlaceStage.TheVariants.{LoadsTraced, LoadsArea, ExchangesArea, StoresZero, OpensPage, StoresHeader, Ended}
+use Rattle.alloc_end.specs.Place.{Placing, at_stage, size_of, pages_for, words_for, kept_room, room_in, fits, area_after, shortage, place_machine, told, taken_at, looked_at_area, cleared, opened}
+use Rattle.alloc_end.specs.Soundness.{IsSoundPlacing, HasRoom}
+use Rattle.alloc_end.specs.Theorems.{area_word, AreZero, AreOpen, IsReady, PlacesRecord, ShowsShortage, ClaimsPages, LosesPages}
+
+-- ---- stores in heap words and page words
+
+word_apart : (n a b : ℕ) → a ≢ b → place_of n (HeapWord a) ≢ place_of n (HeapWord b)
+unfolding place_of
+word_apart n a b apart same = apart (omega arith)
+
+page_word_apart : (n page a : ℕ) → page ≤ 2 * n → a ≤ 128 * n + 63 → place_of n (Page page) ≢ place_of n (HeapWord a)
+page_word_apart n page a is_page is_word = place_of-apart n (Page page) (HeapWord a) is_page is_word (λ same. cc)
+
+page_apart : (n page other : ℕ) → page ≢ other → place_of n (Page page) ≢ place_of n (Page other)
+unfolding place_of
+page_apart n page other apart same = apart (omega arith)
+
+-- after a store in a word of the heap its other words are what they were
+other_word : (n a b value : ℕ) (before after : List ℕ) → after ≡ words_after (Store (place_of n (HeapWord b)) value) before → a ≢ b
+    → word_in n (HeapWord a) after ≡ word_in n (HeapWord a) before
+other_word n a b value before after makes apart =
+    ap (word_in n (HeapWord a)) makes ∙ slice_index-words_after (Store (place_of n (HeapWord b)) value) before (place_of n (HeapWord a)) (word_apart n a b apart)
+
+this_word : (n a value : ℕ) (before after : List ℕ) → HoldsTable n before → a ≤ 128 * n + 63
+    → after ≡ words_after (Store (place_of n (HeapWord a)) value) before → word_in n (HeapWord a) after ≡ value
+this_word n a value before after whole is_word makes =
+    let inside = place_of-lt n (HeapWord a) is_word in
+    ap (word_in n (HeapWord a)) makes ∙ slice_index-stored (place_of n (HeapWord a)) value before (omega (arith, inside, whole))
+
+-- so do page words, and words of the heap after a store in a page word
+page_stays : (n page b value : ℕ) (before after : List ℕ) → page ≤ 2 * n → b ≤ 128 * n + 63
+    → after ≡ words_after (Store (place_of n (HeapWord b)) value) before → word_in n (Page page) after ≡ word_in n (Page page) before
+page_stays n page b value before after is_page is_word makes =
+    ap (word_in n (Page page)) makes
+    ∙ slice_index-words_after (Store (place_of n (HeapWord b)) value) before (place_of n (Page page)) (page_word_apart n page b is_page is_word)
+
+word_stays : (n a page value : ℕ) (before after : List ℕ) → page ≤ 2 * n → a ≤ 128 * n + 63
+    → after ≡ words_after (Store (place_of n (Page page)) value) before → word_in n (HeapWord a) after ≡ word_in n (HeapWord a) before
+word_stays n a page value before after is_page is_word makes =
+    ap (word_in n (HeapWord a)) makes
+    ∙ slice_index-words_after (Store (place_of n (Page page)) value) before (place_of n (HeapWord a)) (λ same. page_word_apart n page a is_page is_word (sym same))
+
+other_page : (n page other value : ℕ) (before after : List ℕ) → after ≡ words_after (Store (place_of n (Page other)) value) before → page ≢ other
+    → word_in n (Page page) after ≡ word_in n (Page page) before
+other_page n page other value before after makes apart =
+    ap (word_in n (Page page)) makes ∙ slice_index-words_after (Store (place_of n (Page other)) value) before (place_of n (Page page)) (page_apart n page other apart)
+
+this_page : (n page value : ℕ) (before after : List ℕ) → HoldsTable n before → page ≤ 2 * n
+    → after ≡ words_after (Store (place_of n (Page page)) value) before → word_in n (Page page) after ≡ value
+this_page n page value before after whole is_page makes =
+    let inside = place_of-lt n (Page page) is_page in
+    ap (word_in n (Page page)) makes ∙ slice_index-stored (place_of n (Page page)) value before (omega (arith, inside, whole))
+
+-- ---- zeros and open pages
+
+zero_more : (n from next : ℕ) (before after : List ℕ) → HoldsTable n before → next ≤ 128 * n → AreZero n from next before
+    → after ≡ words_after (Store (place_of n (HeapWord next)) 0) before → AreZero n from (next + 1) after
+zero_more n from next before after whole below zero makes a low high =
+    elim (cases_lt a next) [
+      | inl earlier ↦ other_word n a next 0 before after makes (omega arith) ∙ zero a low earlier
+      | inr later ↦ let here : a ≡ next = omega arith in rw here (this_word n next 0 before after whole (omega arith) makes)
+    ]
+
+zero_stays : (n from upto page value : ℕ) (before after : List ℕ) → page ≤ 2 * n → upto ≤ 128 * n → AreZero n from upto before
+    → after ≡ words_after (Store (place_of n (Page page)) value) before → AreZero n from upto after
+zero_stays n from upto page value before after is_page below zero makes a low high =
+    word_stays n a page value before after is_page (omega arith) makes ∙ zero a low high
+
+zero_behind : (n at upto value : ℕ) (before after : List ℕ) → AreZero n at upto before
+    → after ≡ words_after (Store (place_of n (HeapWord at)) value) before → AreZero n (at + 1) upto after
+zero_behind n at upto value before after zero makes a low high = other_word n a at value before after makes (omega arith) ∙ zero a (omega arith) high
+
+open_more : (n epoch from next : ℕ) (before after : List ℕ) → HoldsTable n before → next ≤ 2 * n → epoch < 2 ^ 32 → AreOpen n epoch from next before
+    → after ≡ words_after (Store (place_of n (Page next)) (encode_page (Open epoch))) before → AreOpen n epoch from (next + 1) after
+open_more n epoch from next before after whole below late opened makes page low high =
+    elim (cases_lt page next) [
+      | inl earlier ↦ ap decode_page (other_page n page next (encode_page (Open epoch)) before after makes (omega arith)) ∙ opened page low earlier
+      | inr later ↦ let here : page ≡ next = omega arith in
+          rw here (ap decode_page (this_page n next (encode_page (Open epoch)) before after whole below makes) ∙ decode_page-encode_page (Open epoch) late)
+    ]
+
+open_stays : (n epoch from upto a value : ℕ) (before after : List ℕ) → upto ≤ 2 * n → a ≤ 128 * n + 63 → AreOpen n epoch from upto before
+    → after ≡ words_after (Store (place_of n (HeapWord a)) value) before → AreOpen n epoch from upto after
+open_stays n epoch from upto a value before after below is_word opened makes page low high =
+    ap decode_page (page_stays n page a value before after (omega arith) is_word makes) ∙ opened page low high
+
+-- ---- what is made ready
+
+ready_by_area : (p : Placing) (traced : Bool) (o : Option AreaWord) (words : List ℕ) → IsReady p (looked_at_area p traced o) words
+ready_by_area p traced (Some area) words = by_test (fits traced (words_for p.header) area)
+  where
+    by_test : (b : Bool) → IsReady p (cond b (ExchangesArea (record { traced = traced; area = area })) (Ended (Full (shortage traced p.header area)))) words
+    by_test true = tt
+    by_test false = tt
+ready_by_area p traced None words = tt
+
+ready_by_exchange : (p : Placing) (f : Fitting) (b : Bool) (found : ℕ) (words : List ℕ)
+    → let next = taken_at (at_stage p (ExchangesArea f)) (ExchangesArea f) (cond b reply.Won (reply.Lost found)) in IsReady next next.stage words
+ready_by_exchange p f true found words = λ a low high. absurd (omega arith)
+ready_by_exchange p f false found words = tt
+
+ready_by_zero : (p : Placing) (new : NewPages) (words : List ℕ) → new.next < new.first + words_for p.header → AreZero p.layout.pages new.first (new.next + 1) words
+    → IsReady p (cleared (words_for p.header) new) words
+ready_by_zero p new words below zero = by_test (nat_lt (new.next + 1) (new.first + words_for p.header)) refl
+  where
+    by_test : (b : Bool) → nat_lt (new.next + 1) (new.first + words_for p.header) ≡ b
+        → IsReady p (cond b (StoresZero (record { first = new.first; next = new.next + 1 })) (OpensPage (record { first = new.first; next = page_of new.first }))) words
+    by_test true test = zero
+    by_test false test =
+        let last : new.first + words_for p.header ≤ new.next + 1 = grind (arith, nat_tests) in
+        (λ a low high. zero a low (omega arith), λ page low high. absurd (omega arith))
+
+ready_by_page : (p : Placing) (new : NewPages) (words : List ℕ) → AreZero p.layout.pages new.first (new.first + words_for p.header) words
+    → AreOpen p.layout.pages p.epoch (page_of new.first) (new.next + 1) words → IsReady (opened p new) (opened p new).stage words
+ready_by_page p new words zero open_pages = by_test (nat_lt (new.next + 1) (page_of new.first + pages_for (size_of p.header))) refl
+  where
+    by_test : (b : Bool) → nat_lt (new.next + 1) (page_of new.first + pages_for (size_of p.header)) ≡ b
+        → let next = cond b (at_stage p (OpensPage (record { first = new.first; next = new.next + 1 })))
+        (record p { run = record { at = new.first; end = new.first + words_for p.header }; stage = StoresHeader })
+        in IsReady next next.stage words
+    by_test true test = (zero, open_pages)
+    by_test false test =
+        let last : page_of new.first + pages_for (size_of p.header) ≤ new.next + 1 = grind (arith, nat_tests) in
+        (zero, λ page low high. open_pages page low (omega arith))
+
+pub ready : (p : Placing) (stage : PlaceStage) (before after : List ℕ) (turn : Turn Allocated) → IsSoundPlacing (at_stage p stage) → HoldsTable p.layout.pages before
+    → IsReady (at_stage p stage) stage before → Acts place_machine (at_stage p stage) before after turn
+    → let next = stepped place_machine (at_stage p stage) before in IsReady next next.stage after
+ready p LoadsTraced before after turn sound whole is acts = tt
+ready p (LoadsArea traced) before after turn sound whole is acts = ready_by_area p traced (decode_area (area_word p before)) after
+ready p (ExchangesArea f) before after turn sound whole is acts = ready_by_exchange p f _ (area_word p before) after
+ready p (StoresZero new) before after turn sound whole is acts =
+    let stage = sound.stage in
+    ready_by_zero p new after stage.2 (zero_more p.layout.pages new.first new.next before after whole (omega arith) is acts.makes)
+ready p (OpensPage new) before after turn sound whole is acts =
+    let stage = sound.stage in
+    let value : ℕ = encode_page (Open p.epoch) in
+    ready_by_page p new after
+    (zero_stays p.layout.pages new.first (new.first + words_for p.header) new.next value before after (omega arith) stage.0 is.0 acts.makes)
+    (open_more p.layout.pages p.epoch (page_of new.first) new.next before after whole (omega arith) sound.epoch is.1 acts.makes)
+ready p StoresHeader before after turn sound whole is acts = tt
+ready p (Ended result) before after turn sound whole is acts = tt
+
+-- ---- the record
+
+never_placed_at_area : (p : Placing) (traced : Bool) (at : ℕ) (o : Option AreaWord) → told (at_stage p (looked_at_area p traced o)) ≡ Finished (Placed at) → ⊥
+never_placed_at_area p traced at (Some area) tells = by_test (fits traced (words_for p.header) area) tells
+  where
+    by_test : (b : Bool) → told (at_stage p (cond b (ExchangesArea (record { traced = traced; area = area })) (Ended (Full (shortage traced p.header area))))) ≡ Finished (Placed at) → ⊥
+    by_test true e = cc
+    by_test false e = cc
+never_placed_at_area p traced at None tells = cc
+
+pub never_ends_at_exchange : (p : Placing) (f : Fitting) (r : Reply) (result : Allocated) → told (taken_at (at_stage p (ExchangesArea f)) (ExchangesArea f) r) ≡ Finished result → ⊥
+never_ends_at_exchange p f reply.Won result tells = cc
+never_ends_at_exchange p f (reply.Lost word) result tells = cc
+never_ends_at_exchange p f (reply.Value word) result tells = cc
+never_ends_at_exchange p f reply.Done result tells = cc
+
+pub never_ends_at_zero : (p : Placing) (new : NewPages) (result : Allocated) → told (at_stage p (cleared (words_for p.header) new)) ≡ Finished result → ⊥
+never_ends_at_zero p new result tells = by_test (nat_lt (new.next + 1) (new.first + words_for p.header)) tells
+  where
+    by_test : (b : Bool) → told (at_stage p (cond b (StoresZero (record { first = new.first; next = new.next + 1 })) (OpensPage (record { first = new.first; next = page_of new.first })))) ≡ Finished result → ⊥
+    by_test true e = cc
+    by_test false e = cc
+
+pub never_ends_at_page : (p : Placing) (new : NewPages) (result : Allocated) → told (opened p new) ≡ Finished result → ⊥
+never_ends_at_page p new result tells = by_test (nat_lt (new.next + 1) (page_of new.first + pages_for (size_of p.header))) tells
+  where
+    by_test : (b : Bool) → told (cond b (at_stage p (OpensPage (record { first = new.first; next = new.next + 1 })))
+        (record p { run = record { at = new.first; end = new.first + words_for p.header }; stage = StoresHeader })) ≡ Finished result → ⊥
+    by_test true e = cc
+    by_test false e = cc
+
+pub more_never_ends : (result : Allocated) → More ≡ Finished result → ⊥
+more_never_ends result e = cc
+
+pub places : (p : Placing) (stage : PlaceStage) (before after : List ℕ) (at : ℕ) → IsSoundPlacing (at_stage p stage) → HoldsTable p.layout.pages before
+    → IsReady (at_stage p stage) stage before → Acts place_machine (at_stage p stage) before after (Finished (Placed at))
+    → PlacesRecord (at_stage p stage) before after at
+places p LoadsTraced before after at sound whole is acts = absurd (more_never_ends (Placed at) acts.tells)
+places p (LoadsArea traced) before after at sound whole is acts = absurd (never_placed_at_area p traced at (decode_area (area_word p before)) acts.tells)
+places p (ExchangesArea f) before after at sound whole is acts = absurd (never_ends_at_exchange p f _ (Placed at) acts.tells)
+places p (StoresZero new) before after at sound whole is acts = absurd (never_ends_at_zero p new (Placed at) acts.tells)
+places p (OpensPage new) before after at sound whole is acts = absurd (never_ends_at_page p new (Placed at) acts.tells)
+places p StoresHeader before after at sound whole is acts = subst (PlacesRecord (at_stage p StoresHeader) before after) same record_placed
+  where
+    same : p.run.at ≡ at
+    same = let e = acts.tells in cc
+
+    record_placed : PlacesRecord (at_stage p StoresHeader) before after p.run.at
+    record_placed =
+        let run = sound.run in
+        let room = sound.stage in
+        record {
+          at_run = refl;
+          in_run = room;
+          header = this_word p.layout.pages p.run.at (encode (header_says p.header)) before after whole (omega arith) acts.makes;
+          zero = zero_behind p.layout.pages p.run.at p.run.end (encode (header_says p.header)) before after is.0 acts.makes;
+          opened = open_stays p.layout.pages p.epoch (page_of p.run.at) (page_of p.run.end) p.run.at (encode (header_says p.header)) before after (omega arith) (omega arith) is.1 acts.makes;
+          run_goes_on = refl;
+          others = λ place apart. ap (λ ws. slice_index ws place) acts.makes
+              ∙ slice_index-words_after (Store (place_of p.layout.pages (HeapWord p.run.at)) (encode (header_says p.header))) before place apart;
+        }
+places p (Ended result) before after at sound whole is acts = absurd (no_step acts.has_step)

@@ -1,0 +1,128 @@
+-- What is proved of allocation, by the words on which it makes its steps.
+use Rattle.std.specs.Prelude.{◌≡◌, ◌≢◌, ℕ, ◌+◌, ◌-◌, ◌*◌, ◌<◌, ◌≤◌, ◌↔◌, ⊤, Bool, IsTrue, List, Some}
+use Rattle.atom_store.specs.declared.turn.Turn.{Turn}
+use Rattle.atom_store.specs.declared.turn.Turn.TheVariants.{Finished}
+use Rattle.atom_store.specs.Acts.{Acts, stepped}
+use Rattle.heap_words.specs.Decoded.{encode}
+use Rattle.record_layout.specs.Layout.{header_says}
+use Rattle.space_map.specs.declared.area_word.AreaWord.{AreaWord}
+use Rattle.space_map.specs.declared.page_word.PageWord.TheVariants.{Open}
+use Rattle.space_map.specs.AreaWord.{decode_area, encode_area}
+use Rattle.space_map.specs.PageWord.{decode_page}
+use Rattle.space_map.specs.Spaces.{to_space, page_of}
+use Rattle.space_map.specs.Table.{Traced, Area, Page, HeapWord}
+use Rattle.space_map.specs.TableWords.{word_in, HoldsTable, ChangesOnly}
+use Rattle.alloc_end.specs.declared.fitting.Fitting.{Fitting}
+use Rattle.alloc_end.specs.declared.shortage.Shortage.{Shortage}
+use Rattle.alloc_end.specs.declared.allocated.Allocated.{Allocated}
+use Rattle.alloc_end.specs.declared.allocated.Allocated.TheVariants.{Placed, Full}
+use Rattle.alloc_end.specs.declared.place_stage.PlaceStage.{PlaceStage}
+use Rattle.alloc_end.specs.declared.place_stage.PlaceStage.TheVariants.{LoadsTraced, LoadsArea, ExchangesArea, StoresZero, OpensPage, StoresHeader, Ended}
+use Rattle.alloc_end.specs.Place.{Placing, at_stage, size_of, pages_for, words_for, kept_room, room_in, area_after, first_claimed, shortage, place_machine}
+use Rattle.alloc_end.specs.Soundness.{IsSoundPlacing}
+
+-- the area of the space that is copied into
+abbrev pub area_word : Placing → List ℕ → ℕ
+area_word p words = word_in p.layout.pages (Area (to_space p.epoch)) words
+
+-- ---- TRACED
+
+-- whether room has to be kept is told by TRACED as it is read: that the epoch is traced or not; no word changes
+pub record LooksAtTraced (p : Placing) (before after : List ℕ) : Type 0 where
+  pub traced : Bool
+  pub exactly : IsTrue traced ↔ (word_in p.layout.pages Traced before ≡ p.epoch + 1)
+  pub goes : (stepped place_machine (at_stage p LoadsTraced) before).stage ≡ LoadsArea traced
+  pub stays : after ≡ before
+
+abbrev pub TracedIsRead : Type 0
+TracedIsRead = (p : Placing) (before after : List ℕ) (turn : Turn Allocated)
+    → Acts place_machine (at_stage p LoadsTraced) before after turn → LooksAtTraced p before after
+
+-- ---- the claim of pages
+
+-- The area that was read stood. Then LOW is lower by the pages asked for, and the room that has to be kept is left.
+pub record ClaimsPages (p : Placing) (f : Fitting) (before after : List ℕ) : Type 0 where
+  pub is : decode_area (area_word p after) ≡ Some (area_after (words_for p.header) f)
+  pub kept : (area_after (words_for p.header) f).owed ≤ room_in (area_after (words_for p.header) f)
+  pub goes : (stepped place_machine (at_stage p (ExchangesArea f)) before).stage
+      ≡ StoresZero (record { first = first_claimed p f; next = first_claimed p f })
+  pub others : ChangesOnly p.layout.pages (Area (to_space p.epoch)) before after
+
+-- another area stood: no word changes, and TRACED is looked at again
+pub record LosesPages (p : Placing) (f : Fitting) (before after : List ℕ) : Type 0 where
+  pub stays : after ≡ before
+  pub goes : (stepped place_machine (at_stage p (ExchangesArea f)) before).stage ≡ LoadsTraced
+
+abbrev pub PagesAreClaimed : Type 0
+PagesAreClaimed = (p : Placing) (f : Fitting) (before after : List ℕ) (turn : Turn Allocated)
+    → IsSoundPlacing (at_stage p (ExchangesArea f)) → HoldsTable p.layout.pages before
+    → Acts place_machine (at_stage p (ExchangesArea f)) before after turn → area_word p before ≡ encode_area f.area → ClaimsPages p f before after
+
+abbrev pub PagesAreLost : Type 0
+PagesAreLost = (p : Placing) (f : Fitting) (before after : List ℕ) (turn : Turn Allocated)
+    → Acts place_machine (at_stage p (ExchangesArea f)) before after turn → area_word p before ≢ encode_area f.area → LosesPages p f before after
+
+-- ---- the record
+
+-- the words from one to another are 0
+abbrev pub AreZero : (pages from upto : ℕ) → List ℕ → Type 0
+AreZero n from upto words = (a : ℕ) → from ≤ a → a < upto → word_in n (HeapWord a) words ≡ 0
+
+-- the pages from one to another are open in an epoch
+abbrev pub AreOpen : (pages epoch from upto : ℕ) → List ℕ → Type 0
+AreOpen n epoch from upto words = (page : ℕ) → from ≤ page → page < upto → decode_page (word_in n (Page page) words) ≡ Some (Open epoch)
+
+-- What an allocation has made ready: words that are 0, pages that are open. A run that it is given is to be so.
+abbrev pub IsReady : Placing → PlaceStage → List ℕ → Type 0
+IsReady p LoadsTraced words = ⊤
+IsReady p (LoadsArea traced) words = ⊤
+IsReady p (ExchangesArea f) words = ⊤
+IsReady p (StoresZero new) words = AreZero p.layout.pages new.first new.next words
+IsReady p (OpensPage new) words =
+    AreZero p.layout.pages new.first (new.first + words_for p.header) words × AreOpen p.layout.pages p.epoch (page_of new.first) new.next words
+IsReady p StoresHeader words = AreZero p.layout.pages p.run.at p.run.end words × AreOpen p.layout.pages p.epoch (page_of p.run.at) (page_of p.run.end) words
+IsReady p (Ended result) words = ⊤
+
+-- nobody else writes these words; and the allocation's own steps keep it
+abbrev pub PagesAreMadeReady : Type 0
+PagesAreMadeReady = (p : Placing) (before after : List ℕ) (turn : Turn Allocated) → IsSoundPlacing p → HoldsTable p.layout.pages before
+    → IsReady p p.stage before → Acts place_machine p before after turn
+    → IsReady (stepped place_machine p before) (stepped place_machine p before).stage after
+
+-- The record's header stands where the run was, inside it and on open pages; its words are 0, and so is what is left of the run,
+-- which goes on behind the record. No other word changes.
+pub record PlacesRecord (p : Placing) (before after : List ℕ) (at : ℕ) : Type 0 where
+  pub at_run : at ≡ p.run.at
+  pub in_run : at + size_of p.header ≤ p.run.end
+  pub header : word_in p.layout.pages (HeapWord at) after ≡ encode (header_says p.header)
+  pub zero : AreZero p.layout.pages (at + 1) p.run.end after
+  pub opened : AreOpen p.layout.pages p.epoch (page_of at) (page_of p.run.end) after
+  pub run_goes_on : (stepped place_machine p before).run ≡ record { at = at + size_of p.header; end = p.run.end }
+  pub others : ChangesOnly p.layout.pages (HeapWord at) before after
+
+abbrev pub RecordsArePlaced : Type 0
+RecordsArePlaced = (p : Placing) (before after : List ℕ) (at : ℕ) → IsSoundPlacing p → HoldsTable p.layout.pages before
+    → IsReady p p.stage before → Acts place_machine p before after (Finished (Placed at)) → PlacesRecord p before after at
+
+-- ---- heap full
+
+-- The area as it was read has less room than the pages asked for and what has to be kept: these are the numbers. No word changes.
+pub record ShowsShortage (p : Placing) (before after : List ℕ) (s : Shortage) : Type 0 where
+  pub area : AreaWord
+  pub read : decode_area (area_word p before) ≡ Some area
+  pub asked : s.asked ≡ pages_for (size_of p.header)
+  pub room : s.room ≡ area.low - area.front
+  pub owed : s.owed ≡ kept_room s.traced area
+  pub live : s.live ≡ area.front
+  pub short : s.room < 64 * s.asked + s.owed
+  pub stays : after ≡ before
+
+abbrev pub FullHeapsAreShort : Type 0
+FullHeapsAreShort = (p : Placing) (before after : List ℕ) (s : Shortage)
+    → Acts place_machine p before after (Finished (Full s)) → ShowsShortage p before after s
+
+-- and where the claim doesn't fit, that is what is told
+abbrev pub ShortHeapsAreFull : Type 0
+ShortHeapsAreFull = (p : Placing) (traced : Bool) (area : AreaWord) (words : List ℕ) → decode_area (area_word p words) ≡ Some area
+    → room_in area < words_for p.header + kept_room traced area
+    → Acts place_machine (at_stage p (LoadsArea traced)) words words (Finished (Full (shortage traced p.header area)))

@@ -1,0 +1,5 @@
+pub mod Crossing
+pub mod Walking
+pub mod FirstWord
+pub mod Theorems
+pub mod Worked

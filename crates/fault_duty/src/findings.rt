@@ -1,0 +1,9 @@
+/// What a round has found before it chooses a page.
+#[derive(Clone, Copy, Debug)]
+pub struct Findings {
+    /// The word of TRACED, which isn't that of the round's epoch.
+    pub traced: u64,
+    /// A word that forbids to end the tracing now: the gate's, where a mutator is behind, or that of a page which another
+    /// worker scans.
+    pub hindrance: Option<u64>,
+}

@@ -1,0 +1,127 @@
+-- What is proved of passages of the gate and of the flip, by the words on which they make their steps.
+use Rattle.std.specs.Prelude.{◌≡◌, ◌≢◌, ℕ, ◌+◌, ◌*◌, ◌≤◌, ◌⊎◌, true, false, ⊤, List, Some}
+use Rattle.atom_store.specs.declared.turn.Turn.{Turn}
+use Rattle.atom_store.specs.declared.turn.Turn.TheVariants.{Finished}
+use Rattle.atom_store.specs.Acts.{Acts, stepped}
+use Rattle.space_map.specs.declared.area_word.AreaWord.{AreaWord}
+use Rattle.space_map.specs.declared.gate_word.GateWord.{GateWord}
+use Rattle.space_map.specs.AreaWord.{decode_area}
+use Rattle.space_map.specs.GateWord.{decode_gate}
+use Rattle.space_map.specs.Spaces.{to_space}
+use Rattle.space_map.specs.Table as row
+use Rattle.space_map.specs.TableWords.{word_in, HoldsTable, ChangesOnly}
+use Rattle.gate_core.specs.declared.passage.Passage.{Passage}
+use Rattle.gate_core.specs.declared.passage.Passage.TheVariants.{Look, Attach, Park, Request, Resume, Forwarded, Leave}
+use Rattle.gate_core.specs.declared.passed.Passed.TheVariants as passed
+use Rattle.gate_core.specs.declared.reset.Reset.{Reset}
+use Rattle.gate_core.specs.declared.flipped.Flipped.{Flipped}
+use Rattle.gate_core.specs.declared.flipped.Flipped.TheVariants as flipped
+use Rattle.gate_core.specs.declared.flip_stage.FlipStage.{FlipStage}
+use Rattle.gate_core.specs.declared.flip_stage.FlipStage.TheVariants.{LoadsGate, LoadsArea, StoresArea, Exchanges, Ended}
+use Rattle.gate_core.specs.Gate.{Passing, gate_after, gate_machine}
+use Rattle.gate_core.specs.Flip.{Flipping, gate_flipped, used_in, area_reset, flip_machine}
+use Rattle.gate_core.specs.Soundness.{IsSoundPassing, IsSoundFlipping}
+
+-- ---- the gate
+
+-- where the passage may be made
+abbrev pub IsAllowed : Passage → GateWord → Type 0
+IsAllowed Look gate = gate.request ≡ false
+IsAllowed Attach gate = (gate.request ≡ false) × (gate.behind ≡ 0)
+IsAllowed Park gate = gate.request ≡ true
+IsAllowed Request gate = gate.request ≡ false
+IsAllowed (Resume epoch) gate = (gate.request ≡ false) × (gate.behind ≡ 0) × (gate.epoch ≡ epoch)
+IsAllowed Forwarded gate = ⊤
+IsAllowed Leave gate = ⊤
+
+-- where it may not
+abbrev pub IsForbidden : Passage → GateWord → Type 0
+IsForbidden Look gate = gate.request ≡ true
+IsForbidden Attach gate = (gate.request ≡ true) ⊎ (gate.behind ≢ 0)
+IsForbidden Park gate = gate.request ≡ false
+IsForbidden Request gate = gate.request ≡ true
+IsForbidden (Resume epoch) gate = (gate.request ≡ true) ⊎ ((gate.behind ≢ 0) ⊎ (gate.epoch ≢ epoch))
+IsForbidden Forwarded gate = ⊥
+IsForbidden Leave gate = ⊥
+
+-- The gate's word allowed the passage, and says then what comes of it, as is told; no other word changes.
+pub record PassesGate (p : Passing) (before after : List ℕ) (word : ℕ) : Type 0 where
+  pub gate : GateWord
+  pub was : decode_gate (word_in p.layout.pages row.Gate before) ≡ Some gate
+  pub allowed : IsAllowed p.passage gate
+  pub is : decode_gate (word_in p.layout.pages row.Gate after) ≡ Some (gate_after p.passage gate)
+  pub tells : word ≡ word_in p.layout.pages row.Gate after
+  pub others : ChangesOnly p.layout.pages row.Gate before after
+
+abbrev pub PassagesAreMade : Type 0
+PassagesAreMade = (p : Passing) (before after : List ℕ) (word : ℕ) → IsSoundPassing p → HoldsTable p.layout.pages before
+    → Acts gate_machine p before after (Finished (passed.Went word)) → PassesGate p before after word
+
+-- the gate's word, which is told, forbids the passage; no word changes
+pub record ForbidsPassage (p : Passing) (before after : List ℕ) (word : ℕ) : Type 0 where
+  pub gate : GateWord
+  pub says : decode_gate word ≡ Some gate
+  pub forbidden : IsForbidden p.passage gate
+  pub tells : word ≡ word_in p.layout.pages row.Gate before
+  pub stays : after ≡ before
+
+abbrev pub HinderedPassagesShowIt : Type 0
+HinderedPassagesShowIt = (p : Passing) (before after : List ℕ) (word : ℕ)
+    → Acts gate_machine p before after (Finished (passed.NotYet word)) → ForbidsPassage p before after word
+
+-- ---- the flip
+
+-- the gate that the flip has read stands, and the words in use that it counted are those in use
+pub record CountsUsed (f : Flipping) (reset : Reset) (words : List ℕ) : Type 0 where
+  pub gate : decode_gate (word_in f.layout.pages row.Gate words) ≡ Some reset.gate
+  pub area : AreaWord
+  pub read : decode_area (word_in f.layout.pages (row.Area (to_space f.epoch)) words) ≡ Some area
+  pub used : reset.used ≡ used_in f.layout.pages area
+
+-- the area of the other space is that of an empty one
+abbrev pub IsReset : Flipping → Reset → List ℕ → Type 0
+IsReset f reset words = decode_area (word_in f.layout.pages (row.Area (to_space (f.epoch + 1))) words) ≡ Some (area_reset f.layout.pages reset.used)
+
+-- what the flip has read stands, and so does what it has stored
+abbrev pub StandsAt : Flipping → FlipStage → List ℕ → Type 0
+StandsAt f LoadsGate words = ⊤
+StandsAt f (LoadsArea gate) words = decode_gate (word_in f.layout.pages row.Gate words) ≡ Some gate
+StandsAt f (StoresArea reset) words = CountsUsed f reset words
+StandsAt f (Exchanges reset) words = CountsUsed f reset words × IsReset f reset words
+StandsAt f (Ended result) words = ⊤
+
+-- while mutators are stopped and none is behind, nobody else changes these words; and the flip's own steps keep it
+abbrev pub FlipsKeepWhatTheyRead : Type 0
+FlipsKeepWhatTheyRead = (f : Flipping) (before after : List ℕ) (turn : Turn Flipped) → IsSoundFlipping f → HoldsTable f.layout.pages before
+    → StandsAt f f.stage before → Acts flip_machine f before after turn
+    → StandsAt f (stepped flip_machine f before).stage after
+
+-- Nobody ran and nobody was behind; then the epoch is the next one, all that are live are behind, and no flip is requested any
+-- more. The other space is empty, and owes as many words as are in use in the one that was copied into until now.
+pub record FlipsHeap (f : Flipping) (before after : List ℕ) : Type 0 where
+  pub gate : GateWord
+  pub was : decode_gate (word_in f.layout.pages row.Gate before) ≡ Some gate
+  pub still : (gate.running ≡ 0) × (gate.behind ≡ 0)
+  pub is : decode_gate (word_in f.layout.pages row.Gate after) ≡ Some (gate_flipped gate)
+  pub area : AreaWord
+  pub in_use : decode_area (word_in f.layout.pages (row.Area (to_space f.epoch)) after) ≡ Some area
+  pub empty : decode_area (word_in f.layout.pages (row.Area (to_space (f.epoch + 1))) after)
+      ≡ Some (area_reset f.layout.pages (used_in f.layout.pages area))
+  pub others : ChangesOnly f.layout.pages row.Gate before after
+
+abbrev pub FlipsAreMade : Type 0
+FlipsAreMade = (f : Flipping) (before after : List ℕ) (asked : ℕ) → IsSoundFlipping f → HoldsTable f.layout.pages before
+    → StandsAt f f.stage before → Acts flip_machine f before after (Finished (flipped.Went asked))
+    → FlipsHeap f before after × (asked ≡ f.asked)
+
+-- the gate's word, which is told, says that a mutator runs or is behind; no word changes
+pub record ForbidsFlip (f : Flipping) (before after : List ℕ) (word : ℕ) : Type 0 where
+  pub gate : GateWord
+  pub says : decode_gate word ≡ Some gate
+  pub forbidden : (gate.running ≢ 0) ⊎ (gate.behind ≢ 0)
+  pub tells : word ≡ word_in f.layout.pages row.Gate before
+  pub stays : after ≡ before
+
+abbrev pub HinderedFlipsShowIt : Type 0
+HinderedFlipsShowIt = (f : Flipping) (before after : List ℕ) (word : ℕ)
+    → Acts flip_machine f before after (Finished (flipped.NotYet word)) → ForbidsFlip f before after word

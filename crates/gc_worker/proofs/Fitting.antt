@@ -1,0 +1,39 @@
+-- What a worker keeps of itself, from one stage to the next.
+use Rattle.std.proofs.Common.{◌≡◌, ℕ, ◌<◌, ◌≤◌, ◌+◌, ◌^◌, true, false, Option, Some, None, is_some, refl, sym, ap, subst, arith}
+use Rattle.space_map.specs.Spaces.{IsPageCount}
+use Rattle.alloc_end.specs.Place as place
+use Rattle.alloc_end.specs.Soundness.{IsRun}
+use Rattle.gate_core.specs.declared.passage.Passage.{Passage}
+use Rattle.gate_core.specs.Gate as gate
+use Rattle.record_layout.specs.declared.header.Header.{Header}
+use Rattle.gc_worker.specs.declared.after.After.{After}
+use Rattle.gc_worker.specs.declared.stage.Stage.{Stage}
+use Rattle.gc_worker.specs.declared.stage.Stage.TheVariants.{Passes}
+use Rattle.gc_worker.specs.Fits.{Fits, FitsStage, FitsEnd, IsOwnPassage, IsEndBefore, FitsGate}
+use Rattle.gc_worker.specs.Held.{Held, at_stage}
+use Rattle.gc_worker.specs.Turned.{passes}
+
+module _ (n mutators k : ℕ) (x : Held) (f : Fits n mutators k x) where
+  -- a worker at another stage
+  pub refit : (stage : Stage) → FitsEnd stage (is_some x.account.end) → FitsStage (at_stage x stage) stage → Fits n mutators k (at_stage x stage)
+  refit stage end fits = record {
+    number = f.number;
+    few = f.few;
+    pages = f.pages;
+    counted = f.counted;
+    beside = f.beside;
+    epoch = f.epoch;
+    eight = f.eight;
+    run = f.run;
+    end = end;
+    stage = fits;
+  }
+
+  pub page_count : IsPageCount x.layout.pages
+  page_count = subst IsPageCount (sym f.pages) f.counted
+
+  -- before a passage
+  pub before_passage : (passage : Passage) (after : After) → IsEndBefore passage (is_some x.account.end) → IsOwnPassage x.epoch passage
+      → Fits n mutators k (at_stage x (passes x passage after))
+  before_passage passage after end own =
+      refit (passes x passage after) end (record { layout = refl; passage = own; sound = record { pages = page_count; stage = tt } })

@@ -1,0 +1,112 @@
+-- From rows of the table to the words of a step, once for each sort of step; and the laws of the heap for steps that are none of the
+-- plain machine. No kind speaks of places.
+use Rattle.std.proofs.Common.{◌≡◌, ◌≢◌, ℕ, ◌+◌, ◌*◌, ◌<◌, ◌==◌, true, false, refl, length, Option, None, Some, subst, slice_index, arith, sym, ◌∙◌, ⊎_elim}
+use Rattle.std.proofs.lemmas.Bool.{eq-eqb, ne_eqb, cases_eq}
+use Rattle.plain_state.specs.State.{Plain}
+use Rattle.atom_store.specs.declared.step.Step.TheVariants.{Load, Store, Exchange}
+use Rattle.atom_store.specs.declared.reply.Reply.{Reply}
+use Rattle.atom_store.specs.declared.reply.Reply.TheVariants.{Value, Done, Won, Lost}
+use Rattle.space_map.specs.Table.{Row, IsRow, place_of}
+use Rattle.space_map.proofs.Rows.{place_of-lt}
+use Rattle.heap_state.specs.Configuration.{Configuration, Stands, era, memory, team}
+use Rattle.heap_state.specs.Entries.{Entry, EntryFits, GateIs, TracedIs, AreaIs, PageIs, CrossIs, WordIs, AnnounceIs, row_of, word_of}
+use Rattle.heap_state.specs.Ghost.{Ghost}
+use Rattle.heap_state.specs.Table.{word_in}
+use Rattle.heap_state.specs.Worker.{Worker}
+use Rattle.heap_laws.specs.Composing.{IsAtMost}
+use Rattle.heap_laws.specs.Lifting.{Leaves}
+use Rattle.heap_laws.specs.Steps.{Ready}
+use Rattle.heap_laws.specs.Steps as law
+use Rattle.heap_laws.proofs.Copying.Laws.{nothing_else_changes}
+use Rattle.heap_laws.proofs.Lifting.Configurations.{ready}
+use Rattle.heap_laws.proofs.Lifting.Laws.{steps_are_lifted}
+use Rattle.heap_laws.proofs.Steps.Composing.{steps_forget}
+use Rattle.heap_state.proofs.Table.Places.{word_in-row}
+use Rattle.gc_worker.specs.Fits.{Fits, Takes}
+use Rattle.gc_worker.specs.Goes.{Is, Goes, Steps, Wins}
+use Rattle.gc_worker.specs.Held.{Held}
+use Rattle.gc_worker.specs.Knows.{knows}
+use Rattle.gc_worker.specs.Turned.{Silent, PageWon, turned, told, won}
+
+-- what the entry fits is a row of the table
+row_is : (n : ℕ) (e : Entry) → EntryFits n e → IsRow n (row_of e)
+row_is n (GateIs gate) fits = tt
+row_is n (TracedIs word) fits = tt
+row_is n (AreaIs space area) fits = fits.0
+row_is n (PageIs page word) fits = fits.0
+row_is n (CrossIs page place) fits = fits
+row_is n (WordIs addr word) fits = fits
+row_is n (AnnounceIs worker place) fits = fits
+
+module _ (c : Configuration) (p : Plain) (s : Stands c p) (k : ℕ) (x : Held) where
+  -- what a law of the heap says of a step of worker k
+  abbrev pub Law : (e : Option Entry) (w : Worker) (h : Ghost) → Type 0
+  Law e w h = law.Steps (era c) (memory c) (team c) s.ghost k e w h
+
+  -- a step that is none of the plain machine, by the law that says of it what the worker then knows
+  pub quiet : (e : Option Entry) (reply : Reply) (h : Ghost) → k < length c.workers → Law e (knows (turned x reply)) h → told x reply ≡ Silent
+      → Takes x reply → Fits c.pages c.mutators k (turned x reply) → Wins c e k (turned x reply) (won x reply) → Goes c p s k e x reply
+  quiet e reply h below l silent takes fits wins = record {
+    takes = takes;
+    fits = fits;
+    ghost_after = h;
+    leads = rw silent (steps_are_lifted c p s e k (knows (turned x reply)) h below l);
+    wins = wins;
+  }
+
+  -- the same where the worker becomes this, and wins no page
+  pub becomes : (e : Option Entry) (reply : Reply) (y : Held) (h : Ghost) → turned x reply ≡ y → k < length c.workers → Law e (knows y) h → told x reply ≡ Silent
+      → won x reply ≡ None → Takes x reply → Fits c.pages c.mutators k y → Goes c p s k e x reply
+  becomes e reply y h same below l silent none takes fits =
+      quiet e reply h below (subst (λ (z : Held). Law e (knows z) h) (sym same) l) silent takes (subst (Fits c.pages c.mutators k) (sym same) fits)
+      (subst (λ (w : Option PageWon). Wins c e k (turned x reply) w) (sym none) tt)
+
+  -- the row that a law says is written is one of the table
+  pub row_fits : (e : Entry) (w : Worker) (h : Ghost) → k < length c.workers → Law (Some e) w h → IsRow c.pages (row_of e)
+  row_fits e w h below l = row_is c.pages e (steps_are_lifted c p s (Some e) k w h below l).fits
+
+  in_table : (row : Row) → IsRow c.pages row → place_of c.pages row < length c.words
+  in_table row is = let w = s.formed.whole in let l = place_of-lt c.pages row is in omega (arith, w, l)
+
+  reads : (row : Row) → IsRow c.pages row → slice_index c.words (place_of c.pages row) ≡ word_in c.pages c.words row
+  reads row is = sym (word_in-row c.pages c.words row is)
+
+  pub loads : (row : Row) → IsRow c.pages row → Goes c p s k None x (Value (word_in c.pages c.words row)) → Steps c p s k x (Load (place_of c.pages row))
+  loads row is g = record { place = in_table row is; entry = None; writes = refl; goes = rw (reads row is) g }
+
+  pub stores : (e : Entry) → IsRow c.pages (row_of e) → Goes c p s k (Some e) x Done → Steps c p s k x (Store (place_of c.pages (row_of e)) (word_of e))
+  stores e is g = record { place = in_table (row_of e) is; entry = Some e; writes = refl; goes = g }
+
+  module _ (e : Entry) (old : ℕ) (is : IsRow c.pages (row_of e)) where
+    abbrev word : ℕ
+    word = word_in c.pages c.words (row_of e)
+
+    at : slice_index c.words (place_of c.pages (row_of e)) ≡ word
+    at = reads (row_of e) is
+
+    abbrev Exchanges : Type 0
+    Exchanges = Steps c p s k x (Exchange (place_of c.pages (row_of e)) old (word_of e))
+
+    by_won : (slice_index c.words (place_of c.pages (row_of e)) == old) ≡ true → Goes c p s k (Some e) x Won → Exchanges
+    by_won test g = record { place = in_table (row_of e) is; entry = Some e; writes = rw test refl; goes = rw test g }
+
+    by_lost : (slice_index c.words (place_of c.pages (row_of e)) == old) ≡ false → Goes c p s k None x (Lost word) → Exchanges
+    by_lost test g = record { place = in_table (row_of e) is; entry = None; writes = rw test refl; goes = rw (test, at) g }
+
+    pub exchanges : (word ≡ old → Goes c p s k (Some e) x Won) → (word ≢ old → Goes c p s k None x (Lost word)) → Exchanges
+    exchanges won lost = ⊎_elim
+        (λ (same : word ≡ old). by_won (eq-eqb (slice_index c.words (place_of c.pages (row_of e))) old (at ∙ same)) (won same))
+        (λ (other : word ≢ old). by_lost (ne_eqb (slice_index c.words (place_of c.pages (row_of e))) old (λ same. other (sym at ∙ same))) (lost other))
+        (cases_eq word old)
+
+  module _ (is : Is c k x) where
+    pub prepared : Ready (era c) (memory c) (team c) s.ghost k
+    prepared = ready c p s k is.below
+
+    -- a step that teaches nothing: what the worker then knows it knew
+    pub nothing : (w : Worker) → knows x ≡ w → Law None w s.ghost
+    nothing w same = subst (λ (v : Worker). Law None v s.ghost) (is.as_known ∙ same) (nothing_else_changes (era c) (memory c) (team c) s.ghost k prepared)
+
+    -- or it knows less
+    pub less : (w : Worker) → IsAtMost w (knows x) → Law None w s.ghost
+    less w most = steps_forget (era c) (memory c) (team c) s.ghost k None (knows x) w s.ghost (nothing (knows x) refl) most

@@ -1,0 +1,199 @@
+-- What a worker keeps of itself: each machine is sound, and its layout, its worker and its epoch are the worker's own.
+use Rattle.std.specs.Prelude.{◌≡◌, ℕ, ◌+◌, ◌*◌, ◌^◌, ◌<◌, ◌≤◌, ⊤, Bool, true, false, length, Option, Some, None, is_some}
+use Rattle.atom_store.specs.declared.reply.Reply.{Reply}
+use Rattle.space_map.specs.Spaces.{Layout, IsPageCount, board_page}
+use Rattle.alloc_end.specs.declared.run.Run.{Run}
+use Rattle.alloc_end.specs.Place as place
+use Rattle.alloc_end.specs.Soundness.{IsRun, IsSoundPlacing}
+use Rattle.fault_duty.specs.declared.caller.Caller.{Caller}
+use Rattle.fault_duty.specs.declared.caller.Caller.TheVariants as callers
+use Rattle.fault_duty.specs.declared.duty_stage.DutyStage.{DutyStage}
+use Rattle.fault_duty.specs.declared.duty_stage.DutyStage.TheVariants as duty_stage
+use Rattle.fault_duty.specs.Duty as duty
+use Rattle.fault_duty.specs.Soundness.{IsSoundRound}
+use Rattle.forwarding.specs.declared.evac_stage.EvacStage.{EvacStage}
+use Rattle.forwarding.specs.Evacuation as evac
+use Rattle.forwarding.specs.Taken as evac_taken
+use Rattle.forwarding.specs.Soundness as evac_sound
+use Rattle.gate_core.specs.declared.passage.Passage.{Passage}
+use Rattle.gate_core.specs.declared.passage.Passage.TheVariants as passages
+use Rattle.gate_core.specs.Gate as gate
+use Rattle.gate_core.specs.Flip as flip
+use Rattle.gate_core.specs.Soundness.{IsSoundPassing, IsSoundFlipping}
+use Rattle.page_scan.specs.declared.scan_stage.ScanStage.{ScanStage}
+use Rattle.page_scan.specs.declared.scan_stage.ScanStage.TheVariants as scan_stage
+use Rattle.page_scan.specs.Scanning as scan
+use Rattle.page_scan.specs.Taken as scan_taken
+use Rattle.page_scan.specs.Soundness as scan_sound
+use Rattle.page_slots.specs.Open as open_page
+use Rattle.page_slots.specs.Soundness.{IsSoundOpening}
+use Rattle.gc_worker.specs.declared.access.Access.{Access}
+use Rattle.gc_worker.specs.declared.after.After.{After}
+use Rattle.gc_worker.specs.declared.back.Back.{Back}
+use Rattle.gc_worker.specs.declared.back.Back.TheVariants.{ToAccess, ToPlace, ToScanner}
+use Rattle.gc_worker.specs.declared.forwarding_register.ForwardingRegister.{ForwardingRegister}
+use Rattle.gc_worker.specs.declared.stage.Stage.{Stage}
+use Rattle.gc_worker.specs.declared.stage.Stage.TheVariants.{Looks, Passes, Flips, Forwards, Accesses, Places, Serves, Scans, Evacuates, Opens, Gone}
+use Rattle.gc_worker.specs.Held.{Held}
+
+-- ---- what each machine is to its worker
+
+-- who resumes does so in its own epoch, and who requests a flip is not of the last one
+abbrev pub IsOwnPassage : (epoch : ℕ) → Passage → Type 0
+IsOwnPassage epoch (passages.Resume own) = own ≡ epoch
+IsOwnPassage epoch passages.Look = ⊥
+IsOwnPassage epoch passages.Attach = ⊤
+IsOwnPassage epoch passages.Park = ⊤
+IsOwnPassage epoch passages.Request = epoch + 1 < 2 ^ 32
+IsOwnPassage epoch passages.Forwarded = ⊤
+IsOwnPassage epoch passages.Leave = ⊤
+
+pub record FitsGate (x : Held) (g : gate.Passing) : Type 0 where
+  pub layout : g.layout ≡ x.layout
+  pub passage : IsOwnPassage x.epoch g.passage
+  pub sound : IsSoundPassing g
+
+pub record FitsFlip (x : Held) (f : flip.Flipping) : Type 0 where
+  pub layout : f.layout ≡ x.layout
+  pub epoch : f.epoch ≡ x.epoch
+  pub sound : IsSoundFlipping f
+
+-- a copy for a worker, in this epoch
+pub record FitsCopy (x : Held) (epoch : ℕ) (v : evac.Evacuation) : Type 0 where
+  pub layout : v.layout ≡ x.layout
+  pub of_epoch : v.epoch ≡ epoch
+  pub worker : v.worker ≡ x.number
+  pub sound : evac_sound.IsSound v
+
+-- a register's copy is made in the epoch after the mutator's
+pub record FitsRegister (x : Held) (w : ForwardingRegister) : Type 0 where
+  pub register : w.register < 8
+  pub copy : FitsCopy x (x.epoch + 1) w.evac
+
+pub record FitsPlace (x : Held) (p : place.Placing) : Type 0 where
+  pub layout : p.layout ≡ x.layout
+  pub epoch : p.epoch ≡ x.epoch
+  pub sound : IsSoundPlacing p
+
+-- who made the round: a mutator that goes back to its access made it for a page, one that allocates for none, and a scanner for all
+abbrev pub IsCallerOf : Held → Back → Caller → Type 0
+IsCallerOf x (ToAccess a) (callers.Faulted page) = ⊤
+IsCallerOf x (ToAccess a) callers.Allocates = ⊥
+IsCallerOf x (ToAccess a) (callers.Scans mutators) = ⊥
+IsCallerOf x ToPlace callers.Allocates = ⊤
+IsCallerOf x ToPlace (callers.Faulted page) = ⊥
+IsCallerOf x ToPlace (callers.Scans mutators) = ⊥
+IsCallerOf x ToScanner (callers.Scans mutators) = mutators ≡ x.mutators
+IsCallerOf x ToScanner (callers.Faulted page) = ⊥
+IsCallerOf x ToScanner callers.Allocates = ⊥
+
+-- a mutator's round is of its own epoch
+abbrev pub IsEpochOf : Held → Back → (epoch : ℕ) → Type 0
+IsEpochOf x (ToAccess a) epoch = epoch ≡ x.epoch
+IsEpochOf x ToPlace epoch = epoch ≡ x.epoch
+IsEpochOf x ToScanner epoch = ⊤
+
+pub record FitsRound (x : Held) (d : duty.Round) (back : Back) : Type 0 where
+  pub layout : d.layout ≡ x.layout
+  pub worker : d.worker ≡ x.number
+  pub caller : IsCallerOf x back d.caller
+  pub epoch : IsEpochOf x back d.epoch
+  pub sound : IsSoundRound d
+
+-- an access is of the worker's epoch
+abbrev pub FitsAccess : Held → Access → Type 0
+FitsAccess x a = (a.spaces ≡ x.layout) × (a.epoch ≡ x.epoch)
+
+abbrev pub FitsBack : Held → Back → Type 0
+FitsBack x (ToAccess a) = FitsAccess x a
+FitsBack x ToPlace = ⊤
+FitsBack x ToScanner = ⊤
+
+pub record FitsScan (x : Held) (s : scan.Scanning) : Type 0 where
+  pub layout : s.layout ≡ x.layout
+  pub epoch : s.epoch ≡ x.epoch
+  pub sound : scan_sound.IsSound s
+
+-- a scan whose copy is made has asked for it
+abbrev pub HasAsked : evac.Evacuation → ScanStage → Type 0
+HasAsked v (scan_stage.Asks asked) = asked.old ≡ v.addr
+HasAsked v stage = ⊥
+
+abbrev pub HasEnded : ScanStage → Type 0
+HasEnded (scan_stage.Ended ending) = ⊤
+HasEnded stage = ⊥
+
+-- a scan that goes on by itself has a next step
+abbrev pub GoesOn : ScanStage → Type 0
+GoesOn stage = scan.HasStep stage
+
+pub record FitsOpening (x : Held) (o : open_page.Opening) (s : scan.Scanning) : Type 0 where
+  pub layout : o.layout ≡ x.layout
+  pub epoch : o.epoch ≡ x.epoch
+  pub page : o.page ≡ s.page
+  pub sound : IsSoundOpening o
+
+-- ---- the worker
+
+abbrev pub FitsStage : Held → Stage → Type 0
+FitsStage x Looks = ⊤
+FitsStage x (Passes g after) = FitsGate x g
+FitsStage x (Flips f) = FitsFlip x f
+FitsStage x (Forwards w) = FitsRegister x w
+FitsStage x (Accesses a) = FitsAccess x a
+FitsStage x (Places p) = FitsPlace x p
+FitsStage x (Serves d back) = FitsRound x d back × FitsBack x back
+FitsStage x (Scans s back) = FitsScan x s × GoesOn s.stage × FitsBack x back
+FitsStage x (Evacuates v s back) = FitsCopy x x.epoch v × FitsScan x s × HasAsked v s.stage × FitsBack x back
+FitsStage x (Opens o s back) = FitsOpening x o s × FitsScan x s × HasEnded s.stage × FitsBack x back
+FitsStage x Gone = ⊤
+
+-- who leaves has an end, and nobody else has who hasn't left
+abbrev pub IsEndBefore : Passage → (ended : Bool) → Type 0
+IsEndBefore passages.Leave ended = ended ≡ true
+IsEndBefore passages.Look ended = ended ≡ false
+IsEndBefore passages.Attach ended = ended ≡ false
+IsEndBefore passages.Park ended = ended ≡ false
+IsEndBefore passages.Request ended = ended ≡ false
+IsEndBefore (passages.Resume epoch) ended = ended ≡ false
+IsEndBefore passages.Forwarded ended = ended ≡ false
+
+abbrev pub FitsEnd : Stage → (ended : Bool) → Type 0
+FitsEnd (Passes g after) ended = IsEndBefore g.passage ended
+FitsEnd Gone ended = ⊤
+FitsEnd stage ended = ended ≡ false
+
+abbrev pub FitsRun : (pages : ℕ) → Option Run → Type 0
+FitsRun n None = ⊤
+FitsRun n (Some run) = IsRun n run
+
+-- worker k of a heap with n pages a space and so many mutators
+pub record Fits (n mutators k : ℕ) (x : Held) : Type 0 where
+  pub number : x.number ≡ k
+  pub few : k ≤ 23
+  pub pages : x.layout.pages ≡ n
+  pub counted : IsPageCount n
+  pub beside : x.mutators ≡ mutators
+  pub epoch : x.epoch < 2 ^ 32
+  pub eight : length x.registers ≡ 8
+  pub run : FitsRun n x.run
+  pub end : FitsEnd x.stage (is_some x.account.end)
+  pub stage : FitsStage x x.stage
+
+-- the machine at a stage may take the reply
+abbrev pub TakesAt : Stage → Reply → Type 0
+TakesAt Looks reply = ⊤
+TakesAt (Passes g after) reply = IsSoundPassing (gate.taken g reply)
+TakesAt (Flips f) reply = IsSoundFlipping (flip.taken f reply)
+TakesAt (Forwards w) reply = evac_sound.IsSound (evac_taken.taken w.evac reply)
+TakesAt (Accesses a) reply = ⊤
+TakesAt (Places p) reply = IsSoundPlacing (place.taken p reply)
+TakesAt (Serves d back) reply = IsSoundRound (duty.taken d reply)
+TakesAt (Scans s back) reply = scan_sound.IsSound (scan_taken.taken s reply)
+TakesAt (Evacuates v s back) reply = evac_sound.IsSound (evac_taken.taken v reply)
+TakesAt (Opens o s back) reply = IsSoundOpening (open_page.taken o reply)
+TakesAt Gone reply = ⊤
+
+-- what a worker asks of a reply
+abbrev pub Takes : Held → Reply → Type 0
+Takes x reply = TakesAt x.stage reply

@@ -1,0 +1,333 @@
+-- What a reply makes of a worker: its machine takes the reply, and where that ends the machine, another stage follows.
+use Rattle.std.specs.Prelude.{ℕ, zero, suc, ◌+◌, ◌-◌, ◌^◌, ◌==◌, ◌||◌, Bool, true, false, List, Option, Some, None, nat_lt, slice_index, slice_set, if◌then◌else◌}
+use Rattle.atom_store.specs.declared.reply.Reply.{Reply}
+use Rattle.atom_store.specs.declared.reply.Reply.TheVariants as replies
+use Rattle.atom_store.specs.declared.turn.Turn.{Turn}
+use Rattle.atom_store.specs.declared.turn.Turn.TheVariants.{More, Finished}
+use Rattle.heap_words.specs.Decoded.{decode, pointer_in}
+use Rattle.heap_words.specs.Word.{pointer_word}
+use Rattle.plain_state.specs.declared.end.End.{End}
+use Rattle.plain_state.specs.declared.end.End.TheVariants.{HeapFull}
+use Rattle.record_layout.specs.declared.header.Header.{Header}
+use Rattle.space_map.specs.declared.gate_word.GateWord.{GateWord}
+use Rattle.space_map.specs.GateWord.{decode_gate}
+use Rattle.alloc_end.specs.declared.allocated.Allocated.{Allocated}
+use Rattle.alloc_end.specs.declared.allocated.Allocated.TheVariants.{Placed, Full}
+use Rattle.alloc_end.specs.declared.shortage.Shortage.{Shortage}
+use Rattle.alloc_end.specs.Place as place
+use Rattle.fault_duty.specs.declared.caller.Caller.TheVariants as callers
+use Rattle.fault_duty.specs.declared.round_end.RoundEnd.{RoundEnd}
+use Rattle.fault_duty.specs.declared.round_end.RoundEnd.TheVariants.{ScanPage, ScanInPlace, Marked, AllLeft, NothingNow}
+use Rattle.fault_duty.specs.Duty as duty
+use Rattle.forwarding.specs.declared.to.To.{To}
+use Rattle.forwarding.specs.Evacuation as evac
+use Rattle.forwarding.specs.Taken as evac_taken
+use Rattle.gate_core.specs.declared.flipped.Flipped.{Flipped}
+use Rattle.gate_core.specs.declared.flipped.Flipped.TheVariants as flipped
+use Rattle.gate_core.specs.declared.passage.Passage.{Passage}
+use Rattle.gate_core.specs.declared.passage.Passage.TheVariants.{Look, Attach, Park, Request, Resume, Forwarded, Leave}
+use Rattle.gate_core.specs.declared.passed.Passed.{Passed}
+use Rattle.gate_core.specs.declared.passed.Passed.TheVariants as passed
+use Rattle.gate_core.specs.Gate as gate
+use Rattle.gate_core.specs.Flip as flip
+use Rattle.page_scan.specs.declared.scanned.Scanned.{Scanned}
+use Rattle.page_scan.specs.declared.scanned.Scanned.TheVariants as scanned
+use Rattle.page_scan.specs.Scanning as scan
+use Rattle.page_scan.specs.Taken as scan_taken
+use Rattle.page_slots.specs.declared.claim_stage.ClaimStage.{ClaimStage}
+use Rattle.page_slots.specs.declared.claim_stage.ClaimStage.TheVariants as claim_stage
+use Rattle.page_slots.specs.declared.opened.Opened.{Opened}
+use Rattle.page_slots.specs.Claim.{Claiming}
+use Rattle.page_slots.specs.Open as open_page
+use Rattle.fault_duty.specs.declared.duty_stage.DutyStage.{DutyStage}
+use Rattle.fault_duty.specs.declared.duty_stage.DutyStage.TheVariants as duty_stage
+use Rattle.gc_worker.specs.declared.access.Access.{Access}
+use Rattle.gc_worker.specs.declared.after.After.{After}
+use Rattle.gc_worker.specs.declared.after.After.TheVariants as afters
+use Rattle.gc_worker.specs.declared.back.Back.{Back}
+use Rattle.gc_worker.specs.declared.back.Back.TheVariants.{ToAccess, ToPlace, ToScanner}
+use Rattle.gc_worker.specs.declared.forwarding_register.ForwardingRegister.{ForwardingRegister}
+use Rattle.gc_worker.specs.declared.stage.Stage.{Stage}
+use Rattle.gc_worker.specs.declared.stage.Stage.TheVariants.{Looks, Passes, Flips, Forwards, Accesses, Places, Serves, Scans, Evacuates, Opens, Gone}
+use Rattle.gc_worker.specs.declared.task.Task.{Task}
+use Rattle.gc_worker.specs.Held.{Held, at_stage, header_for, asked_by, run_of}
+
+-- ---- where it goes on
+
+abbrev pub passes : Held → Passage → After → Stage
+passes x passage after = Passes (gate.begun x.layout passage) after
+
+-- the allocation of the record that the task asks for
+abbrev pub places : Held → Option Header → Stage
+places x (Some header) = Places (place.begun x.layout (run_of x) header x.epoch)
+places x None = Looks
+
+-- a mutator that stopped goes on there
+abbrev pub goes_on : Held → After → Stage
+goes_on x afters.Looks = Looks
+goes_on x afters.Places = places x (header_for x)
+
+-- after a round a worker goes on there
+abbrev pub goes_back : Held → Back → Stage
+goes_back x (ToAccess access) = Accesses access
+goes_back x ToPlace = places x (header_for x)
+goes_back x ToScanner = Serves (duty.begun x.layout (callers.Scans x.mutators) 0 x.number) ToScanner
+
+-- a pointer in a register
+pub record Pointed : Type 0 where
+  pub register : ℕ
+  pub addr : ℕ
+
+-- the first of so many registers from one on that holds a pointer
+abbrev pub pointer_at : (from : ℕ) → Option ℕ → Option Pointed → Option Pointed
+pointer_at from (Some addr) later = Some (record { register = from; addr = addr })
+pointer_at from None later = later
+
+unfoldable pub first_pointer : List ℕ → (count from : ℕ) → Option Pointed
+first_pointer registers zero from = None
+first_pointer registers (suc n) from = pointer_at from (pointer_in (decode (slice_index registers from))) (first_pointer registers n (from + 1))
+
+-- its record is copied in the epoch that follows the worker's; where there is none, all are forwarded
+abbrev pub forwards_it : Held → After → Option Pointed → Stage
+forwards_it x after (Some p) =
+    Forwards (record { register = p.register; evac = evac.begun x.layout p.addr (x.epoch + 1) x.number; after = after })
+forwards_it x after None = passes x Forwarded after
+
+-- a late mutator forwards its registers from this one on
+abbrev pub forwards_from : Held → After → ℕ → Stage
+forwards_from x after j = forwards_it x after (first_pointer x.registers (8 - j) j)
+
+-- ---- at the gate
+
+abbrev pub epoch_in : ℕ → Option GateWord → ℕ
+epoch_in own (Some gate) = gate.epoch
+epoch_in own None = own
+
+-- the epoch that a gate's word says
+abbrev pub epoch_said : (own word : ℕ) → ℕ
+epoch_said own word = epoch_in own (decode_gate word)
+
+-- a mutator comes into an epoch
+abbrev pub in_epoch : Held → ℕ → Held
+in_epoch x epoch = record x { epoch = epoch; run = None }
+
+abbrev pub attached : Held → ℕ → Held
+attached x word = at_stage (in_epoch x (epoch_said x.epoch word)) Looks
+
+-- a stopped mutator meets a gate that lets it not run on: one of a later epoch makes it forward its registers
+abbrev pub stopped : Held → After → ℕ → Held
+stopped x after word =
+    at_stage x (if nat_lt x.epoch (epoch_said x.epoch word) then forwards_from x after 0 else passes x (Resume x.epoch) after)
+
+abbrev pub forwarded_all : Held → After → ℕ → Held
+forwarded_all x after word =
+    at_stage (in_epoch x (epoch_said x.epoch word)) (passes x (Resume (epoch_said x.epoch word)) after)
+
+-- what a passage comes to
+abbrev pub passed_by : Held → After → Passage → Passed → Held
+passed_by x after Attach (passed.Went word) = attached x word
+passed_by x after Attach (passed.NotYet word) = at_stage x (passes x Attach after)
+passed_by x after Park (passed.Went word) = at_stage x (passes x (Resume x.epoch) after)
+passed_by x after Park (passed.NotYet word) = at_stage x (goes_on x after)
+passed_by x after Request (passed.Went word) = at_stage x (Flips (flip.begun x.layout x.epoch (asked_by x)))
+passed_by x after Request (passed.NotYet word) = at_stage x (passes x Park after)
+passed_by x after (Resume epoch) (passed.Went word) = at_stage x (goes_on x after)
+passed_by x after (Resume epoch) (passed.NotYet word) = stopped x after word
+passed_by x after Forwarded (passed.Went word) = forwarded_all x after word
+passed_by x after Forwarded (passed.NotYet word) = x
+passed_by x after Leave (passed.Went word) = at_stage x Gone
+passed_by x after Leave (passed.NotYet word) = x
+passed_by x after Look result = x
+
+abbrev pub turned_gate : Held → gate.Passing → After → Turn Passed → Held
+turned_gate x g after More = at_stage x (Passes g after)
+turned_gate x g after (Finished result) = passed_by x after g.passage result
+
+-- by the gate at a look without a task
+abbrev pub looked_by : Held → Option GateWord → Held
+looked_by x (Some gate) = at_stage x (if gate.request then passes x Park afters.Looks else Looks)
+looked_by x None = x
+
+abbrev pub turned_look : Held → Reply → Held
+turned_look x (replies.Value word) = looked_by x (decode_gate word)
+turned_look x replies.Done = x
+turned_look x replies.Won = x
+turned_look x (replies.Lost word) = x
+
+-- ---- the flip
+
+abbrev pub flipped_by : Held → flip.Flipping → Flipped → Held
+flipped_by x f (flipped.Went asked) = at_stage x (passes x (Resume x.epoch) afters.Places)
+flipped_by x f (flipped.NotYet word) = at_stage x (Flips (flip.begun x.layout x.epoch f.asked))
+
+abbrev pub turned_flip : Held → flip.Flipping → Turn Flipped → Held
+turned_flip x f More = at_stage x (Flips f)
+turned_flip x f (Finished result) = flipped_by x f result
+
+-- ---- registers
+
+-- the register gets the copy's address, and the next ones are forwarded
+abbrev pub with_copy : Held → (register to : ℕ) → Held
+with_copy x register to = record x { registers = slice_set x.registers register (pointer_word to) }
+
+abbrev pub forwarded_to : Held → ForwardingRegister → To → Held
+forwarded_to x w to =
+    at_stage (with_copy x w.register to.0) (forwards_from (with_copy x w.register to.0) w.after (w.register + 1))
+
+abbrev pub turned_register : Held → ForwardingRegister → Turn To → Held
+turned_register x w More = at_stage x (Forwards w)
+turned_register x w (Finished to) = forwarded_to x w to
+
+-- ---- allocation
+
+-- the heap is full where the epoch was found traced, and no flip can help: one was seen since the instruction began, or the
+-- epoch is the last
+abbrev pub is_full : Held → Bool
+is_full x = nat_lt x.begun x.epoch || (x.epoch == 2 ^ 32 - 1)
+
+abbrev pub with_end : Held → End → Held
+with_end x end = record x { account = record x.account { end = Some end } }
+
+abbrev pub ended : Held → End → Held
+ended x end = at_stage (record (with_end x end) { task = None }) (passes x Leave afters.Looks)
+
+abbrev pub end_of : Shortage → End
+end_of s = HeapFull s.asked s.room s.live
+
+abbrev pub full_by : Held → Shortage → (traced : Bool) → Held
+full_by x s false = at_stage x (Serves (duty.begun x.layout callers.Allocates x.epoch x.number) ToPlace)
+full_by x s true = if is_full x then ended x (end_of s) else at_stage x (passes x Request afters.Places)
+
+-- what an allocation comes to; that of a header isn't defined yet
+abbrev pub allocated_by : Held → Allocated → Held
+allocated_by x (Placed at) = x
+allocated_by x (Full s) = full_by x s s.traced
+
+abbrev pub turned_place : Held → place.Placing → Turn Allocated → Held
+turned_place x p More = at_stage x (Places p)
+turned_place x p (Finished result) = allocated_by x result
+
+-- ---- rounds
+
+abbrev pub of_round : Held → duty.Round → Held
+of_round x d = record x { epoch = d.epoch }
+
+abbrev pub scans : Held → (page : ℕ) → (in_place : Bool) → Back → Held
+scans x page in_place back = at_stage x (Scans (scan.begun x.layout page x.epoch in_place) back)
+
+abbrev pub back_from : Held → Back → Held
+back_from x back = at_stage x (goes_back x back)
+
+-- what a round comes to
+abbrev pub served_by : Held → duty.Round → Back → RoundEnd → Held
+served_by x d back (ScanPage page) = scans (of_round x d) page false back
+served_by x d back (ScanInPlace page) = scans (of_round x d) page true back
+served_by x d back Marked = back_from (of_round x d) back
+served_by x d back (NothingNow word) = back_from (of_round x d) back
+served_by x d back (AllLeft word) = at_stage x Gone
+
+abbrev pub turned_round : Held → duty.Round → Back → Turn RoundEnd → Held
+turned_round x d back More = at_stage x (Serves d back)
+turned_round x d back (Finished result) = served_by x d back result
+
+-- ---- scans
+
+abbrev pub scanned_by : Held → scan.Scanning → Back → Scanned → Held
+scanned_by x s back (scanned.Ask old) = at_stage x (Evacuates (evac.begun x.layout old x.epoch x.number) s back)
+scanned_by x s back (scanned.Ended at_front) = at_stage x (Opens (open_page.begun x.layout s.page x.epoch) s back)
+
+abbrev pub turned_scan : Held → scan.Scanning → Back → Turn Scanned → Held
+turned_scan x s back More = at_stage x (Scans s back)
+turned_scan x s back (Finished result) = scanned_by x s back result
+
+abbrev pub turned_copy : Held → evac.Evacuation → scan.Scanning → Back → Turn To → Held
+turned_copy x v s back More = at_stage x (Evacuates v s back)
+turned_copy x v s back (Finished to) = at_stage x (Scans (scan_taken.answered s to.0) back)
+
+abbrev pub turned_opening : Held → open_page.Opening → scan.Scanning → Back → Turn Opened → Held
+turned_opening x o s back More = at_stage x (Opens o s back)
+turned_opening x o s back (Finished opened) = back_from x back
+
+-- ---- the worker
+
+abbrev pub with_evac : ForwardingRegister → evac.Evacuation → ForwardingRegister
+with_evac w v = record w { evac = v }
+
+abbrev pub turned_at : Held → Stage → Reply → Held
+turned_at x Looks reply = turned_look x reply
+turned_at x (Passes g after) reply = turned_gate x (gate.taken g reply) after (gate.told (gate.taken g reply))
+turned_at x (Flips f) reply = turned_flip x (flip.taken f reply) (flip.told (flip.taken f reply))
+turned_at x (Forwards w) reply = turned_register x (with_evac w (evac_taken.taken w.evac reply)) (evac_taken.told (evac_taken.taken w.evac reply).stage)
+turned_at x (Accesses access) reply = x
+turned_at x (Places p) reply = turned_place x (place.taken p reply) (place.told (place.taken p reply))
+turned_at x (Serves d back) reply = turned_round x (duty.taken d reply) back (duty.told (duty.taken d reply))
+turned_at x (Scans s back) reply = turned_scan x (scan_taken.taken s reply) back (scan_taken.told (scan_taken.taken s reply).stage)
+turned_at x (Evacuates v s back) reply = turned_copy x (evac_taken.taken v reply) s back (evac_taken.told (evac_taken.taken v reply).stage)
+turned_at x (Opens o s back) reply = turned_opening x (open_page.taken o reply) s back (open_page.told (open_page.taken o reply))
+turned_at x Gone reply = x
+
+-- the worker after a reply to its step
+abbrev pub turned : Held → Reply → Held
+turned x reply = turned_at x x.stage reply
+
+-- ---- what the step is to the plain machine
+
+-- what an instruction comes to
+pub data Outcome : Type 0 where
+  Effect : Outcome
+  Ends : End → Outcome
+
+-- nothing; the task comes to this; or a flip, for which so many pages were asked
+pub data Told : Type 0 where
+  Silent : Told
+  Answers : Task → Outcome → Told
+  Marks : (asked : ℕ) → Told
+
+abbrev pub told_flip : Turn Flipped → Told
+told_flip (Finished (flipped.Went asked)) = Marks asked
+told_flip (Finished (flipped.NotYet word)) = Silent
+told_flip More = Silent
+
+abbrev pub told_end : Option Task → End → Told
+told_end (Some task) end = Answers task (Ends end)
+told_end None end = Silent
+
+abbrev pub told_full : Held → Shortage → (traced : Bool) → Told
+told_full x s false = Silent
+told_full x s true = if is_full x then told_end x.task (end_of s) else Silent
+
+abbrev pub told_place : Held → Turn Allocated → Told
+told_place x (Finished (Placed at)) = Silent
+told_place x (Finished (Full s)) = told_full x s s.traced
+told_place x More = Silent
+
+abbrev pub told_at : Held → Stage → Reply → Told
+told_at x (Flips f) reply = told_flip (flip.told (flip.taken f reply))
+told_at x (Places p) reply = told_place x (place.told (place.taken p reply))
+told_at x stage reply = Silent
+
+abbrev pub told : Held → Reply → Told
+told x reply = told_at x x.stage reply
+
+-- ---- pages won
+
+-- a page that a worker has claimed in an epoch
+pub record PageWon : Type 0 where
+  pub page : ℕ
+  pub epoch : ℕ
+
+abbrev pub won_by : Claiming → ClaimStage → Reply → Option PageWon
+won_by c claim_stage.Exchanges replies.Won = Some (record { page = c.page; epoch = c.epoch })
+won_by c stage reply = None
+
+abbrev pub won_in : DutyStage → Reply → Option PageWon
+won_in (duty_stage.Claims c) reply = won_by c c.stage reply
+won_in stage reply = None
+
+abbrev pub won_at : Stage → Reply → Option PageWon
+won_at (Serves d back) reply = won_in d.stage reply
+won_at stage reply = None
+
+-- the page that this step wins
+abbrev pub won : Held → Reply → Option PageWon
+won x reply = won_at x.stage reply

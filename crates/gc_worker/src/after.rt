@@ -1,0 +1,8 @@
+/// Where a mutator that stopped goes on.
+#[derive(Clone, Copy, Debug, PartialEq, Eq)]
+pub enum After {
+    /// At the look that begins an instruction.
+    Looks,
+    /// At the allocation of a record, from its beginning.
+    Places,
+}

@@ -1,0 +1,12 @@
+use crate::access::Access;
+
+/// What a worker goes back to after a round of the duty.
+#[derive(Clone, Copy, Debug)]
+pub enum Back {
+    /// To the look at the page on which the access faulted.
+    ToAccess(Access),
+    /// To the allocation of a record, from its beginning.
+    ToPlace,
+    /// To the next round.
+    ToScanner,
+}

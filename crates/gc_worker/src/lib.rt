@@ -1,0 +1,28 @@
+//! One worker of the collected heap: a mutator or a scanner, with all machines as one.
+//!
+//! A worker names its next atomic step and takes the reply. What it holds between two steps is one stage, beside its
+//! registers and its account; each machine is a variant of the stage. The crate defines what a worker wants, what a reply
+//! makes of it and what its step is to the plain machine, and what the proofs of the heap know of it at each stage.
+#![tactic(auto)]
+
+mod access;
+mod access_stage;
+mod after;
+mod back;
+mod board_access;
+mod field_access;
+mod forwarding_register;
+mod record_access;
+mod stage;
+mod task;
+
+pub use access::Access;
+pub use access_stage::AccessStage;
+pub use after::After;
+pub use back::Back;
+pub use board_access::{BoardAccess, BoardSwap, BoardUse};
+pub use field_access::{FieldAccess, Role};
+pub use forwarding_register::ForwardingRegister;
+pub use record_access::{RecordAccess, RecordUse};
+pub use stage::Stage;
+pub use task::Task;

@@ -1,0 +1,18 @@
+/// What is done with a record.
+#[derive(Clone, Copy, Debug, PartialEq, Eq)]
+pub enum RecordUse {
+    TellsLength,
+    Loads,
+    /// Stores this word.
+    Stores(u64),
+}
+
+/// The access to a record whose header isn't read yet.
+#[derive(Clone, Copy, Debug, PartialEq, Eq)]
+pub struct RecordAccess {
+    /// The record's address.
+    pub at: u32,
+    /// The number of the value that is wanted, from 0.
+    pub value: u64,
+    pub usage: RecordUse,
+}

@@ -1,0 +1,13 @@
+pub mod FreeWords
+pub mod Stocks
+pub mod Laws
+pub mod Zeroed
+pub mod Opened
+pub mod Claimed
+pub mod Parts
+pub mod Workers
+pub mod Header
+pub mod Values
+pub mod Shown
+pub mod Cycle
+pub mod Placed

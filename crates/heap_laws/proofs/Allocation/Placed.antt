@@ -1,0 +1,130 @@
+-- A mutator stores a new record's header, and points to it, in one step.
+use Rattle.std.proofs.Common.{◌≡◌, ◌≢◌, ℕ, ◌<◌, Some, sym, ap, ◌∙◌, arith, ⊎_elim}
+use Rattle.std.proofs.Math.ListN.{length-set}
+use Rattle.std.proofs.lemmas.Bool.{cases_eq}
+use Rattle.heap_words.specs.Decoded.{PointerWord, decode}
+use Rattle.plain_state.specs.State as plain
+use Rattle.plain_state.specs.Writing.{gained}
+use Rattle.plain_state.specs.declared.kind.Kind.{Kind}
+use Rattle.plain_state.specs.declared.value.Identity.{Identity}
+use Rattle.plain_state.specs.declared.value.Value.TheVariants.{Reference}
+use Rattle.heap_state.specs.Era.{Era, Memory}
+use Rattle.heap_state.specs.Ghost.{Ghost}
+use Rattle.heap_state.specs.Values.{Shown, Shows, value_of}
+use Rattle.heap_state.specs.Worker.{Worker, Team, Stock}
+use Rattle.heap_state.proofs.Puts.{put_at, put_other, put_same, put_twice}
+use Rattle.heap_laws.specs.Fields.Held.{MayHold, HoldsValue, GoesOn}
+use Rattle.heap_laws.specs.Fields.Stores.{IsAs, MutatorsPlace, with_record, with_reference, plain_next}
+use Rattle.heap_laws.specs.Allocation.Records.{allocated, next_identity}
+use Rattle.heap_laws.specs.Steps.{Ready, with_word, with_worker, InWord}
+use Rattle.heap_laws.proofs.Allocation.Header.{placed, new_place, records_are_placed, placed_is_held}
+use Rattle.heap_laws.proofs.Allocation.Cycle.{placing_keeps_cycle}
+use Rattle.heap_laws.proofs.Allocation.Parts.{NewPlace, lands_on, unused}
+use Rattle.heap_laws.proofs.Allocation.Shown.{placing_shows, within as maker_there}
+use Rattle.heap_laws.proofs.Allocation.Stocks.{Places, places_of}
+use Rattle.heap_laws.proofs.Allocation.Values.{value_allocated}
+use Rattle.heap_laws.proofs.Allocation.Workers.{accesses_allocated}
+use Rattle.heap_laws.proofs.Fields.Laws.{both, goes_as}
+use Rattle.heap_laws.proofs.Plain.Gained.{gained_serial}
+use Rattle.plain_state.proofs.Lists.{slice_get-set_same, slice_get-set_other}
+
+module _ (E : Era) (m : Memory) (team : Team) (g : Ghost) (p : plain.Plain) (k : ℕ) (next : Worker) (q : plain.Mutator) (s : Stock) (c : Kind) (z v d pointer : ℕ) (r : plain.Record)
+    (ready : Ready E m team g k) (shown : Shown E m team g p) (places : Places E team k s c z v) (behind : Shows (value_of g.identity) m.heap s.at c z r) (small : d < 8) (points : decode pointer ≡ PointerWord s.at)
+    (goes : GoesOn E m g (team.worker k) next) (same : IsAs g p.heap k next q) where
+  abbrev i : Identity
+  i = next_identity team k
+
+  abbrev g' : Ghost
+  g' = allocated g s.at z c i
+
+  abbrev m' : Memory
+  m' = with_word m s.at v
+
+  abbrev taken : Worker
+  taken = with_record next s z d pointer
+
+  cr : NewPlace E m.front m.low g.size g.copy g.keeper s.at z
+  cr = new_place E m team g k s c z v ready.laid_out ready.invariant places
+
+  new : HoldsValue E g' pointer (Reference i)
+  new = placed_is_held E m team g k s c z v ready.laid_out ready.invariant places pointer points
+
+  -- what the mutator held it still may hold, and it denotes what it denoted
+  held_on : (w : ℕ) → MayHold E g.size g.writer w → MayHold E g'.size g'.writer w
+  held_on w h = record { clean = h.clean; lands = lands_on cr g.writer w h.lands }
+
+  value_on : (w : ℕ) → MayHold E g.size g.writer w → value_of g'.identity w ≡ value_of g.identity w
+  value_on w h = value_allocated g.size g.writer g.identity s.at i w (unused cr) h.lands
+
+  -- its serial is the next one of the plain heap
+  serial : (team.worker k).account.serial ≡ plain.serial_of p.heap k
+  serial = sym goes.serial ∙ same.account.serial
+
+  goes' : GoesOn E m' g' (placed team k s z) taken
+  goes' = record {
+    post = goes.post;
+    epoch = goes.epoch;
+    done = goes.done;
+    serial = let e = goes.serial in omega arith;
+    quest = goes.quest;
+    copy = goes.copy;
+    scan = goes.scan;
+    gate_step = goes.gate_step;
+    stock = λ t e. e;
+    round = goes.round;
+    claim = goes.claim;
+    look = goes.look;
+    last_look = goes.last_look;
+    traced_seen = goes.traced_seen;
+    reset = goes.reset;
+    access = λ f e. accesses_allocated cr g.writer g.kind c f (goes.access f e);
+    opened = goes.opened;
+    registers = λ n j l. ⊎_elim
+        (λ (e : j ≡ d). rw (put_at next.registers d pointer j e) new.held)
+        (λ (o : j ≢ d). rw (put_other next.registers d pointer j o) (held_on (next.registers j) (goes.registers n j l)))
+        (cases_eq j d);
+  }
+
+  same' : IsAs g' (gained p.heap k r) k taken (with_reference p.heap k q d)
+  same' = record {
+    account = record {
+      counter = same.account.counter;
+      printed = same.account.printed;
+      executed = same.account.executed;
+      end = same.account.end;
+      serial = let e = same.account.serial in let t = gained_serial p.heap k r (maker_there E m team g p k s c z v r ready.laid_out ready.invariant places behind shown) in omega arith;
+    };
+    registers = record {
+      eight = length-set q.registers d (Reference next') ∙ same.registers.eight;
+      registers_show = λ n j l. ⊎_elim
+          (λ (e : j ≡ d). rw (put_at next.registers d pointer j e, e) (new.denotes ∙ (ap (λ x. Some (Reference x)) named ∙ sym (slice_get-set_same q.registers d (Reference next') (let t = same.registers.eight in omega arith)))))
+          (λ (o : j ≢ d). rw (put_other next.registers d pointer j o) (value_on (next.registers j) (goes.registers (same.account.end ∙ n) j l) ∙ (same.registers.registers_show n j l ∙ sym (slice_get-set_other q.registers d j (Reference next') o))))
+          (cases_eq j d);
+    };
+  }
+    where
+      next' : Identity
+      next' = plain_next p.heap k
+
+      same_serial : i.serial ≡ next'.serial
+      same_serial = let e = serial in omega arith
+
+      named : i ≡ next'
+      named = λ x. record { mutator = k; serial = same_serial x }
+
+pub mutators_place : MutatorsPlace
+mutators_place E m team g p k next q s c z v d pointer r ready shown next_one behind small points goes same =
+    let places : Places E team k s c z v = places_of s c z v ready next_one in
+    let t = put_twice team.worker k (placed team k s z) (with_record next s z d pointer) in
+    let w = put_same team.worker k (placed team k s z) in
+    let inv = records_are_placed E m team g k s c z v ready.laid_out ready.invariant places in
+    let ok = (ready.invariant.stocks.stocked k ready.member s places.own.has places.own.epoch).lies in
+    record {
+      later = with_word m s.at v;
+      writes = InWord s.at v (let lay = ready.laid_out in let f = places.fits in let n = places.some in omega (arith, ok, lay.below, f, n));
+      makes = rw (← t) (both (λ o cy. placing_keeps_cycle E m team g o k s c z v ready.laid_out ready.invariant places cy) (λ page. omega arith)
+          (goes_as E _ (with_worker team k (placed team k s z)) _ _ k (with_record next s z d pointer) (with_reference p.heap k q d) inv ready.member (rw w places.runs)
+          (placing_shows E m team g p k s c z v r ready.laid_out ready.invariant places behind shown)
+          (rw w (goes' E m team g p k next q s c z v d pointer r ready shown places behind small points goes same))
+          (same' E m team g p k next q s c z v d pointer r ready shown places behind small points goes same)));
+    }

@@ -1,0 +1,184 @@
+-- The plain heap gains the record that begins to stand.
+use Rattle.std.proofs.Common.{◌≡◌, ◌≢◌, ℕ, ◌+◌, ◌-◌, ◌<◌, length, get_or, slice_get, Some, None, refl, sym, ap, ◌∙◌, arith, lt-ltb, ⊎_elim, ◌⊎◌}
+use Rattle.std.proofs.lemmas.Bool.{cases_eq}
+use Rattle.std.proofs.lemmas.List.{length-replicate}
+use Rattle.std.proofs.lemmas.Option.{slice_get-get_or, slice_get_within}
+use Rattle.plain_state.specs.declared.kind.Kind.{Kind}
+use Rattle.plain_state.specs.State as plain
+use Rattle.plain_state.specs.declared.value.Identity.{Identity}
+use Rattle.plain_state.specs.declared.value.Value.TheVariants.{Number}
+use Rattle.plain_state.specs.Writing.{with_heap, gained, zeros as zeros_made}
+use Rattle.heap_state.specs.Era.{Era, IsLaidOut, Memory}
+use Rattle.heap_state.specs.Functions.{put}
+use Rattle.heap_state.specs.Ghost.{Ghost, Lands}
+use Rattle.heap_state.specs.Inductive.{Invariant}
+use Rattle.heap_state.specs.Values.{value_of, Shows, ShowsAll, Accounts, RegistersShow, BoardShows, Shown}
+use Rattle.heap_state.specs.Worker.{Worker, Team, Stock}
+use Rattle.heap_state.proofs.Puts.{put_at, put_other, put_same, proj_put}
+use Rattle.heap_laws.specs.Opening.{opening_mutator}
+use Rattle.heap_laws.specs.Allocation.Records.{next_identity, allocated, ZerosShow}
+use Rattle.heap_laws.proofs.Allocation.Stocks.{Places, places_of}
+use Rattle.heap_laws.specs.Steps.{with_word, with_worker}
+use Rattle.heap_laws.proofs.Allocation.FreeWords.{IsFree, word_same, board_same}
+use Rattle.heap_laws.proofs.Allocation.Header.{placed, new_place, free, mutator, zeros}
+use Rattle.heap_laws.proofs.Allocation.Parts.{NewPlace, unused as unused_place, was, same_size, same_writer}
+use Rattle.heap_laws.proofs.Allocation.Values.{field_lands, value_allocated}
+use Rattle.heap_laws.proofs.Plain.Gained.{gained_there, gained_elsewhere, gained_serial, gained_serial_other, gained_makers}
+use Rattle.plain_state.proofs.Lists.{slice_get-of_replicate}
+use Rattle.heap_laws.proofs.Frames.Values.{board_here, zero_value}
+
+module _ (E : Era) (m : Memory) (team : Team) (g : Ghost) (p : plain.Plain) (k : ℕ) (q : Stock) (c : Kind) (z v : ℕ) (new : plain.Record) (lay : IsLaidOut E) (inv : Invariant E m team g) (places : Places E team k q c z v) (behind : Shows (value_of g.identity) m.heap q.at c z new) (s : Shown E m team g p) where
+  abbrev i : Identity
+  i = next_identity team k
+
+  abbrev heap : ℕ → ℕ
+  heap = put m.heap q.at v
+
+  abbrev g' : Ghost
+  g' = allocated g q.at z c i
+
+  abbrev w : Worker
+  w = placed team k q z
+
+  abbrev after : plain.Heap
+  after = gained p.heap k new
+
+  is_free : IsFree E g.size q.at
+  is_free = free E m team g k q c z v lay inv places
+
+  is_new_place : NewPlace E m.front m.low g.size g.copy g.keeper q.at z
+  is_new_place = new_place E m team g k q c z v lay inv places
+
+  pub within : k < length p.heap.records
+  within = let u = mutator E m team g k q c z v lay inv places in let n = s.makers in omega arith
+
+  -- its serial is the next one
+  serial : (team.worker k).account.serial ≡ plain.serial_of p.heap k
+  serial =
+      let u = mutator E m team g k q c z v lay inv places in
+      let n = s.as_many in
+      (s.accounts k (get_or p.mutators k opening_mutator) (slice_get-get_or p.mutators k opening_mutator (omega arith))).serial
+
+  -- what leads to a record before denotes what it denoted
+  value_on : (x : ℕ) → Lands g.size g.writer x → value_of g'.identity x ≡ value_of g.identity x
+  value_on x lands = value_allocated g.size g.writer g.identity q.at i x (unused_place is_new_place) lands
+
+  -- ---- values
+
+  -- the words behind the header are 0, and denote the same as before
+  zero_behind : (x : ℕ) → x < length new.values → heap (q.at + (x + 1)) ≡ 0
+  zero_behind x l = let n = behind.size in zeros E m team g k q c z v lay inv places (x + 1) (omega arith) (omega arith)
+
+  same_behind : (x : ℕ) → heap (q.at + (x + 1)) ≡ m.heap (q.at + (x + 1))
+  same_behind x = put_other m.heap q.at v (q.at + (x + 1)) (λ e. omega (arith, e))
+
+  shows_new : Shows (value_of g'.identity) heap q.at c z new
+  shows_new = record {
+    kind = behind.kind;
+    size = behind.size;
+    fields = λ x l t.
+        let zero : m.heap (q.at + (x + 1)) ≡ 0 = sym (same_behind x) ∙ zero_behind x l in
+        zero_value g'.identity (heap (q.at + (x + 1))) (zero_behind x l) ∙ (sym (zero_value g.identity (m.heap (q.at + (x + 1))) zero) ∙ behind.fields x l t);
+    numbers = λ x l t. ap (λ y. Some (Number y)) (same_behind x) ∙ behind.numbers x l t;
+  }
+
+  shows_old : (b : ℕ) → 0 < g.size b → g.writer b ≡ 0 → (g.copy b ≡ 0) ⊎ (0 < g.keeper b)
+      → (r : plain.Record) × (plain.record_of after (g.identity b) ≡ Some r) × Shows (value_of g'.identity) heap b (g.kind b) (g.size b) r
+  shows_old b st w o =
+      let a = s.objects.shows b st w o in
+      let t : Shows (value_of g.identity) m.heap b (g.kind b) (g.size b) a.0 = a.2 in (
+        a.0,
+        gained_elsewhere p.heap k new within (g.identity b) a.0 a.1,
+        record {
+          kind = t.kind;
+          size = t.size;
+          fields = λ x l f.
+              let u = t.size in
+              let n : x + 1 < g.size b = omega (arith, l, u) in
+              rw (word_same is_free g.writer g.kind m.heap v b (x + 1) n) (value_on (m.heap (b + (x + 1))) (field_lands E m team g b (x + 1) inv st w f (omega arith) n) ∙ t.fields x l f);
+          numbers = λ x l f.
+              let u = t.size in
+              rw (word_same is_free g.writer g.kind m.heap v b (x + 1) (omega (arith, l, u))) (t.numbers x l f);
+        },
+      )
+
+  objects : ShowsAll g'.size g'.writer g'.copy g'.keeper g'.kind g'.identity heap after
+  objects = record {
+    shows = λ b st w o. ⊎_elim
+        (λ (e : b ≡ q.at). rw (put_at g.size q.at z b e, put_at g.kind q.at c b e, put_at g.identity q.at i b e, e)
+        (new, gained_there p.heap k new within i refl (let n = serial in omega arith), shows_new))
+        (λ (d : b ≢ q.at). rw (same_size is_new_place b d, put_other g.kind q.at c b d, put_other g.identity q.at i b d)
+        (shows_old b (was is_new_place b d st) (rw (same_writer is_new_place g.writer b d) at w) o))
+        (cases_eq b q.at);
+  }
+
+  board : BoardShows E (value_of g'.identity) heap after
+  board = record {
+    sixteen = s.board.sixteen;
+    board = λ x l. rw (board_same is_free g.writer g.kind m.heap v (E.board + x) (omega arith))
+        (value_on (m.heap (E.board + x)) (inv.landing.lands (E.board + x) (board_here E g.size g.writer g.kind x l)) ∙ s.board.board x l);
+  }
+
+  accounts : (j : ℕ) (r : plain.Mutator) → slice_get p.mutators j ≡ Some r → Accounts after j (put team.worker k w j).account r
+  accounts j r e = ⊎_elim
+      (λ (d : j ≡ k). let a : Accounts p.heap k (team.worker k).account r = rw d at (s.accounts j r e) in rw (d, put_same team.worker k w) (record {
+        counter = a.counter;
+        printed = a.printed;
+        executed = a.executed;
+        end = a.end;
+        serial = let n = a.serial in let t = gained_serial p.heap k new within in omega arith;
+      }))
+      (λ (d : j ≢ k). let a = s.accounts j r e in rw (put_other team.worker k w j d) (record {
+        counter = a.counter;
+        printed = a.printed;
+        executed = a.executed;
+        end = a.end;
+        serial = a.serial ∙ sym (gained_serial_other p.heap k new within j d);
+      }))
+      (cases_eq j k)
+
+  registers : (j : ℕ) (r : plain.Mutator) → slice_get p.mutators j ≡ Some r → RegistersShow (value_of g'.identity) (put team.worker k w j).registers r
+  registers j r e = rw (proj_put (λ u. u.registers) team.worker k w j refl) (shown_on (s.registers j r e))
+    where
+      shown_on : RegistersShow (value_of g.identity) (team.worker j).registers r → RegistersShow (value_of g'.identity) (team.worker j).registers r
+      shown_on t = record {
+        eight = t.eight;
+        registers_show = λ n x l. value_on ((team.worker j).registers x) (lands n x l) ∙ t.registers_show n x l;
+      }
+        where
+          lands : r.end ≡ None → (x : ℕ) → x < 8 → Lands g.size g.writer ((team.worker j).registers x)
+          lands n x l =
+              let u = slice_get_within p.mutators j r e in
+              let a = s.as_many in
+              let f = inv.staffed.few in
+              let b : j < team.mutators = omega arith in
+              let d : j < team.count = omega arith in
+              ((inv.workers j d).registers (inv.staffed.posts j d ∙ lt-ltb j team.mutators b) ((s.accounts j r e).end ∙ n)).lands x l
+
+  pub placing_shows : Shown E (with_word m q.at v) (with_worker team k w) g' (with_heap p after)
+  placing_shows = record {
+    objects = objects;
+    board = board;
+    as_many = s.as_many;
+    makers = gained_makers p.heap k new within ∙ s.makers;
+    accounts = accounts;
+    registers = registers;
+  }
+
+pub zeros_show : ZerosShow
+zeros_show E m team g k q c z v ready places' = record {
+  kind = refl;
+  size = let n = length-replicate (z - 1) (Number 0) in let l = places.some in omega arith;
+  fields = λ x l t. zero_value g.identity (m.heap (q.at + (x + 1))) (zero x l) ∙ sym (slice_get-of_replicate (z - 1) x (Number 0) (within x l));
+  numbers = λ x l t. ap (λ y. Some (Number y)) (zero x l) ∙ sym (slice_get-of_replicate (z - 1) x (Number 0) (within x l));
+}
+  where
+    places : Places E team k q c z v
+    places = places_of q c z v ready places'
+
+    within : (x : ℕ) → x < length (zeros_made c (z - 1)).values → x < z - 1
+    within x l = rw (length-replicate (z - 1) (Number 0)) at l
+
+    zero : (x : ℕ) → x < length (zeros_made c (z - 1)).values → m.heap (q.at + (x + 1)) ≡ 0
+    zero x l = let u = within x l in
+        sym (put_other m.heap q.at v (q.at + (x + 1)) (λ e. omega (arith, e))) ∙ zeros E m team g k q c z v ready.laid_out ready.invariant places (x + 1) (omega arith) (omega (arith, u))

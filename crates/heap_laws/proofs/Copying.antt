@@ -1,0 +1,14 @@
+pub mod Found
+pub mod UnreadWords
+pub mod InProgress
+pub mod Words
+pub mod Roots
+pub mod Header
+pub mod Knowledge
+pub mod Forward
+pub mod Published
+pub mod Reservation
+pub mod Room
+pub mod Reserving
+pub mod Reserved
+pub mod Laws

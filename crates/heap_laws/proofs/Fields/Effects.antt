@@ -1,0 +1,181 @@
+-- What a running mutator's registers, and the words that it accesses, are to the plain machine.
+use Rattle.std.proofs.Common.{◌≡◌, ℕ, ◌+◌, ◌-◌, ◌/◌, ◌<◌, length, get_or, slice_get, Some, refl, sym, ap, ◌∙◌, arith, inl}
+use Rattle.std.proofs.lemmas.Bool.{ltb-true}
+use Rattle.std.proofs.lemmas.Option.{slice_get-get_or}
+use Rattle.heap_words.proofs.Decoding.{decode-number_word}
+use Rattle.heap_words.specs.Decoded.{Decoded, NumberWord, PointerWord, HeaderWord, ForwardWord, BusyWord, Malformed, decode, number_in}
+use Rattle.heap_words.specs.Word.{number_word}
+use Rattle.plain_state.specs.Layout.{word_of}
+use Rattle.plain_state.specs.State as plain
+use Rattle.plain_state.specs.declared.kind.Kind.{Kind}
+use Rattle.plain_state.specs.declared.value.Identity.{Identity}
+use Rattle.plain_state.specs.declared.value.Value.{Value}
+use Rattle.plain_state.specs.declared.value.Value.TheVariants.{Number}
+use Rattle.heap_state.specs.Era.{Era, Memory}
+use Rattle.heap_state.specs.Ghost.{Ghost, header_kind}
+use Rattle.heap_state.specs.Parts.Knowledge.{HasRole}
+use Rattle.heap_state.specs.Values.{value_of, Shown, Shows}
+use Rattle.heap_state.specs.Worker.{Team, Role, FieldRole, NumberRole, Access}
+use Rattle.heap_state.proofs.Records.Headers.{said_kind-header_kind}
+use Rattle.heap_state.proofs.Records.Holding.{uncopied_here}
+use Rattle.heap_state.proofs.Records.Layouts.{raw_is_no_field}
+use Rattle.heap_state.proofs.Puts.{some_same, true_false, none≢some}
+use Rattle.heap_laws.specs.Fields.Effects.{MutatorsAreShown, RegistersHold, HeadersSay, word_held, word_stored, FitsRole, IsValueOf, AccessesAreValues, BoardWordsAreValues}
+use Rattle.heap_laws.specs.Fields.Words.{IsWordOf, IsAccessed, MayStore, StandsFor}
+use Rattle.heap_laws.specs.Fields.Held.{HoldsValue}
+use Rattle.heap_laws.specs.Opening.{opening_mutator}
+use Rattle.heap_laws.specs.Steps.{Ready}
+use Rattle.heap_laws.proofs.Fields.Shown.{headers_are_read, registers_are_held, numbers_are_held}
+use Rattle.heap_laws.proofs.Fields.Stored.{accesses_are_allowed, words_are_loaded, board_is_loaded}
+use Rattle.heap_laws.proofs.Frames.Values.{value_from_pointer}
+
+-- ---- words
+
+value_of_number : (identity : ℕ → Identity) (w n : ℕ) → decode w ≡ NumberWord n → value_of identity w ≡ Some (Number n)
+unfolding value_of
+value_of_number identity w n e = rw e refl
+
+-- a number by itself is held as a number word
+holds_number : (E : Era) (g : Ghost) (v : ℕ) → HoldsValue E g (number_word v) (Number v)
+holds_number E g v = record { held = numbers_are_held E g.size g.writer (number_word v) v (decode-number_word v); denotes = value_of_number g.identity (number_word v) v (decode-number_word v) }
+
+number_word_of : (d : Decoded) (v : ℕ) → number_in d ≡ Some v → d ≡ NumberWord v
+number_word_of (NumberWord n) v e = ap NumberWord (some_same e)
+number_word_of (PointerWord a) v e = none≢some e
+number_word_of (HeaderWord k l s o) v e = none≢some e
+number_word_of (ForwardWord l a) v e = none≢some e
+number_word_of (BusyWord l w) v e = none≢some e
+number_word_of Malformed v e = none≢some e
+
+-- ---- mutators and registers
+
+pub mutators_are_shown : MutatorsAreShown
+mutators_are_shown E m team g p k ready s mutator =
+    let inv = ready.invariant in
+    let l = ltb-true k team.mutators (sym (inv.staffed.posts k ready.member) ∙ mutator) in
+    let is : slice_get p.mutators k ≡ Some (get_or p.mutators k opening_mutator) = slice_get-get_or p.mutators k opening_mutator (let n = s.as_many in omega (arith, l, n)) in
+    (get_or p.mutators k opening_mutator, record { is = is; same = record { account = s.accounts k (get_or p.mutators k opening_mutator) is; registers = s.registers k (get_or p.mutators k opening_mutator) is } })
+
+pub registers_hold : RegistersHold
+registers_hold E m team g p k q j ready runner mutator late no_end small =
+    let w : ℕ = (team.worker k).registers j in
+    let y : Value = get_or q.registers j (Number 0) in
+    let n = runner.same.registers.eight in
+    let is : slice_get q.registers j ≡ Some y = slice_get-get_or q.registers j (Number 0) (omega (arith, n, small)) in
+    let denotes : value_of g.identity w ≡ Some y = runner.same.registers.registers_show (sym runner.same.account.end ∙ no_end) j small ∙ is in (
+      y,
+      is,
+      record {
+        holds = record { held = registers_are_held E m team g k j ready mutator late no_end small; denotes = denotes };
+        number = λ n e. some_same (sym denotes ∙ value_of_number g.identity w n e);
+        reference = λ a e. some_same (sym denotes ∙ value_from_pointer g.identity w a e);
+      },
+    )
+
+-- ---- headers
+
+pub headers_say : HeadersSay
+headers_say E m team g p k a len serial mutator w head ready s held points says =
+    let led = headers_are_read E m team g p k w a ready s held points in
+    let r : plain.Record = led.shows.0 in
+    let shows : Shows (value_of g.identity) m.heap a (g.kind a) (g.size a) r = led.shows.2 in
+    let same : HeaderWord (header_kind (g.kind a)) (g.size a - 1) (g.identity a).serial (g.identity a).mutator ≡ HeaderWord head len serial mutator = sym led.header ∙ says in
+    let head_is : header_kind (g.kind a) ≡ head = cc in
+    let len_is : g.size a - 1 ≡ len = cc in
+    record {
+      record_there = r;
+      is = led.shows.1;
+      kind = shows.kind ∙ sym (rw head_is at (said_kind-header_kind (g.kind a) (m.heap (a + 1))));
+      long = let z = shows.size in omega arith;
+      access = λ x role l has. record {
+        stands = led.stands.0;
+        written = led.stands.1;
+        inside = led.inside;
+        word = (omega arith, omega (arith, l, len_is));
+        role = rw shows.kind at has;
+      };
+    }
+
+-- ---- words of records
+
+module _ (E : Era) (m : Memory) (team : Team) (g : Ghost) (p : plain.Plain) (k : ℕ) (f : Access) (x : ℕ) (ready : Ready E m team g k) (s : Shown E m team g p) (has : (team.worker k).access ≡ Some f)
+    (opened : (team.worker k).opened ≡ Some ((f.at + f.word) / 64)) (at : f.word ≡ word_of (g.kind f.at) x) where
+  abbrev kind : Kind
+  kind = g.kind f.at
+
+  there : IsAccessed E m g f
+  there = accesses_are_allowed E m team g k f ready has opened
+
+  word : IsWordOf E g.size g.writer g.kind f.at x
+  word = there.word x at
+
+  place : f.at + f.word ≡ f.at + word_of kind x
+  place = omega (arith, at)
+
+  shown : (r : plain.Record) × (plain.record_of p.heap (g.identity f.at) ≡ Some r) × Shows (value_of g.identity) m.heap f.at kind (g.size f.at) r
+  shown = s.objects.shows f.at word.stands word.written (inl (uncopied_here E m team g ready.invariant ready.laid_out f.at word.stands word.inside.0 word.inside.1).0)
+
+  abbrev r : plain.Record
+  r = shown.0
+
+  shows : Shows (value_of g.identity) m.heap f.at kind (g.size f.at) r
+  shows = shown.2
+
+  abbrev y : Value
+  y = get_or r.values x (Number 0)
+
+  within : x < length r.values
+  within = let z = shows.size in let l = word.last in omega arith
+
+  value_is : slice_get r.values x ≡ Some y
+  value_is = slice_get-get_or r.values x (Number 0) within
+
+  may : MayStore E g.size g.writer kind x (m.heap (f.at + word_of kind x))
+  may = words_are_loaded E m team g k f.at x ready word (rw place at there.opens)
+
+  -- by what stands there
+  loaded : (role : Role) → HasRole kind (word_of kind x) role → HoldsValue E g (word_held role (m.heap (f.at + word_of kind x))) y
+  loaded FieldRole t = record { held = may.held t; denotes = shows.fields x within t ∙ value_is }
+  loaded NumberRole t = let e : Number (m.heap (f.at + word_of kind x)) ≡ y = some_same (shows.numbers x within t ∙ value_is) in rw (← e) (holds_number E g (m.heap (f.at + word_of kind x)))
+
+  stored : (role : Role) → HasRole kind (word_of kind x) role → (w v : ℕ) (u : Value) → HoldsValue E g w u → word_stored role w ≡ Some v → FitsRole role v
+      → MayStore E g.size g.writer kind x v × StandsFor g kind x v u
+  stored FieldRole t w v u holds e fits =
+      let same : w ≡ v = some_same e in (
+        record { held = λ _. rw same at holds.held; number = λ n. true_false n t },
+        record { denotes = λ _. rw same at holds.denotes; number = λ n. true_false (raw_is_no_field kind (word_of kind x) n) t },
+      )
+  stored NumberRole t w v u holds e fits =
+      let d = number_word_of (decode w) v e in
+      let n = raw_is_no_field kind (word_of kind x) t in (
+        record { held = λ o. true_false n o; number = λ _. fits },
+        record { denotes = λ o. true_false n o; number = λ _. some_same (sym (value_of_number g.identity w v d) ∙ holds.denotes) },
+      )
+
+  role_there : HasRole kind (word_of kind x) f.role
+  role_there = rw at at there.role
+
+  is_value : IsValueOf E m g p f x
+  is_value = record {
+    record_there = r;
+    is = shown.1;
+    kind = shows.kind;
+    role = rw shows.kind role_there;
+    word = word;
+    opens = there.opens;
+    value = y;
+    there = value_is;
+    loaded = rw place (loaded f.role role_there);
+    stored = λ w v u holds e fits. stored f.role role_there w v u holds e fits;
+  }
+
+pub accesses_are_values : AccessesAreValues
+accesses_are_values = is_value
+
+-- ---- words of the board
+
+pub board_words_are_values : BoardWordsAreValues
+board_words_are_values E m team g p k x ready s opens small =
+    let n = s.board.sixteen in
+    let is : slice_get p.heap.board x ≡ Some (get_or p.heap.board x (Number 0)) = slice_get-get_or p.heap.board x (Number 0) (omega (arith, n, small)) in
+    (get_or p.heap.board x (Number 0), is, record { held = board_is_loaded E m team g k x ready small opens; denotes = s.board.board x small ∙ is })

@@ -1,0 +1,156 @@
+-- A mutator's store and its going on are one step.
+use Rattle.std.proofs.lemmas.Bool.{cases_lt}
+use Rattle.std.proofs.Common.{◌≡◌, ℕ, ◌+◌, ◌-◌, ◌<◌, ◌≤◌, ◌*◌, ◌⊎◌, inl, inr, true, Some, refl, sym, ◌∙◌, arith}
+use Rattle.plain_state.specs.Layout.{word_of}
+use Rattle.plain_state.specs.State as plain
+use Rattle.plain_state.specs.declared.end.End.TheVariants.{HeapFull}
+use Rattle.space_map.specs.PageWord.{age_of}
+use Rattle.heap_state.specs.Cycle.{Cycle}
+use Rattle.heap_state.specs.Era.{Era, Memory}
+use Rattle.heap_state.specs.Ghost.{Ghost}
+use Rattle.heap_state.specs.Inductive.{Invariant}
+use Rattle.heap_state.specs.Values.{Accounts, Shown}
+use Rattle.heap_state.specs.Worker.{Worker, Team, Account, is_running}
+use Rattle.heap_state.proofs.Puts.{none≢some}
+use Rattle.heap_laws.specs.Fields.Held.{GoesOn, with_mutator, GoesOnSo}
+use Rattle.heap_laws.specs.Steps.{with_word, with_worker, Makes, NoRow, InWord}
+use Rattle.heap_laws.specs.Fields.Stores.{IsAs, MutatorsStep, MutatorsStore, MutatorsStoreOnBoard, MutatorsEnd, MutatorsFindNoRoom, with_end, MutatorsLearn}
+use Rattle.heap_laws.proofs.Fields.Cycle.{stores_keep_cycle, board_stores_keep_cycle}
+use Rattle.heap_laws.proofs.Fields.Shown.{stores_show, board_stores_show}
+use Rattle.heap_laws.proofs.Fields.Stored.{words_are_stored, board_is_stored}
+use Rattle.heap_laws.proofs.Plain.Stored.{stored_serial}
+use Rattle.heap_laws.proofs.Fields.GoingOn.{mutators_go_on, going_on_shows, going_on_keeps_cycle}
+use Rattle.heap_laws.proofs.Steps.Learning.{shown_put}
+
+-- a step that stores nothing, of a team of which a part was changed before
+pub goes_as : (E : Era) (m : Memory) (team : Team) (g : Ghost) (p : plain.Plain) (k : ℕ) (next : Worker) (q : plain.Mutator) → Invariant E m team g → k < team.count
+    → is_running (team.worker k).post ≡ true → Shown E m team g p → GoesOn E m g (team.worker k) next → IsAs g p.heap k next q
+    → Makes E m m team (with_worker team k next) g g (with_mutator p k q)
+goes_as E m team g p k next q inv member runs s goes same = record {
+  invariant = mutators_go_on E m team g k next inv member runs goes;
+  shown = going_on_shows E m team g p k next q s same.account same.registers;
+  cycle = λ o cy. going_on_keeps_cycle E m team g o k next inv member runs goes cy;
+  ages = λ page. omega arith;
+}
+
+pub mutators_step : MutatorsStep
+mutators_step E m team g p k next q ready runs s goes same = record { later = m; writes = NoRow; makes = goes_as E m team g p k next q ready.invariant ready.member runs s goes same }
+
+pub goes_on_so : GoesOnSo
+goes_on_so E m team g k account registers access opened ready serial accesses opens holds = record {
+  post = refl;
+  epoch = refl;
+  done = refl;
+  serial = serial;
+  quest = refl;
+  copy = refl;
+  scan = refl;
+  gate_step = refl;
+  stock = λ _ e. e;
+  round = λ _ e. e;
+  claim = λ _ e. e;
+  look = λ _ e. e;
+  last_look = λ _ e. e;
+  traced_seen = λ e. ((ready.invariant.workers k ready.member).seen_traced e).1;
+  reset = λ _ e. e;
+  access = accesses;
+  opened = opens;
+  registers = holds;
+}
+
+pub mutators_learn : MutatorsLearn
+mutators_learn E m team g k next ready runs goes account registers = record {
+  later = m;
+  writes = NoRow;
+  keeps = record {
+    invariant = mutators_go_on E m team g k next ready.invariant ready.member runs goes;
+    shown = λ p s. shown_put E m m team g k next p account registers refl s;
+    cycle = λ p cy. going_on_keeps_cycle E m team g p k next ready.invariant ready.member runs goes cy;
+    ages = λ page. omega arith;
+  };
+}
+
+-- a step in two halves
+pub both : {E : Era} {m n : Memory} {team mid after : Team} {g h : Ghost} {q : plain.Plain} → ((o : plain.Plain) → Cycle E m team g o → Cycle E n mid h o) → ((page : ℕ) → age_of (m.page page) ≤ age_of (n.page page))
+    → Makes E n n mid after h h q → Makes E m n team after g h q
+both cycle ages y = record { invariant = y.invariant; shown = y.shown; cycle = λ o cy. y.cycle o (cycle o cy); ages = ages }
+
+-- what is so of the state before a store of a heap word is so after it
+goes_on : {E : Era} {m : Memory} {g : Ghost} {w next : Worker} (addr word : ℕ) → GoesOn E m g w next → GoesOn E (with_word m addr word) g w next
+goes_on addr word goes = assumption
+
+-- an account agrees with a plain heap in which the mutator has made as many records
+pub accounts_in : {before after : plain.Heap} {k : ℕ} {a : Account} {q : plain.Mutator} → plain.serial_of after k ≡ plain.serial_of before k → Accounts before k a q → Accounts after k a q
+accounts_in same a = record { counter = a.counter; printed = a.printed; executed = a.executed; end = a.end; serial = a.serial ∙ sym same }
+
+pub mutators_store : MutatorsStore
+mutators_store E m team g p k next q a x v r y ready runs s word opens may is stands goes same =
+    let inv = words_are_stored E m team g a x v ready.laid_out ready.invariant word opens may in
+    let account = accounts_in (stored_serial p.heap (g.identity a) r x y is k) same.account in
+    record {
+      later = with_word m (a + word_of (g.kind a) x) v;
+      writes = InWord (a + word_of (g.kind a) x) v (let l = ready.invariant.laid.lies a word.stands in let o = ready.invariant.laid.order in let lay = ready.laid_out in let z = word.last in omega (arith, l, o, lay.below, lay.old_below, z));
+      makes = both (λ o cy. stores_keep_cycle E m team g o a x v ready.laid_out ready.invariant word opens may cy) (λ page. omega arith)
+          (goes_as E _ team g _ k next q inv ready.member runs (stores_show E m team g p a x v r y ready.laid_out ready.invariant word is stands s)
+          (goes_on (a + word_of (g.kind a) x) v goes) (record { account = account; registers = same.registers }));
+    }
+
+pub mutators_store_on_board : MutatorsStoreOnBoard
+mutators_store_on_board E m team g p k next q x v y ready runs s l opens holds goes same =
+    let inv = board_is_stored E m team g x v ready.laid_out ready.invariant l opens holds.held in
+    record {
+      later = with_word m (E.board + x) v;
+      writes = InWord (E.board + x) v (omega (arith, l));
+      makes = both (λ o cy. board_stores_keep_cycle E m team g o x v ready.laid_out ready.invariant l opens holds.held cy) (λ page. omega arith)
+          (goes_as E _ team g _ k next q inv ready.member runs (board_stores_show E m team g p x v y ready.laid_out ready.invariant l holds.denotes s)
+          (goes_on (E.board + x) v goes) (record { account = accounts_in refl same.account; registers = same.registers }));
+    }
+
+-- ---- ends
+
+pub mutators_end : MutatorsEnd
+mutators_end E m team g p k q why ready runs s is =
+    let known = ready.invariant.workers k ready.member in
+    let a = s.accounts k q is in
+    let r = s.registers k q is in
+    let goes : GoesOn E m g (team.worker k) (with_end (team.worker k) why) = record {
+      post = refl;
+      epoch = refl;
+      done = refl;
+      serial = refl;
+      quest = refl;
+      copy = refl;
+      scan = refl;
+      gate_step = refl;
+      stock = λ t e. e;
+      round = λ t e. e;
+      claim = λ t e. e;
+      look = λ t e. e;
+      last_look = λ t e. e;
+      traced_seen = λ e. (known.seen_traced e).1;
+      reset = λ t e. e;
+      access = λ f e. none≢some e;
+      opened = λ x e. none≢some e;
+      registers = λ n. none≢some (sym n);
+    } in
+    mutators_step E m team g p k (with_end (team.worker k) why) (record q { end = Some why }) ready runs s goes
+    (record {
+      account = record { counter = a.counter; printed = a.printed; executed = a.executed; end = refl; serial = a.serial };
+      registers = record { eight = r.eight; registers_show = λ n. none≢some (sym n) };
+    })
+
+pub mutators_find_no_room : MutatorsFindNoRoom
+mutators_find_no_room E m team g p k asked q area ready runs s is now seen short =
+    let o = ready.invariant.laid.order in
+    let few : area.low - area.front < 64 * asked = by_room (cases_lt (area.low - area.front) (64 * asked)) in
+    record {
+      traced = ((ready.invariant.workers k ready.member).seen_traced seen).1;
+      room_is = omega (arith, o, now.front, now.low);
+      live_is = omega (arith, now.front);
+      short = few;
+      ends = mutators_end E m team g p k q (HeapFull asked (area.low - area.front) area.front) ready runs s is;
+    }
+  where
+    by_room : (area.low - area.front < 64 * asked) ⊎ (64 * asked ≤ area.low - area.front) → area.low - area.front < 64 * asked
+    by_room (inl l) = l
+    by_room (inr l) = absurd (short (let o = ready.invariant.laid.order in omega (arith, l, o, now.front, now.low)))

@@ -1,0 +1,129 @@
+-- A mutator's store in a word of a record or on the board keeps the invariant and the cycle.
+use Rattle.std.proofs.Common.{◌≡◌, ◌≢◌, ℕ, ◌+◌, ◌/◌, ◌<◌, true, false, Some, refl, sym, ap, ◌∙◌, arith, ◌⊎◌, inl, inr}
+use Rattle.plain_state.specs.Layout.{is_field, word_of}
+use Rattle.space_map.specs.declared.page_word.PageWord.TheVariants.{Open, Scanning}
+use Rattle.heap_state.specs.Era.{Era, IsLaidOut, Memory}
+use Rattle.heap_state.specs.Functions.{put}
+use Rattle.heap_state.specs.Ghost.{Ghost, InRecord, OnBoard, Here}
+use Rattle.heap_state.specs.Inductive.{Invariant, Knows}
+use Rattle.heap_state.specs.Worker.{Worker, Team, Quest, Copy, Scan, is_late}
+use Rattle.heap_laws.specs.Fields.Words.{IsWordOf, MayStore, WordsAreLoaded, BoardIsLoaded, AccessesAreAllowed}
+use Rattle.heap_laws.specs.Fields.Held.{MayHold}
+use Rattle.heap_laws.specs.Steps.{with_word}
+use Rattle.heap_laws.proofs.Fields.Slots.{Slot, here_slot, headed_slot, raw_slot, opened_slot, landing_slot, older_slot, new_slot, old_space_slot, stocks_slot, scans_slot, copies_slot, keeps_slot, origin_slot}
+use Rattle.heap_laws.proofs.Frames.Values.{one_place, board_here, field_here}
+
+-- a store on an open page
+pub record Stores (E : Era) (m : Memory) (g : Ghost) (x v : ℕ) : Type 0 where
+  pub slot : Slot E m.front m.low g.size g.writer g.kind x v
+  pub opens : m.page (x / 64) ≡ Open E.epoch
+
+-- ---- the invariant
+
+-- a worker knows what it knew
+pub worker_slot : (E : Era) (m : Memory) (g : Ghost) (x v k : ℕ) (w : Worker) → Stores E m g x v
+    → Knows E m.gate m.traced m.front m.low m.old_front m.old_low m.old_owed g m.page m.cross m.announced m.heap k w
+    → Knows E m.gate m.traced m.front m.low m.old_front m.old_low m.old_owed g m.page m.cross m.announced (put m.heap x v) k w
+worker_slot E m g x v k w st p =
+    let a = λ (q : Quest) (e : w.quest ≡ Some q). origin_slot st.slot m.heap (is_late E.epoch w) w.done w.registers w.scan apart q.old q.origin (p.origin q e) in
+    let b = λ (c : Copy) (e : w.copy ≡ Some c). copies_slot st.slot m.heap k c (p.copy c e) in
+    let c = λ (c : Copy) (e : w.copy ≡ Some c). keeps_slot st.slot m.heap k c (p.copy c e) (p.keeps c e) in
+    let d = λ (s : Scan) (e : w.scan ≡ Some s). scans_slot st.slot m.heap k s (p.scan s e) in
+    assumption
+  where
+    -- a page that is scanned is not open
+    apart : (s : Scan) → w.scan ≡ Some s → s.cursor / 64 ≡ s.page → s.cursor ≢ x
+    apart s e f y =
+        let c : m.page s.page ≡ Scanning E.epoch k = (p.scan s e).claimed in
+        let q : m.page (x / 64) ≡ Scanning E.epoch k = ap m.page (ap (λ z. z / 64) (sym y) ∙ f) ∙ c in
+        let o = sym st.opens ∙ q in
+        absurd (cc)
+
+pub slot_keeps : (E : Era) (m : Memory) (team : Team) (g : Ghost) (x v : ℕ) → Stores E m g x v → Invariant E m team g → Invariant E (with_word m x v) team g
+slot_keeps E m team g x v st inv =
+    let a = headed_slot st.slot m.heap inv.headed in
+    let b = raw_slot st.slot m.heap inv.raw_words in
+    let c = opened_slot st.slot m.heap inv.opened in
+    let d = landing_slot st.slot m.heap inv.landing in
+    let e = older_slot st.slot m.heap inv.older in
+    let f = new_slot st.slot m.heap st.slot.lay.below inv.new in
+    let h = old_space_slot st.slot m.heap inv.old_space in
+    let i = stocks_slot st.slot m.heap inv.stocks in
+    let j = λ (k : ℕ) (l : k < team.count). worker_slot E m g x v k (team.worker k) st (inv.workers k l) in
+    assumption
+
+-- ---- the two places
+
+-- a word of a record
+pub in_word : (E : Era) (m : Memory) (team : Team) (g : Ghost) (a x v : ℕ) → IsLaidOut E → Invariant E m team g → IsWordOf E g.size g.writer g.kind a x
+    → m.page ((a + word_of (g.kind a) x) / 64) ≡ Open E.epoch → MayStore E g.size g.writer (g.kind a) x v → Stores E m g (a + word_of (g.kind a) x) v
+unfolding Here
+in_word E m team g a x v lay inv f open_page may = record { slot = slot; opens = open_page }
+  where
+    i : ℕ
+    i = word_of (g.kind a) x
+
+    by_place : InRecord E g.size g.writer g.kind (a + i) ⊎ OnBoard E (a + i) → MayHold E g.size g.writer v
+    by_place (inl u) =
+        let q : u.a ≡ a = one_place g.size u.a a u.i i inv.laid.apart u.field.last f.last (sym u.at) in
+        let s : u.i ≡ i = (let t = u.at in omega (arith, q, t)) in
+        may.held (let t : is_field (g.kind a) i ≡ true = rw (q, s) at u.field.field in t)
+    by_place (inr b) = absurd (let q = inv.laid.lies a f.stands in omega (arith, q, b, f.last, inv.laid.order, lay.below, lay.old_below))
+
+    slot : Slot E m.front m.low g.size g.writer g.kind (a + i) v
+    slot = record {
+      lay = lay;
+      laid = inv.laid;
+      place = inl (record { a = a; i = i; word = record { stands = f.stands; written = f.written; inside = f.inside; first = omega arith; last = f.last }; at = refl });
+      held = by_place;
+      number = λ b j l e n. let q = one_place g.size b a j i inv.laid.apart l f.last e in let s : j ≡ i = omega (arith, q, e) in may.number (let t : is_field (g.kind a) i ≡ false = rw (q, s) at n in t);
+    }
+
+-- a word of the board
+pub on_board : (E : Era) (m : Memory) (team : Team) (g : Ghost) (x v : ℕ) → IsLaidOut E → Invariant E m team g → x < 16
+    → m.page (E.board / 64) ≡ Open E.epoch → MayHold E g.size g.writer v → Stores E m g (E.board + x) v
+on_board E m team g x v lay inv l open_page may = record {
+  slot = here_slot lay inv.laid (board_here E g.size g.writer g.kind x l) may;
+  opens = let e : (E.board + x) / 64 ≡ E.board / 64 = omega (arith, lay.board, l) in rw e open_page;
+}
+
+-- a store in a word of a record, whose page is open
+abbrev pub WordsAreStored : Type 0
+WordsAreStored = (E : Era) (m : Memory) (team : Team) (g : Ghost) (a x v : ℕ) → IsLaidOut E → Invariant E m team g → IsWordOf E g.size g.writer g.kind a x
+    → m.page ((a + word_of (g.kind a) x) / 64) ≡ Open E.epoch → MayStore E g.size g.writer (g.kind a) x v → Invariant E (with_word m (a + word_of (g.kind a) x) v) team g
+
+pub words_are_stored : WordsAreStored
+words_are_stored E m team g a x v lay inv f o may = slot_keeps E m team g (a + word_of (g.kind a) x) v (in_word E m team g a x v lay inv f o may) inv
+
+-- a store on the board, which is open
+abbrev pub BoardIsStored : Type 0
+BoardIsStored = (E : Era) (m : Memory) (team : Team) (g : Ghost) (x v : ℕ) → IsLaidOut E → Invariant E m team g → x < 16
+    → m.page (E.board / 64) ≡ Open E.epoch → MayHold E g.size g.writer v → Invariant E (with_word m (E.board + x) v) team g
+
+pub board_is_stored : BoardIsStored
+board_is_stored E m team g x v lay inv l o may = slot_keeps E m team g (E.board + x) v (on_board E m team g x v lay inv l o may) inv
+
+-- ---- loads
+
+pub words_are_loaded : WordsAreLoaded
+words_are_loaded E m team g k a x ready f o = let inv = ready.invariant in record {
+  held = λ t. let h = field_here E g.size g.writer g.kind a (word_of (g.kind a) x) (record { stands = f.stands; written = f.written; field = t; first = omega arith; last = f.last }) f.inside in
+      record { clean = inv.opened.opened (a + word_of (g.kind a) x) h o; lands = inv.landing.lands (a + word_of (g.kind a) x) h };
+  number = λ t. inv.raw_words.raw a (word_of (g.kind a) x) f.stands f.written (omega arith) f.last t;
+}
+
+pub board_is_loaded : BoardIsLoaded
+board_is_loaded E m team g k x ready l o = let inv = ready.invariant in let lay = ready.laid_out in record {
+  clean = inv.opened.opened (E.board + x) (board_here E g.size g.writer g.kind x l) (let e : (E.board + x) / 64 ≡ E.board / 64 = omega (arith, lay.board, l) in rw e o);
+  lands = inv.landing.lands (E.board + x) (board_here E g.size g.writer g.kind x l);
+}
+
+pub accesses_are_allowed : AccessesAreAllowed
+accesses_are_allowed E m team g k f ready has opened =
+    let me = ready.invariant.workers k ready.member in
+    let a = me.access f has in
+    record {
+      word = λ x e. record { stands = a.stands; written = a.written; inside = a.inside; last = let z = a.word.1 in omega (arith, e) };
+      opens = (me.opened ((f.at + f.word) / 64) opened).1;
+      role = a.role;
+    }

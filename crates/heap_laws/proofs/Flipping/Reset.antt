@@ -1,0 +1,108 @@
+-- The steps of a flipper before the flip.
+use Rattle.std.proofs.Common.{◌≡◌, ◌≢◌, ℕ, ◌+◌, ◌<◌, true, false, Some, None, refl, sym, ◌∙◌, arith, ⊎_elim}
+use Rattle.std.proofs.lemmas.Bool.{cases_eq}
+use Rattle.heap_state.specs.Era.{Era, Memory, IsLaidOut}
+use Rattle.heap_state.specs.Functions.{count_one}
+use Rattle.heap_state.specs.Ghost.{Ghost}
+use Rattle.heap_state.specs.Inductive.{Invariant, Knows}
+use Rattle.heap_state.specs.Parts.Knowledge.{Resets}
+use Rattle.heap_state.specs.Parts.OldSpace.{OldSpace, OldArea}
+use Rattle.heap_state.specs.Parts.Pages.{OldPages}
+use Rattle.heap_state.specs.Worker.{Worker, Team, Reset, is_flipper}
+use Rattle.heap_state.proofs.Workers.Frames.{counted_put, staffed_put, scanned_put, stocks_put, numbered_put, rooted_put}
+use Rattle.heap_state.proofs.Puts.{team_put, some_same, none≢some}
+use Rattle.heap_laws.specs.Flipping.Reset.{resetting, FindingStillKeeps, ReadingUsedKeeps, StoringAreaKeeps, whole_area}
+use Rattle.heap_laws.specs.Steps.{with_worker, with_old_area, InOldArea, Preserves}
+use Rattle.heap_laws.proofs.Flipping.Sums.{sum_below-two, one_of, at_most_one}
+use Rattle.heap_laws.proofs.Steps.Learning.{shown_put, learns, learnt}
+
+-- at most one worker flips
+pub one_flipper : (E : Era) (m : Memory) (team : Team) (g : Ghost) → Invariant E m team g → (j k : ℕ) → j < team.count → k < team.count
+    → is_flipper (team.worker j).post ≡ true → is_flipper (team.worker k).post ≡ true → j ≡ k
+one_flipper E m team g inv j k lj lk a b = ⊎_elim (λ e. e)
+    (λ (d : j ≢ k). absurd (
+    let t = sum_below-two team.count (λ i. count_one (is_flipper (team.worker i).post)) j k lj lk d in
+    let p = one_of (is_flipper (team.worker j).post) a in let q = one_of (is_flipper (team.worker k).post) b in
+    let r = inv.counted.request in let s = at_most_one m.gate.request in omega (arith, t, p, q, r, s)))
+    (cases_eq j k)
+
+-- a flipper that knows more of its flip
+module _ (E : Era) (m : Memory) (team : Team) (g : Ghost) (k : ℕ) (r : Reset) (inv : Invariant E m team g) (below : k < team.count) (flips : is_flipper (team.worker k).post ≡ true)
+    (new : Resets E m.gate m.front m.low m.old_front m.old_low m.old_owed r) where
+  pub resets_more : Preserves E m m team (with_worker team k (resetting (team.worker k) r)) g g
+  resets_more = learns E m team g k (resetting (team.worker k) r) inv (assumption) (λ s e. (s, e, refl))
+      (let me = inv.workers k below in
+      let a : (q : Reset) → Some r ≡ Some q → is_flipper (team.worker k).post ≡ true = λ q e. flips in
+      let b : (q : Reset) → Some r ≡ Some q → Resets E m.gate m.front m.low m.old_front m.old_low m.old_owed q = λ q e. rw (← some_same e) new in
+      assumption)
+
+pub finds_still : FindingStillKeeps
+finds_still E m team g k ready flips still none = learnt (resets_more E m team g k (record { read = m.gate; used = None; stored = false }) ready.invariant ready.member flips
+    (record { unmoved = refl; stopped = (still, none); used = λ u e. none≢some e; stored = λ e. absurd (cc) }))
+
+pub reads_used : ReadingUsedKeeps
+reads_used E m team g k r u ready e loose used =
+    let me = ready.invariant.workers k ready.member in let o = me.reset r e in
+    learnt (resets_more E m team g k (record r { used = Some u }) ready.invariant ready.member (me.resets r e)
+    (record { unmoved = o.unmoved; stopped = o.stopped; used = λ v f. let z : u ≡ v = some_same f in rw (← z) used; stored = λ f. absurd (let q = sym f ∙ loose in cc) }))
+
+module _ (E : Era) (m : Memory) (team : Team) (g : Ghost) (k : ℕ) (r : Reset) (front low u : ℕ) (out : IsLaidOut E) (inv : Invariant E m team g) (below : k < team.count)
+    (has : (team.worker k).reset ≡ Some r) (used : r.used ≡ Some u) (at_start : front ≡ E.old_start) (at_end : low ≡ E.old_start + E.old_span) where
+  abbrev w' : Worker
+  w' = resetting (team.worker k) (record r { stored = true })
+
+  me : Knows E m.gate m.traced m.front m.low m.old_front m.old_low m.old_owed g m.page m.cross m.announced m.heap k (team.worker k)
+  me = inv.workers k below
+
+  flips : is_flipper (team.worker k).post ≡ true
+  flips = me.resets r has
+
+  traced : m.traced ≡ E.epoch + 1
+  traced = (me.seen_traced (me.flips flips)).1
+
+  abbrev KnowsNow : ℕ → Worker → Type 0
+  KnowsNow = Knows E m.gate m.traced m.front m.low front low u g m.page m.cross m.announced m.heap
+
+  new : Resets E m.gate m.front m.low front low u (record r { stored = true })
+  new = let o = me.reset r has in record { unmoved = o.unmoved; stopped = o.stopped; used = o.used; stored = λ e. (at_start, at_end, used) }
+
+  others : (j : ℕ) → j < team.count → j ≢ k → KnowsNow j (team.worker j)
+  others j l d =
+      let v = inv.workers j l in
+      let a : (q : Reset) → (team.worker j).reset ≡ Some q → Resets E m.gate m.front m.low front low u q = λ q e. absurd (d (one_flipper E m team g inv j k l below (v.resets q e) flips)) in
+      assumption
+
+  own : KnowsNow k w'
+  own =
+      let v = me in
+      let a : (q : Reset) → w'.reset ≡ Some q → is_flipper (team.worker k).post ≡ true = λ q e. flips in
+      let b : (q : Reset) → w'.reset ≡ Some q → Resets E m.gate m.front m.low front low u q = λ q e. rw (← some_same e) new in
+      assumption
+
+  invariant : Invariant E (with_old_area m front low u) (with_worker team k w') g
+  invariant =
+      let p1 = counted_put team.worker k w' refl refl inv.counted in
+      let p2 = staffed_put team.worker k w' refl inv.staffed in
+      let p3 = scanned_put team.worker k w' refl inv.scanned in
+      let p4 : OldSpace E m.traced front low g.size m.heap m.page = record { walks = λ y. absurd (omega (arith, y, traced)) } in
+      let p9 : OldArea E front low = record { order = (omega (arith, at_start), omega (arith, at_start, at_end), omega (arith, at_end)) } in
+      let p5 : OldPages E front m.page = record { old = λ p l n. absurd (omega (arith, at_start, l, n)) } in
+      let p6 = stocks_put team.worker k w' (λ _ e. e) inv.stocks in
+      let p7 = numbered_put team.worker k w' refl inv.numbered in
+      let p8 = team_put team.count KnowsNow team.worker k w' others own in
+      assumption
+
+  pub stores_area : Preserves E m (with_old_area m front low u) team (with_worker team k w') g g
+  stores_area = record {
+    invariant = invariant;
+    shown = λ p s. shown_put E m (with_old_area m front low u) team g k w' p refl refl refl s;
+    cycle = λ p c. record { copying = c.copying; rooted = rooted_put team.worker k w' refl refl refl (λ _ _ a b. (a, b)) c.rooted };
+    ages = λ p. omega arith;
+  }
+
+pub stores_area_word : StoringAreaKeeps
+stores_area_word E m team g k r u ready has used fits = record {
+  later = with_old_area m (E.old_start + 0) (E.old_start + E.old_span) u;
+  writes = InOldArea (whole_area E.old_span u) fits;
+  keeps = stores_area E m team g k r (E.old_start + 0) (E.old_start + E.old_span) u ready.laid_out ready.invariant ready.member has used (omega arith) refl;
+}

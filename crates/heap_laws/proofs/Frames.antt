@@ -1,0 +1,4 @@
+pub mod PageWords
+pub mod Values
+pub mod OtherWords
+pub mod NewPages

@@ -1,0 +1,77 @@
+-- A scanner takes the epoch of the gate.
+use Rattle.std.proofs.Common.{◌≡◌, ℕ, ◌<◌, false, Some, None, refl, sym, ap, ◌∙◌}
+use Rattle.heap_state.specs.Era.{Era, Memory}
+use Rattle.heap_state.specs.Ghost.{Ghost}
+use Rattle.heap_state.specs.Inductive.{Invariant, Knows}
+use Rattle.heap_state.specs.Parts.Copying.{IsOrigin}
+use Rattle.heap_state.specs.Worker.{Worker, Team, Scanner, Origin, Register, Scanned, Quest, is_mutator, is_running, is_flipper, is_late}
+use Rattle.heap_state.proofs.Puts.{none≢some, true_false}
+use Rattle.heap_laws.specs.Gate.{TakingEpochKeeps, into_epoch}
+use Rattle.heap_laws.specs.Steps.{with_worker, Preserves}
+use Rattle.heap_laws.proofs.Gate.Counts.{counted_moves}
+use Rattle.heap_laws.proofs.Gate.Team.{passing_keeps}
+use Rattle.heap_laws.proofs.Gate.Worker.{knows_then}
+use Rattle.heap_laws.proofs.Steps.Learning.{learnt}
+
+module _ (E : Era) (m : Memory) (team : Team) (g : Ghost) (k : ℕ) (inv : Invariant E m team g) (below : k < team.count) (at_gate : m.gate.epoch ≡ E.epoch) (scanner : (team.worker k).post ≡ Scanner)
+    (idle : (team.worker k).scan ≡ None) where
+  abbrev w : Worker
+  w = team.worker k
+
+  me : Knows E m.gate m.traced m.front m.low m.old_front m.old_low m.old_owed g m.page m.cross m.announced m.heap k w
+  me = inv.workers k below
+
+  not_late : (e : ℕ) → is_late e w ≡ false
+  not_late e = rw scanner refl
+
+  not_running : is_running w.post ≡ false
+  not_running = ap is_running scanner
+
+  not_flipping : is_flipper w.post ≡ false
+  not_flipping = ap is_flipper scanner
+
+  no_quest : (q : Quest) → w.quest ≡ Some q → ⊥
+  no_quest q e = by_origin q.origin (me.origin q e)
+    where
+      by_origin : (o : Origin) → IsOrigin E g.size g.writer g.kind m.heap (is_late E.epoch w) w.done w.registers w.scan q.old o → ⊥
+      by_origin (Register r) y = true_false (not_late E.epoch) y.0
+      by_origin (Scanned x) y = none≢some (sym idle ∙ y.0.1)
+
+  takes_epoch : Preserves E m m team (with_worker team k (into_epoch w m.gate.epoch)) g g
+  takes_epoch = passing_keeps
+      (record {
+        inv = inv;
+        below = below;
+        mutator = refl;
+        account = refl;
+        registers = refl;
+        scan = refl;
+        stock = λ q e. none≢some e;
+        none_left = λ r l y d. true_false (not_late E.epoch) y;
+      })
+      m.gate
+      (counted_moves team.worker team.count k (into_epoch w m.gate.epoch) w.post w.post m.gate m.gate false false below refl refl (not_late m.gate.epoch) (rw scanner refl) refl refl refl refl refl refl inv.counted.still inv.counted)
+      inv.filling
+      inv.tracing
+      (λ j l d. inv.workers j l)
+      (knows_then E m team g k m.gate inv below (λ r e. true_false not_flipping (me.resets r e)) w.post m.gate.epoch 0 None w.access w.opened None None None None w.traced_seen
+      (record {
+        now = at_gate;
+        done_none = refl;
+        inside = λ e. absurd (let q = sym scanner ∙ e in cc);
+        ends = me.ends;
+        not_asked = λ q l e. no_quest q e;
+        clean = λ mu end. true_false (ap is_mutator scanner) mu;
+        stocks = λ q e. none≢some e;
+        accesses = λ f e. (me.active f e, me.access f e);
+        opens = me.opened;
+        rounds = λ r e. none≢some e;
+        claims = λ c e. none≢some e;
+        looks = λ l e. none≢some e;
+        last_looks = λ l e. none≢some e;
+        seen = me.seen_traced;
+        flips = me.flips;
+      }))
+
+pub takes_epoch_of_gate : TakingEpochKeeps
+takes_epoch_of_gate E m team g k ready scanner idle = learnt (takes_epoch E m team g k ready.invariant ready.member ready.at_gate scanner idle)

@@ -1,0 +1,264 @@
+-- Steps one after another, and what a worker forgets.
+use Rattle.std.proofs.Common.{◌≡◌, ℕ, ◌<◌, true, Option, Some, None, is_some, refl, sym, ap, ◌∙◌, inl, inr, ⊎_elim}
+use Rattle.plain_state.specs.State.{Plain}
+use Rattle.plain_state.specs.declared.kind.Kind.{Kind}
+use Rattle.space_map.specs.declared.page_word.PageWord.{PageWord}
+use Rattle.heap_state.specs.Cycle.{Cycle}
+use Rattle.heap_state.specs.Entries.{Entry}
+use Rattle.heap_state.specs.Era.{Era, Memory}
+use Rattle.heap_state.specs.Functions.{put}
+use Rattle.heap_state.specs.Ghost.{Ghost}
+use Rattle.heap_state.specs.Inductive.{Invariant, Knows}
+use Rattle.heap_state.specs.Parts.Copying.{IsOrigin, Licensed}
+use Rattle.heap_state.specs.Parts.Scanning.{Scans, Stepping, Rounds}
+use Rattle.heap_state.specs.Values.{Shown}
+use Rattle.heap_state.specs.Worker.{Worker, Team, Account, Quest, Scan, Round, Origin, Register, Scanned, is_mutator, is_flipper, is_late}
+use Rattle.heap_state.proofs.Workers.Frames.{counted_put, staffed_put, stocks_put, numbered_put, rooted_put}
+use Rattle.heap_state.proofs.Puts.{put_same, put_twice, each_put, some_same}
+use Rattle.heap_laws.specs.Composing.{IsAtMost, IsLess, IsLessScan, IsScanWithin, SameScan, LessScan, StepsForget, StepsAreReady, StepsFollow, PlainStepsForget, PlainStepsAreReady, PlainStepsFollow}
+use Rattle.heap_laws.specs.Steps.{Writes, NoRow, InGate, InTraced, InArea, InOldArea, InPage, InCross, InWord, InAnnounce, with_worker, Preserves, Steps}
+use Rattle.heap_laws.proofs.Steps.Learning.{shown_put, scanned_on}
+
+-- ---- forgetting
+
+-- who scans as much scans that page to that place, and has ended where that has ended
+record ScansWithin (o p : Option Scan) : Type 0 where
+  has : (u : Scan) → p ≡ Some u → (s : Scan) × (o ≡ Some s) × IsLessScan s u
+  had : (s : Scan) → o ≡ Some s → (u : Scan) × (p ≡ Some u) × IsLessScan s u
+
+all_of : (s u : Scan) → s ≡ u → IsLessScan s u
+all_of s u e = record {
+  page = ap (λ (z : Scan). z.page) e;
+  cursor = ap (λ (z : Scan). z.cursor) e;
+  in_place = ap (λ (z : Scan). z.in_place) e;
+  over = λ x y. ap (λ (z : Scan). z.over) (sym e) ∙ y;
+  current = λ x y. ap (λ (z : Scan). z.current) (sym e) ∙ y;
+  inner = λ y. ap (λ (z : Scan). z.inner) (sym e) ∙ y;
+  ended = ap (λ (z : Scan). z.ended) e;
+}
+
+within : {o p : Option Scan} → IsScanWithin o p → ScansWithin o p
+within {o} {p} (SameScan e) = record { has = λ u f. (u, e ∙ f, all_of u u refl); had = λ s f. (s, sym e ∙ f, all_of s s refl) }
+within {o} {p} (LessScan s u e f less) = record {
+  has = λ z y. (s, e, rw (← some_same (sym f ∙ y)) less);
+  had = λ z y. (u, f, rw (← some_same (sym e ∙ y)) less);
+}
+
+-- what is known of a scan is so of one that knows less
+less_scans : {E : Era} {front : ℕ} {size writer : ℕ → ℕ} {kind : ℕ → Kind} {heap : ℕ → ℕ} {page : ℕ → PageWord} {k : ℕ} {s u : Scan} → IsLessScan s u
+    → Scans E front size writer kind heap page k u → Scans E front size writer kind heap page k s
+less_scans {s = s} {u = u} less p = record {
+  claimed = rw less.page p.claimed;
+  place = rw less.page p.place;
+  passed = λ x h y l. p.passed x h (y ∙ less.page) (rw less.cursor at l);
+  cursor = rw (less.page, less.cursor) p.cursor;
+  above = λ b x st w l n y. rw less.cursor (p.above b x st w l n (y ∙ less.page));
+}
+
+less_steps : {E : Era} {front : ℕ} {size writer : ℕ → ℕ} {kind : ℕ → Kind} {s u : Scan} → IsLessScan s u → Stepping E front size writer kind u → Stepping E front size writer kind s
+less_steps {s = s} {u = u} less p = record {
+  over = λ a e. rw less.page (p.over a (less.over a e));
+  current = λ r e. rw less.cursor (p.current r (less.current r e));
+  inner = λ e. rw less.cursor (p.inner (less.inner e));
+  begun = rw (less.page, less.cursor) p.begun;
+  full = λ e. rw less.page (p.full (sym less.in_place ∙ e));
+  ended = λ e. rw (less.page, less.cursor) (p.ended (sym less.ended ∙ e));
+}
+
+less_rounds : {E : Era} {traced front d : ℕ} {r u : Round} → r.traced ≡ u.traced → IsLess r.front u.front → Rounds E traced front d u → Rounds E traced front d r
+less_rounds same less p = record { traced_then = rw same p.traced_then; front_then = λ f e n. p.front_then f (less f e) n }
+
+-- a worker that knows at most what another knows is right
+module _ (E : Era) (n : Memory) (h : Ghost) (k : ℕ) (w v : Worker) (most : IsAtMost w v)
+    (me : Knows E n.gate n.traced n.front n.low n.old_front n.old_low n.old_owed h n.page n.cross n.announced n.heap k v) where
+  late : is_late E.epoch w ≡ is_late E.epoch v
+  late = rw (most.post, most.epoch) refl
+
+  origin : (q : Quest) → w.quest ≡ Some q → IsOrigin E h.size h.writer h.kind n.heap (is_late E.epoch w) w.done w.registers w.scan q.old q.origin
+  origin q e = rw (late, most.done, most.registers) (from q.origin (me.origin q (sym most.quest ∙ e)))
+    where
+      from : (o : Origin) → IsOrigin E h.size h.writer h.kind n.heap (is_late E.epoch v) v.done v.registers v.scan q.old o → IsOrigin E h.size h.writer h.kind n.heap (is_late E.epoch v) v.done v.registers w.scan q.old o
+      from (Register r) p = p
+      from (Scanned x) p = let z = (within most.scan).has p.0.0 p.0.1 in ((z.0, z.1, z.2.cursor ∙ p.0.2, p.0.3 ∙ sym z.2.page, z.2.ended ∙ p.0.4), p.1, p.2)
+
+  licensed : Licensed n.gate.behind h.kept k (is_late E.epoch w) w.copy w.quest w.scan
+  licensed = rw (late, most.copy, most.quest) (record {
+    licensed = λ c e. ⊎_elim
+        (λ (y : (s : Scan) × (v.scan ≡ Some s)). let z = (within most.scan).has y.0 y.1 in inl (z.0, z.1))
+        (λ (y : is_late E.epoch v ≡ true). inr y)
+        (me.licensed.licensed c e);
+    asked = me.licensed.asked;
+    counted = me.licensed.counted;
+    idle = me.licensed.idle;
+  })
+
+  pub knows_less : Knows E n.gate n.traced n.front n.low n.old_front n.old_low n.old_owed h n.page n.cross n.announced n.heap k w
+  knows_less = record {
+    timely = rw (most.post, most.epoch, most.done) me.timely;
+    ends = rw (most.post, most.account) me.ends;
+    outside = λ e. rw most.registers (me.outside (sym most.post ∙ e));
+    stock = λ q e. rw most.epoch (me.stock q (most.stock q e));
+    registers = λ u e. rw (late, most.done, most.registers) (me.registers (ap is_mutator (sym most.post) ∙ u) (ap (λ (a : Account). a.end) (sym most.account) ∙ e));
+    active = λ f e. rw most.post (me.active f (most.access f e));
+    access = λ f e. me.access f (most.access f e);
+    opened = λ p e. rw most.post (me.opened p (most.opened p e));
+    origin = origin;
+    quest = λ q e. me.quest q (sym most.quest ∙ e);
+    licensed = licensed;
+    copy = λ c e. me.copy c (sym most.copy ∙ e);
+    keeps = λ c e. me.keeps c (sym most.copy ∙ e);
+    present = λ s e. let z = (within most.scan).had s e in most.epoch ∙ me.present z.0 z.1;
+    scan = λ s e. let z = (within most.scan).had s e in less_scans z.2 (me.scan z.0 z.1);
+    stepping = λ s e. let z = (within most.scan).had s e in less_steps z.2 (me.stepping z.0 z.1);
+    round = λ r e. let z = most.round r e in rw most.epoch (less_rounds z.traced z.front (me.round z.more z.is));
+    claim = λ c e. rw most.epoch (me.claim c (most.claim c e));
+    look = λ l e. rw most.epoch (me.look l (most.look l e));
+    last_look = λ l e. rw most.epoch (me.last_look l (most.last_look l e));
+    seen_traced = λ e. rw most.post (me.seen_traced (most.traced_seen e));
+    flips = λ e. most.asks (inl e) ∙ me.flips (ap is_flipper (sym most.post) ∙ e);
+    passage = λ s e. rw (most.post, most.epoch, most.done, most.account, most.asks (inr (ap is_some e))) (me.passage s (most.gate_step s e));
+    resets = λ r e. ap is_flipper most.post ∙ me.resets r (most.reset r e);
+    reset = λ r e. me.reset r (most.reset r e);
+  }
+
+-- the team in which it is the other
+module _ (E : Era) (n : Memory) (team : Team) (h : Ghost) (k : ℕ) (w v : Worker) (most : IsAtMost w v) where
+  abbrev before : Team
+  before = with_worker team k v
+
+  abbrev KnowsThen : ℕ → Worker → Type 0
+  KnowsThen = Knows E n.gate n.traced n.front n.low n.old_front n.old_low n.old_owed h n.page n.cross n.announced n.heap
+
+  there : before.worker k ≡ v
+  there = put_same team.worker k v
+
+  twice : put (put team.worker k v) k w ≡ put team.worker k w
+  twice = put_twice team.worker k v w
+
+  forgets_invariant : Invariant E n before h → Invariant E n (with_worker team k w) h
+  forgets_invariant inv = rw twice at kept
+    where
+      same : {X : Type 0} (f : Worker → X) → f w ≡ f v → f w ≡ f (before.worker k)
+      same f e = e ∙ ap f (sym there)
+
+      on : (u : Scan) → (before.worker k).scan ≡ Some u → (s : Scan) × (w.scan ≡ Some s) × (s.page ≡ u.page)
+      on u e = let z = (within most.scan).has u (ap (λ (x : Worker). x.scan) (sym there) ∙ e) in (z.0, z.1, z.2.page)
+
+      kept : Invariant E n (with_worker before k w) h
+      kept =
+          let p1 = counted_put before.worker k w (same (λ u. u.post) most.post) (same (λ u. u.epoch) most.epoch) inv.counted in
+          let p2 = staffed_put before.worker k w (same (λ u. is_mutator u.post) (ap is_mutator most.post)) inv.staffed in
+          let p3 = scanned_on before.worker k w on inv.scanned in
+          let p4 = stocks_put before.worker k w (λ q e. ap (λ (u : Worker). u.stock) there ∙ most.stock q e) inv.stocks in
+          let p5 = numbered_put before.worker k w (same (λ u. u.account.serial) (ap (λ (a : Account). a.serial) most.account)) inv.numbered in
+          let p6 : (j : ℕ) → j < before.count → KnowsThen j (put before.worker k w j) = λ j l. each_put KnowsThen before.worker k w j (λ d. inv.workers j l) (λ e. rw e (own (rw e at l))) in
+          assumption
+        where
+          own : k < before.count → KnowsThen k w
+          own l = knows_less E n h k w v most (rw there at (inv.workers k l))
+
+  forgets_shown : (p : Plain) → Shown E n before h p → Shown E n (with_worker team k w) h p
+  forgets_shown p s = rw twice at (shown_put E n n before h k w p (most.account ∙ ap (λ (u : Worker). u.account) (sym there)) (most.registers ∙ ap (λ (u : Worker). u.registers) (sym there)) refl s)
+
+  forgets_cycle : (p : Plain) → Cycle E n before h p → Cycle E n (with_worker team k w) h p
+  forgets_cycle p c = record {
+    copying = c.copying;
+    rooted = rw twice at (rooted_put before.worker k w
+        (ap is_mutator most.post ∙ ap (λ (u : Worker). is_mutator u.post) (sym there))
+        (most.account ∙ ap (λ (u : Worker). u.account) (sym there))
+        (most.registers ∙ ap (λ (u : Worker). u.registers) (sym there))
+        (λ _ _ a b. let a' : is_late E.epoch v ≡ true = rw there at a in (rw (most.post, most.epoch) a', let b' = rw there at b in rw most.done b'))
+        c.rooted);
+  }
+
+pub steps_forget : StepsForget
+steps_forget E m team g k e v w h s most = record {
+  later = s.later;
+  writes = s.writes;
+  keeps = record {
+    invariant = forgets_invariant E s.later team h k w v most s.keeps.invariant;
+    shown = λ p y. forgets_shown E s.later team h k w v most p (s.keeps.shown p y);
+    cycle = λ p y. forgets_cycle E s.later team h k w v most p (s.keeps.cycle p y);
+    ages = s.keeps.ages;
+  };
+}
+
+pub plain_steps_forget : PlainStepsForget
+plain_steps_forget E m team g k e v w h q s most = record {
+  later = s.later;
+  writes = s.writes;
+  makes = record {
+    invariant = forgets_invariant E s.later team h k w v most s.makes.invariant;
+    shown = forgets_shown E s.later team h k w v most q s.makes.shown;
+    cycle = λ p y. forgets_cycle E s.later team h k w v most p (s.makes.cycle p y);
+    ages = s.makes.ages;
+  };
+}
+
+-- ---- one after another
+
+-- a row other than the gate's leaves the gate, and the gate's is one of the same epoch
+still_at_gate : {E : Era} {m : Memory} {e : Option Entry} {n : Memory} → Writes E m e n → m.gate.epoch ≡ E.epoch → n.gate.epoch ≡ E.epoch
+still_at_gate NoRow y = y
+still_at_gate (InGate gate fits same) y = same
+still_at_gate (InTraced word) y = y
+still_at_gate (InArea area fits) y = y
+still_at_gate (InOldArea area fits) y = y
+still_at_gate (InPage page word below fits) y = y
+still_at_gate (InCross page place below) y = y
+still_at_gate (InWord addr word below) y = y
+still_at_gate (InAnnounce worker place below) y = y
+
+pub steps_are_ready : StepsAreReady
+steps_are_ready E m team g k e v h ready s = record { laid_out = ready.laid_out; at_gate = still_at_gate s.writes ready.at_gate; invariant = s.keeps.invariant; member = ready.member }
+
+pub plain_steps_are_ready : PlainStepsAreReady
+plain_steps_are_ready E m team g k e v h q ready s = record { laid_out = ready.laid_out; at_gate = still_at_gate s.writes ready.at_gate; invariant = s.makes.invariant; member = ready.member }
+
+-- what a step keeps that writes no row
+record KeepsOn (E : Era) (n : Memory) (team after : Team) (h i : Ghost) : Type 0 where
+  keeps : Preserves E n n team after h i
+
+keeps_on : {E : Era} {n : Memory} {team : Team} {h : Ghost} {k : ℕ} {e : Option Entry} {w : Worker} {i : Ghost} → e ≡ None → (s : Steps E n team h k e w i) → KeepsOn E n team (with_worker team k w) h i
+keeps_on {E} {n} {team} {h} {k} {e} {w} {i} none s = by_row e s.later s.writes none s.keeps
+  where
+    by_row : (e : Option Entry) (later : Memory) → Writes E n e later → e ≡ None → Preserves E n later team (with_worker team k w) h i → KeepsOn E n team (with_worker team k w) h i
+    by_row _ _ NoRow none p = record { keeps = p }
+    by_row _ _ (InGate gate fits same) none p = absurd (cc)
+    by_row _ _ (InTraced word) none p = absurd (cc)
+    by_row _ _ (InArea area fits) none p = absurd (cc)
+    by_row _ _ (InOldArea area fits) none p = absurd (cc)
+    by_row _ _ (InPage page word below fits) none p = absurd (cc)
+    by_row _ _ (InCross page place below) none p = absurd (cc)
+    by_row _ _ (InWord addr word below) none p = absurd (cc)
+    by_row _ _ (InAnnounce worker place below) none p = absurd (cc)
+
+pub steps_follow : StepsFollow
+steps_follow E m team g k e v w h i s t =
+    let on : Preserves E s.later s.later (with_worker team k v) (with_worker (with_worker team k v) k w) h i = (keeps_on refl t).keeps in
+    let once : Preserves E s.later s.later (with_worker team k v) (with_worker team k w) h i = rw (put_twice team.worker k v w) at on in
+    record {
+      later = s.later;
+      writes = s.writes;
+      keeps = record {
+        invariant = once.invariant;
+        shown = λ p y. once.shown p (s.keeps.shown p y);
+        cycle = λ p y. once.cycle p (s.keeps.cycle p y);
+        ages = s.keeps.ages;
+      };
+    }
+
+pub plain_steps_follow : PlainStepsFollow
+plain_steps_follow E m team g k e v w h i q s t =
+    let on : Preserves E s.later s.later (with_worker team k v) (with_worker (with_worker team k v) k w) h i = (keeps_on refl t).keeps in
+    let once : Preserves E s.later s.later (with_worker team k v) (with_worker team k w) h i = rw (put_twice team.worker k v w) at on in
+    record {
+      later = s.later;
+      writes = s.writes;
+      makes = record {
+        invariant = once.invariant;
+        shown = once.shown q s.makes.shown;
+        cycle = λ p y. once.cycle p (s.makes.cycle p y);
+        ages = s.makes.ages;
+      };
+    }

@@ -1,0 +1,89 @@
+-- A worker learns or forgets something, where others read the same of it: a step that writes no heap word.
+use Rattle.std.proofs.Common.{◌≡◌, ◌≢◌, ℕ, ◌<◌, Some, refl, sym, ap, ◌∙◌, arith, ⊎_elim, None}
+use Rattle.std.proofs.lemmas.Bool.{cases_eq}
+use Rattle.plain_state.specs.State as plain
+use Rattle.space_map.specs.declared.page_word.PageWord.{PageWord}
+use Rattle.heap_state.specs.Era.{Era, Memory}
+use Rattle.heap_state.specs.Functions.{put}
+use Rattle.heap_state.specs.Ghost.{Ghost}
+use Rattle.heap_state.specs.Inductive.{Invariant, Knows}
+use Rattle.heap_state.specs.Parts.Copying.{Copies}
+use Rattle.heap_state.specs.Parts.Crossing.{Crossing}
+use Rattle.heap_state.specs.Parts.Pages.{ScannedBy}
+use Rattle.heap_state.specs.Values.{Shown}
+use Rattle.heap_state.specs.Worker.{Worker, Team, Copy, Scan, is_mutator}
+use Rattle.heap_state.proofs.Workers.Frames.{counted_put, staffed_put, stocks_put, numbered_put, accounts_put, registers_put, rooted_put}
+use Rattle.heap_state.proofs.Puts.{put_at, put_other, team_put}
+use Rattle.heap_laws.specs.Steps.{with_worker, NoRow, Steps, Preserves}
+
+-- what is shown by the same words is shown by the team after the change
+pub shown_put : (E : Era) (m n : Memory) (team : Team) (g : Ghost) (k : ℕ) (w : Worker) (p : plain.Plain) → w.account ≡ (team.worker k).account → w.registers ≡ (team.worker k).registers → n.heap ≡ m.heap
+    → Shown E m team g p → Shown E n (with_worker team k w) g p
+shown_put E m n team g k w p account registers heap s = record {
+  objects = rw heap s.objects;
+  board = rw heap s.board;
+  as_many = s.as_many;
+  makers = s.makers;
+  accounts = λ j q e. accounts_put team.worker k w account j q (s.accounts j q e);
+  registers = λ j q e. registers_put team.worker k w registers j q (s.registers j q e);
+}
+
+-- a page's scanner goes on with the same page, or no worker's scan changes
+pub scanned_on : {E : Era} {count : ℕ} {page : ℕ → PageWord} (worker : ℕ → Worker) (k : ℕ) (w : Worker)
+    → ((s : Scan) → (worker k).scan ≡ Some s → (t : Scan) × (w.scan ≡ Some t) × (t.page ≡ s.page)) → ScannedBy E count page worker → ScannedBy E count page (put worker k w)
+scanned_on {E} {count} {page} worker k w on s = record {
+  scanned = λ p j e. let q = s.scanned p j e in (
+    q.0,
+    ⊎_elim
+        (λ (y : j ≡ k). here j y p q.1.0 q.1.1 q.1.2)
+        (λ (d : j ≢ k). (q.1.0, rw (put_other worker k w j d) q.1.1, q.1.2))
+        (cases_eq j k),
+  );
+}
+  where
+    here : (j : ℕ) → j ≡ k → (p : ℕ) (r : Scan) → (worker j).scan ≡ Some r → r.page ≡ p → (r : Scan) × ((put worker k w j).scan ≡ Some r) × (r.page ≡ p)
+    here j y p r e f = let z : (worker k).scan ≡ Some r = rw y at e in let t = on r z in (t.0, ap (λ u. u.scan) (put_at worker k w j y) ∙ t.1, t.2 ∙ f)
+
+-- w stands at the post of worker k in the same epoch, with the same account, registers and stock, and has forwarded as many registers
+pub record StandsAlike (worker : ℕ → Worker) (k : ℕ) (w : Worker) : Type 0 where
+  pub post : w.post ≡ (worker k).post
+  pub epoch : w.epoch ≡ (worker k).epoch
+  pub account : w.account ≡ (worker k).account
+  pub registers : w.registers ≡ (worker k).registers
+  pub done : w.done ≡ (worker k).done
+  pub stock : w.stock ≡ (worker k).stock
+
+module _ (E : Era) (m : Memory) (team : Team) (g : Ghost) (k : ℕ) (w : Worker) (inv : Invariant E m team g) (like : StandsAlike team.worker k w)
+    (on : (s : Scan) → (team.worker k).scan ≡ Some s → (t : Scan) × (w.scan ≡ Some t) × (t.page ≡ s.page)) where
+  -- with other crossings and announced places
+  module _ (crossed claimed : ℕ → ℕ) (crossing : Crossing E m.front g.size g.writer crossed)
+      (others : (j : ℕ) (c : Copy) → j < team.count → j ≢ k → (team.worker j).copy ≡ Some c
+      → Copies E m.front g.size g.writer g.copy g.keeper g.kept claimed crossed m.heap j c)
+      (own : Knows E m.gate m.traced m.front m.low m.old_front m.old_low m.old_owed g m.page crossed claimed m.heap k w) where
+    knows : (j : ℕ) → j < team.count → j ≢ k → Knows E m.gate m.traced m.front m.low m.old_front m.old_low m.old_owed g m.page crossed claimed m.heap j (team.worker j)
+    knows j l d = let u = inv.workers j l in let c = λ (c : Copy) (e : (team.worker j).copy ≡ Some c). others j c l d e in assumption
+
+    kept : Invariant E (record m { cross = crossed; announced = claimed }) (with_worker team k w) g
+    kept =
+        let p1 = counted_put team.worker k w like.post like.epoch inv.counted in
+        let p2 = staffed_put team.worker k w (ap is_mutator like.post) inv.staffed in
+        let p3 = scanned_on team.worker k w on inv.scanned in
+        let p4 = stocks_put team.worker k w (λ q e. sym like.stock ∙ e) inv.stocks in
+        let p5 = numbered_put team.worker k w (ap (λ a. a.serial) like.account) inv.numbered in
+        let p6 = team_put team.count (Knows E m.gate m.traced m.front m.low m.old_front m.old_low m.old_owed g m.page crossed claimed m.heap) team.worker k w knows own in
+        assumption
+
+    pub marks : Preserves E m (record m { cross = crossed; announced = claimed }) team (with_worker team k w) g g
+    marks = record {
+      invariant = kept;
+      shown = λ p s. shown_put E m (record m { cross = crossed; announced = claimed }) team g k w p like.account like.registers refl s;
+      cycle = λ p c. record { copying = c.copying; rooted = rooted_put team.worker k w (ap is_mutator like.post) like.account like.registers (λ _ _ a b. (rw (like.post, like.epoch) a, rw like.done b)) c.rooted };
+      ages = λ p. omega arith;
+    }
+
+  pub learns : Knows E m.gate m.traced m.front m.low m.old_front m.old_low m.old_owed g m.page m.cross m.announced m.heap k w → Preserves E m m team (with_worker team k w) g g
+  learns own = marks m.cross m.announced inv.crossing (λ j c l d e. (inv.workers j l).copy c e) own
+
+-- a step that writes no row
+pub learnt : {E : Era} {m : Memory} {team : Team} {g : Ghost} {k : ℕ} {w : Worker} → Preserves E m m team (with_worker team k w) g g → Steps E m team g k None w g
+learnt {m = m} keeps = record { later = m; writes = NoRow; keeps = keeps }

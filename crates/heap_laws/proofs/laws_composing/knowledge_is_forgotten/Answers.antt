@@ -1,0 +1,14 @@
+use Rattle.heap_laws.proofs.Steps.Composites.{rounds_are_forgotten, traced_is_forgotten, scanned_records_are_forgotten, round_fronts_are_forgotten}
+use Rattle.heap_laws.proofs.laws_composing.knowledge_is_forgotten.Goals as goal
+
+pub returns-clause-round : goal.returns-clause-round
+returns-clause-round c = rounds_are_forgotten
+
+pub returns-clause-front : goal.returns-clause-front
+returns-clause-front c = round_fronts_are_forgotten
+
+pub returns-clause-traced : goal.returns-clause-traced
+returns-clause-traced c = traced_is_forgotten
+
+pub returns-clause-scanned : goal.returns-clause-scanned
+returns-clause-scanned c = scanned_records_are_forgotten

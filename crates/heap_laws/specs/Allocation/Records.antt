@@ -1,0 +1,38 @@
+-- A new record in a mutator's run: its header is stored last, and the words behind it are 0 before.
+use Rattle.heap_laws.specs.Steps.{Ready}
+use Rattle.std.specs.Prelude.{◌≡◌, ℕ, ◌+◌, ◌-◌, ◌<◌, ◌≤◌}
+use Rattle.plain_state.specs.declared.kind.Kind.{Kind}
+use Rattle.heap_words.specs.Decoded.{HeaderWord, decode}
+use Rattle.plain_state.specs.declared.value.Identity.{Identity}
+use Rattle.plain_state.specs.Writing.{zeros}
+use Rattle.heap_state.specs.Era.{Era, Memory}
+use Rattle.heap_state.specs.Functions.{put}
+use Rattle.heap_state.specs.Ghost.{Ghost, header_kind}
+use Rattle.heap_state.specs.Values.{Shows, value_of}
+use Rattle.heap_state.specs.Worker.{Team, Stock}
+use Rattle.heap_laws.specs.Allocation.Stocks.{HasStock}
+
+-- ---- what is placed
+
+-- the identity of the next record of mutator k
+abbrev pub next_identity : Team → ℕ → Identity
+next_identity team k = record { mutator = k; serial = (team.worker k).account.serial + 1 }
+
+-- a record of this size, kind and identity stands at a
+abbrev pub allocated : Ghost → (a size : ℕ) → Kind → Identity → Ghost
+allocated g a z c i = record g { size = put g.size a z; writer = put g.writer a 0; kind = put g.kind a c; identity = put g.identity a i }
+
+-- ---- the law
+
+-- worker k runs, and has a run with room for a record of this kind and size, whose header is v
+pub record PlacesNext (team : Team) (k : ℕ) (q : Stock) (c : Kind) (z v : ℕ) : Type 0 where
+  pub own : HasStock team k q
+  pub run : (q.zeroed ≡ q.end) × (q.opened ≡ q.end)
+  pub some : 0 < z
+  pub fits : q.at + z ≤ q.end
+  pub header : decode v ≡ HeaderWord (header_kind c) (z - 1) ((team.worker k).account.serial + 1) k
+
+-- the words of a run, which are 0, show a record whose values all are 0
+abbrev pub ZerosShow : Type 0
+ZerosShow = (E : Era) (m : Memory) (team : Team) (g : Ghost) (k : ℕ) (q : Stock) (c : Kind) (z v : ℕ) → Ready E m team g k
+    → PlacesNext team k q c z v → Shows (value_of g.identity) m.heap q.at c z (zeros c (z - 1))

@@ -1,0 +1,117 @@
+-- Steps one after another: what is one atomic step may be several changes of what a worker knows. And a worker may forget.
+use Rattle.std.specs.Prelude.{◌≡◌, ℕ, true, false, Option, Some, None, is_some, ◌⊎◌}
+use Rattle.plain_state.specs.State.{Plain}
+use Rattle.heap_state.specs.Entries.{Entry}
+use Rattle.heap_state.specs.Era.{Era, Memory}
+use Rattle.heap_state.specs.Ghost.{Ghost}
+use Rattle.heap_state.specs.Worker.{Worker, Team, Scan, Round, is_flipper}
+use Rattle.heap_laws.specs.Steps.{Ready, Steps, StepsTo, with_worker}
+
+-- ---- what may be forgotten
+
+-- the first has nothing but what the second has
+abbrev pub IsLess : {X : Type 0} → Option X → Option X → Type 0
+IsLess {X} less more = (x : X) → less ≡ Some x → more ≡ Some x
+
+-- the first is the same scan, of a page of which it knows at most the records that the second knows
+pub record IsLessScan (s u : Scan) : Type 0 where
+  pub page : s.page ≡ u.page
+  pub cursor : s.cursor ≡ u.cursor
+  pub in_place : s.in_place ≡ u.in_place
+  pub over : IsLess s.over u.over
+  pub current : IsLess s.current u.current
+  pub inner : s.inner ≡ true → u.inner ≡ true
+  pub ended : s.ended ≡ u.ended
+
+-- of a worker that scans or does not: its scan is the same, or knows less
+pub data IsScanWithin (o p : Option Scan) : Type 0 where
+  SameScan : o ≡ p → IsScanWithin o p
+  LessScan : (s u : Scan) → o ≡ Some s → p ≡ Some u → IsLessScan s u → IsScanWithin o p
+
+-- there is such a round, which has read the same TRACED, and FRONT if this one has
+pub record IsLessRound (r : Round) (o : Option Round) : Type 0 where
+  pub more : Round
+  pub is : o ≡ Some more
+  pub traced : r.traced ≡ more.traced
+  pub front : IsLess r.front more.front
+
+-- Worker w knows at most what v knows. What others read of it is the same, and so are its searches and copies. It scans the same page
+-- as far. Who flips, or is about to exchange the gate, still knows whether the epoch is traced.
+pub record IsAtMost (w v : Worker) : Type 0 where
+  pub post : w.post ≡ v.post
+  pub epoch : w.epoch ≡ v.epoch
+  pub account : w.account ≡ v.account
+  pub registers : w.registers ≡ v.registers
+  pub done : w.done ≡ v.done
+  pub quest : w.quest ≡ v.quest
+  pub copy : w.copy ≡ v.copy
+  pub scan : IsScanWithin w.scan v.scan
+  pub stock : IsLess w.stock v.stock
+  pub access : IsLess w.access v.access
+  pub opened : IsLess w.opened v.opened
+  pub round : (r : Round) → w.round ≡ Some r → IsLessRound r v.round
+  pub claim : IsLess w.claim v.claim
+  pub look : IsLess w.look v.look
+  pub last_look : IsLess w.last_look v.last_look
+  pub gate_step : IsLess w.gate_step v.gate_step
+  pub reset : IsLess w.reset v.reset
+  pub traced_seen : w.traced_seen ≡ true → v.traced_seen ≡ true
+  pub asks : (is_flipper w.post ≡ true) ⊎ (is_some w.gate_step ≡ true) → w.traced_seen ≡ v.traced_seen
+
+-- a worker whose round of the duty ends: it forgets the round, its claim and its looks
+abbrev pub ends_round : Worker → Worker
+ends_round w = record w { round = None; claim = None; look = None; last_look = None }
+
+abbrev pub RoundsAreForgotten : Type 0
+RoundsAreForgotten = (w : Worker) → IsAtMost (ends_round w) w
+
+-- a worker that does not flip or pass the gate forgets that the epoch is traced
+abbrev pub unaware : Worker → Worker
+unaware w = record w { traced_seen = false }
+
+abbrev pub TracedIsForgotten : Type 0
+TracedIsForgotten = (w : Worker) → is_flipper w.post ≡ false → w.gate_step ≡ None → IsAtMost (unaware w) w
+
+-- a scan of which it is not known which record the cursor is in
+abbrev pub of_no_record : Scan → Scan
+of_no_record s = record s { over = None; current = None }
+
+abbrev pub ScannedRecordsAreForgotten : Type 0
+ScannedRecordsAreForgotten = (w : Worker) (s : Scan) → w.scan ≡ Some s → IsAtMost (record w { scan = Some (of_no_record s) }) w
+
+-- a round that keeps TRACED alone
+abbrev pub without_front : Round → Round
+without_front r = record r { front = None }
+
+abbrev pub RoundFrontsAreForgotten : Type 0
+RoundFrontsAreForgotten = (w : Worker) (r : Round) → w.round ≡ Some r → IsAtMost (record w { round = Some (without_front r) }) w
+
+-- ---- the laws
+
+-- after a step a worker forgets
+abbrev pub StepsForget : Type 0
+StepsForget = (E : Era) (m : Memory) (team : Team) (g : Ghost) (k : ℕ) (e : Option Entry) (v w : Worker) (h : Ghost)
+    → Steps E m team g k e v h → IsAtMost w v → Steps E m team g k e w h
+
+-- after a step all is ready for the next one, of the same worker
+abbrev pub StepsAreReady : Type 0
+StepsAreReady = (E : Era) (m : Memory) (team : Team) (g : Ghost) (k : ℕ) (e : Option Entry) (v : Worker) (h : Ghost)
+    → Ready E m team g k → (s : Steps E m team g k e v h) → Ready E s.later (with_worker team k v) h k
+
+-- a step that writes no row follows, and both are one step
+abbrev pub StepsFollow : Type 0
+StepsFollow = (E : Era) (m : Memory) (team : Team) (g : Ghost) (k : ℕ) (e : Option Entry) (v w : Worker) (h i : Ghost)
+    → (s : Steps E m team g k e v h) → Steps E s.later (with_worker team k v) h k None w i → Steps E m team g k e w i
+
+-- the same three of steps of the plain machine
+abbrev pub PlainStepsForget : Type 0
+PlainStepsForget = (E : Era) (m : Memory) (team : Team) (g : Ghost) (k : ℕ) (e : Option Entry) (v w : Worker) (h : Ghost) (q : Plain)
+    → StepsTo E m team g k e v h q → IsAtMost w v → StepsTo E m team g k e w h q
+
+abbrev pub PlainStepsAreReady : Type 0
+PlainStepsAreReady = (E : Era) (m : Memory) (team : Team) (g : Ghost) (k : ℕ) (e : Option Entry) (v : Worker) (h : Ghost) (q : Plain)
+    → Ready E m team g k → (s : StepsTo E m team g k e v h q) → Ready E s.later (with_worker team k v) h k
+
+abbrev pub PlainStepsFollow : Type 0
+PlainStepsFollow = (E : Era) (m : Memory) (team : Team) (g : Ghost) (k : ℕ) (e : Option Entry) (v w : Worker) (h i : Ghost) (q : Plain)
+    → (s : StepsTo E m team g k e v h q) → Steps E s.later (with_worker team k v) h k None w i → StepsTo E m team g k e w i q

@@ -1,0 +1,64 @@
+-- What a running mutator may hold, and how it goes on: with other registers, another account, or another access.
+use Rattle.plain_state.specs.declared.value.Value.{Value}
+use Rattle.std.specs.Prelude.{◌≡◌, ℕ, ◌+◌, ◌<◌, true, Some, None, slice_set, Option, ◌↔◌}
+use Rattle.plain_state.specs.State as plain
+use Rattle.space_map.specs.declared.page_word.PageWord.TheVariants.{Open}
+use Rattle.heap_state.specs.Era.{Era, Memory}
+use Rattle.heap_state.specs.Ghost.{Ghost, Leads, Lands}
+use Rattle.heap_state.specs.Parts.Knowledge.{Accesses}
+use Rattle.heap_state.specs.Values.{value_of}
+use Rattle.heap_state.specs.Worker.{Worker, Stock, Access, Round, Claim, Look, LastLook, Reset, Account, Team}
+use Rattle.heap_laws.specs.Steps.{Ready}
+
+-- a word that a mutator may hold: where it is a pointer, it leads to a record that stands, and not into the old space
+pub record MayHold (E : Era) (size writer : ℕ → ℕ) (w : ℕ) : Type 0 where
+  pub clean : ¬ (Leads E w)
+  pub lands : Lands size writer w
+
+-- the word is one that a mutator may hold, and denotes the value
+pub record HoldsValue (E : Era) (g : Ghost) (w : ℕ) (y : Value) : Type 0 where
+  pub held : MayHold E g.size g.writer w
+  pub denotes : value_of g.identity w ≡ Some y
+
+-- two words that a mutator may hold are equal exactly where they denote the same value
+abbrev pub SameWords : Type 0
+SameWords = (E : Era) (m : Memory) (team : Team) (g : Ghost) (k v w : ℕ) (x y : Value) → Ready E m team g k → HoldsValue E g v x → HoldsValue E g w y → (v ≡ w) ↔ (x ≡ y)
+
+-- Mutator w goes on as `next`. It stands where it stood, and copies and scans what it did. What it knows it knew before, but
+-- for its access, a page found open and whether the epoch is traced, of which what it says is so. Its registers hold what a mutator may
+-- hold, as long as it has no end.
+pub record GoesOn (E : Era) (m : Memory) (g : Ghost) (w next : Worker) : Type 0 where
+  pub post : next.post ≡ w.post
+  pub epoch : next.epoch ≡ w.epoch
+  pub done : next.done ≡ w.done
+  pub serial : next.account.serial ≡ w.account.serial
+  pub quest : next.quest ≡ w.quest
+  pub copy : next.copy ≡ w.copy
+  pub scan : next.scan ≡ w.scan
+  pub gate_step : next.gate_step ≡ None
+  pub stock : (q : Stock) → next.stock ≡ Some q → w.stock ≡ Some q
+  pub round : (r : Round) → next.round ≡ Some r → w.round ≡ Some r
+  pub claim : (c : Claim) → next.claim ≡ Some c → w.claim ≡ Some c
+  pub look : (l : Look) → next.look ≡ Some l → w.look ≡ Some l
+  pub last_look : (l : LastLook) → next.last_look ≡ Some l → w.last_look ≡ Some l
+  pub traced_seen : next.traced_seen ≡ true → m.traced ≡ E.epoch + 1
+  pub reset : (r : Reset) → next.reset ≡ Some r → w.reset ≡ Some r
+  pub access : (f : Access) → next.access ≡ Some f → Accesses E g.size g.writer g.kind f
+  pub opened : (p : ℕ) → next.opened ≡ Some p → m.page p ≡ Open E.epoch
+  pub registers : next.account.end ≡ None → (j : ℕ) → j < 8 → MayHold E g.size g.writer (next.registers j)
+
+-- Worker w with another account, other registers, another access and another page found open. It knows the rest that it knew.
+abbrev pub going_on : Worker → Account → (ℕ → ℕ) → Option Access → Option ℕ → Worker
+going_on w account registers access opened = record w { account = account; registers = registers; access = access; opened = opened; gate_step = None }
+
+-- what it becomes so goes on, if what it then knows is so
+abbrev pub GoesOnSo : Type 0
+GoesOnSo = (E : Era) (m : Memory) (team : Team) (g : Ghost) (k : ℕ) (account : Account) (registers : ℕ → ℕ) (access : Option Access) (opened : Option ℕ) → Ready E m team g k
+    → account.serial ≡ (team.worker k).account.serial
+    → ((f : Access) → access ≡ Some f → Accesses E g.size g.writer g.kind f) → ((p : ℕ) → opened ≡ Some p → m.page p ≡ Open E.epoch)
+    → (account.end ≡ None → (j : ℕ) → j < 8 → MayHold E g.size g.writer (registers j))
+    → GoesOn E m g (team.worker k) (going_on (team.worker k) account registers access opened)
+
+-- the plain state in which mutator k is this one
+abbrev pub with_mutator : plain.Plain → ℕ → plain.Mutator → plain.Plain
+with_mutator p k q = record p { mutators = slice_set p.mutators k q }

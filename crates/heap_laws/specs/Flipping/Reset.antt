@@ -1,0 +1,36 @@
+-- What a flipper does before the flip: it waits until nobody runs and nobody is behind, reads the words in use, and stores the
+-- area of the other space.
+use Rattle.std.specs.Prelude.{◌≡◌, ℕ, ◌+◌, true, false, Some, None}
+use Rattle.space_map.specs.declared.area_word.AreaWord.{AreaWord}
+use Rattle.space_map.specs.AreaWord.{AreaFits}
+use Rattle.heap_state.specs.Era.{Era, Memory, from_space}
+use Rattle.heap_state.specs.Ghost.{Ghost}
+use Rattle.heap_state.specs.Worker.{Worker, Team, Reset, is_flipper}
+use Rattle.heap_state.specs.Entries.{AreaIs}
+use Rattle.heap_laws.specs.Steps.{Ready, Steps}
+
+-- the worker whose flip is so far
+abbrev pub resetting : Worker → Reset → Worker
+resetting w r = record w { reset = Some r }
+
+-- the gate is read, with nobody running and nobody behind
+abbrev pub FindingStillKeeps : Type 0
+FindingStillKeeps = (E : Era) (m : Memory) (team : Team) (g : Ghost) (k : ℕ) → Ready E m team g k
+    → is_flipper (team.worker k).post ≡ true → m.gate.running ≡ 0 → m.gate.behind ≡ 0
+    → Steps E m team g k None (resetting (team.worker k) (record { read = m.gate; used = None; stored = false })) g
+
+-- AREA is read: u words of the space are in use
+abbrev pub ReadingUsedKeeps : Type 0
+ReadingUsedKeeps = (E : Era) (m : Memory) (team : Team) (g : Ghost) (k : ℕ) (r : Reset) (u : ℕ) → Ready E m team g k
+    → (team.worker k).reset ≡ Some r → r.stored ≡ false → u + m.low ≡ E.span + m.front
+    → Steps E m team g k None (resetting (team.worker k) (record r { used = Some u })) g
+
+-- the area word of a space of so many words, of which nothing is in use, and so many are owed
+abbrev pub whole_area : (span owed : ℕ) → AreaWord
+whole_area span owed = record { front = 0; low = span; owed = owed }
+
+-- the other space's area is stored
+abbrev pub StoringAreaKeeps : Type 0
+StoringAreaKeeps = (E : Era) (m : Memory) (team : Team) (g : Ghost) (k : ℕ) (r : Reset) (u : ℕ) → Ready E m team g k
+    → (team.worker k).reset ≡ Some r → r.used ≡ Some u → AreaFits (whole_area E.old_span u)
+    → Steps E m team g k (Some (AreaIs (from_space E.epoch) (whole_area E.old_span u))) (resetting (team.worker k) (record r { stored = true })) g

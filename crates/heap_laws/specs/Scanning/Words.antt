@@ -1,0 +1,97 @@
+-- The words of a page that is scanned: which are read, and what becomes of those that lead into the old space.
+use Rattle.std.specs.Prelude.{◌≡◌, ◌≢◌, ℕ, ◌+◌, ◌*◌, ◌/◌, ◌<◌, ◌≤◌, ◌==◌, ◌⊎◌, Bool, true, false, Some, None, nat_le, if◌then◌else◌}
+use Rattle.heap_words.specs.declared.kind.Kind.{Kind as HeaderKind}
+use Rattle.plain_state.specs.declared.kind.Kind.{Kind}
+use Rattle.heap_words.specs.Decoded.{PointerWord, HeaderWord, decode}
+use Rattle.heap_state.specs.Era.{Era, Memory}
+use Rattle.heap_state.specs.Ghost.{Ghost, OnBoard, Leads, said_kind}
+use Rattle.heap_state.specs.Worker.{Worker, Team, Seen, Scanned, Quest, Scan}
+use Rattle.heap_state.specs.FieldSpan.{next_from, seen_at, entry_of}
+use Rattle.heap_state.specs.Entries.{WordIs}
+use Rattle.heap_laws.specs.Steps.{Ready, Steps}
+
+-- the worker whose scan is this, and that asks for no copy
+abbrev pub scanning : Worker → Scan → Worker
+scanning w s = record w { scan = Some s; quest = None }
+
+-- ---- where the scan stands
+
+-- the place is past what there is to scan on the page: on the board its 16 words, else the whole page
+abbrev pub is_past : Era → (page y : ℕ) → Bool
+is_past E page y = if page == E.board / 64 then nat_le (E.board + 16) y else nat_le (64 * page + 64) y
+
+-- the scan, gone on to y
+abbrev pub on_to : Era → Scan → ℕ → Scan
+on_to E s y = record s { cursor = y; inner = false; ended = is_past E s.page y }
+
+-- the scan in a record at a whose header was read, at its first field from the cursor on
+abbrev pub in_record : Era → Scan → (a : ℕ) → Kind → (size : ℕ) → Scan
+in_record E s a k size = record (on_to E s (entry_of (seen_at a k size) k s.cursor)) { over = None; current = Some (seen_at a k size) }
+
+-- the scan past the word at the cursor
+abbrev pub past_word : Era → Scan → Scan
+past_word E s = on_to E s (next_from s.current (s.cursor + 1))
+
+-- worker k scans, and asks for no copy
+pub record IsScanning (team : Team) (k : ℕ) (s : Scan) : Type 0 where
+  pub scans : (team.worker k).scan ≡ Some s
+  pub asks_nothing : (team.worker k).quest ≡ None
+
+-- the cursor stands on a board word, or on a field of a record
+pub record AtField (E : Era) (s : Scan) : Type 0 where
+  pub on_page : s.cursor / 64 ≡ s.page
+  pub place : (OnBoard E s.cursor × (s.current ≡ None)) ⊎ ((r : Seen) × (s.current ≡ Some r) × (s.cursor < r.fields_end))
+
+-- ---- the records on the page
+
+-- the page's crossing is read
+abbrev pub ReadingCrossingKeeps : Type 0
+ReadingCrossingKeeps = (E : Era) (m : Memory) (team : Team) (g : Ghost) (k : ℕ) (s : Scan) → Ready E m team g k → IsScanning team k s
+    → s.page ≢ E.board / 64 → Steps E m team g k None (scanning (team.worker k) (record s { over = Some (m.cross s.page) })) g
+
+-- the header of the record over the page's first word is read
+abbrev pub ReadingFirstHeaderKeeps : Type 0
+ReadingFirstHeaderKeeps = (E : Era) (m : Memory) (team : Team) (g : Ghost) (k : ℕ) (s : Scan) (a len serial mutator : ℕ) (head : HeaderKind) → Ready E m team g k → IsScanning team k s
+    → s.page ≢ E.board / 64 → s.over ≡ Some a → s.cursor ≡ 64 * s.page → decode (m.heap a) ≡ HeaderWord head len serial mutator
+    → Steps E m team g k None (scanning (team.worker k) (in_record E s a (said_kind head (m.heap (a + 1))) (len + 1))) g
+
+-- at a record's end on the page being filled, FRONT is read: the scan is at it, or another record begins
+abbrev pub ReadingFrontKeeps : Type 0
+ReadingFrontKeeps = (E : Era) (m : Memory) (team : Team) (g : Ghost) (k : ℕ) (s : Scan) → Ready E m team g k → IsScanning team k s
+    → s.page ≢ E.board / 64 → Steps E m team g k None (scanning (team.worker k) (if s.cursor == m.front then record s { ended = true } else record s { inner = true })) g
+
+-- the header of the next record is read, on a full page or where FRONT was seen past it
+abbrev pub ReadingNextHeaderKeeps : Type 0
+ReadingNextHeaderKeeps = (E : Era) (m : Memory) (team : Team) (g : Ghost) (k : ℕ) (s : Scan) (r : Seen) (len serial mutator : ℕ) (head : HeaderKind) → Ready E m team g k → IsScanning team k s
+    → s.page ≢ E.board / 64 → s.current ≡ Some r → s.cursor ≡ r.next → s.cursor < 64 * s.page + 64 → (s.inner ≡ true) ⊎ (s.in_place ≡ false)
+    → decode (m.heap s.cursor) ≡ HeaderWord head len serial mutator
+    → Steps E m team g k None (scanning (team.worker k) (in_record E s s.cursor (said_kind head (m.heap (s.cursor + 1))) (len + 1))) g
+
+-- ---- the fields
+
+-- a field that does not lead into the old space is passed
+abbrev pub PassingFieldKeeps : Type 0
+PassingFieldKeeps = (E : Era) (m : Memory) (team : Team) (g : Ghost) (k : ℕ) (s : Scan) → Ready E m team g k → IsScanning team k s
+    → AtField E s → ¬ (Leads E (m.heap s.cursor)) → Steps E m team g k None (scanning (team.worker k) (past_word E s)) g
+
+-- for one that does, the worker asks for the copy
+abbrev pub asking : Worker → Quest → Worker
+asking w q = record w { quest = Some q }
+
+abbrev pub AskingKeeps : Type 0
+AskingKeeps = (E : Era) (m : Memory) (team : Team) (g : Ghost) (k : ℕ) (s : Scan) (a : ℕ) → Ready E m team g k → IsScanning team k s
+    → AtField E s → s.ended ≡ false → decode (m.heap s.cursor) ≡ PointerWord a → E.old_start ≤ a → a < E.old_start + E.old_span
+    → Steps E m team g k None (asking (team.worker k) (record { old = a; origin = Scanned s.cursor; found = None })) g
+
+-- worker k has found the copy that the word at the cursor asked for
+pub record HasFound (E : Era) (team : Team) (k : ℕ) (s : Scan) (q : Quest) (b : ℕ) : Type 0 where
+  pub scans : (team.worker k).scan ≡ Some s
+  pub quest : (team.worker k).quest ≡ Some q
+  pub origin : q.origin ≡ Scanned s.cursor
+  pub found : q.found ≡ Some b
+  pub at : AtField E s
+
+-- a pointer to the copy is stored, and the word is passed
+abbrev pub StoringCopyKeeps : Type 0
+StoringCopyKeeps = (E : Era) (m : Memory) (team : Team) (g : Ghost) (k : ℕ) (s : Scan) (q : Quest) (b v : ℕ) → Ready E m team g k → HasFound E team k s q b
+    → decode v ≡ PointerWord b → Steps E m team g k (Some (WordIs s.cursor v)) (scanning (team.worker k) (past_word E s)) g

@@ -1,0 +1,41 @@
+//! Steps one after another, and what a worker may forget: an atomic step may be several changes of what it knows.
+
+ghost use Rattle.heap_laws.specs.Composing.{RoundsAreForgotten, TracedIsForgotten, ScannedRecordsAreForgotten, RoundFrontsAreForgotten, StepsForget, StepsAreReady, StepsFollow, PlainStepsForget, PlainStepsAreReady, PlainStepsFollow};
+ghost use Rattle.heap_laws.specs.Composites.{RegistersArePassed, RegistersFindForwards, RegistersAreSettled, LookingAtLastPageKeeps, ClaimsBegin, RoundsEnd};
+
+/// What a worker may forget: the round of the duty that it is in or FRONT of it, that the epoch is traced, and in which record its scan
+/// is.
+pub fn knowledge_is_forgotten()
+    ensures round { RoundsAreForgotten }
+    ensures front { RoundFrontsAreForgotten }
+    ensures traced { TracedIsForgotten }
+    ensures scanned { ScannedRecordsAreForgotten }
+{}
+
+/// After a step a worker may know less.
+pub fn steps_forget()
+    ensures kept { StepsForget }
+    ensures plain { PlainStepsForget }
+{}
+
+/// A step is followed by one that writes no row: both are one step, and all is ready for the second.
+pub fn steps_follow()
+    ensures ready { StepsAreReady }
+    ensures kept { StepsFollow }
+    ensures plain_ready { PlainStepsAreReady }
+    ensures plain { PlainStepsFollow }
+{}
+
+/// The registers of a mutator that is behind, several in one step: by themselves, where a copy is found, and where one was made.
+pub fn registers_are_settled()
+    ensures passed { RegistersArePassed }
+    ensures found { RegistersFindForwards }
+    ensures settled { RegistersAreSettled }
+{}
+
+/// Rounds of the duty: the last page of the first look, the load at which a claim begins, and the end of a round.
+pub fn rounds_are_ended()
+    ensures last { LookingAtLastPageKeeps }
+    ensures claims { ClaimsBegin }
+    ensures ends { RoundsEnd }
+{}

@@ -1,0 +1,213 @@
+-- The configuration after a flip stands, and shows its plain state.
+use Rattle.std.proofs.Common.{◌≡◌, ◌≢◌, ℕ, ◌+◌, ◌<◌, [], ◌∷◌, Some, true, zero, suc, refl, sym, ◌∙◌, arith, ⊎_elim, inr}
+use Rattle.std.specs.Prelude.{slice_get}
+use Rattle.std.proofs.lemmas.Bool.{cases_eq, ne_eqb}
+use Rattle.plain_state.specs.declared.kind.Kind.TheVariants.{Raw}
+use Rattle.heap_words.specs.Decoded.{PointerWord, NumberWord, decode}
+use Rattle.heap_words.specs.Word.{header_word, pointer_word, tag_of}
+use Rattle.plain_state.specs.declared.value.Value.TheVariants.{Number, Reference}
+use Rattle.plain_state.specs.State as plain
+use Rattle.heap_state.specs.Configuration.{team, Stands}
+use Rattle.heap_state.specs.Denotes.{denoted, denoted_in}
+use Rattle.heap_state.specs.Entries.{EachFits}
+use Rattle.heap_state.specs.Era.{era_of, memory_of}
+use Rattle.heap_state.specs.Flipped.{flipped, flipped_entries, flipped_plain, late_mutator}
+use Rattle.heap_state.specs.Functions.{put}
+use Rattle.heap_state.specs.Inductive.{Invariant, Knows}
+use Rattle.heap_state.specs.Parts.Knowledge.{Clean}
+use Rattle.std.proofs.Common.{◌⊎◌, inl, inr, ◌≤◌}
+use Rattle.heap_state.specs.Sums.{uncopied}
+use Rattle.heap_state.specs.Theorems.Examples.{IsWorkedOutFlipped}
+use Rattle.heap_state.specs.Theorems.Rows.{Written}
+use Rattle.heap_state.specs.Theorems.Standing.{IsSound}
+use Rattle.heap_state.specs.Values.{value_of, ShowsAll, Accounts, RegistersShow, BoardShows, Shown}
+use Rattle.heap_state.specs.Walk.{walk, old_walk_of}
+use Rattle.heap_state.specs.Worked.{made}
+use Rattle.heap_state.specs.Worker.{Worker}
+use Rattle.heap_state.proofs.Flipped.Parts.{flipped_table, flipped_era, flipped_ghost, workers, heap, page, size, none, identity, only, blank_word, zero_word, first_register, number_lands, pointer_lands, counted, staffed, laid, headed, copied, once, kept_by, room, raw_words, shut, filling, tracing, aged, scanned, opened, landing, older, new_area, new_written, old_space, old_words, old_pages, crossing, stocks, numbered}
+use Rattle.heap_state.proofs.Workers.Idle.{idle_knows}
+use Rattle.heap_state.proofs.Holds.Keeping.{holds}
+use Rattle.heap_state.proofs.Puts.{some_same, none≢some, true_false}
+use Rattle.heap_state.proofs.Represents.Representing.{represents}
+use Rattle.heap_state.proofs.Worked.Standing.{the_mutator, register_zero}
+use Rattle.heap_state.proofs.Table.Writing.{writes_tables}
+
+-- ---- the invariant
+
+abbrev pub Known : ℕ → Worker → Type 0
+Known k w = Knows flipped_era flipped_table.gate 1 256 512 0 192 0 flipped_ghost page flipped_table.cross flipped_table.announced heap k w
+
+clean : Clean flipped_era size none true 0 late_mutator.registers
+clean = record {
+  clean = λ j l n. absurd (let z = n refl in omega (arith, z));
+  lands = λ j l. ⊎_elim
+      (λ (e : j ≡ 0). rw e (pointer_lands (pointer_word 192) 192 first_register (omega arith)))
+      (λ (d : j ≢ 0). rw (ne_eqb j 0 d) (number_lands 0 0 zero_word))
+      (cases_eq j 0);
+  old = λ t j b l m e. old j b e (cases_eq j 0);
+}
+  where
+    old : (j b : ℕ) → decode (late_mutator.registers j) ≡ PointerWord b → (j ≡ 0) ⊎ (j ≢ 0) → (0 ≤ b) × (b < 256)
+    old j b e (inl z) = let q : PointerWord 192 ≡ PointerWord b = sym first_register ∙ rw z at e in let s : 192 ≡ b = cc in (omega arith, omega (arith, s))
+    old j b e (inr n) = absurd (let q : NumberWord 0 ≡ PointerWord b = sym zero_word ∙ rw (ne_eqb j 0 n) at e in cc)
+
+mutator_knows : Known 0 late_mutator
+mutator_knows = idle_knows (assumption)
+    (record { past = omega arith; live = λ l. inr refl; running = λ r. true_false refl r; flipping = λ f. true_false refl f; rest = λ r. refl; below = omega arith })
+    (record { stays = λ e. true_false refl e; gone = λ e. true_false refl e })
+    (λ e. absurd (cc))
+    (λ q e. none≢some e)
+    (λ m n. clean)
+    (λ e. omega arith)
+    refl
+
+knows : (k : ℕ) → k < 1 → Known k (workers.worker k)
+knows zero l = mutator_knows
+knows (suc k) l = absurd (omega arith)
+
+keeps : Invariant (era_of flipped_table) (memory_of flipped_table) (team flipped) flipped_ghost
+unfolding put
+keeps = record {
+  counted = counted;
+  staffed = staffed;
+  laid = laid;
+  headed = headed;
+  copied = copied;
+  once = once;
+  kept = kept_by;
+  room = room;
+  raw_words = raw_words;
+  shut = shut;
+  filling = filling;
+  tracing = tracing;
+  aged = aged;
+  scanned = scanned;
+  opened = opened;
+  landing = landing;
+  older = older;
+  new = new_area;
+  new_written = new_written;
+  old_space = old_space;
+  old_area = old_words;
+  old_pages = old_pages;
+  crossing = crossing;
+  stocks = stocks;
+  numbered = numbered;
+  workers = knows;
+}
+
+-- ---- the plain state
+
+pointer_value : (w a : ℕ) → decode w ≡ PointerWord a → value_of identity w ≡ Some (Reference (identity a))
+unfolding value_of
+pointer_value w a e = rw e refl
+
+number_value : (w n : ℕ) → decode w ≡ NumberWord n → value_of identity w ≡ Some (Number n)
+unfolding value_of
+number_value w n e = rw e refl
+
+objects : ShowsAll size none none none (λ a. Raw) identity heap flipped_plain.heap
+unfolding put
+objects = record {
+  shows = λ a st w o. let p = only a st in rw (p.0) (
+    _,
+    refl,
+    record {
+      kind = refl;
+      size = refl;
+      fields = λ x l f. absurd (cc);
+      numbers = λ x l f. ⊎_elim
+          (λ (q : x ≡ 0). rw q refl)
+          (λ (n : x ≢ 0). let q : x ≡ 1 = omega arith in rw q refl)
+          (cases_eq x 0);
+    },
+  );
+}
+
+board_zero : (x : ℕ) → x < 16 → slice_get flipped_plain.heap.board x ≡ Some (Number 0)
+board_zero zero l = refl
+board_zero (suc zero) l = refl
+board_zero (suc (suc zero)) l = refl
+board_zero (suc (suc (suc zero))) l = refl
+board_zero (suc (suc (suc (suc zero)))) l = refl
+board_zero (suc (suc (suc (suc (suc zero))))) l = refl
+board_zero (suc (suc (suc (suc (suc (suc zero)))))) l = refl
+board_zero (suc (suc (suc (suc (suc (suc (suc zero))))))) l = refl
+board_zero (suc (suc (suc (suc (suc (suc (suc (suc zero)))))))) l = refl
+board_zero (suc (suc (suc (suc (suc (suc (suc (suc (suc zero))))))))) l = refl
+board_zero (suc (suc (suc (suc (suc (suc (suc (suc (suc (suc zero)))))))))) l = refl
+board_zero (suc (suc (suc (suc (suc (suc (suc (suc (suc (suc (suc zero))))))))))) l = refl
+board_zero (suc (suc (suc (suc (suc (suc (suc (suc (suc (suc (suc (suc zero)))))))))))) l = refl
+board_zero (suc (suc (suc (suc (suc (suc (suc (suc (suc (suc (suc (suc (suc zero))))))))))))) l = refl
+board_zero (suc (suc (suc (suc (suc (suc (suc (suc (suc (suc (suc (suc (suc (suc zero)))))))))))))) l = refl
+board_zero (suc (suc (suc (suc (suc (suc (suc (suc (suc (suc (suc (suc (suc (suc (suc zero))))))))))))))) l = refl
+board_zero (suc (suc (suc (suc (suc (suc (suc (suc (suc (suc (suc (suc (suc (suc (suc (suc x)))))))))))))))) l = absurd (omega arith)
+
+board : BoardShows flipped_era (value_of identity) heap flipped_plain.heap
+board = record {
+  sixteen = refl;
+  board = λ x l. rw (blank_word (512 + x) (omega arith)) (number_value 0 0 zero_word ∙ sym (board_zero x l));
+}
+
+registers : RegistersShow (value_of identity) late_mutator.registers the_mutator
+registers = record {
+  eight = refl;
+  registers_show = λ n j l. ⊎_elim
+      (λ (e : j ≡ 0). rw e (pointer_value (pointer_word 192) 192 first_register))
+      (λ (d : j ≢ 0). rw (ne_eqb j 0 d) (number_value 0 0 zero_word ∙ sym (register_zero j l d)))
+      (cases_eq j 0);
+}
+
+shows : Shown (era_of flipped_table) (memory_of flipped_table) (team flipped) flipped_ghost flipped_plain
+unfolding put
+shows = record {
+  objects = objects;
+  board = board;
+  as_many = refl;
+  makers = refl;
+  accounts = λ k q e. account k q e;
+  registers = λ k q e. register k q e;
+}
+  where
+    account : (k : ℕ) (q : plain.Mutator) → slice_get flipped_plain.mutators k ≡ Some q → Accounts flipped_plain.heap k (workers.worker k).account q
+    account zero q e = let s : the_mutator ≡ q = some_same e in rw (← s) (record { counter = refl; printed = refl; executed = refl; end = refl; serial = refl })
+    account (suc k) q e = none≢some e
+
+    register : (k : ℕ) (q : plain.Mutator) → slice_get flipped_plain.mutators k ≡ Some q → RegistersShow (value_of identity) (workers.worker k).registers q
+    register zero q e = let s : the_mutator ≡ q = some_same e in rw (← s) registers
+    register (suc k) q e = none≢some e
+
+-- ---- the words
+
+entries_fit : EachFits 4 flipped_entries
+entries_fit = (omega arith, (omega arith, (omega arith, (record { epoch_fits = omega arith; live_fits = omega arith; running_fits = omega arith; behind_fits = omega arith; left_fits = omega arith }, (tt, ((omega arith, record { front_fits = omega arith; low_fits = omega arith; owed_fits = omega arith }), ((omega arith, record { front_fits = omega arith; low_fits = omega arith; owed_fits = omega arith }), ((omega arith, omega arith), ((omega arith, omega arith), tt)))))))))
+
+table_is : Written 4 flipped_entries
+table_is = writes_tables 4 flipped_entries entries_fit
+
+abbrev stands : Stands flipped flipped_plain
+stands = record {
+  size = (omega arith, omega arith);
+  formed = table_is.formed;
+  ghost = flipped_ghost;
+  invariant = rw table_is.says keeps;
+  shown = rw table_is.says shows;
+}
+
+sound : IsSound flipped flipped_plain
+sound = record { holds = holds flipped stands.ghost stands.invariant; represents = represents flipped stands.ghost stands.invariant flipped_plain stands.shown }
+
+old : old_walk_of flipped ≡ record { at = 192; size = 3 } ∷ []
+unfolding put walk decode tag_of header_word
+old = rw table_is.says refl
+
+uncopied_words : uncopied flipped (old_walk_of flipped) ≡ 3
+unfolding put decode tag_of header_word
+uncopied_words = rw (old, table_is.says) refl
+
+in_place : denoted flipped (pointer_word 192) ≡ Some (Reference (made 1))
+unfolding put denoted_in decode tag_of pointer_word header_word
+in_place = rw table_is.says refl
+
+pub worked_out_flipped : IsWorkedOutFlipped
+worked_out_flipped = record { stands = stands; sound = sound; late = refl; old = old; uncopied_words = uncopied_words; in_place = in_place }

@@ -1,0 +1,4 @@
+pub mod Headers
+pub mod Layouts
+pub mod FieldSpans
+pub mod Holding

@@ -1,0 +1,131 @@
+-- A configuration that keeps the invariant and shows a plain state represents it.
+use Rattle.std.proofs.Common.{◌≡◌, ℕ, ◌+◌, ◌-◌, ◌<◌, true, Some, None, refl, sym, ap, ◌∙◌, arith, ⊎_elim, ◌⊎◌, inl}
+use Rattle.std.specs.List.{Contains}
+use Rattle.std.specs.Prelude.{slice_get}
+use Rattle.std.proofs.lemmas.Bool.{lt-ltb}
+use Rattle.std.proofs.lemmas.Option.{slice_get_within}
+use Rattle.plain_state.specs.declared.kind.Kind.{Kind}
+use Rattle.plain_state.specs.State as plain
+use Rattle.plain_state.specs.Layout.{is_raw, word_of}
+use Rattle.heap_state.specs.Configuration.{Configuration, table, era, memory, team}
+use Rattle.heap_state.specs.Denotes.{denoted}
+use Rattle.heap_state.specs.Era.{Era, Memory}
+use Rattle.heap_state.specs.Ghost.{Ghost, Leads, Lands, header_kind}
+use Rattle.heap_state.specs.Inductive.{Invariant}
+use Rattle.heap_state.specs.Dump.{dump_of}
+use Rattle.heap_state.specs.Represents.{IsOwn, HasOwn, IsFieldOf, LeadsToRecord, RegisterShows, BoardWordShows, Represents}
+use Rattle.heap_state.specs.Values.{value_of, Shows, Shown}
+use Rattle.heap_state.specs.Walk.{Walked, walk_of}
+use Rattle.heap_state.specs.Worker.{is_mutator}
+use Rattle.heap_state.proofs.Represents.Denoting.{denotes, reaches, field_lands, board_lands}
+use Rattle.heap_state.proofs.Records.Holding.{uncopied_here}
+use Rattle.heap_state.proofs.Walks.InHeap.{in_heap_complete, lay, now_sound, now_read, old_readable}
+use Rattle.heap_state.proofs.Represents.Owning.{Owns, owns, field_of}
+use Rattle.heap_state.proofs.Records.Headers.{said_kind-header_kind}
+
+module _ (c : Configuration) (g : Ghost) (inv : Invariant (era c) (memory c) (team c) g) (p : plain.Plain) (shown : Shown (era c) (memory c) (team c) g p) where
+  abbrev E : Era
+  E = era c
+
+  abbrev m : Memory
+  m = memory c
+
+  -- ---- mutators
+
+  below : (k : ℕ) (q : plain.Mutator) → slice_get p.mutators k ≡ Some q → k < c.mutators
+  below k q e = let l = slice_get_within p.mutators k q e in omega (arith, l, shown.as_many)
+
+  -- a register of a mutator without an end lands, and leads into the old space only while records are copied from it
+  registers_land : (k : ℕ) (q : plain.Mutator) → slice_get p.mutators k ≡ Some q → q.end ≡ None → (j : ℕ) → j < 8
+      → Lands g.size g.writer (((team c).worker k).registers j) × (m.traced ≡ E.epoch + 1 → ¬ (Leads E (((team c).worker k).registers j)))
+  registers_land k q e n j l =
+      let few = below k q e in
+      let staffed = inv.staffed.few in
+      let lt : k < (team c).count = omega (arith, few, staffed) in
+      let known = inv.workers k lt in
+      let posted : is_mutator ((team c).worker k).post ≡ true = inv.staffed.posts k lt ∙ lt-ltb k c.mutators few in
+      let unended : ((team c).worker k).account.end ≡ None = (shown.accounts k q e).end ∙ n in
+      let clean = known.registers posted unended in
+      (clean.lands j l, λ t. clean.clean j l (λ late. absurd (let b = known.licensed.counted late in let z = (inv.tracing.quiet t).none in omega (arith, b, z))))
+
+  -- ---- records
+
+  records_show : (w : Walked) (kind : Kind) (len serial mutator : ℕ) → IsOwn (dump_of c) w kind len serial mutator
+      → (w.size ≡ len + 1) × ((r : plain.Record) × (plain.record_of p.heap (record { mutator = mutator; serial = serial }) ≡ Some r) × Shows (denoted c) (table c).heap w.at kind w.size r)
+  records_show w kind len serial mutator is =
+      let o = owns c g inv w kind len serial mutator is in
+      let s = shown.objects.shows w.at (omega (arith, o.known.sized)) o.known.written o.own in
+      (sym o.long, (s.0, ap (plain.record_of p.heap) o.named ∙ s.1, shows o s.0 s.2))
+    where
+      shows : Owns c g inv w kind len serial mutator → (r : plain.Record) → Shows (value_of g.identity) m.heap w.at (g.kind w.at) (g.size w.at) r → Shows (denoted c) m.heap w.at kind w.size r
+      shows o r s = record {
+        kind = rw o.of_kind s.kind;
+        size = s.size ∙ o.known.sized.1;
+        fields = λ x l f.
+            let z = s.size in
+            let q = field_of c g inv w kind len serial mutator (word_of kind x) o (omega arith) (omega (arith, l, z, o.known.sized)) f in
+            denotes c g inv (m.heap (w.at + word_of kind x)) (field_lands c g inv w.at (word_of kind x) q o.known.inside).0 ∙ s.fields x l q.field;
+        numbers = λ x l f. s.numbers x l (ap (λ k. is_raw k (word_of k x)) (sym o.of_kind) ∙ f);
+      }
+
+  -- in the epoch's space each record has its own header
+  each_owns : (w : Walked) → Contains (walk_of c) w → HasOwn (dump_of c) w
+  each_owns w h =
+      let i = now_sound c g inv w h in
+      let st : 0 < g.size w.at = omega (arith, i.sized) in
+      let u = uncopied_here E m (team c) g inv (lay c g inv) w.at st i.inside.0 i.inside.1 in
+      record { kind = g.kind w.at; len = g.size w.at - 1; serial = (g.identity w.at).serial; mutator = (g.identity w.at).mutator; own = record { walked = inl h; head = header_kind (g.kind w.at); header = rw (inv.headed.own w.at st i.written u.0 u.1) refl; said = sym (said_kind-header_kind (g.kind w.at) (m.heap (w.at + 1))) } }
+
+  -- ---- where words lead
+
+  leads : (w : ℕ) → Lands g.size g.writer w × (m.traced ≡ E.epoch + 1 → ¬ (Leads E w)) → LeadsToRecord (dump_of c) w
+  leads w l a e = let r = reaches c g inv w a l.0 l.1 e in (g.size a, in_heap_complete c g inv a r.0 r.1 r.2)
+
+  field_leads : (w : Walked) (kind : Kind) (len serial mutator i : ℕ) → IsOwn (dump_of c) w kind len serial mutator → IsFieldOf w kind i → LeadsToRecord (dump_of c) (m.heap (w.at + i))
+  field_leads w kind len serial mutator i is f =
+      let o = owns c g inv w kind len serial mutator is in
+      leads (m.heap (w.at + i)) (field_lands c g inv w.at i (field_of c g inv w kind len serial mutator i o f.inside.0 f.inside.1 f.field) o.known.inside)
+
+  once : (w v : Walked) (kind other : Kind) (len longer serial mutator : ℕ) → IsOwn (dump_of c) w kind len serial mutator → IsOwn (dump_of c) v other longer serial mutator → w.at ≡ v.at
+  once w v kind other len longer serial mutator a b =
+      let x = owns c g inv w kind len serial mutator a in
+      let y = owns c g inv v other longer serial mutator b in
+      let same : g.identity w.at ≡ g.identity v.at = sym x.named ∙ y.named in
+      ⊎_elim (λ e. e)
+      (λ o. ⊎_elim
+      (λ q. absurd (apart w.at v.at x.own (omega (arith, x.known.sized)) q y.known.written))
+      (λ q. absurd (apart v.at w.at y.own (omega (arith, y.known.sized)) q x.known.written))
+      o)
+      (inv.once.once w.at v.at (omega (arith, x.known.sized)) (omega (arith, y.known.sized)) same)
+    where
+      apart : (f t : ℕ) → (g.copy f ≡ 0) ⊎ (0 < g.keeper f) → 0 < g.size f → g.copy f ≡ t + 1 → g.writer t ≡ 0 → ⊥
+      apart f t own st q w = let r = inv.copied.target f t st q in omega (arith, own, q, r.7, w)
+
+  -- ---- place by place
+
+  register_shows : (k j : ℕ) → j < 8 → RegisterShows (dump_of c) p k j
+  register_shows k j l = record {
+    shows = λ q e n. denotes c g inv (((team c).worker k).registers j) (registers_land k q e n j l).0 ∙ (shown.registers k q e).registers_show n j l;
+    leads = λ q e n. leads (((team c).worker k).registers j) (registers_land k q e n j l);
+  }
+
+  board_word_shows : (x : ℕ) → x < 16 → BoardWordShows (dump_of c) p x
+  board_word_shows x l = record {
+    shows = denotes c g inv (m.heap (E.board + x)) (board_lands c g inv x l).0 ∙ shown.board.board x l;
+    leads = leads (m.heap (E.board + x)) (board_lands c g inv x l);
+  }
+
+  pub represents : Represents c p
+  represents = record {
+    accounts = shown.accounts;
+    dump = record {
+      as_many = (shown.as_many, shown.makers);
+      eight = λ k q e. (shown.registers k q e).eight;
+      sixteen = shown.board.sixteen;
+      registers = register_shows;
+      board = board_word_shows;
+      readable = now_read c g inv;
+      old_readable = old_readable c g inv;
+      records = λ w h. record { owns = each_owns w; shows = λ kind len serial mutator is. let s = records_show w kind len serial mutator is in (omega (arith, s.0), s.1); leads = field_leads w; once = λ v kind other len longer serial mutator a b. let e = once w v kind other len longer serial mutator a b in omega arith };
+    };
+  }

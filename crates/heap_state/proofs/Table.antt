@@ -1,0 +1,6 @@
+pub mod Places
+pub mod Stores
+pub mod Spelled
+pub mod LaidOut
+pub mod Seen
+pub mod Writing

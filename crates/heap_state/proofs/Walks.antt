@@ -1,0 +1,5 @@
+pub mod Walking
+pub mod SpaceWalks
+pub mod Spaces
+pub mod Reserving
+pub mod InHeap

@@ -1,0 +1,3 @@
+pub mod Teams
+pub mod Frames
+pub mod Idle

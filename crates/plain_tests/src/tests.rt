@@ -1,0 +1,162 @@
+use mutator_asm::{Program, assemble};
+use plain_heap::{End, Mark, PlainState, plain_run, plain_step, print, push_order};
+use std::alloc::Global;
+use std::process::Abort;
+use std::test::Fail;
+
+/// Rows of a name, the instructions of one mutator, and its lines, with slashes for line ends. A
+/// line `0*k` stands for k lines `0`.
+const TABLE: &str = "li takes a number|li r1 7/out r1/halt|7/halt
+mov takes a number|li r1 7/mov r2 r1/out r2/halt|7/halt
+mov takes a reference|new r1 4/mov r2 r1/len r3 r2/out r3/halt|4/halt
+add is modulo 2^62|li r1 4611686018427387903/li r2 2/add r3 r1 r2/out r3/halt|1/halt
+sub is modulo 2^62|li r1 1/li r2 2/sub r3 r1 r2/out r3/halt|4611686018427387903/halt
+mul is modulo 2^62|li r1 4611686018427387903/mul r2 r1 r1/out r2/halt|1/halt
+div is the quotient|li r1 7/li r2 2/div r3 r1 r2/out r3/halt|3/halt
+rem is the remainder|li r1 7/li r2 2/rem r3 r1 r2/out r3/halt|1/halt
+lt compares numbers|li r1 7/li r2 8/lt r3 r1 r2/out r3/lt r3 r2 r1/out r3/lt r3 r1 r1/out r3/halt|1/0/0/halt
+eq compares numbers|li r1 7/li r2 7/eq r3 r1 r2/out r3/eq r3 r1 r0/out r3/halt|1/0/halt
+eq compares records|new r1 1/mov r2 r1/new r3 1/eq r4 r1 r2/out r4/eq r4 r1 r3/out r4/eq r4 r1 r0/out r4/halt|1/0/0/halt
+jmp goes on at its label|jmp over/out r0/over: halt|halt
+jz jumps at the number 0 alone|new r1 0/jz r1 no/li r2 1/jz r2 no/jz r0 yes/no: out r0/yes: halt|halt
+jal keeps the number of the next|out r0/jal r1 over/halt/over: out r1/halt|0/2/halt
+jr goes on at its number|li r1 3/jr r1/out r0/halt|halt
+new makes a record of zeros|li r1 3/new r2 r1/len r3 r2/out r3/ld r4 r2 2/out r4/halt|3/0/halt
+raw makes a record of zeros|raw r2 3/len r3 r2/out r3/ld r4 r2 2/out r4/halt|3/0/halt
+a record may have 4095 words|li r1 1/raw r2 4095/len r3 r2/out r3/halt|4095/halt
+st and ld have a word of a record|new r1 2/li r2 9/st r1 1 r2/ld r3 r1 1/out r3/ld r3 r1 0/out r3/halt|9/0/halt
+st and ld have a reference|new r1 1/st r1 0 r1/ld r2 r1 0/eq r3 r1 r2/out r3/halt|1/halt
+isp tells references|new r1 0/isp r2 r1/out r2/isp r2 r0/out r2/halt|1/0/halt
+put and get have a word of the board|li r1 5/put 15 r1/get r2 15/out r2/get r2 14/out r2/halt|5/0/halt
+swap exchanges|li r1 5/put 3 r1/li r2 6/swap r2 3/out r2/get r4 3/out r4/halt|5/6/halt
+ld asks for a reference|new r2 1/ld r1 r0 r2|not a pointer
+st asks for a reference|new r2 1/st r0 r2 r2|not a pointer
+len asks for a reference|len r1 r0|not a pointer
+add asks for numbers|new r1 0/add r2 r1 r0|not a number
+sub asks for numbers|new r1 0/sub r2 r0 r1|not a number
+mul asks for numbers|new r1 0/mul r2 r1 r0|not a number
+div asks for numbers first|new r1 0/div r2 r1 r0|not a number
+rem asks for numbers first|new r1 0/rem r2 r1 r0|not a number
+lt asks for numbers|new r1 0/lt r2 r0 r1|not a number
+jr asks for a number|new r1 0/jr r1|not a number
+new asks for a number|new r1 0/new r2 r1|not a number
+raw asks for a number|new r1 0/raw r2 r1|not a number
+ld asks for a number next|new r1 0/ld r2 r1 r1|not a number
+st asks for a number next|raw r1 1/st r1 r1 r1|not a number
+get asks for a number|new r1 0/get r2 r1|not a number
+put asks for a number|new r1 0/put r1 r0|not a number
+swap asks for a number|new r1 0/swap r2 r1|not a number
+out asks for a number|new r1 0/out r1|not a number
+new is too long|new r1 4096|out of range
+raw is too long|raw r1 4096|out of range
+ld is past the record|new r1 2/ld r2 r1 2|out of range
+st is past the record, which comes first|raw r1 2/st r1 2 r1|out of range
+get is past the board|get r1 16|out of range
+put is past the board|put 16 r1|out of range
+swap is past the board|swap r1 16|out of range
+st of a reference into raw words|raw r1 1/st r1 0 r1|pointer into raw
+div by zero|li r1 7/div r2 r1 r0|zero divisor
+rem by zero|li r1 7/rem r2 r1 r0|zero divisor
+the code ends|out r0|0/jump out
+jr leads past the code|li r1 9/jr r1|jump out
+so many instructions are executed|on: jmp on|turns out
+so many numbers are printed|on: out r0/jmp on|0*65536/output full
+a record asks for 64 pages|raw r0 4095|heap full asked 64 room 256 live 0";
+
+/// The most instructions that a mutator executes here.
+const TURNS: u32 = 140_000;
+
+/// The program of one mutator whose lines are separated by slashes.
+fn program(alloc: Global, instrs: &str) -> Result<Program, Fail> {
+    let text = format!(in alloc; "/.mutator/{instrs}/")?.replace(alloc, '/', "\n")?;
+    if text.len() >= 1 << 31 {
+        return Err("it is too long".into());
+    }
+    Ok(assemble(alloc, text.as_bytes())?)
+}
+
+/// What is printed of a mutator with these lines.
+fn printed(alloc: Global, lines: &str) -> Result<String, Fail> {
+    let mut out = String::new(alloc);
+    for line in lines.split('/') {
+        let (line, times) = line.split_once('*').unwrap_or((line, "1"));
+        for _time in 0..times.parse::<u32>()? {
+            writeln!(&mut out, "0: {line}")?;
+        }
+    }
+    Ok(out)
+}
+
+/// Runs the program of a row by an order, and compares what is printed.
+fn check_row(rt: &impl Abort, alloc: Global, row: &str, order: &[Mark]) -> Result<(), Fail> {
+    let parts: Vec<&str> = row.split('|').collect(alloc)?;
+    let [name, instrs, lines] = parts.as_slice() else {
+        return Err(Fail::new(format_args!("not three parts: {row}")));
+    };
+    let p = program(alloc, instrs)?;
+    let s = plain_run(alloc, &p, TURNS, order)?;
+    let wanted = printed(alloc, lines)?;
+    assert_eq!(rt; print(alloc, &s)?.as_slice(), wanted.as_bytes(), "{name}");
+    Ok(())
+}
+
+#[test]
+fn each_instruction_and_each_end(rt: HostRuntime) -> Result<(), Fail> {
+    // The first mark ends a mutator whose first instruction asks for 64 pages, and no other.
+    let mut order = vec![in rt.alloc(); Mark::Step(0); 1 + TURNS as usize + 1]?;
+    order[0] = Mark::Full {
+        m: 0,
+        asked: 64,
+        room: 256,
+        live: 0,
+    };
+    for row in TABLE.split('\n') {
+        check_row(&rt, rt.alloc(), row, &order)?;
+    }
+    Ok(())
+}
+
+#[test]
+fn six_steps_print_the_number_and_the_end(rt: HostRuntime) -> Result<(), Fail> {
+    let alloc = rt.alloc();
+    let p = program(alloc, "li r1 7/new r0 2/st r0 1 r1/ld r2 r0 1/out r2/halt")?;
+    let mut s = PlainState::open(alloc, &p)?;
+    for _step in 0..6 {
+        plain_step(alloc, &mut s, &p, 6, 0)?;
+    }
+    assert_eq!(rt; s.mutators(), 1);
+    assert_eq!(rt; s.printed(0), [7].as_slice());
+    assert_eq!(rt; s.ended(0), Some(End::Halt));
+    assert_eq!(rt; print(alloc, &s)?.as_slice(), b"0: 7\n0: halt\n".as_slice());
+    Ok(())
+}
+
+#[test]
+fn marks_of_no_mutator_and_of_other_pages_change_nothing(rt: HostRuntime) -> Result<(), Fail> {
+    let alloc = rt.alloc();
+    let p = program(alloc, "raw r0 4095")?;
+    let other = Mark::Full {
+        m: 0,
+        asked: 63,
+        room: 256,
+        live: 0,
+    };
+    let s = plain_run(alloc, &p, 9, &[Mark::Step(1), Mark::Flip(63), other])?;
+    assert_eq!(rt; print(alloc, &s)?.as_slice(), b"0: stopped\n".as_slice());
+    Ok(())
+}
+
+#[test]
+fn an_order_has_its_line(rt: HostRuntime) -> Result<(), Fail> {
+    let mut line = String::new(rt.alloc());
+    push_order(&mut line, &[Mark::Step(0); 6])?;
+    let full = Mark::Full {
+        m: 0,
+        asked: 64,
+        room: 256,
+        live: 0,
+    };
+    push_order(&mut line, &[Mark::Flip(64), full])?;
+    assert_eq!(rt; line.as_str(), "order 0 0 0 0 0 0\norder F64 X0,64,256,0\n");
+    Ok(())
+}
