@@ -1,5 +1,5 @@
 -- What the machines keep of themselves: the rows that they want are in the table, and their words can be packed.
-use Rattle.std.specs.Prelude.{ℕ, ◌^◌, ◌<◌, ◌≤◌, ⊤}
+use Rattle.std.specs.Prelude.{◌^◌, ◌<◌, ◌≤◌, ⊤}
 use Rattle.space_map.specs.PageWord.{PageFits, IsEarlier}
 use Rattle.space_map.specs.Spaces.{IsPageCount, board_page}
 use Rattle.page_slots.specs.declared.claim_stage.ClaimStage.{ClaimStage}
