@@ -1,0 +1,5 @@
+pub mod GoingOn
+pub mod Passing
+pub mod Crossing
+pub mod Front
+pub mod Headers
