@@ -3,3 +3,4 @@ pub mod Passing
 pub mod Crossing
 pub mod Front
 pub mod Headers
+pub mod Spots
