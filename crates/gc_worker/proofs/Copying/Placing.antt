@@ -1,6 +1,6 @@
 -- The copy's place: FRONT is loaded, announced, and moved past the copy.
-use Rattle.std.proofs.Common.{◌≡◌, ◌≢◌, ℕ, ◌+◌, ◌*◌, ◌/◌, ◌%◌, ◌≤◌, ◌==◌, true, false, Option, Some, None, refl, sym, ap, subst, ◌∙◌, arith, ⊎_elim}
-use Rattle.std.proofs.lemmas.Bool.{eq-eqb, ne_eqb, cases_eq, eqb-true}
+use Rattle.std.proofs.Common.{None, Option, Some, ap, arith, false, refl, subst, sym, true, ℕ, ⊎_elim, ◌%◌, ◌*◌, ◌+◌, ◌/◌, ◌==◌, ◌∙◌, ◌≡◌, ◌≢◌, ◌≤◌}
+use Rattle.std.proofs.lemmas.Bool.{cases_eq, eq-eqb, eqb-true, ne_eqb}
 use Rattle.plain_state.specs.State.{Plain}
 use Rattle.atom_store.specs.declared.reply.Reply.{Reply}
 use Rattle.atom_store.specs.declared.reply.Reply.TheVariants.{Value, Done, Won, Lost}
@@ -15,7 +15,8 @@ use Rattle.forwarding.specs.declared.evac_stage.EvacStage.{EvacStage}
 use Rattle.forwarding.specs.declared.evac_stage.EvacStage.TheVariants.{LoadsArea, Announces, Reserves, StoresHeader}
 use Rattle.forwarding.specs.declared.kept_header.KeptHeader.{KeptHeader}
 use Rattle.forwarding.specs.Evacuation.{Evacuation, area_past, front_of, size_of}
-use Rattle.forwarding.specs.Soundness.{KeepsHeader, HasRoom}
+use Rattle.heap_laws.specs.Steps.{IsAreaNow}
+use Rattle.forwarding.specs.Soundness.{IsSound, KeepsHeader, HasRoom}
 use Rattle.forwarding.specs.Taken.{by_area, by_other_area, reserved_at, stage_after, told}
 use Rattle.heap_state.specs.Configuration.{Configuration, Stands, table, era, memory, team}
 use Rattle.heap_state.specs.Entries.{AnnounceIs, AreaIs}
@@ -84,6 +85,10 @@ front_word : (c : Configuration) → (memory c).front ≡ space_start c.pages (t
 unfolding table_of
 front_word c = refl
 
+start_is : (c : Configuration) → space_start c.pages (to_space (era c).epoch) ≡ (era c).start
+unfolding table_of
+start_is c = refl
+
 low_word : (c : Configuration) → (memory c).low ≡ space_start c.pages (to_space (era c).epoch) + (area_read c).low
 unfolding table_of
 low_word c = refl
@@ -100,6 +105,13 @@ low_in c p s = let o = s.invariant.laid.order in omega (arith, o)
 area_fits : (c : Configuration) (p : Plain) → Stands c p → AreaFits (area_read c)
 unfolding table_of
 area_fits c p s = (spelled c.pages c.words s.formed).areas_fit (to_space (era c).epoch) (omega arith)
+
+-- both spaces end at the board
+ends_below : (n e : ℕ) → space_start n (to_space e) + 64 * n ≤ 128 * n
+ends_below n e = ⊎_elim
+    (λ (z : e % 2 ≡ 0). rw z (omega arith))
+    (λ (z : e % 2 ≢ 0). let q : e % 2 ≡ 1 = omega arith in rw q (omega arith))
+    (cases_eq (e % 2) 0)
 
 -- a copy whose place is not reserved has room
 room : (c : Configuration) (p : Plain) (s : Stands c p) (d : Copy) → law.HasRoomForCopy (memory c) d → HasRoom c.pages d.size (area_read c)
@@ -167,3 +179,72 @@ module _ (c : Configuration) (p : Plain) (s : Stands c p) (k : ℕ) (y : Held) (
         ∙ ap (λ e. Some (Load (place_of c.pages (Area (to_space e))))) (epoch_is c p s k y v o (LoadsArea kept) is))
         (loads c p s k (here_too (LoadsArea kept)) (Area (to_space (era c).epoch)) row_of_area
         (aims (LoadsArea kept) (law.begun kept.word v.addr (size_of kept)) (Value (area_now c)) is refl refl refl refl refl sound.fits (ap (by_area kept) read)))
+
+  module _ (area : AreaWord) (is : Is c k (here_too (Reserves kept area))) where
+    abbrev sound_reserve : IsSound (machine_at y o v (Reserves kept area))
+    sound_reserve = is_sound y v c.pages c.mutators k o (Reserves kept area) is.fits
+
+    abbrev announced : Copy
+    announced = placing v.addr (front_of v.layout v.epoch area) kept true
+
+    -- FRONT is moved from the announced place
+    module _ (same : area_now c ≡ encode_area area) where
+      says : area_read c ≡ area
+      says = ap area_in same ∙ area_in-encode_area area sound_reserve.fits.1.fits
+
+      at_front : front_of v.layout v.epoch area ≡ (memory c).front
+      at_front = sym (ap (front_of v.layout v.epoch) says) ∙ front_is (Reserves kept area) is
+
+      now : IsAreaNow (era c) (memory c) area
+      now = record {
+        front = front_word c ∙ ap (λ (a : AreaWord). space_start c.pages (to_space (era c).epoch) + a.front) says ∙ ap (λ n. n + area.front) (start_is c);
+        low = low_word c ∙ ap (λ (a : AreaWord). space_start c.pages (to_space (era c).epoch) + a.low) says ∙ ap (λ n. n + area.low) (start_is c);
+        owed = owed_word c ∙ ap (λ (a : AreaWord). a.owed) says;
+        fits = sound_reserve.fits.1.fits;
+      }
+
+      inside : front_of v.layout v.epoch area + size_of kept ≤ 128 * v.layout.pages
+      inside =
+          let b = sound_reserve.fits.1.below_low in
+          let l = sound_reserve.fits.1.in_space in
+          let e = ends_below v.layout.pages v.epoch in
+          omega (arith, b, l, e)
+
+      moved : Goes c p s k (Some (AreaIs (to_space (era c).epoch) (area_past (size_of kept) area))) (here_too (Reserves kept area)) Won
+      moved =
+          let copy : Copy = record announced { reserved = true; crossed = (front_of v.layout v.epoch area + 63) / 64 } in
+          goes c p s k y o v (Some (AreaIs (to_space (era c).epoch) (area_past (size_of kept) area))) (Reserves kept area) (StoresHeader (reserved_at v.layout v.epoch kept area)) Won
+          (Some copy) None (law.reserved s.ghost k v.addr (front_of v.layout v.epoch area) (size_of kept)) is refl refl
+          (subst (λ (u : Worker). Law c p s k (here_too (Reserves kept area)) (Some (AreaIs (to_space (era c).epoch) (area_past (size_of kept) area))) u
+          (law.reserved s.ghost k v.addr (front_of v.layout v.epoch area) (size_of kept)))
+          (still_seeks c p s k y o v kept (Reserves kept area) copy is refl)
+          (places_are_reserved (era c) (memory c) (team c) s.ghost k announced area (prepared c p s k (here_too (Reserves kept area)) is)
+          (ap (λ (u : Worker). u.copy) is.as_known ∙ copy_is y v o (Reserves kept area)) refl refl at_front now))
+          refl refl (record { keeps = sound_reserve.fits.0; inside = inside })
+
+    -- the exchange is lost to an area with the same FRONT, which is announced already
+    same_front : (area_read c).front ≡ area.front → stage_after v.layout v.epoch (Reserves kept area) (Lost (area_now c)) ≡ Reserves kept (area_read c)
+        → Goes c p s k None (here_too (Reserves kept area)) (Lost (area_now c))
+    same_front same next =
+        stays c p s k y o v (Reserves kept area) (Reserves kept (area_read c)) (Lost (area_now c)) is next refl
+        (ap (λ f. Some (placing v.addr (space_start v.layout.pages (to_space v.epoch) + f) kept true)) same) refl
+        (sound_reserve.fits.0, has_room (Reserves kept area) announced is refl refl refl)
+
+    lost : area_now c ≢ encode_area area → Goes c p s k None (here_too (Reserves kept area)) (Lost (area_now c))
+    lost other = ⊎_elim
+        (λ (e : (area_read c).front ≡ area.front).
+        same_front e (ap (by_other_area kept area) read ∙ rw (eq-eqb (area_read c).front area.front e) refl))
+        (λ (d : (area_read c).front ≢ area.front).
+        aims (Reserves kept area) announced (Lost (area_now c)) is refl refl refl refl refl sound_reserve.fits.0
+        (ap (by_other_area kept area) read ∙ rw (ne_eqb (area_read c).front area.front d) refl))
+        (cases_eq (area_read c).front area.front)
+
+    pub reserves : StepsSo c p s k (here_too (Reserves kept area))
+    reserves =
+        let pages = has_pages y v c.pages c.mutators k o (Reserves kept area) is.fits in
+        let old = encode_area area in
+        let new = encode_area (area_past (size_of kept) area) in
+        wants c p s k (here_too (Reserves kept area)) (Exchange (place_of c.pages (Area (to_space (era c).epoch))) old new)
+        (wants_its y v o (Reserves kept area) ∙ ap (λ n. Some (Exchange (place_of n (Area (to_space v.epoch))) old new)) pages
+        ∙ ap (λ e. Some (Exchange (place_of c.pages (Area (to_space e))) old new)) (epoch_is c p s k y v o (Reserves kept area) is))
+        (exchanges c p s k (here_too (Reserves kept area)) (AreaIs (to_space (era c).epoch) (area_past (size_of kept) area)) old row_of_area moved lost)
