@@ -1,5 +1,5 @@
 -- What is proved of allocation, by the words on which it makes its steps.
-use Rattle.std.specs.Prelude.{◌≡◌, ◌≢◌, ℕ, ◌+◌, ◌-◌, ◌*◌, ◌<◌, ◌≤◌, ⊤, Bool, List, Some}
+use Rattle.std.specs.Prelude.{◌≡◌, ◌≢◌, ℕ, ◌+◌, ◌-◌, ◌*◌, ◌<◌, ◌≤◌, ◌↔◌, ⊤, Bool, IsTrue, List, Some}
 use Rattle.atom_store.specs.declared.turn.Turn.{Turn}
 use Rattle.atom_store.specs.declared.turn.Turn.TheVariants.{Finished}
 use Rattle.atom_store.specs.Acts.{Acts, stepped}
@@ -10,7 +10,7 @@ use Rattle.space_map.specs.declared.page_word.PageWord.TheVariants.{Open}
 use Rattle.space_map.specs.AreaWord.{decode_area, encode_area}
 use Rattle.space_map.specs.PageWord.{decode_page}
 use Rattle.space_map.specs.Spaces.{to_space, page_of}
-use Rattle.space_map.specs.Table.{Area, Page, HeapWord}
+use Rattle.space_map.specs.Table.{Traced, Area, Page, HeapWord}
 use Rattle.space_map.specs.TableWords.{word_in, HoldsTable, ChangesOnly}
 use Rattle.alloc_end.specs.declared.fitting.Fitting.{Fitting}
 use Rattle.alloc_end.specs.declared.shortage.Shortage.{Shortage}
@@ -24,6 +24,19 @@ use Rattle.alloc_end.specs.Soundness.{IsSoundPlacing}
 -- the area of the space that is copied into
 abbrev pub area_word : Placing → List ℕ → ℕ
 area_word p words = word_in p.layout.pages (Area (to_space p.epoch)) words
+
+-- ---- TRACED
+
+-- whether room has to be kept is told by TRACED as it is read: that the epoch is traced or not; no word changes
+pub record LooksAtTraced (p : Placing) (before after : List ℕ) : Type 0 where
+  pub traced : Bool
+  pub exactly : IsTrue traced ↔ (word_in p.layout.pages Traced before ≡ p.epoch + 1)
+  pub goes : (stepped place_machine (at_stage p LoadsTraced) before).stage ≡ LoadsArea traced
+  pub stays : after ≡ before
+
+abbrev pub TracedIsRead : Type 0
+TracedIsRead = (p : Placing) (before after : List ℕ) (turn : Turn Allocated)
+    → Acts place_machine (at_stage p LoadsTraced) before after turn → LooksAtTraced p before after
 
 -- ---- the claim of pages
 

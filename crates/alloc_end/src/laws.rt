@@ -1,10 +1,11 @@
 //! What holds of the machines. Each function here does nothing: its contract is what is proved.
 
 ghost use Rattle.alloc_end.specs.Rows.{FirstPairIsPlaced, NextRecordIsPlaced, ReserveIsKept, ReserveIsFreeOnceTraced, FullTellsItsNumbers, LongestIsFull, LostClaimIsTriedAgain};
-ghost use Rattle.alloc_end.specs.Theorems.{PagesAreClaimed, PagesAreLost, PagesAreMadeReady, RecordsArePlaced, FullHeapsAreShort, ShortHeapsAreFull};
+ghost use Rattle.alloc_end.specs.Theorems.{TracedIsRead, PagesAreClaimed, PagesAreLost, PagesAreMadeReady, RecordsArePlaced, FullHeapsAreShort, ShortHeapsAreFull};
 
 /// Pages are claimed only where the room that has to be kept is left, by an exchange of the area that was read.
 pub fn claims_keep_the_reserve()
+    ensures traced { TracedIsRead }
     ensures claimed { PagesAreClaimed }
     ensures lost { PagesAreLost }
 {}

@@ -1,7 +1,7 @@
 -- What is proved of a round of the duty, by the words on which it makes its steps.
-use Rattle.std.specs.Prelude.{◌≡◌, ◌≢◌, ℕ, ◌+◌, ◌<◌, ◌⊎◌, Bool, true, false, List, Some}
-use Rattle.atom_store.specs.declared.turn.Turn.TheVariants.{Finished}
-use Rattle.atom_store.specs.Acts.{Acts}
+use Rattle.std.specs.Prelude.{◌≡◌, ◌≢◌, ℕ, ◌+◌, ◌<◌, ◌⊎◌, ◌≤◌, Bool, true, false, List, Option, Some}
+use Rattle.atom_store.specs.declared.turn.Turn.TheVariants.{More, Finished}
+use Rattle.atom_store.specs.Acts.{Acts, stepped}
 use Rattle.space_map.specs.declared.area_word.AreaWord.{AreaWord}
 use Rattle.space_map.specs.declared.gate_word.GateWord.{GateWord}
 use Rattle.space_map.specs.declared.page_word.PageWord.{PageWord}
@@ -9,19 +9,20 @@ use Rattle.space_map.specs.declared.page_word.PageWord.TheVariants as page_word
 use Rattle.space_map.specs.AreaWord.{decode_area}
 use Rattle.space_map.specs.GateWord.{decode_gate}
 use Rattle.space_map.specs.PageWord.{age_of, encode_page, decode_page}
-use Rattle.space_map.specs.Spaces.{to_space, page_of, board_page}
+use Rattle.space_map.specs.Spaces.{to_space, page_of, board_page, first_word}
 use Rattle.space_map.specs.Table.{Row, Gate, Traced, Area, Page}
 use Rattle.space_map.specs.TableWords.{word_in, HoldsTable, ChangesOnly}
-use Rattle.page_slots.specs.Claim.{Claiming}
+use Rattle.page_slots.specs.Claim.{Claiming, begun, claim_machine}
 use Rattle.page_slots.specs.Theorems.{WinsPage, ShowsTaken}
 use Rattle.fault_duty.specs.declared.caller.Caller.TheVariants.{Scans}
+use Rattle.fault_duty.specs.declared.choice.Choice.{Choice}
 use Rattle.fault_duty.specs.declared.end_look.EndLook.{EndLook}
-use Rattle.fault_duty.specs.declared.round_end.RoundEnd.{RoundEnd}
+use Rattle.fault_duty.specs.declared.wanted_page.WantedPage.{WantedPage}
 use Rattle.fault_duty.specs.declared.round_end.RoundEnd.TheVariants.{ScanPage, ScanInPlace, Marked, AllLeft, NothingNow}
 use Rattle.fault_duty.specs.declared.duty_stage.DutyStage.{DutyStage}
 use Rattle.fault_duty.specs.declared.duty_stage.DutyStage.TheVariants.{LoadsGate, LoadsTraced, LoadsWanted, LoadsFrontFor, LoadsFront, LoadsPage, Claims, EndGate, EndArea, EndPage, EndFilling, EndAreaAgain, Traces, Ended}
-use Rattle.fault_duty.specs.Duty.{Round, at_stage, front_of, duty_machine}
-use Rattle.fault_duty.specs.Soundness.{Forbids, IsOwnClaim, IsSoundRound}
+use Rattle.fault_duty.specs.Duty.{Round, at_stage, front_of, page_after, duty_machine}
+use Rattle.fault_duty.specs.Soundness.{Forbids, IsChoice, IsOwnClaim, IsSoundRound}
 
 -- the word of a row of the round's table
 abbrev pub row_of : Round → Row → List ℕ → ℕ
@@ -76,8 +77,9 @@ ShowsNothing d (LoadsWanted seen page) words word = IsServed d page words word
 -- the word of the wanted page, as it was read, is of this epoch or a later one
 ShowsNothing d (LoadsFrontFor seen w) words word = (word ≡ encode_page w.says) × (d.epoch < age_of w.says)
 ShowsNothing d (LoadsFront seen) words word = ⊥
--- or no page is left to choose, and the word forbids to end the tracing
-ShowsNothing d (LoadsPage choice page) words word = IsPastPage d page words word ⊎ Forbids d.epoch word
+-- or no page is left to choose, since the next one isn't full, and the word forbids to end the tracing
+ShowsNothing d (LoadsPage choice page) words word =
+    IsPastPage d page words word ⊎ ((choice.front < first_word (page_after d page + 1)) × Forbids d.epoch word)
 ShowsNothing d (Claims c) words word = ShowsTaken c words word
 ShowsNothing d (EndGate traced) words word = NotStill d words word
 ShowsNothing d (EndArea traced) words word = ⊥
@@ -92,6 +94,11 @@ ShowsNothing d (Ended result) words word = ⊥
 abbrev pub NothingIsShown : Type 0
 NothingIsShown = (d : Round) (before after : List ℕ) (word : ℕ) → IsSoundRound d
     → Acts duty_machine d before after (Finished (NothingNow word)) → ShowsNothing d d.stage before word × (after ≡ before)
+
+-- and where TRACED says that the epoch is traced, that is what is told
+abbrev pub TracedEpochsEndRounds : Type 0
+TracedEpochsEndRounds = (d : Round) (hindrance : Option ℕ) (words : List ℕ) → row_of d Traced words ≡ d.epoch + 1
+    → Acts duty_machine (at_stage d (LoadsTraced hindrance)) words words (Finished (NothingNow (row_of d Traced words)))
 
 -- ---- all mutators have left
 
@@ -142,3 +149,46 @@ ScannedPagesAreClaimed = (d : Round) (before after : List ℕ) (page : ℕ) → 
 abbrev pub PagesInPlaceAreClaimed : Type 0
 PagesInPlaceAreClaimed = (d : Round) (before after : List ℕ) (page : ℕ) → IsSoundRound d → HoldsTable d.layout.pages before
     → Acts duty_machine d before after (Finished (ScanInPlace page)) → ClaimsPage d page true before after
+
+-- ---- which page is claimed
+
+-- the wanted page is the board
+pub record ClaimsBoard (d : Round) (page : ℕ) (words : List ℕ) (c : Claiming) : Type 0 where
+  pub found : PageWord
+  pub says : decode_page (row_of d (Page page) words) ≡ Some found
+  pub board : page ≡ board_page d.layout.pages
+  pub is : c ≡ begun d.layout page d.epoch d.worker found false
+
+-- the wanted page is full by the area
+pub record ClaimsWanted (d : Round) (w : WantedPage) (words : List ℕ) (c : Claiming) : Type 0 where
+  pub area : AreaWord
+  pub says : decode_area (row_of d (Area (to_space d.epoch)) words) ≡ Some area
+  pub full : first_word (w.page + 1) ≤ front_of d area
+  pub is : c ≡ begun d.layout w.page d.epoch d.worker w.says false
+
+-- the page comes next in the choice: it is the board, or full
+pub record ClaimsChosen (d : Round) (choice : Choice) (page : ℕ) (words : List ℕ) (c : Claiming) : Type 0 where
+  pub found : PageWord
+  pub says : decode_page (row_of d (Page page) words) ≡ Some found
+  pub chosen : IsChoice d choice.front page
+  pub is : c ≡ begun d.layout page d.epoch d.worker found false
+
+-- FRONT stands where it stood, and the page is the one that it is on
+pub record ClaimsFilling (d : Round) (look : EndLook) (filling : PageWord) (words : List ℕ) (c : Claiming) : Type 0 where
+  pub area : AreaWord
+  pub says : decode_area (row_of d (Area (to_space d.epoch)) words) ≡ Some area
+  pub stands : front_of d area ≡ look.front
+  pub is : c ≡ begun d.layout (page_of look.front) d.epoch d.worker filling true
+
+-- why a round makes a claim, by what it was about to do; from then on it goes on with that claim
+abbrev pub ClaimsFor : Round → DutyStage → List ℕ → Claiming → Type 0
+ClaimsFor d (LoadsWanted found page) words c = ClaimsBoard d page words c
+ClaimsFor d (LoadsFrontFor found w) words c = ClaimsWanted d w words c
+ClaimsFor d (LoadsPage choice page) words c = ClaimsChosen d choice page words c
+ClaimsFor d (EndAreaAgain look filling) words c = ClaimsFilling d look filling words c
+ClaimsFor d (Claims before) words c = c ≡ stepped claim_machine before words
+ClaimsFor d stage words c = ⊥
+
+abbrev pub ClaimsHaveCause : Type 0
+ClaimsHaveCause = (d : Round) (before after : List ℕ) (c : Claiming) → IsSoundRound d → Acts duty_machine d before after More
+    → (stepped duty_machine d before).stage ≡ Claims c → ClaimsFor d d.stage before c

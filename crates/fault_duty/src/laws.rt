@@ -1,11 +1,12 @@
 //! What holds of the machines. Each function here does nothing: its contract is what is proved.
 
-ghost use Rattle.fault_duty.specs.Rows.{BoardIsClaimed, FillingPageIsClaimed, EpochIsMarked, TracedEpochIsLeft, ScannerEndsWithMutators, LostMarkEnds, LostBoardEnds, LostFillingPageEnds, MovedFrontEnds, BehindForbidsEnd, ScannedBoardForbidsEnd, FullPageIsWanted, NextFullPageIsChosen, OpenPageIsLeft, FillingPageIsNotWanted, NoFillingPage, LaterWantedPageEnds, LaterFillingPageEnds};
-ghost use Rattle.fault_duty.specs.Theorems.{NothingIsShown, AllLeftIsSeen, AllLeftIsTold, MarkedEpochsAreTraced, ScannedPagesAreClaimed, PagesInPlaceAreClaimed};
+ghost use Rattle.fault_duty.specs.Rows.{BoardIsClaimed, FillingPageIsClaimed, EpochIsMarked, TracedEpochIsLeft, ScannerEndsWithMutators, LostMarkEnds, LostBoardEnds, LostFillingPageEnds, MovedFrontEnds, BehindForbidsEnd, ScannedBoardForbidsEnd, FullPageIsWanted, NextFullPageIsChosen, OpenPageIsLeft, FillingPageIsNotWanted, NoFillingPage, LaterWantedPageEnds, LaterFillingPageEnds, ScannedBoardIsPassed};
+ghost use Rattle.fault_duty.specs.Theorems.{NothingIsShown, TracedEpochsEndRounds, ClaimsHaveCause, AllLeftIsSeen, AllLeftIsTold, MarkedEpochsAreTraced, ScannedPagesAreClaimed, PagesInPlaceAreClaimed};
 
 /// A round does nothing only where a word shows why.
 pub fn rounds_without_work_show_why()
     ensures nothing_now { NothingIsShown }
+    ensures traced { TracedEpochsEndRounds }
 {}
 
 /// A scanner ends exactly where the gate counts all mutators as left.
@@ -17,6 +18,7 @@ pub fn scanners_end_with_the_mutators()
 /// A round claims the page that is to be scanned, or marks the epoch traced.
 pub fn rounds_claim_or_mark()
     ensures marked { MarkedEpochsAreTraced }
+    ensures claimed_for { ClaimsHaveCause }
     ensures scan_page { ScannedPagesAreClaimed }
     ensures scan_in_place { PagesInPlaceAreClaimed }
 {}
@@ -41,4 +43,5 @@ pub fn rows_are_worked_out()
     ensures no_filling_page { NoFillingPage }
     ensures later_wanted_page { LaterWantedPageEnds }
     ensures later_filling_page { LaterFillingPageEnds }
+    ensures scanned_board_passed { ScannedBoardIsPassed }
 {}

@@ -3,3 +3,4 @@ pub mod Stages
 pub mod Finding
 pub mod Ordering
 pub mod WorkedOut
+pub mod GoingOn

@@ -1,7 +1,7 @@
 -- How many steps the copy of a record has left.
-use Rattle.std.specs.Prelude.{ℕ, ◌+◌, ◌-◌, ◌*◌, Bool, true, false, ◌||◌, is_some}
+use Rattle.std.specs.Prelude.{ℕ, ◌+◌, ◌-◌, ◌*◌, ◌≡◌, ⊤, Bool, true, false, ◌||◌, None, is_some}
 use Rattle.atom_store.specs.declared.reply.Reply.{Reply}
-use Rattle.atom_store.specs.declared.reply.Reply.TheVariants.{Value, Done, Won}
+use Rattle.atom_store.specs.declared.reply.Reply.TheVariants.{Value, Done, Won, Lost}
 use Rattle.heap_words.specs.Decoded.{decode}
 use Rattle.heap_words.specs.FirstWords.{is_header, is_forward}
 use Rattle.space_map.specs.AreaWord.{decode_area}
@@ -47,3 +47,12 @@ advances (StoresCross r page) Done = true
 advances (StoresForward r) Done = true
 advances (Clears to) Done = true
 advances _ _ = false
+
+-- What alone holds the machine up: a lost exchange, the word of another worker that copies the record, or a word that can't be
+-- there.
+abbrev pub IsHeldUp : EvacStage → Reply → Type 0
+IsHeldUp LoadsHeader (Value w) = (is_header (decode w) ≡ false) × (is_forward (decode w) ≡ false)
+IsHeldUp (TakesHeader kept) (Lost w) = ⊤
+IsHeldUp (LoadsArea kept) (Value w) = decode_area w ≡ None
+IsHeldUp (Reserves kept area) (Lost w) = ⊤
+IsHeldUp _ _ = ⊥

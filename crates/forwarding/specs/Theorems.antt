@@ -1,7 +1,8 @@
 -- What is proved of the copy of a record.
-use Rattle.std.specs.Prelude.{◌≡◌, ℕ, ◌+◌, ◌-◌, ◌*◌, ◌<◌, ◌≤◌, ◌⊎◌, ◌↔◌, List, Option, Some, slice_index, take}
+use Rattle.std.specs.Prelude.{◌≡◌, false, ℕ, ◌+◌, ◌-◌, ◌*◌, ◌<◌, ◌≤◌, ◌⊎◌, ◌↔◌, List, Option, Some, slice_index, take}
 use Rattle.atom_store.specs.Machine.{ComesTo, after_replies}
 use Rattle.atom_store.specs.Runs.{alone, among}
+use Rattle.atom_store.specs.Step.{reply_of}
 use Rattle.atom_store.specs.declared.reply.Reply.{Reply}
 use Rattle.atom_store.specs.declared.reply.Reply.TheVariants.{Value, Done, Won}
 use Rattle.atom_store.specs.declared.step.Step.{Step}
@@ -20,6 +21,7 @@ use Rattle.forwarding.specs.declared.kept_header.KeptHeader.{KeptHeader}
 use Rattle.forwarding.specs.declared.reserved.Reserved.{Reserved}
 use Rattle.forwarding.specs.Evacuation.{Evacuation, IsGoing, area_past, front_of, size_of, wanted}
 use Rattle.forwarding.specs.Keeping.{address_reserved, header_kept}
+use Rattle.forwarding.specs.Left.{IsHeldUp, advances}
 use Rattle.forwarding.specs.Taken.{evac_machine, first_page, taken, told}
 use Rattle.forwarding.specs.Worked.{worked, copy, second, taken_by_another, header_lost, low_moved, front_moved, over_two_pages, header_alone, longest, longest_replies, words_before, words_after}
 
@@ -63,6 +65,13 @@ ReservesByExchange = (v : Evacuation) (reply : Reply) (to : ℕ) → address_res
     → (address_reserved v.stage ≡ Some to)
     ⊎ ((kept : KeptHeader) × (area : AreaWord) × (reply ≡ Won) × (v.stage ≡ Reserves kept area) × (to ≡ front_of v.layout v.epoch area)
     × (wanted v ≡ Some (Exchange (place v (Area (to_space v.epoch))) (encode_area area) (encode_area (area_past (size_of kept) area)))))
+
+-- ---- the steps left
+
+-- whatever words a step meets, its reply takes the machine on, where what is left falls, or is one of those that hold it up
+abbrev pub GoesOn : Type 0
+GoesOn = (v : Evacuation) (step : Step) (met : List ℕ) → wanted v ≡ Some step
+    → advances v.stage (reply_of step met) ≡ false → IsHeldUp v.stage (reply_of step met)
 
 -- ---- the copy, in order
 

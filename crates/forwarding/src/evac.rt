@@ -202,12 +202,13 @@ impl Evac {
         ensures state { self.new ≡ record self.old { stage = by_other_area kept area (decode_area word) } }
         ensures told { result ≡ Turn.More }
     {
-        match AreaWord::read(word) {
-            Some(other) if other.front == area.front => self.goes_to(EvacStage::Reserves(
-                kept, other,
-            )),
-            Some(other) => self.goes_to(EvacStage::Announces(kept, other)),
-            None => self.goes_to(EvacStage::Reserves(kept, area)),
+        let Some(other) = AreaWord::read(word) else {
+            return self.goes_to(EvacStage::Reserves(kept, area));
+        };
+        if other.front == area.front {
+            self.goes_to(EvacStage::Reserves(kept, other))
+        } else {
+            self.goes_to(EvacStage::Announces(kept, other))
         }
     }
 

@@ -1,6 +1,6 @@
 //! What holds of the machine by its table. Each function here does nothing: its contract is what is proved.
 
-ghost use Rattle.forwarding.specs.Theorems.{FollowsForwards, EndsBehindForwards, ReadsHeaders, TakesByExchange, AnnouncesFirst, ReservesByExchange, EachCopiesInOrder, IsWorkedOut};
+ghost use Rattle.forwarding.specs.Theorems.{FollowsForwards, GoesOn, EndsBehindForwards, ReadsHeaders, TakesByExchange, AnnouncesFirst, ReservesByExchange, EachCopiesInOrder, IsWorkedOut};
 
 /// A small heap, worked out by hand: the copy's steps and the words after it, a second copy, another worker's copy, each
 /// exchange lost, a copy over two pages, and the shortest and the longest record.
@@ -22,4 +22,9 @@ pub fn one_copy_is_found()
 /// the forward is stored.
 pub fn copies_are_made_in_order()
     ensures { EachCopiesInOrder }
+{}
+
+/// Nothing but a lost exchange and another worker's copy of the record holds the machine up, whatever words its steps meet.
+pub fn copies_go_on()
+    ensures { GoesOn }
 {}

@@ -20,7 +20,7 @@ mod to;
 pub use evac::Evac;
 pub use evac_stage::EvacStage;
 pub use kept_header::KeptHeader;
-pub use laws::{copies_are_made_in_order, one_copy_is_found, worked_copy_is_made};
+pub use laws::{copies_are_made_in_order, copies_go_on, one_copy_is_found, worked_copy_is_made};
 pub use loaded_word::LoadedWord;
 pub use reserved::Reserved;
 pub use to::To;

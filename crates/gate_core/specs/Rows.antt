@@ -1,11 +1,11 @@
 -- Worked rows of the gate and the flip, in a heap of 4 pages a space: each step with its reply, words as numbers.
-use Rattle.std.specs.Prelude.{◌++◌, List, [], ◌∷◌, true, false}
+use Rattle.std.specs.Prelude.{List, [], ◌∷◌}
 use Rattle.atom_store.specs.declared.step.Step.{Step}
 use Rattle.atom_store.specs.declared.step.Step.TheVariants.{Load, Store, Exchange}
 use Rattle.atom_store.specs.declared.reply.Reply.{Reply}
 use Rattle.atom_store.specs.declared.reply.Reply.TheVariants.{Value, Done, Won, Lost}
 use Rattle.atom_store.specs.Machine.{ComesTo}
-use Rattle.space_map.specs.Spaces.{Layout}
+use Rattle.space_map.specs.Worked.{four_pages}
 use Rattle.gate_core.specs.declared.passage.Passage.{Passage}
 use Rattle.gate_core.specs.declared.passage.Passage.TheVariants.{Look, Attach, Park, Request, Resume, Forwarded, Leave}
 use Rattle.gate_core.specs.declared.passed.Passed.{Passed}
@@ -14,9 +14,6 @@ use Rattle.gate_core.specs.declared.flipped.Flipped.{Flipped}
 use Rattle.gate_core.specs.declared.flipped.Flipped.TheVariants as flipped
 use Rattle.gate_core.specs.Gate.{begun, gate_machine}
 use Rattle.gate_core.specs.Flip as flip
-
-abbrev pub four_pages : Layout
-four_pages = record { pages = 4 }
 
 -- a passage of the gate makes these steps, and comes to this
 abbrev pub Passes : Passage → List (Step × Reply) → Passed → Type 0

@@ -7,3 +7,4 @@ pub mod Pages
 pub mod Boards
 pub mod WorkedOut
 pub mod WorkedPacked
+pub mod GoingOn

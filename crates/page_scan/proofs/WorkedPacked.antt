@@ -1,47 +1,47 @@
--- On the worked filling page records lie packed.
-use Rattle.std.proofs.Common.{IsTrue, ◌≡◌, ℕ, zero, suc, ◌+◌, ◌<◌, ◌≤◌, refl, arith, lit≤, lit<}
+-- On the worked pages records lie packed.
+use Rattle.std.proofs.Common.{◌≡◌, ℕ, zero, suc, ◌+◌, ◌<◌, ◌≤◌, IsTrue, true, false, List, refl, arith, lit≤, lit<}
 use Rattle.heap_words.specs.Decoded.{decode}
 use Rattle.heap_words.specs.FirstWords.{is_header}
 use Rattle.heap_words.specs.Word.{tag_of}
 use Rattle.space_map.specs.AreaWord.{decode_area, area_in}
 use Rattle.space_map.specs.Table.{place_of}
-use Rattle.page_scan.specs.Answering.{crossing_in, heap_in}
-use Rattle.page_scan.specs.Fields.{begins}
-use Rattle.page_scan.specs.Theorems.{WorkedIsPacked}
 use Rattle.space_map.specs.Worked.{four_pages}
-use Rattle.page_scan.specs.Worked.{words_with}
+use Rattle.page_scan.specs.Answering.{IsPacked, crossing_in, heap_in}
+use Rattle.page_scan.specs.Fields.{begins}
+use Rattle.page_scan.specs.Theorems.{WorkedArePacked}
+use Rattle.page_scan.specs.Worked.{full_words_with, words_with}
 use Rattle.page_scan.proofs.Packed.{begins-le}
 
-abbrev heap : ℕ → ℕ
-heap x = heap_in four_pages (words_with 0x301) x
+-- where the record of this number begins on a page
+abbrev at : List ℕ → (page : ℕ) → ℕ → ℕ
+at words page n = begins (heap_in four_pages words) (crossing_in four_pages words page) n
 
-abbrev from : ℕ
-from = crossing_in four_pages (words_with 0x301) 4
+abbrev HasHeader : List ℕ → (page : ℕ) → ℕ → Type 0
+HasHeader words page n = IsTrue (is_header (decode (heap_in four_pages words (at words page n))))
 
-from_is : from ≡ 256
-unfolding place_of words_with
-from_is = refl
+-- behind the last record none begins below FRONT
+none_behind : (words : List ℕ) (page last n front : ℕ) → at words page last ≡ front → last ≤ n → at words page n < front → ⊥
+none_behind words page last n front is behind below =
+    let least = begins-le (heap_in four_pages words) (crossing_in four_pages words page) front last n behind in omega arith
 
-second : begins heap from 1 ≡ 259
+-- ---- the filling page
+
+behind_first : at (words_with 0x301) 4 1 ≡ 259
 unfolding begins decode tag_of place_of words_with
-second = refl
+behind_first = refl
 
--- only the first record begins below FRONT
-none_more : (n : ℕ) → begins heap from (suc n) < 259 → ⊥
-none_more n below = let least = begins-le heap from 259 1 (suc n) (omega arith) in let is = second in omega arith
-
-headers : (n : ℕ) → begins heap from n < 259 → IsTrue (is_header (decode (heap (begins heap from n))))
+filling_headers : (n : ℕ) → at (words_with 0x301) 4 n < 259 → HasHeader (words_with 0x301) 4 n
 unfolding begins decode tag_of place_of words_with
-headers zero below = refl
-headers (suc n) below = absurd (none_more n below)
+filling_headers zero below = refl
+filling_headers (suc n) below = absurd (none_behind (words_with 0x301) 4 1 (suc n) 259 behind_first (omega arith) below)
 
-packed : (n : ℕ) → begins heap from n < 259 → begins heap from (n + 1) ≤ 259
-packed zero below = let is = second in omega arith
-packed (suc n) below = absurd (none_more n below)
+filling_packed : (n : ℕ) → at (words_with 0x301) 4 n < 259 → at (words_with 0x301) 4 (n + 1) ≤ 259
+filling_packed zero below = let is = behind_first in omega arith
+filling_packed (suc n) below = absurd (none_behind (words_with 0x301) 4 1 (suc n) 259 behind_first (omega arith) below)
 
-pub worked_is_packed : WorkedIsPacked
+filling_page : IsPacked four_pages 4 1 true (words_with 0x301) 259
 unfolding decode_area area_in place_of words_with
-worked_is_packed = record {
+filling_page = record {
   whole = lit≤ tt;
   in_space = lit< tt;
   area = record { front = 3; low = 256; owed = 61 };
@@ -49,9 +49,50 @@ worked_is_packed = record {
   front_is = refl;
   inside = lit≤ tt;
   over = lit≤ tt;
-  reaches = let is = second in omega arith;
+  reaches = let is = behind_first in omega arith;
   below = lit< tt;
-  headers = headers;
-  packed = packed;
+  headers = filling_headers;
+  packed = filling_packed;
   full = λ is. absurd (cc);
 }
+
+-- ---- the full page
+
+behind_second : at (full_words_with 0x301) 5 2 ≡ 422
+unfolding begins decode tag_of place_of full_words_with
+behind_second = refl
+
+second : at (full_words_with 0x301) 5 1 ≡ 321
+unfolding begins decode tag_of place_of full_words_with
+second = refl
+
+full_headers : (n : ℕ) → at (full_words_with 0x301) 5 n < 422 → HasHeader (full_words_with 0x301) 5 n
+unfolding begins decode tag_of place_of full_words_with
+full_headers zero below = refl
+full_headers (suc zero) below = refl
+full_headers (suc (suc n)) below = absurd (none_behind (full_words_with 0x301) 5 2 (suc (suc n)) 422 behind_second (omega arith) below)
+
+full_packed : (n : ℕ) → at (full_words_with 0x301) 5 n < 422 → at (full_words_with 0x301) 5 (n + 1) ≤ 422
+full_packed zero below = let is = second in omega arith
+full_packed (suc zero) below = let is = behind_second in omega arith
+full_packed (suc (suc n)) below = absurd (none_behind (full_words_with 0x301) 5 2 (suc (suc n)) 422 behind_second (omega arith) below)
+
+full_page : IsPacked four_pages 5 1 false (full_words_with 0x301) 422
+unfolding decode_area area_in place_of full_words_with
+full_page = record {
+  whole = lit≤ tt;
+  in_space = lit< tt;
+  area = record { front = 166; low = 256; owed = 0 };
+  says = refl;
+  front_is = refl;
+  inside = lit≤ tt;
+  over = lit≤ tt;
+  reaches = let is = second in omega arith;
+  below = lit< tt;
+  headers = full_headers;
+  packed = full_packed;
+  full = λ is. lit≤ tt;
+}
+
+pub worked_are_packed : WorkedArePacked
+worked_are_packed = record { filling_page = filling_page; full_page = full_page }

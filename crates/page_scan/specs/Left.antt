@@ -1,5 +1,5 @@
 -- How many steps the scan of a page has left.
-use Rattle.std.specs.Prelude.{ℕ, ◌+◌, ◌-◌, ◌*◌, Bool, true, false, is_some}
+use Rattle.std.specs.Prelude.{◌≡◌, ℕ, ◌+◌, ◌-◌, ◌*◌, Bool, true, false, None, is_some}
 use Rattle.atom_store.specs.declared.reply.Reply.{Reply}
 use Rattle.atom_store.specs.declared.reply.Reply.TheVariants.{Value, Done}
 use Rattle.heap_words.specs.Decoded.{decode}
@@ -33,3 +33,10 @@ advances (StoresCopy asked to) Done = true
 advances (LoadsFront r) (Value w) = is_some (decode_area w)
 advances (LoadsNext r) (Value w) = is_header (decode w)
 advances _ _ = false
+
+-- what alone holds the scan up: a word that can't be there
+abbrev pub IsHeldUp : ScanStage → Reply → Type 0
+IsHeldUp (LoadsFirst at) (Value w) = is_header (decode w) ≡ false
+IsHeldUp (LoadsFront r) (Value w) = decode_area w ≡ None
+IsHeldUp (LoadsNext r) (Value w) = is_header (decode w) ≡ false
+IsHeldUp _ _ = ⊥

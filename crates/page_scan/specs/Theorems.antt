@@ -2,6 +2,7 @@
 use Rattle.std.specs.Prelude.{◌≡◌, ℕ, ◌+◌, ◌≤◌, ◌↔◌, ⊤, Bool, true, false, List, Some, length}
 use Rattle.atom_store.specs.Machine.{ComesTo}
 use Rattle.atom_store.specs.Runs.{Working, alone}
+use Rattle.atom_store.specs.Step.{reply_of}
 use Rattle.atom_store.specs.declared.reply.Reply.{Reply}
 use Rattle.atom_store.specs.declared.reply.Reply.TheVariants.{Value}
 use Rattle.atom_store.specs.declared.step.Step.{Step}
@@ -23,10 +24,11 @@ use Rattle.page_scan.specs.declared.scanned_record.ScannedRecord.{ScannedRecord}
 use Rattle.page_scan.specs.declared.spot.Spot.{Spot}
 use Rattle.page_scan.specs.Answering.{IsPacked, ReplacesPointers, answering, crossing_in, heap_in}
 use Rattle.page_scan.specs.Fields.{IsFieldOn, IsOnBoard}
+use Rattle.page_scan.specs.Left.{IsHeldUp, advances}
 use Rattle.page_scan.specs.Scanning.{Scanning, HasStep, address_of, begun, wanted}
 use Rattle.page_scan.specs.Soundness.{IsSound}
 use Rattle.page_scan.specs.Taken.{answered, is_old, scan_end, scan_machine, taken, told}
-use Rattle.page_scan.specs.Worked.{answered_after, board, board_loads, board_asks, board_goes_on, filling, filling_asks, filling_goes_on, full, full_loads, words_with}
+use Rattle.page_scan.specs.Worked.{answered_after, board, board_loads, board_asks, board_goes_on, filling, filling_asks, filling_goes_on, full, full_loads, full_words_with, words_with}
 
 -- ---- one step of a scan
 
@@ -74,11 +76,17 @@ pub record EndsAt (v : Scanning) (reply : Reply) (ending : Ending) : Type 0 wher
 abbrev pub EndsInPlace : Type 0
 EndsInPlace = (v : Scanning) (reply : Reply) (ending : Ending) → IsSound v → HasStep v.stage → (taken v reply).stage ≡ Ended ending → EndsAt v reply ending
 
+-- whatever words a step meets, its reply takes the scan on, where what is left falls, or the word is one that can't be there
+abbrev pub GoesOn : Type 0
+GoesOn = (v : Scanning) (step : Step) (met : List ℕ) → wanted v ≡ Some step
+    → advances v.stage (reply_of step met) ≡ false → IsHeldUp v.stage (reply_of step met)
+
 -- ---- a scan that nobody disturbs
 
--- the worked filling page is one over whose words records lie packed
-abbrev pub WorkedIsPacked : Type 0
-WorkedIsPacked = IsPacked four_pages 4 1 true (words_with 0x301) 259
+-- on the worked pages, the filling one and the full one, records lie packed
+pub record WorkedArePacked : Type 0 where
+  pub filling_page : IsPacked four_pages 4 1 true (words_with 0x301) 259
+  pub full_page : IsPacked four_pages 5 1 false (full_words_with 0x301) 422
 
 -- after so many steps, answered at once
 abbrev pub after_steps : (answer : ℕ → ℕ) → ℕ → Scanning → List ℕ → Working Scanning
@@ -117,3 +125,5 @@ pub record IsWorkedOut : Type 0 where
   pub on_full : ComesTo scan_machine full full_loads (comes_to.Ended false)
   pub words : alone scan_machine 2 (answered_over (alone scan_machine 4 (record { machine = filling; words = words_with 0x301 })) 256)
       ≡ record { machine = record filling { stage = Ended (record { cursor = 259; at_front = true }) }; words = words_with 0x401 }
+  pub full_words : after_steps (λ old. 256) 5 full (full_words_with 0x301)
+      ≡ record { machine = record full { stage = Ended (record { cursor = 422; at_front = false }) }; words = full_words_with 0x401 }

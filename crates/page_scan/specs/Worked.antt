@@ -70,7 +70,7 @@ full_loads =
 abbrev pub answered_after : Scanning → List (Step × Reply) → ℕ → Scanning
 answered_after v rows to = answered (after_replies scan_machine v (replies_in rows)) to
 
--- a table of four pages a space with the copied record, whose second field leads to this word
+-- a table of four pages a space with the record on page 4, whose second field is this word
 unfoldable pub words_with : ℕ → List ℕ
 words_with field =
     with_words
@@ -80,5 +80,19 @@ words_with field =
     ∷ (33 + 256, 0x0000_0000_0001_0022)
     ∷ (33 + 257, 0x1c)
     ∷ (33 + 258, field)
+    ∷ [])
+    (replicate 633 0)
+
+-- one with the records of page 5, of which the first has this word on the page; FRONT is 422, and a word of the raw record is a
+-- number that looks like a pointer
+unfoldable pub full_words_with : ℕ → List ℕ
+full_words_with field =
+    with_words
+    ((5, 0x0000_0000_0400_00a6)
+    ∷ (25 + 5, 318)
+    ∷ (33 + 318, 0x0000_0000_0001_0022)
+    ∷ (33 + 320, field)
+    ∷ (33 + 321, 0x0000_0000_0002_0646)
+    ∷ (33 + 330, 0x301)
     ∷ [])
     (replicate 633 0)

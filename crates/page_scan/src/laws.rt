@@ -1,6 +1,6 @@
 //! What holds of the machine by its table. Each function here does nothing: its contract is what is proved.
 
-ghost use Rattle.page_scan.specs.Theorems.{AsksAtWords, AsksOfPointers, CursorRises, EndsInPlace, IsWorkedOut, ScansBoards, ScansPages, StoresOnlyAnswers, WorkedIsPacked};
+ghost use Rattle.page_scan.specs.Theorems.{AsksAtWords, AsksOfPointers, CursorRises, EndsInPlace, GoesOn, IsWorkedOut, ScansBoards, ScansPages, StoresOnlyAnswers, WorkedArePacked};
 
 /// A small heap, worked out by hand: scans of the board, of the filling page, and of a full page over whose first word a
 /// record lies that begins on the page before.
@@ -23,5 +23,10 @@ pub fn each_word_is_looked_at_once()
 pub fn pages_are_scanned()
     ensures pages { ScansPages }
     ensures boards { ScansBoards }
-    ensures some_page { WorkedIsPacked }
+    ensures some_pages { WorkedArePacked }
+{}
+
+/// Nothing holds a scan up but a word that can't be there, whatever words its steps meet.
+pub fn scans_go_on()
+    ensures { GoesOn }
 {}

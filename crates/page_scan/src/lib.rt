@@ -21,7 +21,9 @@ mod spot;
 
 pub use asked::Asked;
 pub use ending::Ending;
-pub use laws::{each_word_is_looked_at_once, pages_are_scanned, worked_pages_are_scanned};
+pub use laws::{
+    each_word_is_looked_at_once, pages_are_scanned, scans_go_on, worked_pages_are_scanned,
+};
 pub use scan::Scan;
 pub use scan_stage::ScanStage;
 pub use scanned::Scanned;

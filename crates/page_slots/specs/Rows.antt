@@ -7,13 +7,10 @@ use Rattle.atom_store.specs.declared.reply.Reply.{Reply}
 use Rattle.atom_store.specs.declared.reply.Reply.TheVariants as reply
 use Rattle.atom_store.specs.Machine.{ComesTo}
 use Rattle.space_map.specs.declared.page_word.PageWord.TheVariants as page_word
-use Rattle.space_map.specs.Spaces.{Layout}
+use Rattle.space_map.specs.Worked.{four_pages}
 use Rattle.page_slots.specs.declared.claimed.Claimed.TheVariants as claimed
 use Rattle.page_slots.specs.Claim.{Claiming, begun, claim_machine}
 use Rattle.page_slots.specs.Open as opening
-
-abbrev pub four_pages : Layout
-four_pages = record { pages = 4 }
 
 -- page 4, the first of space 1, claimed by worker 3 in epoch 1 when nobody has opened it yet
 abbrev pub claim_of_page_4 : Claiming

@@ -46,7 +46,7 @@ of_scan w a b less = record {
 pub still_back : (x : Held) (next : Stage) (back : Back) → FitsBack x back → FitsBack (at_stage x next) back
 still_back x next (ToAccess a) own = own
 still_back x next ToPlace own = tt
-still_back x next ToScanner own = tt
+still_back x next ToScanner own = own
 
 module _ (x : Held) (v : Scanning) (back : Back) where
   -- the worker whose scan comes to a stage

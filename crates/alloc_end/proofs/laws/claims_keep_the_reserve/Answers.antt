@@ -1,4 +1,4 @@
-use Rattle.alloc_end.proofs.Reserving.{claims, loses}
+use Rattle.alloc_end.proofs.Reserving.{looks_at_traced, claims, loses}
 use Rattle.alloc_end.proofs.laws.claims_keep_the_reserve.Goals as goal
 
 pub returns-clause-claimed : goal.returns-clause-claimed
@@ -6,3 +6,6 @@ returns-clause-claimed c = claims
 
 pub returns-clause-lost : goal.returns-clause-lost
 returns-clause-lost c = loses
+
+pub returns-clause-traced : goal.returns-clause-traced
+returns-clause-traced c = looks_at_traced

@@ -1,3 +1,4 @@
+use Rattle.fault_duty.proofs.Choosing.{claims_for}
 use Rattle.fault_duty.proofs.Rounds.{marks, scans, scans_in_place}
 use Rattle.fault_duty.proofs.laws.rounds_claim_or_mark.Goals as goal
 
@@ -9,3 +10,6 @@ returns-clause-scan_page c = λ d before after page sound whole acts. scans d d.
 
 pub returns-clause-scan_in_place : goal.returns-clause-scan_in_place
 returns-clause-scan_in_place c = λ d before after page sound whole acts. scans_in_place d d.stage before after page sound whole acts
+
+pub returns-clause-claimed_for : goal.returns-clause-claimed_for
+returns-clause-claimed_for c = λ d before after claim sound acts is. claims_for d d.stage before claim sound is

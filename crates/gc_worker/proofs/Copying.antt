@@ -1,0 +1,4 @@
+pub mod Hosts
+pub mod Words
+pub mod Publishing
+pub mod Placing
