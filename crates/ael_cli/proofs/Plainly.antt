@@ -1,49 +1,70 @@
--- The headline, what `asm` prints, and completeness, from the answer and its cause.
-use Rattle.std.proofs.Common.{◌≡◌, ◌≤◌, ℕ, List, length, refl, ap, ◌∙◌, subst, inl, inr, arith}
+-- What holds of a call, from its answer and the answer's cause.
+use Rattle.std.proofs.Common.{◌≡◌, ℕ, List, ap, sym, ◌∙◌, subst, inl, inr, arith}
 use Rattle.std.specs.Prelude.{◌⊎◌, Option, Some}
 use Rattle.mutator_asm.specs.declared.instr.Instr.{Instr}
 use Rattle.mutator_asm.specs.declared.item.Item.{Item}
-use Rattle.mutator_asm.specs.Text.{IsText, IsFault}
+use Rattle.mutator_asm.specs.Text.{IsText}
 use Rattle.mutator_asm.specs.Theorems.{MeansOneProgram, MeansWellFormed, HasNoFault, ListsText}
 use Rattle.plain_heap.specs.Alone.{AlwaysTheSame}
-use Rattle.ael_cli.specs.declared.reading.TheConstants.{MAX_INPUT}
 use Rattle.ael_cli.specs.declared.job.Job.{Job}
 use Rattle.ael_cli.specs.declared.job.Job.TheVariants.{Asm, Sim}
+use Rattle.ael_cli.specs.declared.options.SimOptions.{SimOptions}
 use Rattle.ael_cli.specs.declared.status.Status.{Status}
 use Rattle.ael_cli.specs.declared.status.Status.TheVariants.{Done, Text, Usage, Ended, StepsOut, ReadFault, WriteFault, NoMemory, TooLong}
-use Rattle.ael_cli.specs.Answer.{IsJobDone, IsCaused, IsAnswer}
+use Rattle.ael_cli.specs.Answer.{IsCaused, Made, Refused, Unread, OutOfMemory, IsAnswer}
+use Rattle.ael_cli.specs.Call.{Call}
+use Rattle.ael_cli.specs.Emits.{Emits, AllWritten, OutFailed, BothFailed, ErrFailed}
 use Rattle.ael_cli.specs.Ends.{Drawn, Filled, IsFaultless}
-use Rattle.ael_cli.specs.Headline.{Emits, AllWritten, OutFailed, BothFailed, ErrFailed, IsAnswered, GoesWell, PrintsListing, PrintsPlainly, EndsAsOrdered, IsAlwaysTheSame}
-use Rattle.ael_cli.specs.Performing.{IsPerformed, status_for}
-use Rattle.ael_cli.specs.Simulation.{order_of, plain_of}
+use Rattle.ael_cli.specs.Headline.{Holds, IsAlwaysTheSame, IsAnswered, IsComplete, IsDone, PrintsListing, PrintsPlainly}
+use Rattle.ael_cli.specs.Jobs.{task_of}
+use Rattle.ael_cli.specs.ProgramTask.{HasFault, IsMadeOf, IsProgram}
+use Rattle.ael_cli.specs.Simulation.{IsSimulated, order_of, plain_of}
 use Rattle.ael_cli.specs.Status.{code_of}
 use Rattle.ael_cli.specs.Stream.{Grows}
+use Rattle.ael_cli.specs.Success.{Succeeds}
+use Rattle.ael_cli.specs.Task.{Reads, Nothing, Everything, IsGiven, IsInput, IsUnread}
 use Rattle.ael_cli.specs.Words.{job_of}
 use Rattle.ael_cli.proofs.Staying.{plain_count}
 
-module _ (one : MeansOneProgram) (no_fault : HasNoFault) (job : Job) (bytes : List ℕ) (items : List Item) (program : List (List Instr)) (text : IsText bytes program items) where
-  -- what is answered of a program
-  ran : (source : Drawn) (output : List ℕ) (status : Status) → source.left ≡ Some bytes → IsJobDone job source output status → IsPerformed job items program output status
-  ran source output status given r =
-      let all : r.bytes ≡ bytes = rw given at r.whole.all in
-      let its_text : IsText bytes r.code r.items = subst (λ bs. IsText bs r.code r.items) all r.text in
-      let same = one bytes r.code program r.items items its_text text in
-      rw (← same.0, ← same.1) r.performed
+-- ---- the input
 
-  -- what any answer is, where nothing failed
-  caused : (source : Drawn) (output : List ℕ) (status : Status) → source.left ≡ Some bytes → length bytes ≤ MAX_INPUT → IsFaultless source.before source.after
-      → IsCaused job source output status → IsPerformed job items program output status ⊎ (status ≡ NoMemory)
-  caused source output Done given within sound is = inl (ran source output Done given is)
-  caused source output Ended given within sound is = inl (ran source output Ended given is)
-  caused source output StepsOut given within sound is = inl (ran source output StepsOut given is)
-  caused source output (Text number line) given within sound is =
-      let its = rw given at is.1.whole.all in
-      absurd (no_fault bytes program items number line text (subst (λ bs. IsFault bs number line) its is.1.fault))
-  caused source output ReadFault given within sound is = absurd (sound is.1)
-  caused source output TooLong given within sound is = let past = rw given at is.1 in absurd (omega (arith, within, past))
-  caused source output NoMemory given within sound is = inr refl
-  caused source output Usage given within sound is = absurd is
-  caused source output WriteFault given within sound is = absurd is
+-- the input is what the source tells
+input_is : (reads : Reads) (source : Drawn) (bytes own : List ℕ) → IsGiven reads source bytes → IsInput reads source own → own ≡ bytes
+input_is Nothing source bytes own given input = input ∙ sym given
+input_is Everything source bytes own given input = rw given.0 at input.all
+
+-- an input that is told, where no read fails, is read
+is_read : {A : Type 0} (reads : Reads) (source : Drawn) (bytes : List ℕ) (status : Status) → IsGiven reads source bytes → IsFaultless source.before source.after
+    → IsUnread reads source status → A
+is_read Nothing source bytes status given sound unread = absurd unread
+is_read Everything source bytes ReadFault given sound unread = absurd (sound unread)
+is_read Everything source bytes TooLong given sound unread = let past = rw given.0 at unread in let within = given.1 in absurd (omega (arith, within, past))
+is_read Everything source bytes Done given sound unread = absurd unread
+is_read Everything source bytes (Text number line) given sound unread = absurd unread
+is_read Everything source bytes Usage given sound unread = absurd unread
+is_read Everything source bytes Ended given sound unread = absurd unread
+is_read Everything source bytes StepsOut given sound unread = absurd unread
+is_read Everything source bytes WriteFault given sound unread = absurd unread
+is_read Everything source bytes NoMemory given sound unread = absurd unread
+
+-- the text of a program has no fault
+not_refused : {A : Type 0} → HasNoFault → (bytes : List ℕ) (status : Status) → IsProgram bytes → HasFault bytes status → A
+not_refused no_fault bytes (Text number line) right fault = absurd (no_fault bytes right.program right.items number line right.text fault)
+not_refused no_fault bytes Done right fault = absurd fault
+not_refused no_fault bytes Usage right fault = absurd fault
+not_refused no_fault bytes Ended right fault = absurd fault
+not_refused no_fault bytes StepsOut right fault = absurd fault
+not_refused no_fault bytes ReadFault right fault = absurd fault
+not_refused no_fault bytes WriteFault right fault = absurd fault
+not_refused no_fault bytes NoMemory right fault = absurd fault
+not_refused no_fault bytes TooLong right fault = absurd fault
+
+-- a right input is not refused
+is_taken : {A : Type 0} → HasNoFault → (job : Job) (bytes : List ℕ) (status : Status) → (task_of job).IsRight bytes → (task_of job).Refuses bytes status → A
+is_taken no_fault Asm bytes status right fault = not_refused no_fault bytes status right fault
+is_taken no_fault (Sim options) bytes status right fault = not_refused no_fault bytes status right fault
+
+-- ---- the output
 
 -- what was written, where no sink failed
 written : (output : List ℕ) (status final : Status) (out err : Filled) → IsFaultless out.before out.after → IsFaultless err.before err.after
@@ -57,48 +78,68 @@ answered : (asked : Option Job) (job : Job) (source : Drawn) (output : List ℕ)
     → IsAnswer asked source output status → IsCaused job source output status
 answered asked job source output status is_job is = rw is_job at is
 
-status_is : (job : Job) (items : List Item) (program : List (List Instr)) (output : List ℕ) (status : Status) → IsPerformed job items program output status → status ≡ status_for job items program
-status_is Asm items program output status performed = performed.1
-status_is (Sim options) items program output status performed = performed.status_is
+-- what is made of a text is made of its program
+of_program : {Makes : List (List Instr) → List Item → List ℕ → Status → Type 0} → MeansOneProgram → (bytes : List ℕ) (program : List (List Instr)) (items : List Item) (output : List ℕ) (status : Status)
+    → IsText bytes program items → IsMadeOf Makes bytes output status → Makes program items output status
+of_program {Makes} one bytes program items output status text made =
+    let same = one bytes made.program program made.items items made.text text in
+    rw (← same.0, ← same.1) made.made
 
-module _ (one : MeansOneProgram) (no_fault : HasNoFault) (words : List (List ℕ)) (source : Drawn) (out err : Filled) (code : ℕ) (a : IsAnswered words source out err code) where
-  -- the answer is that of the job and is written whole, or there was no memory
-  went : (job : Job) (items : List Item) (program : List (List Instr)) → GoesWell words source out err job items program
-      → (IsPerformed job items program a.output a.status ⊎ (a.status ≡ NoMemory)) × (code ≡ code_of a.status) × Grows out.held a.output out.holds
-  went job items program well =
-      let w = written a.output a.status a.final out err well.printed well.told a.emitted in
-      let is = answered (job_of words) job source a.output a.status well.asked a.answer in
-      (caused one no_fault job well.bytes items program well.text source a.output a.status well.given well.within well.read is, a.code_is ∙ ap code_of w.0, w.1)
+module _ (one : MeansOneProgram) (no_fault : HasNoFault) (call : Call) (a : IsAnswered call) where
+  -- the job is done, or there was no memory
+  pub is_complete : IsComplete call
+  is_complete job bytes well = by (written a.output a.status a.final call.out call.err well.printed well.told a.emitted)
+      (answered (job_of call.words) job call.source a.output a.status well.asked a.answer)
+    where
+      by : (a.final ≡ a.status) × Grows call.out.held a.output call.out.holds → IsCaused job call.source a.output a.status → IsDone call job bytes ⊎ (call.code ≡ 7)
+      by all (Made own input made) = inl (record {
+        output = a.output;
+        status = a.status;
+        made = subst (λ bs. (task_of job).Makes bs a.output a.status) (input_is (task_of job).reads call.source bytes own well.given input) made;
+        printed = all.1;
+        code_is = a.code_is ∙ ap code_of all.0;
+      })
+      by all (Refused own input refused silent) =
+          let its = subst (λ bs. (task_of job).Refuses bs a.status) (input_is (task_of job).reads call.source bytes own well.given input) refused in
+          is_taken no_fault job bytes a.status well.right its
+      by all (Unread unread silent) = is_read (task_of job).reads call.source bytes a.status well.given well.read unread
+      by all (OutOfMemory wanting silent) = inr (a.code_is ∙ ap code_of (all.0 ∙ wanting))
 
-  pub prints_plainly : PrintsPlainly words source out err code
-  prints_plainly options items program well memory =
-      let w = went (Sim options) items program well in
-      elim w.0 [
-        | inl simulated ↦ (subst (λ output. Grows out.held output out.holds) simulated.prints w.2, simulated.acts)
-        | inr none ↦ absurd (memory (w.1 ∙ ap code_of none))
-      ]
+  -- where memory was not wanting, it is done
+  done : (job : Job) (program : List (List Instr)) (items : List Item) (s : Succeeds call job program items) → IsDone call job s.bytes
+  done job program items s = elim (is_complete job s.bytes s.well) [ inl is ↦ is | inr none ↦ absurd (s.memory none) ]
 
-  pub prints_listing : MeansWellFormed → ListsText → PrintsListing words source out err code
-  prints_listing well_formed lists items program well memory =
-      let w = went Asm items program well in
-      let text = lists program items (well_formed well.bytes program items well.text) in
-      elim w.0 [
-        | inl listed ↦ (subst (λ output. Grows out.held output out.holds) listed.0 w.2, text)
-        | inr none ↦ absurd (memory (w.1 ∙ ap code_of none))
-      ]
+  simulated : (options : SimOptions) (program : List (List Instr)) (items : List Item) (s : Succeeds call (Sim options) program items)
+      → ((d : IsDone call (Sim options) s.bytes) × IsSimulated options program items d.output d.status)
+  simulated options program items s =
+      let d = done (Sim options) program items s in
+      (d, of_program one s.bytes program items d.output d.status s.text d.made)
 
-  pub ends_as_ordered : EndsAsOrdered words source out err code
-  ends_as_ordered job items program well =
-      let w = went job items program well in
-      elim w.0 [
-        | inl performed ↦ inl (w.1 ∙ ap code_of (status_is job items program a.output a.status performed))
-        | inr none ↦ inr (w.1 ∙ ap code_of none)
-      ]
+  pub prints_plainly : PrintsPlainly call
+  prints_plainly options program items s =
+      let d = simulated options program items s in
+      record { prints = subst (λ output. Grows call.out.held output call.out.holds) d.1.prints d.0.printed; acts = d.1.acts }
 
-  pub is_always_the_same : AlwaysTheSame → IsAlwaysTheSame words source out err code
-  is_always_the_same same options items program well memory shares_nothing = record {
-    mutators = (plain_of options items program).mutators;
-    all = plain_count program options.turns (order_of options items program);
-    printed = (prints_plainly options items program well memory).0;
-    alone = λ m k at. same program options.turns (order_of options items program) m k shares_nothing at;
+  pub prints_listing : MeansWellFormed → ListsText → PrintsListing call
+  prints_listing well_formed lists program items s =
+      let d = done Asm program items s in
+      let listed = of_program one s.bytes program items d.output d.status s.text d.made in
+      (subst (λ output. Grows call.out.held output call.out.holds) listed.listed d.printed, lists program items (well_formed s.bytes program items s.text))
+
+  pub is_always_the_same : AlwaysTheSame → IsAlwaysTheSame call
+  is_always_the_same same options program items s shares_nothing = record {
+    mutators = (plain_of options program items).mutators;
+    all = plain_count program options.turns (order_of options program items);
+    prints = (prints_plainly options program items s).prints;
+    alone = λ m k at. same program options.turns (order_of options program items) m k shares_nothing at;
   }
+
+-- all that holds of a call
+pub holds : MeansOneProgram → HasNoFault → MeansWellFormed → ListsText → AlwaysTheSame → (call : Call) → IsAnswered call → Holds call
+holds one no_fault well_formed lists same call a = record {
+  answered = a;
+  complete = is_complete one no_fault call a;
+  prints = prints_plainly one no_fault call a;
+  lists = prints_listing one no_fault call a well_formed lists;
+  always_the_same = is_always_the_same one no_fault call a same;
+}

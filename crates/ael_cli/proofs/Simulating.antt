@@ -8,13 +8,13 @@ use Rattle.mutator_asm.specs.declared.item.Item.{Item}
 use Rattle.plain_heap.specs.declared.mark.Mark.{Mark}
 use Rattle.plain_heap.specs.Print.{lines_from, order_line}
 use Rattle.gc_core.specs.Configuration.{Mutator, CoreState}
-use Rattle.gc_core.specs.Run.{all_ended}
+use Rattle.gc_core.specs.Run.{Ran, all_ended}
 use Rattle.gc_core.specs.Whole.{Seen, seen_of, plain_seen, Follows}
 use Rattle.ael_cli.specs.declared.status.Status.{Status}
 use Rattle.ael_cli.specs.declared.status.Status.TheVariants.{Done, Ended, StepsOut}
-use Rattle.ael_cli.specs.declared.job.SimOptions.{SimOptions}
+use Rattle.ael_cli.specs.declared.options.SimOptions.{SimOptions}
 use Rattle.ael_cli.specs.Seen.{lines_seen, has_ended, has_halted, status_seen}
-use Rattle.ael_cli.specs.Simulation.{config, run_of, order_of, plain_of, flag_lines, IsSimulated}
+use Rattle.ael_cli.specs.Simulation.{run_of, order_of, plain_of, flag_lines, IsSimulated}
 
 list_all-map : {A B : Type 0} (p : B → Bool) (f : A → B) (xs : List A) → list_all p (map f xs) ≡ list_all (λ x. p (f x)) xs
 list_all-map p f [] = refl
@@ -38,20 +38,22 @@ lines_seen-plain : (m : ℕ) (ks : List plain.Mutator) → lines_seen m (map (λ
 lines_seen-plain m [] = refl
 lines_seen-plain m (k ∷ ks) = rw (lines_seen-plain (m + 1) ks)
 
-flag_lines-same : (options : SimOptions) (order all : List Mark) → (options.order ≡ true → order ≡ all) → flag_lines options order ≡ flag_lines options all
-flag_lines-same options order all kept = by_flag options.order kept where
-  by_flag : (b : Bool) → (b ≡ true → order ≡ all) → cond b (order_line order) [] ≡ cond b (order_line all) []
+flag_lines-same : (options : SimOptions) (order : List Mark) (ran : Ran) → (options.order ≡ true → order ≡ ran.order)
+    → flag_lines options (record { last = ran.last; order = order }) ≡ flag_lines options ran
+flag_lines-same options order ran kept = by_flag options.order kept where
+  by_flag : (b : Bool) → (b ≡ true → order ≡ ran.order) → cond b (order_line order) [] ≡ cond b (order_line ran.order) []
   by_flag true same = ap order_line (same refl)
   by_flag false same = refl
 
-pub simulated : (options : SimOptions) (items : List Item) (code : List (List Instr)) (last : CoreState) (order : List Mark) (output : List ℕ) (status : Status)
-    → Follows code (config options).turns (run_of options items code) → last ≡ (run_of options items code).last → (options.order ≡ true → order ≡ order_of options items code)
-    → output ≡ lines_seen 0 (seen_of last.configuration) ++ flag_lines options order → status ≡ status_seen (seen_of last.configuration)
-    → IsSimulated options items code output status
-simulated options items code last order output status follows is_last kept printed went =
-    let seen : seen_of last.configuration ≡ plain_seen (plain_of options items code) = rw is_last follows.seen in
+pub simulated : (options : SimOptions) (program : List (List Instr)) (items : List Item) (last : CoreState) (order : List Mark) (output : List ℕ) (status : Status)
+    → Follows program options.turns (run_of options program items) → last ≡ (run_of options program items).last → (options.order ≡ true → order ≡ order_of options program items)
+    → output ≡ lines_seen 0 (seen_of last.configuration) ++ flag_lines options (record { last = (run_of options program items).last; order = order })
+    → status ≡ status_seen (seen_of last.configuration)
+    → IsSimulated options program items output status
+simulated options program items last order output status follows is_last kept printed went =
+    let seen : seen_of last.configuration ≡ plain_seen (plain_of options program items) = rw is_last follows.seen in
     record {
-      prints = printed ∙ rw (seen, lines_seen-plain 0 (plain_of options items code).mutators, flag_lines-same options order (order_of options items code) kept) refl;
-      status_is = went ∙ ap status_seen seen;
+      prints = printed ∙ rw (seen, lines_seen-plain 0 (plain_of options program items).mutators, flag_lines-same options order (run_of options program items) kept) refl;
+      went = went ∙ ap status_seen seen;
       acts = follows.acts;
     }

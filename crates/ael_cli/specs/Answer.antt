@@ -1,44 +1,34 @@
--- What a command answers to the words and the input.
-use Rattle.std.specs.Prelude.{◌≡◌, ◌⊎◌, ℕ, List, [], Option, Some, None}
-use Rattle.mutator_asm.specs.declared.instr.Instr.{Instr}
-use Rattle.mutator_asm.specs.declared.item.Item.{Item}
-use Rattle.mutator_asm.specs.Text.{IsText, IsFault}
+-- What is answered to the words, and why.
+use Rattle.std.specs.Prelude.{◌≡◌, ◌⊎◌, ⊤, ℕ, List, [], Option, Some, None, Result, Ok, Err}
+use Rattle.simple_commands.specs.declared.parsing.WordsError.{WordsError}
+use Rattle.simple_commands.specs.declared.parsing.WordsError.TheVariants as words
 use Rattle.ael_cli.specs.declared.job.Job.{Job}
 use Rattle.ael_cli.specs.declared.status.Status.{Status}
-use Rattle.ael_cli.specs.declared.status.Status.TheVariants.{Done, Text, Usage, Ended, StepsOut, ReadFault, WriteFault, NoMemory, TooLong}
+use Rattle.ael_cli.specs.declared.status.Status.TheVariants.{Usage, NoMemory}
 use Rattle.ael_cli.specs.Ends.{Drawn}
-use Rattle.ael_cli.specs.Performing.{IsPerformed}
-use Rattle.ael_cli.specs.Input.{IsWhole, IsPastLimit}
-use Rattle.ael_cli.specs.Stream.{Rose}
+use Rattle.ael_cli.specs.Jobs.{task_of}
+use Rattle.ael_cli.specs.Task.{IsDrawn, IsInput, IsUnread}
 
--- the whole input, read to its end, is a text that means a program, and the output and the status are those of the job on it
-pub record IsJobDone (job : Job) (source : Drawn) (output : List ℕ) (status : Status) : Type 0 where
-  pub bytes : List ℕ
-  pub whole : IsWhole source.left source.rest bytes
-  pub code : List (List Instr)
-  pub items : List Item
-  pub text : IsText bytes code items
-  pub performed : IsPerformed job items code output status
+-- what was read of words that ask for a job, or for none
+abbrev pub IsAsked : Option Job → Result Job WordsError → Type 0
+IsAsked asked (Ok job) = asked ≡ Some job
+IsAsked asked (Err words.Refused) = asked ≡ None
+IsAsked asked (Err words.NoMemory) = ⊤
 
--- the whole input, read to its end, is a text with this fault
-pub record IsFaulty (source : Drawn) (number line : ℕ) : Type 0 where
-  pub bytes : List ℕ
-  pub whole : IsWhole source.left source.rest bytes
-  pub fault : IsFault bytes number line
-
--- the answer to a job: by its status, with its cause
-abbrev pub IsCaused : Job → Drawn → List ℕ → Status → Type 0
-IsCaused job source output Done = IsJobDone job source output Done
-IsCaused job source output Ended = IsJobDone job source output Ended
-IsCaused job source output StepsOut = IsJobDone job source output StepsOut
-IsCaused job source output (Text number line) = (output ≡ []) × IsFaulty source number line
-IsCaused job source output ReadFault = (output ≡ []) × Rose source.before source.after
-IsCaused job source output TooLong = (output ≡ []) × IsPastLimit source.left
-IsCaused job source output NoMemory = output ≡ []
-IsCaused job source output Usage = ⊥
-IsCaused job source output WriteFault = ⊥
+-- The answer to a job has one of four causes: it is what the job makes of its input; or the input is
+-- wrong, or could not be read, or memory was wanting, and then there is no output.
+pub data IsCaused (job : Job) (source : Drawn) (output : List ℕ) (status : Status) : Type 0 where
+  Made : (bytes : List ℕ) (input : IsInput (task_of job).reads source bytes) (made : (task_of job).Makes bytes output status) → IsCaused job source output status
+  Refused : (bytes : List ℕ) (input : IsInput (task_of job).reads source bytes) (refused : (task_of job).Refuses bytes status) (silent : output ≡ []) → IsCaused job source output status
+  Unread : (unread : IsUnread (task_of job).reads source status) (silent : output ≡ []) → IsCaused job source output status
+  OutOfMemory : (wanting : status ≡ NoMemory) (silent : output ≡ []) → IsCaused job source output status
 
 -- the answer to the words; where they are no command it is the usage, or there was no memory to read them
 abbrev pub IsAnswer : Option Job → Drawn → List ℕ → Status → Type 0
 IsAnswer None source output status = (output ≡ []) × ((status ≡ Usage) ⊎ (status ≡ NoMemory))
 IsAnswer (Some job) source output status = IsCaused job source output status
+
+-- how much is read for the words: nothing where they are no command
+abbrev pub IsDrawnFor : Option Job → Drawn → Type 0
+IsDrawnFor None source = source.rest ≡ source.left
+IsDrawnFor (Some job) source = IsDrawn (task_of job).reads source

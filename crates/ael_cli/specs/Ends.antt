@@ -1,5 +1,7 @@
 -- The ends of the program over a call: a source, and the sinks.
 use Rattle.std.specs.Prelude.{◌≡◌, ℕ, List, Option}
+use Rattle.ael_cli.specs.declared.sink.Sink as sinks
+use Rattle.ael_cli.specs.declared.source.Source as sources
 use Rattle.ael_cli.specs.Stream.{Rose, Grows, GrowsByPrefix}
 
 -- a source: what was to come and what is, and its counts of faults before and after
@@ -16,11 +18,12 @@ pub record Filled : Type 0 where
   pub before : ℕ
   pub after : ℕ
 
-abbrev pub drawn : {S : Type 0} → (S → Option (List ℕ)) → (S → ℕ) → S → S → Drawn
-drawn left faults old new = record { left = left old; rest = left new; before = faults old; after = faults new }
+-- what a call draws from a source, and what it fills into a sink, by the values before and after it
+abbrev pub drawn : {S : Type 0} → sources.Ghosts S → S → S → Drawn
+drawn g old new = record { left = g.left old; rest = g.left new; before = g.faults old; after = g.faults new }
 
-abbrev pub filled : {K : Type 0} → (K → Option (List ℕ)) → (K → ℕ) → K → K → Filled
-filled held faults old new = record { held = held old; holds = held new; before = faults old; after = faults new }
+abbrev pub filled : {K : Type 0} → sinks.Ghosts K → K → K → Filled
+filled g old new = record { held = g.held old; holds = g.held new; before = g.faults old; after = g.faults new }
 
 -- no fault was counted over a call
 abbrev pub IsFaultless : ℕ → ℕ → Type 0

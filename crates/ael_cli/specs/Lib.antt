@@ -1,11 +1,16 @@
 pub mod Answer
+pub mod Asm
+pub mod Call
 pub mod Coming
 pub mod CommandLine
+pub mod Emits
 pub mod Ends
 pub mod Headline
 pub mod Input
+pub mod Jobs
 pub mod Memory
-pub mod Performing
+pub mod Options
+pub mod ProgramTask
 pub mod Schedule
 pub mod Scheduler
 pub mod Seen
@@ -13,4 +18,7 @@ pub mod Simulation
 pub mod Standard
 pub mod Status
 pub mod Stream
+pub mod Success
+pub mod Sure
+pub mod Task
 pub mod Words

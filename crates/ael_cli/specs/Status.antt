@@ -8,16 +8,44 @@ use Rattle.ael_cli.specs.declared.reading.ReadError.TheVariants as reads
 use Rattle.ael_cli.specs.declared.status.Status.{Status}
 use Rattle.ael_cli.specs.declared.status.Status.TheVariants.{Done, Text, Usage, Ended, StepsOut, ReadFault, WriteFault, NoMemory, TooLong}
 
+-- how a status is told: the exit status, the line of standard error, and whether that line is made
+-- from numbers, for which memory may be wanting
+pub record Telling : Type 0 where
+  pub code : ℕ
+  pub line : List ℕ
+  pub is_made : Bool
+
+-- by the exit status alone
+abbrev pub silent : ℕ → Telling
+silent code = record { code = code; line = []; is_made = false }
+
+-- by a line that is always the same
+abbrev pub fixed : ℕ → List ℕ → Telling
+fixed code text = record { code = code; line = text ++ codes "\n"; is_made = false }
+
+-- by a line that is made from numbers
+abbrev pub numbered : ℕ → List ℕ → Telling
+numbered code text = record { code = code; line = codes "ael: " ++ text ++ codes "\n"; is_made = true }
+
+abbrev pub telling : Status → Telling
+telling Done = silent 0
+telling (Text number line) = numbered 1 (text_of_error (asm.Text number line))
+telling Usage = fixed 2 (codes "usage: ael asm, sim, run, concord or bench")
+telling Ended = silent 3
+telling StepsOut = fixed 4 (codes "ael: steps out")
+telling ReadFault = fixed 5 (codes "ael: read fault")
+telling WriteFault = fixed 6 (codes "ael: write fault")
+telling NoMemory = fixed 7 (codes "ael: out of memory")
+telling TooLong = fixed 8 (codes "ael: input too long")
+
 abbrev pub code_of : Status → ℕ
-code_of Done = 0
-code_of (Text number line) = 1
-code_of Usage = 2
-code_of Ended = 3
-code_of StepsOut = 4
-code_of ReadFault = 5
-code_of WriteFault = 6
-code_of NoMemory = 7
-code_of TooLong = 8
+code_of status = (telling status).code
+
+abbrev pub line_of : Status → List ℕ
+line_of status = (telling status).line
+
+abbrev pub is_made : Status → Bool
+is_made status = (telling status).is_made
 
 abbrev pub read_status : ReadError → Status
 read_status reads.Fault = ReadFault
@@ -27,20 +55,3 @@ read_status reads.NoMemory = NoMemory
 abbrev pub text_status : AsmError → Status
 text_status (asm.Text number line) = Text number line
 text_status asm.NoMemory = NoMemory
-
--- whether it tells of a text's fault
-abbrev pub is_text : Status → Bool
-is_text (Text number line) = true
-is_text _ = false
-
--- what standard error gets, which is nothing where all went well or the output says how it ended
-abbrev pub line_of : Status → List ℕ
-line_of Done = []
-line_of (Text number line) = codes "ael: " ++ text_of_error (asm.Text number line) ++ codes "\n"
-line_of Usage = codes "usage: ael asm, sim, run, concord or bench\n"
-line_of Ended = []
-line_of StepsOut = codes "ael: steps out\n"
-line_of ReadFault = codes "ael: read fault\n"
-line_of WriteFault = codes "ael: write fault\n"
-line_of NoMemory = codes "ael: out of memory\n"
-line_of TooLong = codes "ael: input too long\n"

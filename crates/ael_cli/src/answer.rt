@@ -2,7 +2,7 @@
 
 ghost use Rattle.std.specs.Prelude.{◌≡◌, ◌⊎◌, [], IfOk, OnErr, true};
 ghost use Rattle.std.specs.Cow.{cow_str_bytes};
-ghost use Rattle.ael_cli.specs.Status.{is_text, line_of};
+ghost use Rattle.ael_cli.specs.Status.{is_made, line_of};
 
 use crate::status::{NO_MEMORY, Status};
 use plain_heap::NoMemory;
@@ -23,7 +23,7 @@ impl Answer {
     /// The answer with this output, and with the line of the status.
     pub fn new(alloc: Global, output: Vec<u8>, status: Status) -> Result<Answer, NoMemory>
         ensures whole { IfOk result (λ answer. (answer.output.items ≡ output.items) × (answer.status ≡ status)) }
-        ensures spends { OnErr result (is_text status ≡ true) }
+        ensures spends { OnErr result (is_made status ≡ true) }
     {
         let line = status.line(alloc)?;
         Ok(Answer {
@@ -33,10 +33,10 @@ impl Answer {
         })
     }
 
-    /// An answer without output. Where there is no memory for the line of a text's fault, it tells that.
+    /// An answer without output. Where there is no memory to make the status's line, it tells that.
     pub fn failed(alloc: Global, status: Status) -> Answer
         ensures output { result.output.items ≡ [] }
-        ensures status { (result.status ≡ status) ⊎ ((result.status ≡ Status.NoMemory) × (is_text status ≡ true)) }
+        ensures status { (result.status ≡ status) ⊎ ((result.status ≡ Status.NoMemory) × (is_made status ≡ true)) }
     {
         match Answer::new(alloc, Vec::new(alloc), status) {
             Ok(answer) => answer,

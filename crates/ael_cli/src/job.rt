@@ -1,5 +1,7 @@
 //! What the words of the command line ask for.
 
+use crate::options::SimOptions;
+
 /// What a call of the program is to do.
 #[derive(Clone, Copy, Debug, PartialEq, Eq)]
 pub enum Job {
@@ -9,19 +11,16 @@ pub enum Job {
     Sim(SimOptions),
 }
 
-/// How a program is run, and what is printed besides.
-#[derive(Clone, Copy, Debug, PartialEq, Eq)]
-pub struct SimOptions {
-    /// The pages of a space.
-    pub pages: u32,
-    /// The scanners beside the mutators.
-    pub scanners: u32,
-    /// How many instructions a mutator may execute.
-    pub turns: u32,
-    /// How many steps the run may make.
-    pub steps: u32,
-    /// What the order of steps is drawn from, in place of the program's schedule.
-    pub seed: Option<u64>,
-    /// Whether the order of the run is printed.
-    pub order: bool,
+impl Job {
+    ghost use Rattle.std.specs.Prelude.{◌≡◌};
+    ghost use Rattle.ael_cli.specs.Jobs.{task_of};
+
+    /// Whether it waits for other threads.
+    pub fn waits(self) -> bool
+        ensures { result ≡ (task_of self).waits }
+    {
+        match self {
+            Job::Asm | Job::Sim(_) => false,
+        }
+    }
 }

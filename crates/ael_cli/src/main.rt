@@ -2,10 +2,12 @@
 #![tactic(auto)]
 
 mod answer;
+mod answering;
 mod asm;
 mod command_line;
 mod job;
 mod memory;
+mod options;
 mod reading;
 mod run;
 mod scheduler;

@@ -9,7 +9,7 @@ ghost use Rattle.gc_core.specs.Event.{event_of, core_after};
 ghost use Rattle.gc_core.specs.Run.{run_from, mark_of};
 ghost use Rattle.ael_cli.specs.Schedule.{schedule_of};
 
-use crate::job::SimOptions;
+use crate::options::SimOptions;
 use crate::scheduler::Scheduler;
 use gc_core::{Core, Stepped};
 use mutator_asm::Item;

@@ -2,14 +2,14 @@
 
 ghost use Rattle.std.specs.Prelude.{◌≡◌, ◌++◌, IfOk, OnOk, map, string_bytes};
 ghost use Rattle.std.specs.List.{list_all};
-ghost use Rattle.gc_core.specs.Configuration.{opening_core};
+ghost use Rattle.gc_core.specs.Configuration.{CoreState, opening_core};
 ghost use Rattle.gc_core.specs.Whole.{seen_of};
+ghost use Rattle.ael_cli.specs.Options.{AreInRange};
 ghost use Rattle.ael_cli.specs.Seen.{lines_seen, is_halt, has_halted, status_seen};
 ghost use Rattle.ael_cli.specs.Simulation.{config, flag_lines, IsSimulated};
-ghost use Rattle.ael_cli.specs.Words.{AreInRange};
 
 use crate::answer::Answer;
-use crate::job::SimOptions;
+use crate::options::SimOptions;
 use crate::run::run;
 use crate::status::Status;
 use gc_core::{Config, Core, OpenError, runs_follow};
@@ -66,9 +66,9 @@ fn all_halted(core: &Core) -> bool
     true
 }
 
-/// Adds the lines of the flags.
+/// Adds the lines of the flags, by the order of the run: they tell nothing of its last configuration.
 fn push_flags(output: &mut String, options: SimOptions, order: &[Mark]) -> Result<(), NoMemory>
-    ensures { OnOk result (string_bytes output.new ≡ string_bytes output.old ++ flag_lines options order.now) }
+    ensures { OnOk result ((last : CoreState) → string_bytes output.new ≡ string_bytes output.old ++ flag_lines options (record { last = last; order = order.now })) }
 {
     if options.order {
         push_order(output, order)?;
@@ -92,7 +92,7 @@ fn verdict(core: &Core) -> Status
 /// Runs a program, and prints what its mutators printed.
 pub fn sim(alloc: Global, program: &Program, options: SimOptions) -> Result<Answer, NoMemory>
     requires { AreInRange options }
-    ensures { IfOk result (λ answer. IsSimulated options program.now.schedule program.now.code answer.output.items answer.status) }
+    ensures { IfOk result (λ answer. IsSimulated options program.now.code program.now.schedule answer.output.items answer.status) }
 {
     runs_follow();
     let mut core = open(alloc, program, options)?;

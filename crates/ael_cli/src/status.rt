@@ -41,7 +41,7 @@ pub enum Status {
 impl Status {
     ghost use Rattle.std.specs.Prelude.{◌≡◌, IfOk, OnErr, true};
     ghost use Rattle.std.specs.Cow.{cow_str_bytes};
-    ghost use Rattle.ael_cli.specs.Status.{code_of, is_text, line_of};
+    ghost use Rattle.ael_cli.specs.Status.{code_of, is_made, line_of};
 
     /// The program's exit status.
     pub fn code(self) -> u8
@@ -60,11 +60,11 @@ impl Status {
         }
     }
 
-    /// The line that standard error gets, empty where it gets none. Only that of a text's fault
+    /// The line that standard error gets, empty where it gets none. Only one that is made from numbers
     /// takes memory.
     pub fn line(self, alloc: Global) -> Result<CowStr<'static, Global>, NoMemory>
         ensures line { IfOk result (λ line. cow_str_bytes line ≡ line_of self) }
-        ensures spends { OnErr result (is_text self ≡ true) }
+        ensures spends { OnErr result (is_made self ≡ true) }
     {
         let line = match self {
             Status::Done | Status::Ended => "",

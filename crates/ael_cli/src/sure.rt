@@ -1,14 +1,11 @@
 //! A source and a sink that never fail.
 
-ghost use Rattle.std.specs.Prelude.{◌≡◌, ◌<◌, ◌≤◌, ◌⊎◌, List, None, Some, length, map, string_bytes};
-ghost use Rattle.mutator_asm.specs.declared.instr.Instr.{Instr};
-ghost use Rattle.mutator_asm.specs.declared.item.Item.{Item};
-ghost use Rattle.mutator_asm.specs.Text.{IsText};
+ghost use Rattle.std.specs.Prelude.{◌≡◌, ◌<◌, ◌≤◌, ◌⊎◌, None, Some, length, map, string_bytes};
 ghost use Rattle.ael_cli.specs.declared.job.Job.{Job};
 ghost use Rattle.ael_cli.specs.declared.reading.TheConstants.{MAX_INPUT};
 ghost use Rattle.ael_cli.specs.declared.sink.Put.TheVariants as put;
-ghost use Rattle.ael_cli.specs.Performing.{status_for};
-ghost use Rattle.ael_cli.specs.Status.{code_of};
+ghost use Rattle.ael_cli.specs.Jobs.{task_of};
+ghost use Rattle.ael_cli.specs.Sure.{GoesAs};
 ghost use Rattle.ael_cli.specs.Words.{job_of};
 
 use crate::sink::{Put, Sink};
@@ -75,11 +72,11 @@ impl Sink for SureSink {
     }
 }
 
-/// The exit status of a call whose ends never fail.
+/// The exit status of a call whose ends never fail: how that goes which the job makes of a right
+/// input, or 7.
 pub fn sure_status<R>(rt: &R, alloc: Global, words: &[String], input: Vec<u8>) -> u8
-    ensures { (job : Job) (items : List Item) (program : List (List Instr)) → job_of (map string_bytes words.now) ≡ Some job
-        → length input.items ≤ MAX_INPUT → IsText input.items program items
-        → (result ≡ code_of (status_for job items program)) ⊎ (result ≡ 7) }
+    ensures { (job : Job) → job_of (map string_bytes words.now) ≡ Some job → length input.items ≤ MAX_INPUT → (task_of job).IsRight input.items
+        → GoesAs (task_of job) input.items result ⊎ (result ≡ 7) }
 {
     let mut src = SureSource::new(input);
     ael(rt, alloc, words, &mut src, &mut SureSink, &mut SureSink)

@@ -1,26 +1,22 @@
 //! The top call, which `main` calls with the real ends.
 
-ghost use Rattle.std.specs.Prelude.{◌≡◌, ◌≢◌, [], Err, IsSome, IfOk, IfErr, IfSome, map, string_bytes};
-ghost use Rattle.ael_cli.specs.Answer.{IsAnswer, IsCaused};
-ghost use Rattle.ael_cli.specs.Headline.{EndsAsOrdered, IsAlwaysTheSame, IsAnswered, IsDrawn, PrintsListing, PrintsPlainly};
-ghost use Rattle.ael_cli.specs.declared.status.Status.TheVariants.{ReadFault};
-ghost use Rattle.ael_cli.specs.Ends.{drawn, filled};
-ghost use Rattle.ael_cli.specs.Input.{IsBounded};
-ghost use Rattle.ael_cli.specs.Performing.{IsPerformed};
+ghost use Rattle.std.specs.Prelude.{◌≡◌, IfSome, List, None, String, map, string_bytes, true};
+ghost use Rattle.std.specs.Result.{ForOk};
+ghost use Rattle.std.specs.declared.alloc.Global.{Global};
+ghost use Rattle.ael_cli.specs.Answer.{IsAsked};
+ghost use Rattle.ael_cli.specs.Call.{call_of};
+ghost use Rattle.ael_cli.specs.Headline.{Holds, IsAlwaysTheSame, IsAnswered, IsComplete, PrintsListing, PrintsPlainly};
+ghost use Rattle.ael_cli.specs.Jobs.{is_waiting};
 ghost use Rattle.ael_cli.specs.Words.{job_of, IsInRange};
 
-use crate::answer::Answer;
-use crate::asm::asm;
+use crate::answering::answer;
 use crate::job::Job;
-use crate::reading::read_all;
-use crate::sim::sim;
 use crate::sink::Sink;
 use crate::source::Source;
-use crate::status::Status;
 use crate::words::read_words;
 use crate::writing::emit;
-use mutator_asm::{Program, assemble, listing_is_a_text, never_both, one_program};
-use plain_heap::{NoMemory, alone_mutators_are_independent};
+use mutator_asm::{listing_is_a_text, never_both, one_program};
+use plain_heap::alone_mutators_are_independent;
 use simple_commands::WordsError;
 use std::alloc::Global;
 
@@ -34,22 +30,20 @@ pub fn ael<R, S: Source, O: Sink, E: Sink>(
     out: &mut O,
     err: &mut E,
 ) -> u8
-    ensures headline { IsAnswered (map string_bytes words.now) (drawn S.left S.faults src.old src.new)
-        (filled O.held O.faults out.old out.new) (filled E.held E.faults err.old err.new) result }
-    ensures complete { EndsAsOrdered (map string_bytes words.now) (drawn S.left S.faults src.old src.new)
-        (filled O.held O.faults out.old out.new) (filled E.held E.faults err.old err.new) result }
-    ensures prints { PrintsPlainly (map string_bytes words.now) (drawn S.left S.faults src.old src.new)
-        (filled O.held O.faults out.old out.new) (filled E.held E.faults err.old err.new) result }
-    ensures lists { PrintsListing (map string_bytes words.now) (drawn S.left S.faults src.old src.new)
-        (filled O.held O.faults out.old out.new) (filled E.held E.faults err.old err.new) result }
-    ensures always_the_same { IsAlwaysTheSame (map string_bytes words.now) (drawn S.left S.faults src.old src.new)
-        (filled O.held O.faults out.old out.new) (filled E.held E.faults err.old err.new) result }
+    ensures headline { IsAnswered (call_of S.Source O.Sink E.Sink words.now src.old src.new out.old out.new err.old err.new result) }
+    ensures complete { IsComplete (call_of S.Source O.Sink E.Sink words.now src.old src.new out.old out.new err.old err.new result) }
+    ensures prints { PrintsPlainly (call_of S.Source O.Sink E.Sink words.now src.old src.new out.old out.new err.old err.new result) }
+    ensures lists { PrintsListing (call_of S.Source O.Sink E.Sink words.now src.old src.new out.old out.new err.old err.new result) }
+    ensures always_the_same { IsAlwaysTheSame (call_of S.Source O.Sink E.Sink words.now src.old src.new out.old out.new err.old err.new result) }
 {
-    ael_still(alloc, words, src, out, err).unwrap()
+    match ael_still(alloc, words, src, out, err) {
+        Some(code) => code,
+        None => call(alloc, read_words(alloc, words), src, out, err),
+    }
 }
 
-/// All of `ael` but for commands that may wait for other threads, for which it answers `None` and
-/// has read nothing. There is no such command yet.
+/// All of `ael` but for jobs that wait for other threads, for which it answers `None` and has done
+/// nothing.
 pub fn ael_still<S: Source, O: Sink, E: Sink>(
     alloc: Global,
     words: &[String],
@@ -57,63 +51,33 @@ pub fn ael_still<S: Source, O: Sink, E: Sink>(
     out: &mut O,
     err: &mut E,
 ) -> Option<u8>
-    ensures still { IsSome result }
-    ensures headline { IfSome result (IsAnswered (map string_bytes words.now) (drawn S.left S.faults src.old src.new)
-        (filled O.held O.faults out.old out.new) (filled E.held E.faults err.old err.new)) }
-    ensures complete { IfSome result (EndsAsOrdered (map string_bytes words.now) (drawn S.left S.faults src.old src.new)
-        (filled O.held O.faults out.old out.new) (filled E.held E.faults err.old err.new)) }
-    ensures prints { IfSome result (PrintsPlainly (map string_bytes words.now) (drawn S.left S.faults src.old src.new)
-        (filled O.held O.faults out.old out.new) (filled E.held E.faults err.old err.new)) }
-    ensures lists { IfSome result (PrintsListing (map string_bytes words.now) (drawn S.left S.faults src.old src.new)
-        (filled O.held O.faults out.old out.new) (filled E.held E.faults err.old err.new)) }
-    ensures always_the_same { IfSome result (IsAlwaysTheSame (map string_bytes words.now) (drawn S.left S.faults src.old src.new)
-        (filled O.held O.faults out.old out.new) (filled E.held E.faults err.old err.new)) }
+    ensures holds { IfSome result (λ code. Holds (call_of S.Source O.Sink E.Sink words.now src.old src.new out.old out.new err.old err.new code)) }
+    ensures none_only_for_what_waits { result ≡ None → is_waiting (job_of (map string_bytes words.now)) ≡ true }
+    ensures nothing_done { result ≡ None → (src.new ≡ src.old) × (out.new ≡ out.old) × (err.new ≡ err.old) }
+{
+    match read_words(alloc, words) {
+        Ok(job) if job.waits() => None,
+        asked => Some(call(alloc, asked, src, out, err)),
+    }
+}
+
+/// Does what was asked for, and writes the answer.
+fn call<S: Source, O: Sink, E: Sink>(
+    alloc: Global,
+    asked: Result<Job, WordsError>,
+    src: &mut S,
+    out: &mut O,
+    err: &mut E,
+) -> u8
+    requires { ForOk asked IsInRange }
+    ensures { (words : List (String Global)) → IsAsked (job_of (map string_bytes words)) asked
+        → Holds (call_of S.Source O.Sink E.Sink words src.old src.new out.old out.new err.old err.new result) }
 {
     one_program();
     never_both();
     listing_is_a_text();
     alone_mutators_are_independent();
-    let answer = answer(alloc, words, src);
+    let answer = answer(alloc, asked, src);
     let status = emit(&answer, out, err);
-    Some(status.code())
-}
-
-/// The answer to the words and the input.
-fn answer<S: Source>(alloc: Global, words: &[String], src: &mut S) -> Answer
-    ensures answer { IsAnswer (job_of (map string_bytes words.now)) (drawn S.left S.faults src.old src.new) result.output.items result.status }
-    ensures drawn { IsDrawn (job_of (map string_bytes words.now)) (drawn S.left S.faults src.old src.new) }
-    ensures counted { result.status ≢ ReadFault → S.faults src.new ≡ S.faults src.old }
-{
-    match read_words(alloc, words) {
-        Ok(job) => match work(alloc, job, src) {
-            Ok(answer) => answer,
-            Err(status) => Answer::failed(alloc, status),
-        },
-        Err(WordsError::Refused) => Answer::failed(alloc, Status::Usage),
-        Err(WordsError::NoMemory) => Answer::failed(alloc, Status::NoMemory),
-    }
-}
-
-/// The answer to a job on the input's program.
-fn work<S: Source>(alloc: Global, job: Job, src: &mut S) -> Result<Answer, Status>
-    requires { IsInRange job }
-    ensures ok { IfOk result (λ answer. IsCaused job (drawn S.left S.faults src.old src.new) answer.output.items answer.status) }
-    ensures err { IfErr result (IsCaused job (drawn S.left S.faults src.old src.new) []) }
-    ensures drawn { IsBounded (S.left src.old) (S.left src.new) }
-    ensures counted { result ≢ Err ReadFault → S.faults src.new ≡ S.faults src.old }
-{
-    let text = read_all(alloc, src)?;
-    let program = assemble(alloc, &text)?;
-    Ok(perform(alloc, job, &program)?)
-}
-
-/// What a job makes of a program.
-fn perform(alloc: Global, job: Job, program: &Program) -> Result<Answer, NoMemory>
-    requires { IsInRange job }
-    ensures { IfOk result (λ answer. IsPerformed job program.now.schedule program.now.code answer.output.items answer.status) }
-{
-    match job {
-        Job::Asm => asm(alloc, program),
-        Job::Sim(options) => sim(alloc, program, options),
-    }
+    status.code()
 }

@@ -1,8 +1,8 @@
 //! Writing an answer.
 
 ghost use Rattle.std.specs.Prelude.{◌≡◌, ◌≤◌, OnOk, OnErr};
+ghost use Rattle.ael_cli.specs.Emits.{Emits};
 ghost use Rattle.ael_cli.specs.Ends.{filled, IsWritten, IsCutOff};
-ghost use Rattle.ael_cli.specs.Headline.{Emits};
 
 use crate::answer::Answer;
 use crate::sink::{Put, Sink};
@@ -14,8 +14,8 @@ pub struct WriteFault;
 
 /// Writes all these bytes, in as many pieces as the sink takes them.
 pub fn write_all<K: Sink>(sink: &mut K, bytes: &[u8]) -> Result<(), WriteFault>
-    ensures ok { OnOk result (IsWritten (filled K.held K.faults sink.old sink.new) bytes.now) }
-    ensures err { OnErr result (IsCutOff (filled K.held K.faults sink.old sink.new) bytes.now) }
+    ensures ok { OnOk result (IsWritten (filled K.Sink sink.old sink.new) bytes.now) }
+    ensures err { OnErr result (IsCutOff (filled K.Sink sink.old sink.new) bytes.now) }
     ensures never_falls { K.faults sink.old ≤ K.faults sink.new }
 {
     let mut rest = bytes;
@@ -31,8 +31,7 @@ pub fn write_all<K: Sink>(sink: &mut K, bytes: &[u8]) -> Result<(), WriteFault>
 /// Writes an answer, its output to `out` and then its line to `err`, and answers how the call went.
 /// A failed write is how it went, whatever else it was.
 pub fn emit<O: Sink, E: Sink>(answer: &Answer, out: &mut O, err: &mut E) -> Status
-    ensures { Emits answer.now.output.items answer.now.status
-        (filled O.held O.faults out.old out.new) (filled E.held E.faults err.old err.new) result }
+    ensures { Emits answer.now.output.items answer.now.status (filled O.Sink out.old out.new) (filled E.Sink err.old err.new) result }
 {
     if let Err(WriteFault) = write_all(out, answer.output.as_slice()) {
         let _ = write_all(err, WRITE_FAULT.as_bytes());

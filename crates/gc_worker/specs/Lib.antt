@@ -4,3 +4,4 @@ pub mod Turned
 pub mod Knows
 pub mod Fits
 pub mod Goes
+pub mod Law

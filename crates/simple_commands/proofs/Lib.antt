@@ -1,3 +1,4 @@
+pub mod Adding
 pub mod NoFault
 pub mod Values
 pub mod Getters

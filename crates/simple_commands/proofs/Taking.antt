@@ -1,20 +1,24 @@
 -- What an exact command takes, and what its subcommands then hold.
-use Rattle.std.proofs.Common.{◌≡◌, ◌∙◌, ◌&&◌, ◌||◌, Bool, not, cond, true, false, refl, sym, ap, subst, List, [], ◌∷◌, Option, Some, None, Result, Err, true≢false, inl, inr}
+use Rattle.std.proofs.Common.{◌≡◌, ◌∙◌, ◌++◌, append_assoc, ℕ, map, ◌&&◌, ◌||◌, Bool, not, cond, true, false, refl, sym, ap, subst, List, [], ◌∷◌, Option, Some, None, Result, Err, true≢false, inl, inr}
 use Rattle.std.specs.Prelude.{IfSome, IsTrue, find, option_map}
 use Rattle.std.specs.List.{list_all, list_any}
 use Rattle.std.specs.Option.{option_map_or}
 use Rattle.std.specs.Str.{bytes_eq}
+use Rattle.std.proofs.lemmas.Slice.Eq.{bytes_eq-Decides}
+use Rattle.clap.specs.Values.{IsUnsignedIn}
 use Rattle.clap.specs.Facts.{parser_of_value}
 use Rattle.clap.specs.Faults.{fault_of, is_simple_and_free}
-use Rattle.clap.specs.Simple.{App, Shape, argument_words, built, entered, is_simple, label_of, names_of, rows_at, subcommand_of}
-use Rattle.clap.specs.Takes.{entered_passes, level_passes, takes, value_passes}
-use Rattle.clap.specs.Walk.{Row, Rule, Text, action_of, answers_to, arg_by_id, nothing_held, reading_by, rows_after, stop_after}
-use Rattle.clap.specs.declared.builder.value_parser.Reading.{Reading}
+use Rattle.clap.specs.Simple.{App, Shape, filled_from, argument_words, built, entered, is_simple, label_of, names_of, rows_at, subcommand_of}
+use Rattle.clap.specs.Takes.{entered_passes, level_passes, takes, value_passes, values_pass}
+use Rattle.clap.specs.Walk.{Row, Rule, Text, action_of, answers_to, nothing_held, reading_by, rows_after, stop_after}
 use Rattle.clap.specs.declared.error.kind.ErrorKind.{ErrorKind}
 use Rattle.clap.specs.declared.error.kind.ErrorKind.TheVariants.{OutOfMemory}
 use Rattle.clap.proofs.ValueTestLemmas.{accepts-Accepts}
 use Rattle.simple_commands.specs.Exact.{gives_one, has_single_values, ids_differ, is_exact, is_well_made}
-use Rattle.simple_commands.specs.Held.{HoldsValues, IsAmong, IsSubcommandOf}
+use Rattle.simple_commands.specs.Held.{HoldsValue, HoldsValues, IsAmong, IsSubcommandOf}
+use Rattle.simple_commands.specs.Options as options
+use Rattle.simple_commands.specs.Options.{HoldOptions, HoldsNumberOf, HoldsWide, flag_rule, number_rule, rules_of, wide_rule}
+use Rattle.simple_commands.specs.declared.options.Numbers.{Numbers}
 use Rattle.simple_commands.specs.Parsing.{error_for}
 use Rattle.simple_commands.specs.declared.parsing.WordsError.{WordsError}
 use Rattle.simple_commands.specs.declared.parsing.WordsError.TheVariants.{NoMemory, Refused}
@@ -48,49 +52,69 @@ taken a words holds none =
 
 -- ---- the values of one argument
 
--- arguments of other ids
-others_fit : (id : Text) (how : Reading) (ok : Text → Bool) (rules : List Rule) → list_all (λ b. gives_one (action_of b)) rules ≡ true
-    → list_any (λ b. bytes_eq b.id id) rules ≡ false → Each (RuleFits id how ok) rules
-others_fit id how ok [] single none = tt
-others_fit id how ok (b ∷ rest) single none = go (bytes_eq b.id id) refl (others_fit id how ok rest (right (gives_one (action_of b)) _ single)) none
+-- arguments with the id of this one are this one
+abbrev IsAlone : Rule → Rule → Type 0
+IsAlone a b = bytes_eq b.id a.id ≡ true → b ≡ a
+
+same_id : (a b : Rule) → bytes_eq a.id b.id ≡ true → bytes_eq b.id a.id ≡ true
+same_id a b is = (bytes_eq-Decides b.id a.id).1 (sym ((bytes_eq-Decides a.id b.id).0 is))
+
+-- no other argument has the id of the first
+others_differ : (x : Rule) (rest : List Rule) → list_any (λ b. bytes_eq b.id x.id) rest ≡ false → Each (λ b. bytes_eq b.id x.id ≡ false) rest
+others_differ x [] none = tt
+others_differ x (b ∷ rest) none = go (bytes_eq b.id x.id) refl (others_differ x rest) none
   where
-    go : (same : Bool) → bytes_eq b.id id ≡ same → (list_any (λ c. bytes_eq c.id id) rest ≡ false → Each (RuleFits id how ok) rest)
-        → (same || list_any (λ c. bytes_eq c.id id) rest) ≡ false → Each (RuleFits id how ok) (b ∷ rest)
+    go : (same : Bool) → bytes_eq b.id x.id ≡ same → (list_any (λ c. bytes_eq c.id x.id) rest ≡ false → Each (λ c. bytes_eq c.id x.id ≡ false) rest)
+        → (same || list_any (λ c. bytes_eq c.id x.id) rest) ≡ false → Each (λ c. bytes_eq c.id x.id ≡ false) (b ∷ rest)
     go true is more f = absurd (true≢false f)
-    go false is more f = ((left (gives_one (action_of b)) _ single, λ same. absurd (true≢false (sym same ∙ is))), more f)
+    go false is more f = (is, more f)
+
+first_alone : (x : Rule) (rest : List Rule) → Each (λ b. bytes_eq b.id x.id ≡ false) rest → Each (IsAlone x) rest
+first_alone x [] differ = tt
+first_alone x (b ∷ rest) differ = ((λ is. absurd (true≢false (sym is ∙ differ.0))), first_alone x rest differ.1)
+
+-- and what was alone among the rest is so beside it
+still_alone : (x : Rule) (rest some : List Rule) → Each (λ b. bytes_eq b.id x.id ≡ false) some → Each (λ a. Each (IsAlone a) rest) some → Each (λ a. Each (IsAlone a) (x ∷ rest)) some
+still_alone x rest [] differ alone = tt
+still_alone x rest (a ∷ some) differ alone = (((λ is. absurd (true≢false (sym (same_id x a is) ∙ differ.0))), alone.0), still_alone x rest some differ.1 alone.1)
 
 not_any : (b more : Bool) → (not b && more) ≡ true → b ≡ false
 not_any true more e = absurd (true≢false (sym e))
 not_any false more e = refl
 
+-- where ids differ each argument has its id for itself
+all_alone : (rules : List Rule) → ids_differ rules ≡ true → Each (λ a. Each (IsAlone a) rules) rules
+all_alone [] differ = tt
+all_alone (x ∷ rest) differ =
+    let none = others_differ x rest (not_any (list_any (λ b. bytes_eq b.id x.id) rest) (ids_differ rest) differ) in
+    (((λ is. refl), first_alone x rest none), still_alone x rest rest none (all_alone rest (right (not (list_any (λ b. bytes_eq b.id x.id) rest)) (ids_differ rest) differ)))
+
 -- the argument itself, and those of other ids
-each_fits : (a : Rule) (rules : List Rule) → list_all (λ b. gives_one (action_of b)) rules ≡ true → ids_differ rules ≡ true → arg_by_id rules a.id ≡ Some a
-    → Each (RuleFits a.id (reading_by a) (value_passes a)) rules
-each_fits a [] single differ found = tt
-each_fits a (b ∷ rest) single differ found =
-    let later = right (gives_one (action_of b)) _ single in
-    go (bytes_eq b.id a.id) refl later (each_fits a rest later (right (not (list_any (λ c. bytes_eq c.id b.id) rest)) (ids_differ rest) differ)) found
-  where
-    go : (same : Bool) → bytes_eq b.id a.id ≡ same → list_all (λ c. gives_one (action_of c)) rest ≡ true
-        → (arg_by_id rest a.id ≡ Some a → Each (RuleFits a.id (reading_by a) (value_passes a)) rest)
-        → cond same (Some b) (arg_by_id rest a.id) ≡ Some a → Each (RuleFits a.id (reading_by a) (value_passes a)) (b ∷ rest)
-    go true is later more f =
-        let same : b ≡ a = cc in
-        let none : list_any (λ c. bytes_eq c.id a.id) rest ≡ false =
-        subst (λ (x : Rule). list_any (λ c. bytes_eq c.id x.id) rest ≡ false) same (not_any (list_any (λ c. bytes_eq c.id b.id) rest) (ids_differ rest) differ) in
-        let one : RuleFits a.id (reading_by a) (value_passes a) a =
-        (subst (λ (x : Rule). gives_one (action_of x) ≡ true) same (left (gives_one (action_of b)) _ single), λ e. (refl, λ vs h. h)) in
-        (subst (λ (x : Rule). RuleFits a.id (reading_by a) (value_passes a) x) (sym same) one, others_fit a.id (reading_by a) (value_passes a) rest later none)
-    go false is later more f = ((left (gives_one (action_of b)) _ single, λ same. absurd (true≢false (sym same ∙ is))), more f)
+fits : (a : Rule) (rules : List Rule) → list_all (λ b. gives_one (action_of b)) rules ≡ true → Each (IsAlone a) rules → Each (RuleFits a.id (reading_by a) (value_passes a)) rules
+fits a [] single alone = tt
+fits a (b ∷ rest) single alone = (
+  (left (gives_one (action_of b)) _ single, λ is. subst (λ (x : Rule). (reading_by x ≡ reading_by a) × ((vs : List Text) → values_pass x vs ≡ true → list_all (value_passes a) vs ≡ true)) (sym (alone.0 is)) (refl, λ vs h. h)),
+  fits a rest (right (gives_one (action_of b)) _ single) alone.1,
+)
 
 -- ---- the values of a subcommand
 
-holds : (s : Shape) (words : List Text) → has_single_values s ≡ true → level_passes s [] nothing_held words false ≡ true → HoldsValues s.rules (rows_after s.rules [] words)
-holds s words single pass a found t is =
+holds_one : (s : Shape) (words : List Text) (a : Rule) → list_all (λ b. gives_one (action_of b)) s.rules ≡ true → Each (IsAlone a) s.rules
+    → level_passes s [] nothing_held words false ≡ true → HoldsValue a (rows_after s.rules [] words)
+holds_one s words a single alone pass t is =
     let rows = rows_after s.rules [] words in
-    let fit = each_fits a s.rules (left _ (ids_differ s.rules) single) (right (list_all (λ b. gives_one (action_of b)) s.rules) _ single) found in
-    let got = one_fits a.id (reading_by a) (value_passes a) rows t (level_fits a.id (reading_by a) (value_passes a) s [] fit words false pass) is in
+    let got = one_fits a.id (reading_by a) (value_passes a) rows t (level_fits a.id (reading_by a) (value_passes a) s [] (fits a s.rules single alone) words false pass) is in
     (got.0, got.1, accepts-Accepts a.ignore_case (parser_of_value a.parser) got.0 got.2)
+
+holds_each : (s : Shape) (words : List Text) (some : List Rule) → list_all (λ b. gives_one (action_of b)) s.rules ≡ true → Each (λ a. Each (IsAlone a) s.rules) some
+    → level_passes s [] nothing_held words false ≡ true → HoldsValues some (rows_after s.rules [] words)
+holds_each s words [] single alone pass = tt
+holds_each s words (a ∷ some) single alone pass = (holds_one s words a single alone.0 pass, holds_each s words some single alone.1 pass)
+
+holds : (s : Shape) (words : List Text) → has_single_values s ≡ true → level_passes s [] nothing_held words false ≡ true → HoldsValues s.rules (rows_after s.rules [] words)
+holds s words single pass =
+    holds_each s words s.rules (left (list_all (λ b. gives_one (action_of b)) s.rules) _ single)
+    (all_alone s.rules (right (list_all (λ b. gives_one (action_of b)) s.rules) _ single)) pass
 
 later_among : (s : Shape) (subs : List Shape) (o : Option (Text × List Row)) → IfSome o (IsAmong subs) → IfSome o (IsAmong (s ∷ subs))
 later_among s subs None h = tt
@@ -135,3 +159,23 @@ refused_only {T} a words k e passes from same = go (takes a words) refl
         let bad : NoMemory ≡ Refused = sym memory ∙ sym from ∙ back in
         cc
     go false is = refl
+
+-- ---- options
+
+numbers_held : (i : ℕ) (numbers : List (Text × Numbers)) (rest : List Rule) (rows : List Row) → HoldsValues (filled_from i (map number_rule numbers ++ rest)) rows
+    → options.Each (λ o. HoldsNumberOf o rows) numbers × HoldsValues (filled_from i rest) rows
+numbers_held i [] rest rows h = (tt, h)
+numbers_held i (o ∷ numbers) rest rows h = let more = numbers_held i numbers rest rows h.1 in ((h.0, more.0), more.1)
+
+wide_held : (i : ℕ) (wide : List Text) (rest : List Rule) (rows : List Row) → HoldsValues (filled_from i (map wide_rule wide ++ rest)) rows
+    → options.Each (λ name. HoldsWide name rows) wide
+wide_held i [] rest rows h = tt
+wide_held i (name ∷ wide) rest rows h = ((λ t is. let got = h.0 t is in subst (λ (u : Text). IsUnsignedIn 0 18446744073709551615 u) (sym got.1) got.2), wide_held i wide rest rows h.1)
+
+-- what the values of the tables' rules are, the options hold
+pub holds_options : (i : ℕ) (numbers : List (Text × Numbers)) (wide flags : List Text) (rows : List Row)
+    → HoldsValues (filled_from i (rules_of numbers wide flags)) rows → HoldOptions numbers wide rows
+holds_options i numbers wide flags rows h =
+    let grouped = append_assoc (map number_rule numbers) (map wide_rule wide) (map flag_rule flags) in
+    let first = numbers_held i numbers (map wide_rule wide ++ map flag_rule flags) rows (subst (λ (rules : List Rule). HoldsValues (filled_from i rules) rows) grouped h) in
+    record { numbers_held = first.0; wide_held = wide_held i wide (map flag_rule flags) rows first.1 }

@@ -1,9 +1,9 @@
 -- What the rows of a subcommand hold, once its command took the words.
-use Rattle.std.specs.Prelude.{◌≡◌, ◌⊎◌, List, [], ◌∷◌, Some}
+use Rattle.std.specs.Prelude.{◌≡◌, ◌⊎◌, ⊤, List, [], ◌∷◌, Some}
 use Rattle.clap.specs.Facts.{parser_of_value}
 use Rattle.clap.specs.Simple.{App, Shape, built}
 use Rattle.clap.specs.Values.{Accepts, read_as}
-use Rattle.clap.specs.Walk.{Row, Rule, Text, arg_by_id, one_of, reading_by}
+use Rattle.clap.specs.Walk.{Row, Rule, Text, one_of, reading_by}
 
 -- the text that a getter reads of an argument is that of a value which its parser accepts
 abbrev pub HoldsValue : Rule → List Row → Type 0
@@ -12,7 +12,8 @@ HoldsValue a rows = (t : Text) → one_of a.id rows ≡ Some t
 
 -- that of each argument
 abbrev pub HoldsValues : List Rule → List Row → Type 0
-HoldsValues rules rows = (a : Rule) → arg_by_id rules a.id ≡ Some a → HoldsValue a rows
+HoldsValues [] rows = ⊤
+HoldsValues (a ∷ rest) rows = HoldsValue a rows × HoldsValues rest rows
 
 -- these are the name of one of the subcommands, and rows that hold values of its arguments
 abbrev pub IsAmong : List Shape → Text × List Row → Type 0

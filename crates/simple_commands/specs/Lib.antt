@@ -1,4 +1,5 @@
 pub mod Exact
 pub mod Held
+pub mod Options
 pub mod Parsing
 pub mod Readers

@@ -6,8 +6,10 @@
 //! value was accepted by the parser of its argument, so that numbers can be read back.
 #![tactic(auto)]
 
+mod options;
 mod parsing;
 mod readers;
 
+pub use options::{Numbers, add_options, number_of};
 pub use parsing::{WordsError, parse};
-pub use readers::{is_given, number, wide_number};
+pub use readers::{is_given, wide_number};

@@ -1,7 +1,8 @@
 //! What the words of a command line mean.
 
 use super::{same, words_of};
-use crate::job::{Job, SimOptions};
+use crate::job::Job;
+use crate::options::SimOptions;
 use crate::words::read_words;
 use simple_commands::WordsError;
 use std::alloc::Global;

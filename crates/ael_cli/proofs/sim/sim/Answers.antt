@@ -3,19 +3,21 @@ use Rattle.std.specs.Global.{Vec}
 use Rattle.std.proofs.lemmas.Result.{IfOk-weaker}
 use Rattle.gc_core.specs.Configuration.{opening_core, workers_of}
 use Rattle.ael_cli.specs.Schedule.{schedule_of}
-use Rattle.ael_cli.specs.Simulation.{config}
+use Rattle.ael_cli.specs.Simulation.{config, run_of}
 use Rattle.ael_cli.proofs.Simulating.{simulated}
 use Rattle.ael_cli.proofs.sim.sim.Goals as goal
 
 pub returns : goal.returns
 returns c =
     let options = c.args.options in
-    let code = c.args.program.now.code in
+    let program = c.args.program.now.code in
     let items = c.args.program.now.schedule in
-    let schedule = schedule_of options.seed items (workers_of (opening_core code (config options))) in
-    IfOk-weaker c.new.result _ _ (λ answer new. simulated _ items _ c.run.new.core c.in_ok-order.order.items _ _
-    (c.runs_follow.ensures code items (config options) schedule options.steps c.args.program.now.well_formed c.requires.pages c.requires.turns.1)
+    let schedule = schedule_of options.seed items (workers_of (opening_core program (config options))) in
+    let ran = run_of options program items in
+    IfOk-weaker c.new.result _ _ (λ answer new. simulated options program items _ c.in_ok-order.order.items _ _
+    (c.runs_follow.ensures program items (config options) schedule options.steps c.args.program.now.well_formed c.requires.pages c.requires.turns.1)
     (rw (c.in_ok-core.ensures, c.as_slice.ensures) at c.in_ok-order.ensures.core)
     (rw (c.in_ok-core.ensures, c.as_slice.ensures) at c.in_ok-order.ensures.order)
-    (new.0 ∙ ap (λ (v : Vec ℕ). v.items) c.into_bytes.ensures.value ∙ rw (c.in_ok-push_flags.ensures, c.in_ok-push_mutators.ensures, c.new-output.ensures.bytes, c.deref.ensures.value))
+    (new.0 ∙ ap (λ (v : Vec ℕ). v.items) c.into_bytes.ensures.value
+    ∙ rw (c.in_ok-push_flags.ensures ran.last, c.in_ok-push_mutators.ensures, c.new-output.ensures.bytes, c.deref.ensures.value))
     (new.1 ∙ c.verdict.ensures)) c.new.ensures.whole

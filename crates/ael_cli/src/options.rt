@@ -1,0 +1,94 @@
+//! The options and flags of the commands: a row each, which the command line and its readers cite.
+
+use clap::ArgMatches;
+use simple_commands::{Numbers, is_given, number_of, wide_number};
+
+/// The pages of a space.
+pub const PAGES: (&str, Numbers) = (
+    "pages",
+    Numbers {
+        least: 4,
+        most: 2048,
+        default: 256,
+    },
+);
+
+/// The scanners beside the mutators.
+pub const SCANNERS: (&str, Numbers) = (
+    "scanners",
+    Numbers {
+        least: 0,
+        most: 8,
+        default: 1,
+    },
+);
+
+/// How many instructions a mutator may execute.
+pub const TURNS: (&str, Numbers) = (
+    "turns",
+    Numbers {
+        least: 1,
+        most: 10_000_000,
+        default: 1_000_000,
+    },
+);
+
+/// How many steps the run may make.
+pub const STEPS: (&str, Numbers) = (
+    "steps",
+    Numbers {
+        least: 1,
+        most: 100_000_000,
+        default: 10_000_000,
+    },
+);
+
+/// What the order of steps is drawn from, in place of the program's schedule.
+pub const SEED: &str = "seed";
+
+/// Whether the order of the run is printed.
+pub const ORDER: &str = "order";
+
+/// The options of `sim` with a number of 32 bits.
+pub const SIM_NUMBERS: [(&str, Numbers); 4] = [PAGES, SCANNERS, TURNS, STEPS];
+
+/// The options of `sim` with a number of 64 bits, and no default.
+pub const SIM_WIDE: [&str; 1] = [SEED];
+
+/// The flags of `sim`.
+pub const SIM_FLAGS: [&str; 1] = [ORDER];
+
+/// How a program is run, and what is printed besides: the values of the table's rows.
+#[derive(Clone, Copy, Debug, PartialEq, Eq)]
+pub struct SimOptions {
+    pub pages: u32,
+    pub scanners: u32,
+    pub turns: u32,
+    pub steps: u32,
+    pub seed: Option<u64>,
+    pub order: bool,
+}
+
+impl SimOptions {
+    ghost use Rattle.std.specs.Prelude.{◌≡◌};
+    ghost use Rattle.clap.specs.Matches.{found_of};
+    ghost use Rattle.clap.specs.Walk.{rows_of};
+    ghost use Rattle.simple_commands.specs.Options.{HoldOptions};
+    ghost use Rattle.ael_cli.specs.Options.{AreInRange, options_of, sim_numbers, sim_wide};
+
+    /// The options that were given, and the defaults of the others.
+    pub fn given(matches: &ArgMatches) -> SimOptions
+        requires { HoldOptions sim_numbers sim_wide (rows_of (found_of matches.now)) }
+        ensures value { result ≡ options_of (rows_of (found_of matches.now)) }
+        ensures range { AreInRange result }
+    {
+        SimOptions {
+            pages: number_of(matches, PAGES),
+            scanners: number_of(matches, SCANNERS),
+            turns: number_of(matches, TURNS),
+            steps: number_of(matches, STEPS),
+            seed: wide_number(matches, SEED),
+            order: is_given(matches, ORDER),
+        }
+    }
+}

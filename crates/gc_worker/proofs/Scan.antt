@@ -1,0 +1,6 @@
+pub mod GoingOn
+pub mod Passing
+pub mod Crossing
+pub mod Front
+pub mod Headers
+pub mod Spots

@@ -1,0 +1,102 @@
+//! Options and flags, as rows of tables that both the command and its readers cite.
+
+ghost use Rattle.std.specs.Prelude.{◌≡◌, ◌++◌, [], ◌∷◌, IfOk, false, map};
+ghost use Rattle.clap.specs.Matches.{found_of};
+ghost use Rattle.clap.specs.Walk.{rows_of, texts};
+ghost use Rattle.clap.specs.Words.{app_of, rule_of};
+ghost use Rattle.clap.specs.declared.builder.Command.TheViews.{out-Command};
+ghost use Rattle.simple_commands.specs.Options.{flag_rule, number_given, number_rule, row_of, rules_of, value_rule, wide_rule, with_rules, HoldsNumberOf, IsAmongNumbers};
+
+use crate::readers::number;
+use clap::builder::ValueParser;
+use clap::{Arg, ArgAction, ArgMatches, Command};
+use std::alloc::{AllocError, Global};
+
+/// The numbers that an option may have, and the one that it has where it isn't given.
+#[derive(Clone, Copy, Debug)]
+pub struct Numbers {
+    pub least: u32,
+    pub most: u32,
+    pub default: u32,
+}
+
+/// The number that was given for an option, or the default.
+pub fn number_of(matches: &ArgMatches, option: (&str, Numbers)) -> u32
+    requires { HoldsNumberOf (row_of option) (rows_of (found_of matches.now)) }
+    ensures value { result ≡ number_given (row_of option.entry) (rows_of (found_of matches.now)) }
+    ensures range { IsAmongNumbers option.entry.1 option.entry.1.default → IsAmongNumbers option.entry.1 result }
+{
+    number(matches, option.0, option.1.default)
+}
+
+/// An option `--id` with one value.
+fn value_option<'a>(alloc: Global, id: &'a str, parser: ValueParser<'a>) -> Arg<'a>
+    ensures rule { rule_of result ≡ value_rule id.entry.now parser.entry }
+    ensures local { result.global ≡ false }
+{
+    Arg::new(alloc, id)
+        .long(id)
+        .action(ArgAction::Set)
+        .value_parser(parser)
+}
+
+/// An option with one of some numbers.
+fn number_option<'a>(alloc: Global, option: (&'a str, Numbers)) -> Arg<'a>
+    ensures rule { rule_of result ≡ number_rule (row_of option.entry) }
+    ensures local { result.global ≡ false }
+{
+    let (name, numbers) = option;
+    let parser = ValueParser::Signed(numbers.least.into(), numbers.most.into());
+    value_option(alloc, name, parser)
+}
+
+/// An option with any number of 64 bits.
+fn wide_option<'a>(alloc: Global, name: &'a str) -> Arg<'a>
+    ensures rule { rule_of result ≡ wide_rule name.entry.now }
+    ensures local { result.global ≡ false }
+{
+    value_option(alloc, name, ValueParser::Unsigned(0, u64::MAX))
+}
+
+/// A flag `--id`.
+fn flag<'a>(alloc: Global, name: &'a str) -> Arg<'a>
+    ensures rule { rule_of result ≡ flag_rule name.entry.now }
+    ensures local { result.global ≡ false }
+{
+    Arg::new(alloc, name).long(name).action(ArgAction::SetTrue)
+}
+
+/// Adds an argument to a command.
+fn add<'a>(command: Command<'a>, arg: Arg<'a>) -> Result<Command<'a>, AllocError>
+    requires command { (out-Command command).has_globals ≡ false }
+    requires arg { arg.global ≡ false }
+    ensures app { IfOk result (λ r. app_of r ≡ with_rules (app_of command.entry) (rule_of arg.entry ∷ [])) }
+    ensures local { IfOk result (λ r. (out-Command r).has_globals ≡ false) }
+{
+    command.arg(arg)
+}
+
+/// Adds the options and flags of tables to a command.
+pub fn add_options<'a>(
+    alloc: Global,
+    command: Command<'a>,
+    numbers: &[(&'a str, Numbers)],
+    wide: &[&'a str],
+    flags: &[&'a str],
+) -> Result<Command<'a>, AllocError>
+    requires { (out-Command command).has_globals ≡ false }
+    ensures app { IfOk result (λ r. app_of r ≡ with_rules (app_of command.entry) (rules_of (map row_of numbers.now) (texts wide.now) (texts flags.now))) }
+    ensures local { IfOk result (λ r. (out-Command r).has_globals ≡ false) }
+{
+    let mut command = command;
+    for option in numbers {
+        command = add(command, number_option(alloc, *option))?;
+    }
+    for name in wide {
+        command = add(command, wide_option(alloc, name))?;
+    }
+    for flag_name in flags {
+        command = add(command, flag(alloc, flag_name))?;
+    }
+    Ok(command)
+}
