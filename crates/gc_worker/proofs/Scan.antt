@@ -5,3 +5,4 @@ pub mod Front
 pub mod Headers
 pub mod Spots
 pub mod Words
+pub mod Stored
