@@ -2,3 +2,4 @@ pub mod Hosts
 pub mod Words
 pub mod Publishing
 pub mod Placing
+pub mod Finding
