@@ -6,3 +6,4 @@ pub mod Headers
 pub mod Spots
 pub mod Words
 pub mod Stored
+pub mod Stages
