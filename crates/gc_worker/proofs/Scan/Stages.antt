@@ -1,5 +1,5 @@
 -- The scan of a page, at each of its stages.
-use Rattle.std.proofs.Common.{◌≡◌, ℕ, Some}
+use Rattle.std.proofs.Common.{ℕ}
 use Rattle.plain_state.specs.State.{Plain}
 use Rattle.page_scan.specs.Scanning.{Scanning}
 use Rattle.page_scan.specs.declared.scan_stage.ScanStage.{ScanStage}
