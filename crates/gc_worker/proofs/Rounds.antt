@@ -3,3 +3,4 @@ pub mod Going
 pub mod Beginning
 pub mod Claiming
 pub mod Wanting
+pub mod Choosing
