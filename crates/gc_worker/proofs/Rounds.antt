@@ -1,3 +1,6 @@
 pub mod Words
 pub mod Going
 pub mod Beginning
+pub mod Claiming
+pub mod Wanting
+pub mod Choosing
