@@ -4,3 +4,4 @@ pub mod Crossing
 pub mod Front
 pub mod Headers
 pub mod Spots
+pub mod Words

@@ -16,6 +16,11 @@ use Rattle.fault_duty.specs.Soundness.{IsSoundRound, FitsDutyStage}
 use Rattle.heap_state.specs.Configuration.{Configuration, Stands, era, memory, team}
 use Rattle.heap_state.specs.Entries.{Entry}
 use Rattle.heap_state.specs.Ghost.{Ghost}
+use Rattle.heap_state.specs.Table.{word_in}
+use Rattle.space_map.specs.Spaces.{Layout}
+use Rattle.space_map.specs.Table.{Row, IsRow, place_of}
+use Rattle.atom_store.specs.declared.step.Step.TheVariants.{Load}
+use Rattle.atom_store.specs.declared.reply.Reply.TheVariants.{Value}
 use Rattle.heap_state.specs.Worker.{Worker, Stock}
 use Rattle.heap_laws.specs.Composing.{ends_round}
 use Rattle.heap_laws.proofs.Steps.Composites.{rounds_end}
@@ -30,7 +35,8 @@ use Rattle.gc_worker.specs.Turned.{turned, turned_round, back_from, of_round, wo
 use Rattle.gc_worker.proofs.Fitting.{refit}
 use Rattle.gc_worker.proofs.Going.{places_known}
 use Rattle.gc_worker.proofs.GoingBack.{back_fits}
-use Rattle.gc_worker.proofs.Steps.{Law, becomes, prepared}
+use Rattle.gc_worker.proofs.Steps.{Law, becomes, loads, prepared}
+use Rattle.gc_worker.proofs.Gate.Words.{wants}
 
 module _ (c : Configuration) (p : Plain) (s : Stands c p) (k : ℕ) (y : Held) (d : Round) (back : Back) where
   -- the round at a stage, and the worker that makes it
@@ -162,3 +168,13 @@ module _ (c : Configuration) (p : Plain) (s : Stands c p) (k : ℕ) (y : Held) (
     ends reply word taken none own = ends_with None reply (NothingNow word) s.ghost taken refl none
         (subst (λ (w : Worker). Law c p s k x None w s.ghost) (ap ends_round is.as_known ∙ sym (ended_known own own_stock_same))
         (rounds_end (era c) (memory c) (team c) s.ghost k (prepared c p s k x is)))
+
+    -- the pages of the round's heap are the heap's
+    pub same_pages : d.layout.pages ≡ c.pages
+    same_pages = ap (λ (l : Layout). l.pages) is.fits.stage.0.layout ∙ is.fits.pages
+
+    -- a load of a row
+    pub loads_it : (row : Row) → IsRow c.pages row → duty.wanted (round stage) ≡ Some (Load (place_of d.layout.pages row))
+        → Goes c p s k None x (Value (word_in c.pages c.words row)) → StepsSo c p s k x
+    loads_it row is_row want goes =
+        wants c p s k x (Load (place_of c.pages row)) (want ∙ ap (λ n. Some (Load (place_of n row))) same_pages) (loads c p s k x row is_row goes)

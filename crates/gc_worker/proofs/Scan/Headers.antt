@@ -1,5 +1,5 @@
 -- The header of the record over the page's first word is loaded, and that of the next record: the scan enters the record.
-use Rattle.std.proofs.Common.{◌≡◌, ◌≢◌, ℕ, ◌+◌, ◌*◌, ◌/◌, ◌<◌, ◌≤◌, ◌^◌, ◌⊎◌, Bool, true, false, Some, None, is_some, refl, sym, ap, ◌∙◌, subst, arith, max, inl, inr}
+use Rattle.std.proofs.Common.{◌≡◌, ◌≢◌, ℕ, ◌+◌, ◌*◌, ◌/◌, ◌<◌, ◌≤◌, ◌⊎◌, Bool, true, false, None, refl, sym, ap, ◌∙◌, arith, max, inl, inr}
 use Rattle.std.proofs.Math.Nat.{max_comm}
 use Rattle.plain_state.specs.State.{Plain}
 use Rattle.atom_store.specs.declared.step.Step.TheVariants.{Load}
@@ -12,11 +12,11 @@ use Rattle.space_map.specs.Spaces.{first_word, board_page}
 use Rattle.space_map.specs.Table.{HeapWord, place_of}
 use Rattle.page_scan.specs.Scanning.{Scanning}
 use Rattle.page_scan.specs.Soundness as scan_sound
-use Rattle.page_scan.specs.Taken.{record_at, goes_on, by_header}
+use Rattle.page_scan.specs.Taken.{record_at, goes_on}
 use Rattle.page_scan.specs.declared.scanned_record.ScannedRecord.{ScannedRecord}
 use Rattle.page_scan.specs.declared.scan_stage.ScanStage.TheVariants as scan_stage
 use Rattle.page_scan.proofs.Packed.{fields_end-le, first_field-is}
-use Rattle.heap_state.specs.Configuration.{Configuration, Stands, era, memory, team, table}
+use Rattle.heap_state.specs.Configuration.{Configuration, Stands, era, memory, team}
 use Rattle.heap_state.specs.FieldSpan.{first_field, fields_end, next_in}
 use Rattle.heap_state.specs.Ghost.{said_kind}
 use Rattle.heap_state.specs.Table.{table_of, word_in}
@@ -134,14 +134,14 @@ module _ (c : Configuration) (p : Plain) (s : Stands c p) (k : ℕ) (y : Held) (
         let l = reads_first_header (era c) (memory c) (team c) s.ghost k now1 a h.len h.serial h.mutator h.kind (prepared c p s k x1 is) scans1 apart1 refl refl h.header in
         let law : Law c p s k x1 None (scanning (knows x1) (in_record (era c) now1 a (said_kind h.kind 0) (h.len + 1))) s.ghost = rw (is.as_known, said_same h.kind ((memory c).heap (a + 1))) at l in
         entered c p s k y v1 back a h.len h.serial h.mutator h.kind is space1 inside1 said reaches is
-            (rw (max_comm (a + first_field (said_kind h.kind 0)) (first_word u.page)) law)
-            (rw said refl) (λ sound. rw said sound) refl
+        (rw (max_comm (a + first_field (said_kind h.kind 0)) (first_word u.page)) law)
+        (rw said refl) (λ sound. rw said sound) refl
 
     pub reads_first : StepsSo c p s k x1
     reads_first =
         let f = answers1.first a apart1 refl in
         wants c p s k x1 (Load (place_of c.pages (HeapWord a))) (rw (is.fits.stage.0.layout, is.fits.pages) refl)
-            (loads c p s k x1 (HeapWord a) (let i = inside1 in omega (arith, i)) (goes1 f.1.0 f.1.1))
+        (loads c p s k x1 (HeapWord a) (let i = inside1 in omega (arith, i)) (goes1 f.1.0 f.1.1))
 
 -- ---- the next record
 
@@ -187,10 +187,10 @@ module _ (c : Configuration) (p : Plain) (s : Stands c p) (k : ℕ) (y : Held) (
         let i = space2 in
         let entry : max (q.next + first_field (said_kind h.kind 0)) (first_word u.page) ≡ max q.next (q.next + first_field (said_kind h.kind 0)) = omega (arith, o) in
         entered c p s k y v2 back q.next h.len h.serial h.mutator h.kind is space2 (omega (arith, o, i)) said (omega (arith, o)) is
-            (rw entry law)
-            (rw said refl) (λ sound. rw said sound) refl
+        (rw entry law)
+        (rw said refl) (λ sound. rw said sound) refl
 
     pub reads_next : StepsSo c p s k x2
     reads_next =
         wants c p s k x2 (Load (place_of c.pages (HeapWord q.next))) (rw (is.fits.stage.0.layout, is.fits.pages) refl)
-            (loads c p s k x2 (HeapWord q.next) (let o = on_page in let i = space2 in omega (arith, o, i)) (goes2 answer2))
+        (loads c p s k x2 (HeapWord q.next) (let o = on_page in let i = space2 in omega (arith, o, i)) (goes2 answer2))

@@ -1,5 +1,5 @@
 -- A word of the board, or a field, is passed.
-use Rattle.std.proofs.Common.{◌≡◌, ◌≢◌, ℕ, ◌+◌, ◌*◌, ◌/◌, ◌<◌, ◌≤◌, ◌^◌, ◌==◌, Bool, true, false, Some, None, is_some, nat_lt, nat_le, refl, sym, ap, ◌∙◌, subst, arith, inl, inr, if◌then◌else◌}
+use Rattle.std.proofs.Common.{◌≡◌, ℕ, ◌+◌, ◌*◌, ◌/◌, Bool, true, false, is_some, nat_lt, nat_le, refl, sym, arith, inl, inr, if◌then◌else◌}
 use Rattle.std.proofs.lemmas.Bool.{eq-eqb, ltb-true, leb-true}
 use Rattle.std.proofs.lemmas.Bool.Decides.{nat_tests}
 use Rattle.space_map.specs.Spaces.{first_word, board_page, IsPageCount}
@@ -11,7 +11,6 @@ use Rattle.page_scan.specs.declared.scan_stage.ScanStage.TheVariants as scan_sta
 use Rattle.page_scan.specs.declared.spot.Spot.{Spot}
 use Rattle.page_scan.specs.declared.spot.Spot.TheVariants.{OnBoard, InRecord}
 use Rattle.heap_state.specs.Era.{Era}
-use Rattle.heap_state.specs.Worker.{Scan}
 use Rattle.heap_laws.specs.Composing.{IsAtMost}
 use Rattle.heap_laws.specs.Scanning.Words.{scanning, is_past, past_word, AtField}
 use Rattle.gc_worker.specs.declared.back.Back.{Back}
