@@ -1,4 +1,4 @@
--- The pages that were claimed are made ready: each word is cleared, and then each page is opened.
+-- The words of the pages that were claimed are cleared.
 use Rattle.std.proofs.Common.{◌≡◌, ℕ, ◌+◌, ◌-◌, ◌*◌, ◌/◌, ◌%◌, ◌<◌, ◌≤◌, Bool, true, false, cond, Option, Some, None, refl, ap, sym, subst, ◌∙◌, arith}
 use Rattle.std.specs.Prelude.{nat_lt}
 use Rattle.std.proofs.lemmas.Bool.{ltb-true, ltb-false}
@@ -15,9 +15,9 @@ use Rattle.alloc_end.specs.declared.place_stage.PlaceStage.{PlaceStage}
 use Rattle.alloc_end.specs.declared.place_stage.PlaceStage.TheVariants.{StoresZero, OpensPage, StoresHeader}
 use Rattle.alloc_end.specs.declared.run.Run.{Run}
 use Rattle.alloc_end.specs.Place.{Placing, size_of, pages_for, words_for, cleared, opened, told}
-use Rattle.alloc_end.specs.Soundness.{FitsPlaceStage}
+use Rattle.alloc_end.specs.Soundness.{FitsPlaceStage, IsSoundPlacing}
 use Rattle.heap_state.specs.Configuration.{Configuration, Stands, era, memory, team}
-use Rattle.heap_state.specs.Entries.{WordIs, PageIs}
+use Rattle.heap_state.specs.Entries.{Entry, WordIs, PageIs}
 use Rattle.heap_state.specs.Worker.{Worker, Stock}
 use Rattle.heap_laws.specs.Allocation.Stocks.{stocked, zeroed_further, opened_further}
 use Rattle.heap_laws.proofs.Allocation.Laws.{zeroes_words, opens_pages}
