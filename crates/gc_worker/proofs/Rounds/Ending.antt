@@ -86,3 +86,62 @@ module _ (c : Configuration) (p : Plain) (s : Stands c p) (k : ℕ) (y : Held) (
         (goes_on c p s k y d back (EndArea traced) is None (Value (area_now c (to_space d.epoch))) first_page s.ghost
         (ap (λ o. round c p s k y d back (duty.ended_area (round c p s k y d back (EndArea traced)) traced o)) (area_says c p s (to_space d.epoch) (is_space d.epoch)))
         refl refl (is.fits.stage.0.sound.stage, first_choice c p s k y d back (EndArea traced) is refl first_page) learnt)
+
+  -- ---- the gate
+
+  module _ (traced : ℕ) (is : Is c k (at c p s k y d back (EndGate traced))) where
+    abbrev x3 : Held
+    x3 = at c p s k y d back (EndGate traced)
+
+    abbrev gate : GateWord
+    gate = (table c).gate
+
+    both_by : (a b : Bool) → (a && b) ≡ true → (a ≡ true) × (b ≡ true)
+    both_by true b e = (refl, e)
+    both_by false b e = absurd (cc)
+
+    -- the look begins, and the round is forgotten
+    begins : gate.epoch ≡ d.epoch → gate.behind ≡ 0 → Law c p s k x3 None (knows (at c p s k y d back (EndArea traced))) s.ghost
+    begins of_now none =
+        let r : workers.Round = record { traced = traced; front = None } in
+        let start : duty.to_start d ≡ (era c).start =
+            let n : (table c).pages ≡ c.pages = table_pages c.pages c.words in rw (← of_now, n, same_pages c p s k y d back (EndGate traced) is) refl in
+        let t : Law c p s k x3 None (looking (knows x3) (first_look (era c) r)) s.ghost =
+            subst (λ (w : Worker). Law c p s k x3 None (looking w (first_look (era c) r)) s.ghost) is.as_known
+            (begins_look (era c) (memory c) (team c) s.ghost k r (prepared c p s k x3 is)
+                (record { round = ap (λ (w : Worker). w.round) is.as_known; same = of_now ∙ ap (λ (w : Worker). w.epoch) (sym is.as_known); none = none })) in
+        steps_forget (era c) (memory c) (team c) s.ghost k None (looking (knows x3) (first_look (era c) r)) (knows (at c p s k y d back (EndArea traced))) s.ghost t (record {
+          post = refl;
+          epoch = refl;
+          account = refl;
+          registers = refl;
+          done = refl;
+          quest = refl;
+          copy = refl;
+          scan = SameScan refl;
+          stock = λ _ e. e;
+          access = λ _ e. e;
+          opened = λ _ e. e;
+          round = λ _ e. absurd (cc);
+          claim = λ _ e. e;
+          look = λ l e. (rw (← start) refl) ∙ e;
+          last_look = λ _ e. e;
+          gate_step = λ _ e. e;
+          reset = λ _ e. e;
+          traced_seen = λ e. e;
+          asks = λ _. refl;
+        })
+
+    gate_by : (b : Bool) → ((gate.epoch == d.epoch) && (gate.behind == 0)) ≡ b
+        → duty.taken_at (round c p s k y d back (EndGate traced)) (EndGate traced) (Value (gate_now c)) ≡ round c p s k y d back (if b then EndArea traced else Ended (NothingNow (gate_now c)))
+        → Goes c p s k None x3 (Value (gate_now c))
+    gate_by true test taken =
+        let q = both_by (gate.epoch == d.epoch) (gate.behind == 0) test in
+        goes_on c p s k y d back (EndGate traced) is None (Value (gate_now c)) (EndArea traced) s.ghost taken refl refl is.fits.stage.0.sound.stage
+            (begins (eqb-true gate.epoch d.epoch q.0) (eqb-true gate.behind 0 q.1))
+    gate_by false test taken = ends c p s k y d back (EndGate traced) is (Value (gate_now c)) (gate_now c) taken refl refl
+
+    pub loads_gate_again : StepsSo c p s k x3
+    loads_gate_again = loads_it c p s k y d back (EndGate traced) is Gate tt refl
+        (gate_by ((gate.epoch == d.epoch) && (gate.behind == 0)) refl
+            (ap (λ o. round c p s k y d back (duty.ended_gate (round c p s k y d back (EndGate traced)) traced (gate_now c) o)) (gate_says c p s)))
