@@ -92,3 +92,64 @@ module _ (c : Configuration) (p : Plain) (s : Stands c p) (k : ℕ) (y : Held) (
           first_by : (b : Bool) → (page == duty.to_page d) ≡ b → (page ≡ (if b then 0 else page)) ⊎ (64 * page ≡ duty.to_start d)
           first_by true e = inr (let f = eqb-true page (duty.to_page d) e in let g = to_start-to_page d in omega (arith, f, g))
           first_by false e = inl refl
+
+  -- ---- the next page
+
+  abbrev next : ℕ
+  next = duty.page_after rd page
+
+  full_le : duty.is_full look.front next ≡ true → 64 * (next + 1) ≤ look.front
+  full_le f = grind (arith, nat_tests)
+
+  not_full : duty.is_full look.front next ≡ false → look.front < 64 * (next + 1)
+  not_full f = grind (arith, nat_tests)
+
+  -- what it is after this one
+  next_is : (page ≡ board_page d.layout.pages → (next ≡ duty.to_page d) × (seen_to ≡ 0)) × (page ≢ board_page d.layout.pages → (next ≡ page + 1) × (seen_to ≡ page + 1))
+  next_is = (
+    λ e. let q = eq-eqb page (board_page d.layout.pages) e in (rw q refl, rw q refl),
+    λ n. let q = ne_eqb page (board_page d.layout.pages) n in (rw q refl, rw q refl),
+  )
+
+  below_board : duty.is_full look.front next ≡ true → next ≢ board_page d.layout.pages
+  below_board f e = let l = full_le f in let h = choice.at.high in let t = to_start-le rd in omega (arith, l, h, t, e)
+
+  past_next : duty.is_full look.front next ≡ true → is_past_board d next ≡ true
+  past_next f = rw (ne_eqb next (board_page d.layout.pages) (below_board f)) refl
+
+  upto_next : duty.is_full look.front next ≡ true → upto_before d next ≡ seen_to
+  upto_next f = ⊎_elim
+      (λ (e : page ≡ board_page d.layout.pages). let m = next_is.0 e in upto_first m.0 m.1)
+      (λ (n : page ≢ board_page d.layout.pages). let m = next_is.1 n in let low = choice.in_space n in upto_later m.0 m.1 (λ z. let a = m.0 in omega (arith, a, z, low)))
+      (cases_eq page (board_page d.layout.pages))
+    where
+      upto_first : next ≡ duty.to_page d → seen_to ≡ 0 → upto_before d next ≡ seen_to
+      upto_first a b = rw (ne_eqb next (board_page d.layout.pages) (below_board f), eq-eqb next (duty.to_page d) a) (sym b)
+
+      upto_later : next ≡ page + 1 → seen_to ≡ page + 1 → next ≢ duty.to_page d → upto_before d next ≡ seen_to
+      upto_later a b n = rw (ne_eqb next (board_page d.layout.pages) (below_board f), ne_eqb next (duty.to_page d) n) (a ∙ sym b)
+
+  goes_next : duty.is_full look.front next ≡ true → loaded ≡ encode_page (Open d.epoch)
+      → duty.taken_at rd (EndPage look page) (Value loaded) ≡ round c p s k y d back (EndPage look next) → Goes c p s k None x (Value loaded)
+  goes_next f e taken =
+      let l : Law c p s k x None (knows (at c p s k y d back (EndPage look next))) s.ghost = rw (past_next f, upto_next f) (looked (is_open e)) in
+      goes_on c p s k y d back (EndPage look page) is None (Value loaded) (EndPage look next) s.ghost taken refl refl
+          (is.fits.stage.0.sound.stage.0, at_another rd (EndPage look next) look.front next (next_choice rd look.front page is.fits.stage.0.sound.pages choice f)) l
+
+  -- ---- after the last page
+
+  upto_end : duty.is_full look.front next ≡ false → upto_all d look.front ≡ seen_to
+  upto_end f = ⊎_elim
+      (λ (e : page ≡ board_page d.layout.pages). let m = next_is.0 e in let a = m.0 in let l = not_full f in let g = to_start-to_page d in
+          upto_none (nat_lt look.front (duty.to_start d + 64)) refl (omega (arith, a, l, g)) m.1)
+      (λ (n : page ≢ board_page d.layout.pages). let m = next_is.1 n in let a = m.0 in let b = m.1 in let l = not_full f in let g = to_start-to_page d in let low = choice.in_space n in let w = choice.full n in
+          upto_some (nat_lt look.front (duty.to_start d + 64)) refl (omega (arith, g, low, w)) (omega (arith, a, b, l, w)))
+      (cases_eq page (board_page d.layout.pages))
+    where
+      upto_none : (b : Bool) → nat_lt look.front (duty.to_start d + 64) ≡ b → look.front < duty.to_start d + 64 → seen_to ≡ 0 → (if b then 0 else page_of look.front) ≡ seen_to
+      upto_none true e l z = sym z
+      upto_none false e l z = absurd (grind (arith, nat_tests, e, l))
+
+      upto_some : (b : Bool) → nat_lt look.front (duty.to_start d + 64) ≡ b → duty.to_start d + 64 ≤ look.front → page_of look.front ≡ seen_to → (if b then 0 else page_of look.front) ≡ seen_to
+      upto_some true e l z = absurd (let m = ltb-true look.front (duty.to_start d + 64) e in omega (arith, m, l))
+      upto_some false e l z = z
