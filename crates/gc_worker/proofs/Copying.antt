@@ -3,3 +3,4 @@ pub mod Words
 pub mod Publishing
 pub mod Placing
 pub mod Finding
+pub mod Whole

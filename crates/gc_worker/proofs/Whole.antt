@@ -40,6 +40,7 @@ use Rattle.gc_worker.proofs.Flip.Resetting as resetting
 use Rattle.gc_worker.proofs.Flip.Flipping.{flips_gate}
 use Rattle.gc_worker.proofs.Opening.{opens}
 use Rattle.gc_worker.proofs.Scan.Stages.{scans}
+use Rattle.gc_worker.proofs.Copying.Whole.{evacuates}
 use Rattle.page_scan.specs.Scanning.{Scanning}
 use Rattle.page_slots.specs.declared.open_stage.OpenStage.{OpenStage}
 use Rattle.page_slots.specs.declared.open_stage.OpenStage.TheVariants as open_stage
@@ -77,7 +78,7 @@ module _ (c : Configuration) (p : Plain) (s : Stands c p) (k : ℕ) (x : Held) w
   flips : (f : Flipping) → Kind (Flips f)
   flips f is =
       let same : f ≡ record { layout = x.layout; epoch = x.epoch; asked = f.asked; stage = f.stage } =
-          (λ i. record { layout = is.fits.stage.layout i; epoch = is.fits.stage.epoch i; asked = f.asked; stage = f.stage }) in
+      (λ i. record { layout = is.fits.stage.layout i; epoch = is.fits.stage.epoch i; asked = f.asked; stage = f.stage }) in
       subst (λ (g : Flipping). StepsSo c p s k (at_stage x (Flips g))) (sym same)
       (flips_own f.asked f.stage (subst (λ (g : Flipping). Is c k (at_stage x (Flips g))) same is))
 
@@ -94,7 +95,7 @@ module _ (c : Configuration) (p : Plain) (s : Stands c p) (k : ℕ) (x : Held) w
   by_stage (Places z) proved is = absurd proved
   by_stage (Serves d back) proved is = absurd proved
   by_stage (Scans z back) proved is = scans c p s k x z back is
-  by_stage (Evacuates v z back) proved is = absurd proved
+  by_stage (Evacuates v z back) proved is = evacuates c p s k x v z back is
   by_stage (Opens o z back) proved is = opens_page o z back o.stage is
   by_stage Gone proved is = rests c p s k (at_stage x Gone) refl
 
@@ -125,7 +126,7 @@ module _ (h : Heap) (p o : Plain) (k : ℕ) (x : Held) (q : Step) (st : WorkersS
   all_fit : Fits h.pages h.mutators k y → (j : ℕ) → j < length (set h.workers k y) → Fits h.pages h.mutators j (get_or (set h.workers k y) j nobody)
   all_fit fits j below = ⊎_elim
       (λ (e : j ≡ k). subst (λ (z : Held). Fits h.pages h.mutators j z) (sym (ap (λ (i : ℕ). get_or (set h.workers k y) i nobody) e ∙ get_or-set_same h.workers k y nobody l))
-        (subst (λ (i : ℕ). Fits h.pages h.mutators i y) (sym e) fits))
+      (subst (λ (i : ℕ). Fits h.pages h.mutators i y) (sym e) fits))
       (λ (d : j ≢ k). subst (λ (z : Held). Fits h.pages h.mutators j z) (sym (get_or-set_other h.workers k j y nobody d)) (st.fit j (let n = length-set h.workers k y in omega (arith, n, below))))
       (cases_eq j k)
 
@@ -141,8 +142,8 @@ module _ (h : Heap) (p o : Plain) (k : ℕ) (x : Held) (q : Step) (st : WorkersS
     comes : (h' : Ghost) (o' : Plain) (w : StandsWith later p h') → Cycle (era later) (memory later) (team later) h' o' → WorkersStand (moved h k x q) p o'
     comes h' o' w cycle =
         let both : (d : Configuration) → later ≡ d → (s : Stands d p) × Cycle (era d) (memory d) (team d) s.ghost o' =
-            λ d e. subst (λ (d : Configuration). (s : Stands d p) × Cycle (era d) (memory d) (team d) s.ghost o') e
-                (w.stands, subst (λ (g : Ghost). Cycle (era later) (memory later) (team later) g o') (sym w.with_ghost) cycle) in
+        λ d e. subst (λ (d : Configuration). (s : Stands d p) × Cycle (era d) (memory d) (team d) s.ghost o') e
+        (w.stands, subst (λ (g : Ghost). Cycle (era later) (memory later) (team later) g o') (sym w.with_ghost) cycle) in
         let now = both (read (moved h k x q)) after in
         record { stands = now.0; cycle = now.1; fit = all_fit steps.goes.fits }
 

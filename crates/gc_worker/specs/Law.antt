@@ -98,7 +98,7 @@ IsProved (Accesses a) = ⊤
 IsProved (Places p) = ⊥
 IsProved (Serves d back) = ⊥
 IsProved (Scans s back) = ⊤
-IsProved (Evacuates v s back) = ⊥
+IsProved (Evacuates v s back) = ⊤
 IsProved (Opens o s back) = ⊤
 IsProved Gone = ⊤
 

@@ -1,0 +1,4 @@
+pub mod Claiming
+pub mod Readying
+pub mod Opened
+pub mod Areas
