@@ -1,5 +1,5 @@
 -- The next step of a worker.
-use Rattle.std.specs.Prelude.{ℕ, Option, Some, None}
+use Rattle.std.specs.Prelude.{ℕ, true, false, Option, Some, None}
 use Rattle.atom_store.specs.declared.step.Step.{Step}
 use Rattle.atom_store.specs.declared.step.Step.TheVariants.{Load}
 use Rattle.space_map.specs.Table.{Gate, place_of}
@@ -22,10 +22,11 @@ abbrev pub wanted_look : Held → Option Task → Option Step
 wanted_look x None = Some (Load (place_of x.layout.pages Gate))
 wanted_look x (Some task) = None
 
--- an allocation, up to the header
+-- an allocation, up to the header, and not where the heap may be found full
 abbrev pub wanted_place : place.Placing → PlaceStage → Option Step
 wanted_place p StoresHeader = None
-wanted_place p (LoadsArea traced) = None
+wanted_place p (LoadsArea false) = place.wanted p
+wanted_place p (LoadsArea true) = None
 wanted_place p LoadsTraced = place.wanted p
 wanted_place p (ExchangesArea f) = place.wanted p
 wanted_place p (StoresZero new) = place.wanted p
