@@ -2,3 +2,4 @@ pub mod Claiming
 pub mod Readying
 pub mod Opened
 pub mod Areas
+pub mod Stages
