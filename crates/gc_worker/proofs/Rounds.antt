@@ -4,3 +4,4 @@ pub mod Beginning
 pub mod Claiming
 pub mod Wanting
 pub mod Choosing
+pub mod Ending
