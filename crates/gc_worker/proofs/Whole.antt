@@ -110,7 +110,7 @@ unfolding table_of
 page_age c page = refl
 
 module _ (h : Heap) (p o : Plain) (k : ℕ) (x : Held) (q : Step) (st : WorkersStand h p o) (l : k < length h.workers) (holds : held_at h k ≡ x) where
-  is : Is (read h) k x
+  pub is : Is (read h) k x
   is = record {
     below = (let n = length-map h.workers knows in omega (arith, n, l));
     as_known = get_or-map knows h.workers k nobody (fresh Scanner) l ∙ ap knows holds;
