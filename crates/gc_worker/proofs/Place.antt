@@ -2,3 +2,5 @@ pub mod Claiming
 pub mod Readying
 pub mod Opened
 pub mod Areas
+pub mod Traced
+pub mod Stages

@@ -4,4 +4,6 @@ pub mod Beginning
 pub mod Claiming
 pub mod Wanting
 pub mod Choosing
+pub mod Ending
+pub mod EndPages
 pub mod Whole

@@ -7,6 +7,10 @@ use Rattle.space_map.specs.PageWord.{age_of}
 use Rattle.space_map.specs.Table.{Page, table_length}
 use Rattle.fault_duty.specs.declared.duty_stage.DutyStage.{DutyStage}
 use Rattle.fault_duty.specs.declared.duty_stage.DutyStage.TheVariants.{LoadsGate, LoadsTraced, LoadsWanted, LoadsFrontFor, LoadsFront, LoadsPage, Claims, EndGate, EndArea, EndPage, EndFilling, EndAreaAgain, Traces, Ended}
+use Rattle.atom_store.specs.declared.reply.Reply.TheVariants.{Won}
+use Rattle.gate_core.specs.declared.flip_stage.FlipStage.TheVariants.{Exchanges}
+use Rattle.gate_core.specs.declared.reset.Reset.{Reset}
+use Rattle.gate_core.specs.Flip.{Flipping}
 use Rattle.heap_state.specs.Configuration.{Configuration, Stands, era, memory, team}
 use Rattle.heap_state.specs.Cycle.{Cycle}
 use Rattle.heap_state.specs.Table.{word_in, page_said}
@@ -90,7 +94,7 @@ pub record StepKeeps (h : Heap) (p o : Plain) (k : ℕ) (x : Held) (q : Step) : 
   pub kept : (w : PageWon) → IsOut h.pages h.words w → IsOut h.pages (words_after q h.words) w
   pub wins : WinsOne h.pages h.words (words_after q h.words) (won x (reply_of q h.words))
 
--- the stages of a round of which the law is shown so far: from the gate until a page is chosen
+-- the stages of a round of which this is shown so far: all but a claim, and FRONT read again at the end
 abbrev pub IsRoundProved : DutyStage → Type 0
 IsRoundProved LoadsGate = ⊤
 IsRoundProved (LoadsTraced hindrance) = ⊤
@@ -99,12 +103,12 @@ IsRoundProved (LoadsFrontFor found w) = ⊤
 IsRoundProved (LoadsFront found) = ⊤
 IsRoundProved (LoadsPage choice page) = ⊤
 IsRoundProved (Claims c) = ⊥
-IsRoundProved (EndGate traced) = ⊥
-IsRoundProved (EndArea traced) = ⊥
-IsRoundProved (EndPage look page) = ⊥
-IsRoundProved (EndFilling look) = ⊥
+IsRoundProved (EndGate traced) = ⊤
+IsRoundProved (EndArea traced) = ⊤
+IsRoundProved (EndPage look page) = ⊤
+IsRoundProved (EndFilling look) = ⊤
 IsRoundProved (EndAreaAgain look filling) = ⊥
-IsRoundProved (Traces traced) = ⊥
+IsRoundProved (Traces traced) = ⊤
 IsRoundProved (Ended result) = ⊤
 
 -- the stages of which this is shown so far
@@ -114,7 +118,7 @@ IsProved (Passes g after) = ⊤
 IsProved (Flips f) = ⊤
 IsProved (Forwards w) = ⊥
 IsProved (Accesses a) = ⊤
-IsProved (Places p) = ⊥
+IsProved (Places p) = ⊤
 IsProved (Serves d back) = IsRoundProved d.stage
 IsProved (Scans s back) = ⊤
 IsProved (Evacuates v s back) = ⊤
@@ -124,3 +128,8 @@ IsProved Gone = ⊤
 abbrev pub StepsKeep : Type 0
 StepsKeep = (h : Heap) (p o : Plain) (k : ℕ) (x : Held) (q : Step) → WorkersStand h p o → k < length h.workers → held_at h k ≡ x → wanted x ≡ Some q
     → IsProved x.stage → StepKeeps h p o k x q
+
+-- the exchange of a flip is never lost
+abbrev pub FlipsAreWon : Type 0
+FlipsAreWon = (h : Heap) (p o : Plain) (k : ℕ) (x : Held) (f : Flipping) (r : Reset) (q : Step) → WorkersStand h p o → k < length h.workers → held_at h k ≡ x
+    → x.stage ≡ Flips (record f { stage = Exchanges r }) → wanted x ≡ Some q → reply_of q h.words ≡ Won
