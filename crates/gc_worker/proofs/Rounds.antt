@@ -6,4 +6,5 @@ pub mod Wanting
 pub mod Choosing
 pub mod Ending
 pub mod EndPages
+pub mod Looking
 pub mod Whole
