@@ -18,7 +18,7 @@ use Rattle.fault_duty.specs.declared.round_end.RoundEnd.TheVariants.{NothingNow}
 use Rattle.fault_duty.specs.Duty as duty
 use Rattle.fault_duty.specs.Duty.{Round}
 use Rattle.fault_duty.specs.Soundness.{IsChoice, FitsFront, FitsDutyStage}
-use Rattle.fault_duty.proofs.Lowering.{to_start-le, to_start-to_page}
+use Rattle.gc_worker.proofs.Rounds.Choosing.{to_start-le, to_start-to_page}
 use Rattle.heap_state.specs.Configuration.{Configuration, Stands, table, era, memory, team}
 use Rattle.heap_state.specs.Worker.{Worker, Look}
 use Rattle.heap_laws.specs.Tracing.{looking}

@@ -14,7 +14,7 @@ use Rattle.fault_duty.specs.declared.end_look.EndLook.{EndLook}
 use Rattle.fault_duty.specs.declared.page_state.PageState.{PageState}
 use Rattle.fault_duty.specs.declared.page_state.PageState.TheVariants.{Opened, Scanned, Waits, Past}
 use Rattle.fault_duty.specs.Soundness.{FitsFront, FitsDutyStage}
-use Rattle.fault_duty.proofs.Lowering.{to_start-le}
+use Rattle.gc_worker.proofs.Rounds.Choosing.{to_start-le}
 use Rattle.space_map.specs.declared.page_word.PageWord.{PageWord}
 use Rattle.space_map.specs.declared.page_word.PageWord.TheVariants.{Unset, Open, Scanning}
 use Rattle.space_map.specs.PageWord.{decode_page, PageFits}
