@@ -5,3 +5,5 @@ pub mod Front
 pub mod Headers
 pub mod Spots
 pub mod Words
+pub mod Stored
+pub mod Stages

@@ -40,6 +40,8 @@ use Rattle.gc_worker.proofs.Flip.Resetting as resetting
 use Rattle.gc_worker.proofs.Flip.Flipping.{flips_gate}
 use Rattle.gc_worker.proofs.Opening.{opens}
 use Rattle.gc_worker.proofs.Copying.Whole.{evacuates, forwards}
+use Rattle.gc_worker.proofs.Place.Stages.{places}
+use Rattle.gc_worker.proofs.Scan.Stages.{scans}
 use Rattle.page_scan.specs.Scanning.{Scanning}
 use Rattle.page_slots.specs.declared.open_stage.OpenStage.{OpenStage}
 use Rattle.page_slots.specs.declared.open_stage.OpenStage.TheVariants as open_stage
@@ -91,9 +93,9 @@ module _ (c : Configuration) (p : Plain) (s : Stands c p) (k : ℕ) (x : Held) w
   by_stage (Flips f) proved is = flips f is
   by_stage (Forwards w) proved is = forwards c p s k x w is
   by_stage (Accesses a) proved is = rests c p s k (at_stage x (Accesses a)) refl
-  by_stage (Places z) proved is = absurd proved
+  by_stage (Places z) proved is = places c p s k x z is
   by_stage (Serves d back) proved is = absurd proved
-  by_stage (Scans z back) proved is = absurd proved
+  by_stage (Scans z back) proved is = scans c p s k x z back is
   by_stage (Evacuates v z back) proved is = evacuates c p s k x v z back is
   by_stage (Opens o z back) proved is = opens_page o z back o.stage is
   by_stage Gone proved is = rests c p s k (at_stage x Gone) refl
@@ -108,7 +110,7 @@ unfolding table_of
 page_age c page = refl
 
 module _ (h : Heap) (p o : Plain) (k : ℕ) (x : Held) (q : Step) (st : WorkersStand h p o) (l : k < length h.workers) (holds : held_at h k ≡ x) where
-  is : Is (read h) k x
+  pub is : Is (read h) k x
   is = record {
     below = (let n = length-map h.workers knows in omega (arith, n, l));
     as_known = get_or-map knows h.workers k nobody (fresh Scanner) l ∙ ap knows holds;

@@ -5,6 +5,10 @@ use Rattle.atom_store.specs.declared.step.Step.{Step}
 use Rattle.atom_store.specs.Step.{place_in, words_after, reply_of}
 use Rattle.space_map.specs.PageWord.{age_of}
 use Rattle.space_map.specs.Table.{Page, table_length}
+use Rattle.atom_store.specs.declared.reply.Reply.TheVariants.{Won}
+use Rattle.gate_core.specs.declared.flip_stage.FlipStage.TheVariants.{Exchanges}
+use Rattle.gate_core.specs.declared.reset.Reset.{Reset}
+use Rattle.gate_core.specs.Flip.{Flipping}
 use Rattle.heap_state.specs.Configuration.{Configuration, Stands, era, memory, team}
 use Rattle.heap_state.specs.Cycle.{Cycle}
 use Rattle.heap_state.specs.Table.{word_in, page_said}
@@ -95,9 +99,9 @@ IsProved (Passes g after) = ⊤
 IsProved (Flips f) = ⊤
 IsProved (Forwards w) = ⊤
 IsProved (Accesses a) = ⊤
-IsProved (Places p) = ⊥
+IsProved (Places p) = ⊤
 IsProved (Serves d back) = ⊥
-IsProved (Scans s back) = ⊥
+IsProved (Scans s back) = ⊤
 IsProved (Evacuates v s back) = ⊤
 IsProved (Opens o s back) = ⊤
 IsProved Gone = ⊤
@@ -105,3 +109,8 @@ IsProved Gone = ⊤
 abbrev pub StepsKeep : Type 0
 StepsKeep = (h : Heap) (p o : Plain) (k : ℕ) (x : Held) (q : Step) → WorkersStand h p o → k < length h.workers → held_at h k ≡ x → wanted x ≡ Some q
     → IsProved x.stage → StepKeeps h p o k x q
+
+-- the exchange of a flip is never lost
+abbrev pub FlipsAreWon : Type 0
+FlipsAreWon = (h : Heap) (p o : Plain) (k : ℕ) (x : Held) (f : Flipping) (r : Reset) (q : Step) → WorkersStand h p o → k < length h.workers → held_at h k ≡ x
+    → x.stage ≡ Flips (record f { stage = Exchanges r }) → wanted x ≡ Some q → reply_of q h.words ≡ Won

@@ -1,6 +1,6 @@
 pub mod Held
-pub mod Wanted
 pub mod Turned
+pub mod Wanted
 pub mod Knows
 pub mod Fits
 pub mod Goes

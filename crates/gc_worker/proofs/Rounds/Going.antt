@@ -151,7 +151,7 @@ module _ (c : Configuration) (p : Plain) (s : Stands c p) (k : ℕ) (y : Held) (
     ended_fits : Fits c.pages c.mutators k (back_from done back)
     ended_fits = back_fits c.pages c.mutators k done fits_done is.fits.end back (back_done back d.epoch is.fits.stage.0.epoch is.fits.stage.1)
 
-    own_stock_same : SameStock
+    pub own_stock_same : SameStock
     own_stock_same = same_stock back is.fits.stage.0.epoch is.fits.stage.1
 
     -- it ends: what becomes of the worker
