@@ -110,7 +110,7 @@ takes c (LooksAtPlace k) before after word sound acts =
     let announced : ℕ = word_in c.layout.pages (Announce k) before in
     let shows = place_shows k announced word (names_below_end c.page announced) (nat_eq k 23) acts.tells in
     let below = names_below c.page announced shows.0 in
-    (Announced k sound.stage shows.1 (rw shows.1 below.0) (rw shows.1 below.1), acts.makes)
+    (Announced k sound.stage.0 shows.1 (rw shows.1 below.0) (rw shows.1 below.1), acts.makes)
   where
     names_below : (page announced : ℕ) → names_below_end page announced ≡ true → (0 < announced) × (announced ≤ 64 * (page + 1))
     names_below page announced is = grind (arith, nat_tests)
