@@ -12,7 +12,9 @@ use Rattle.plain_heap.specs.declared.mark.Mark.TheVariants.{Step, Flip, Full}
 use Rattle.plain_heap.specs.Step.{asked_by}
 use Rattle.plain_heap.specs.Order.{opening, marked, plain}
 use Rattle.gc_core.specs.declared.config.Config.{Config}
-use Rattle.gc_core.specs.Configuration.{Configuration, is_size, opening_core}
+use Rattle.gc_core.specs.Configuration.{Configuration, CoreState, is_size, opening_core, workers_of}
+use Rattle.gc_core.specs.Event.{core_after, event_of}
+use Rattle.gc_core.specs.declared.stepped.Stepped.TheVariants.{Idle}
 use Rattle.gc_core.specs.Law.{end_of}
 use Rattle.gc_core.specs.Represents.{Represents}
 use Rattle.gc_core.specs.Run.{Ran, run_from}
@@ -51,3 +53,7 @@ abbrev pub RunsFollow : Type 0
 RunsFollow = (code : List (List Instr)) (items : List Item) (config : Config) (schedule : ℕ → ℕ) (n : ℕ)
     → IsWellFormed code items → IsTrue (is_size config.pages) → config.turns ≤ 10000000
     → Follows code config.turns (run_from schedule 0 n (opening_core code config))
+
+-- a worker that isn't there is idle, and its step changes nothing
+abbrev pub MissingWorkersAreIdle : Type 0
+MissingWorkersAreIdle = (s : CoreState) (worker : ℕ) → workers_of s ≤ worker → (Idle ≡ (event_of s worker).told) × (s ≡ core_after s worker)
