@@ -1,39 +1,36 @@
 -- What an allocation's step does to the words, by its stage.
-use Rattle.std.proofs.Common.{◌≡◌, ◌≢◌, ℕ, ◌+◌, ◌-◌, ◌*◌, ◌/◌, ◌^◌, ◌<◌, ◌≤◌, Bool, true, false, cond, nat_eq, nat_lt, nat_le, ◌⊎◌, inl, inr, List, slice_index, Option, Some, None, arith, refl, sym, ap, subst, ◌∙◌}
+use Rattle.std.proofs.Common.{◌≡◌, ◌≢◌, ℕ, ◌+◌, ◌*◌, ◌^◌, ◌<◌, ◌≤◌, Bool, true, false, cond, nat_lt, inl, inr, List, slice_index, Option, Some, None, arith, refl, sym, ap, subst, ◌∙◌}
 use Rattle.std.proofs.lemmas.Bool.{cases_lt}
 use Rattle.std.proofs.lemmas.Bool.Decides.{nat_tests}
 use Rattle.atom_store.specs.declared.reply.Reply.{Reply}
 use Rattle.atom_store.specs.declared.reply.Reply.TheVariants as reply
-use Rattle.atom_store.specs.declared.step.Step.TheVariants.{Store, Exchange}
+use Rattle.atom_store.specs.declared.step.Step.TheVariants.{Store}
 use Rattle.atom_store.specs.declared.turn.Turn.{Turn}
 use Rattle.atom_store.specs.declared.turn.Turn.TheVariants.{More, Finished}
 use Rattle.atom_store.specs.Acts.{Acts, stepped}
-use Rattle.atom_store.specs.Step.{reply_of, words_after}
+use Rattle.atom_store.specs.Step.{words_after}
 use Rattle.atom_store.proofs.Acting.{no_step}
 use Rattle.atom_store.proofs.Steps.{slice_index-words_after, slice_index-stored}
 use Rattle.heap_words.specs.Decoded.{encode}
-use Rattle.record_layout.specs.declared.header.Header.{Header}
 use Rattle.record_layout.specs.Layout.{header_says}
 use Rattle.space_map.specs.declared.area_word.AreaWord.{AreaWord}
 use Rattle.space_map.specs.declared.page_word.PageWord.TheVariants.{Open}
-use Rattle.space_map.specs.AreaWord.{AreaFits, decode_area, encode_area}
+use Rattle.space_map.specs.AreaWord.{decode_area}
 use Rattle.space_map.specs.PageWord.{decode_page, encode_page}
-use Rattle.space_map.specs.Spaces.{to_space, page_of}
-use Rattle.space_map.specs.Table.{Area, Page, HeapWord, place_of}
+use Rattle.space_map.specs.Spaces.{page_of}
+use Rattle.space_map.specs.Table.{Page, HeapWord, place_of}
 use Rattle.space_map.specs.TableWords.{word_in, HoldsTable}
-use Rattle.space_map.proofs.AreaWords.{decode_area-encode_area}
 use Rattle.space_map.proofs.PageWords.{decode_page-encode_page}
 use Rattle.space_map.proofs.Rows.{place_of-apart, place_of-lt}
 use Rattle.alloc_end.specs.declared.fitting.Fitting.{Fitting}
 use Rattle.alloc_end.specs.declared.new_pages.NewPages.{NewPages}
-use Rattle.alloc_end.specs.declared.shortage.Shortage.{Shortage}
 use Rattle.alloc_end.specs.declared.allocated.Allocated.{Allocated}
 use Rattle.alloc_end.specs.declared.allocated.Allocated.TheVariants.{Placed, Full}
 use Rattle.alloc_end.specs.declared.place_stage.PlaceStage.{PlaceStage}
 use Rattle.alloc_end.specs.declared.place_stage.PlaceStage.TheVariants.{LoadsTraced, LoadsArea, ExchangesArea, StoresZero, OpensPage, StoresHeader, Ended}
-use Rattle.alloc_end.specs.Place.{Placing, at_stage, size_of, pages_for, words_for, kept_room, room_in, fits, area_after, shortage, place_machine, told, taken_at, looked_at_area, cleared, opened}
-use Rattle.alloc_end.specs.Soundness.{IsSoundPlacing, HasRoom}
-use Rattle.alloc_end.specs.Theorems.{area_word, AreZero, AreOpen, IsReady, PlacesRecord, ShowsShortage, ClaimsPages, LosesPages}
+use Rattle.alloc_end.specs.Place.{Placing, at_stage, size_of, pages_for, words_for, fits, shortage, place_machine, told, taken_at, looked_at_area, cleared, opened}
+use Rattle.alloc_end.specs.Soundness.{IsSoundPlacing}
+use Rattle.alloc_end.specs.Theorems.{area_word, AreZero, AreOpen, IsReady, PlacesRecord}
 
 -- ---- stores in heap words and page words
 

@@ -8,13 +8,11 @@ use Rattle.atom_store.specs.declared.reply.Reply.{Reply}
 use Rattle.atom_store.specs.declared.reply.Reply.TheVariants.{Value, Done, Won, Lost}
 use Rattle.atom_store.specs.Machine.{ComesTo}
 use Rattle.space_map.specs.Worked.{four_pages}
-use Rattle.heap_words.specs.declared.kind.Kind.{Kind}
 use Rattle.heap_words.specs.declared.kind.Kind.TheVariants.{Fields, Raw}
 use Rattle.record_layout.specs.declared.header.Header.{Header}
 use Rattle.alloc_end.specs.declared.run.Run.{Run}
-use Rattle.alloc_end.specs.declared.allocated.Allocated.{Allocated}
 use Rattle.alloc_end.specs.declared.allocated.Allocated.TheVariants.{Placed, Full}
-use Rattle.alloc_end.specs.Place.{Placing, begun, place_machine}
+use Rattle.alloc_end.specs.Place.{begun, place_machine}
 
 abbrev pub no_run : Run
 no_run = record { at = 0; end = 0 }

@@ -1,13 +1,10 @@
 -- What an allocation keeps of itself: its places are in the table, its run and the pages that it claimed are in the spaces, and
 -- the areas that it writes fit their words.
-use Rattle.std.specs.Prelude.{◌≡◌, ℕ, ◌+◌, ◌-◌, ◌*◌, ◌/◌, ◌^◌, ◌<◌, ◌≤◌, true, ⊤}
-use Rattle.space_map.specs.declared.area_word.AreaWord.{AreaWord}
+use Rattle.std.specs.Prelude.{ℕ, ◌+◌, ◌*◌, ◌^◌, ◌<◌, ◌≤◌, ⊤}
 use Rattle.space_map.specs.Spaces.{IsPageCount, page_of}
 use Rattle.record_layout.specs.declared.header.Header.{Header}
 use Rattle.alloc_end.specs.declared.run.Run.{Run}
 use Rattle.alloc_end.specs.declared.fitting.Fitting.{Fitting}
-use Rattle.alloc_end.specs.declared.new_pages.NewPages.{NewPages}
-use Rattle.alloc_end.specs.declared.allocated.Allocated.{Allocated}
 use Rattle.alloc_end.specs.declared.place_stage.PlaceStage.{PlaceStage}
 use Rattle.alloc_end.specs.declared.place_stage.PlaceStage.TheVariants.{LoadsTraced, LoadsArea, ExchangesArea, StoresZero, OpensPage, StoresHeader, Ended}
 use Rattle.alloc_end.specs.Place.{Placing, size_of, pages_for, kept_room}

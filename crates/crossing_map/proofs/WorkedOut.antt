@@ -18,6 +18,7 @@ is_worked_out = record {
   forward = refl;
   busy = refl;
   blank = refl;
-  no_record = refl;
+  in_the_middle = refl;
+  passes_front = refl;
   unreserved = refl;
 }

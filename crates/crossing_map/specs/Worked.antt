@@ -22,6 +22,7 @@ worked =
     ∷ (33 + 256, 0x0000_0000_0001_0022)
     ∷ (33 + 384, 0x0000_0000_0004_0002)
     ∷ (33 + 385, 0x0000_0000_0005_0022)
+    ∷ (33 + 386, 0x1c)
     ∷ (33 + 448, 0x0000_0000_0006_0022)
     ∷ [])
     (replicate 633 0))
@@ -52,5 +53,6 @@ pub record IsWorkedOut : Type 0 where
   pub forward : next_old 0 ≡ next.Record 192 3
   pub busy : next_old 195 ≡ next.Record 195 2
   pub blank : next_old 197 ≡ next.Ended
-  pub no_record : next_walked worked (pairs_kept kept) 1 (record { front = 258; low = 384; end = 512 }) 256 ≡ next.Broken 256
+  pub in_the_middle : next_new 386 ≡ next.Broken 386
+  pub passes_front : next_walked worked (pairs_kept kept) 1 (record { front = 258; low = 384; end = 512 }) 256 ≡ next.Broken 256
   pub unreserved : next_walked worked [] 1 (record { front = 512; low = 512; end = 512 }) 259 ≡ next.Record 384 1

@@ -1,7 +1,6 @@
 -- Which page a round claims, by what it was about to do.
-use Rattle.std.proofs.Common.{◌≡◌, ◌≢◌, ℕ, ◌+◌, ◌*◌, ◌%◌, ◌<◌, ◌≤◌, Bool, true, false, cond, ◌&&◌, nat_eq, nat_le, ◌⊎◌, inl, inr, List, Option, Some, None, arith, refl, sym, ap, ◌∙◌}
+use Rattle.std.proofs.Common.{◌≡◌, ℕ, ◌+◌, ◌%◌, ◌≤◌, Bool, true, false, cond, ◌&&◌, nat_eq, List, Option, Some, None, arith, refl}
 use Rattle.std.proofs.lemmas.Bool.Decides.{nat_tests}
-use Rattle.atom_store.specs.declared.reply.Reply.{Reply}
 use Rattle.atom_store.specs.declared.reply.Reply.TheVariants as reply
 use Rattle.atom_store.specs.declared.step.Step.{Step}
 use Rattle.atom_store.specs.declared.turn.Turn.{Turn}
@@ -34,7 +33,7 @@ use Rattle.fault_duty.specs.declared.duty_stage.DutyStage.TheVariants.{LoadsGate
 use Rattle.fault_duty.specs.Duty
 use Rattle.fault_duty.specs.Duty.{Round, at_stage, duty_machine, told, taken_at}
 use Rattle.fault_duty.specs.Soundness.{IsSoundRound}
-use Rattle.fault_duty.specs.Theorems.{row_of, ClaimsBoard, ClaimsWanted, ClaimsChosen, ClaimsFilling, ClaimsFor}
+use Rattle.fault_duty.specs.Theorems.{row_of, ClaimsBoard, ClaimsWanted, ClaimsFilling, ClaimsFor}
 
 -- ---- stages that lead to no claim
 

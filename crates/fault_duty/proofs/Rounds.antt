@@ -1,5 +1,5 @@
 -- What a round's step does to the words, by what it then tells.
-use Rattle.std.proofs.Common.{◌≡◌, ◌≢◌, ℕ, ◌+◌, ◌<◌, ◌≤◌, Bool, true, false, cond, nat_eq, ◌⊎◌, inl, inr, List, slice_index, Option, Some, None, arith, refl, sym, ap, subst, ◌∙◌}
+use Rattle.std.proofs.Common.{◌≡◌, ℕ, ◌+◌, ◌<◌, Bool, true, false, cond, nat_eq, ◌⊎◌, inl, inr, List, slice_index, Option, Some, None, arith, refl, sym, ap, subst, ◌∙◌}
 use Rattle.atom_store.specs.declared.reply.Reply.{Reply}
 use Rattle.atom_store.specs.declared.reply.Reply.TheVariants as reply
 use Rattle.atom_store.specs.declared.step.Step.{Step}
@@ -16,18 +16,16 @@ use Rattle.space_map.specs.declared.page_word.PageWord.{PageWord}
 use Rattle.space_map.specs.AreaWord.{decode_area}
 use Rattle.space_map.specs.GateWord.{decode_gate}
 use Rattle.space_map.specs.PageWord.{encode_page, decode_page}
-use Rattle.space_map.specs.Spaces.{to_space, page_of}
+use Rattle.space_map.specs.Spaces.{to_space, page_of, first_word}
 use Rattle.space_map.specs.Table.{Gate, Traced, Area, Page, place_of}
-use Rattle.space_map.specs.TableWords.{word_in, HoldsTable}
+use Rattle.space_map.specs.TableWords.{HoldsTable}
 use Rattle.space_map.proofs.PageWords.{encode_page-decode_page}
 use Rattle.space_map.proofs.Rows.{place_of-lt}
-use Rattle.page_slots.specs.declared.claimed.Claimed.TheVariants as claimed
 use Rattle.page_slots.specs.Claim.{Claiming, claim_machine}
 use Rattle.page_slots.specs.Claim as claim
 use Rattle.page_slots.proofs.Claiming as claims
 use Rattle.fault_duty.specs.declared.caller.Caller.{Caller}
 use Rattle.fault_duty.specs.declared.caller.Caller.TheVariants.{Faulted, Allocates, Scans}
-use Rattle.fault_duty.specs.declared.findings.Findings.{Findings}
 use Rattle.fault_duty.specs.declared.choice.Choice.{Choice}
 use Rattle.fault_duty.specs.declared.end_look.EndLook.{EndLook}
 use Rattle.fault_duty.specs.declared.round_end.RoundEnd.{RoundEnd}
@@ -37,7 +35,7 @@ use Rattle.fault_duty.specs.declared.duty_stage.DutyStage.TheVariants.{LoadsGate
 use Rattle.fault_duty.specs.Duty
 use Rattle.fault_duty.specs.Duty.{Round, at_stage, duty_machine, told, told_at, taken_at}
 use Rattle.fault_duty.specs.Soundness.{Forbids, PageInScan, IsHindrance, IsSoundRound}
-use Rattle.fault_duty.specs.Theorems.{row_of, OtherEpoch, NotStill, IsServed, IsPastPage, FrontMoved, ShowsNothing, SeesAllLeft, MarksEpoch, ClaimsPage}
+use Rattle.fault_duty.specs.Theorems.{row_of, IsPastPage, ShowsNothing, SeesAllLeft, MarksEpoch, ClaimsPage}
 use Rattle.fault_duty.proofs.Telling.{gate_ends, left_ends, traced_ends, wanted_ends, front_for_ends, front_never, ChoiceEnds, ByHindrance, ByScan, ByPast, page_ends, claim_nothing, claim_scans, claim_scans_in_place, claim_never, end_gate_ends, end_area_never, end_page_ends, filling_ends, AreaAgainEnds, ByFront, ByFilling, area_again_ends}
 
 told_word : (word other : ℕ) → NothingNow word ≡ NothingNow other → word ≡ other
@@ -75,12 +73,12 @@ same_place c (Some step) before = refl
 -- ---- nothing to do now
 
 choice_shows : (d : Round) (choice : Choice) (page : ℕ) (before : List ℕ) (word : ℕ) → IsHindrance d.epoch choice.seen.hindrance
-    → ChoiceEnds d choice (row_of d (Page page) before) (NothingNow word) (decode_page (row_of d (Page page) before))
-    → IsPastPage d page before word ⊎ Forbids d.epoch word
-choice_shows d choice page before word holds (ByHindrance other is same) =
-    inr (subst (Forbids d.epoch) (sym (told_word word other same)) (let h : IsHindrance d.epoch (Some other) = subst (IsHindrance d.epoch) is holds in h))
-choice_shows d choice page before word holds (ByScan worker is same) =
-    let read = told_word word (row_of d (Page page) before) same in inr (PageInScan worker (ap decode_page read ∙ is))
+    → ChoiceEnds d choice page (row_of d (Page page) before) (NothingNow word) (decode_page (row_of d (Page page) before))
+    → IsPastPage d page before word ⊎ ((choice.front < first_word (Duty.page_after d page + 1)) × Forbids d.epoch word)
+choice_shows d choice page before word holds (ByHindrance other is same last) =
+    inr (last, subst (Forbids d.epoch) (sym (told_word word other same)) (let h : IsHindrance d.epoch (Some other) = subst (IsHindrance d.epoch) is holds in h))
+choice_shows d choice page before word holds (ByScan worker is same last) =
+    let read = told_word word (row_of d (Page page) before) same in inr (last, PageInScan worker (ap decode_page read ∙ is))
 choice_shows d choice page before word holds (ByPast says is later same) =
     let read = told_word word (row_of d (Page page) before) same in inl (record { found = says; read = read; says = ap decode_page read ∙ is; later = later })
 
@@ -197,10 +195,10 @@ wanted_told : (loaded : ℕ) (says : PageWord) (result : RoundEnd) → (result �
 wanted_told loaded says result (inl same) = (loaded, same)
 wanted_told loaded says result (inr same) = (encode_page says, same)
 
-choice_told : (d : Round) (choice : Choice) (loaded : ℕ) (result : RoundEnd) (o : Option PageWord) → ChoiceEnds d choice loaded result o → IsNothing result
-choice_told d choice loaded result o (ByHindrance word is same) = (word, same)
-choice_told d choice loaded result o (ByScan worker is same) = (loaded, same)
-choice_told d choice loaded result o (ByPast says is later same) = (loaded, same)
+choice_told : (d : Round) (choice : Choice) (page loaded : ℕ) (result : RoundEnd) (o : Option PageWord) → ChoiceEnds d choice page loaded result o → IsNothing result
+choice_told d choice page loaded result o (ByHindrance word is same last) = (word, same)
+choice_told d choice page loaded result o (ByScan worker is same last) = (loaded, same)
+choice_told d choice page loaded result o (ByPast says is later same) = (loaded, same)
 
 again_told : (d : Round) (look : EndLook) (filling : PageWord) (loaded : ℕ) (result : RoundEnd) (o : Option AreaWord) → AreaAgainEnds d look filling loaded result o → IsNothing result
 again_told d look filling loaded result o (ByFront area is moved same) = (loaded, same)
@@ -220,7 +218,7 @@ elsewhere d (LoadsFront found) before after result acts =
     absurd (front_never (at_stage d (LoadsFront found)) found result (decode_area (row_of d (Area (to_space d.epoch)) before)) acts.tells)
 elsewhere d (LoadsPage choice page) before after result acts =
     let loaded : ℕ = row_of d (Page page) before in
-    choice_told (at_stage d (LoadsPage choice page)) choice loaded result (decode_page loaded)
+    choice_told (at_stage d (LoadsPage choice page)) choice page loaded result (decode_page loaded)
     (page_ends (at_stage d (LoadsPage choice page)) choice page loaded result (decode_page loaded) acts.tells)
 elsewhere d (Claims c) before after result acts = tt
 elsewhere d (EndGate traced) before after result acts =

@@ -1,5 +1,5 @@
 -- What a round tells, by the stage at which it tells it: which results can come there, and what they show.
-use Rattle.std.proofs.Common.{◌≡◌, ◌≢◌, ℕ, ◌+◌, ◌-◌, ◌*◌, ◌%◌, ◌^◌, ◌<◌, ◌≤◌, Bool, true, false, cond, ◌&&◌, nat_eq, nat_lt, nat_le, ◌⊎◌, inl, inr, List, slice_index, Option, Some, None, arith, refl, sym, ap, subst, ◌∙◌}
+use Rattle.std.proofs.Common.{◌≡◌, ◌≢◌, ℕ, ◌+◌, ◌%◌, ◌<◌, Bool, true, false, cond, ◌&&◌, nat_eq, nat_lt, ◌⊎◌, inl, inr, Option, Some, None, arith, refl, sym, ap, ◌∙◌}
 use Rattle.std.proofs.lemmas.Bool.Decides.{nat_tests}
 use Rattle.atom_store.specs.declared.turn.Turn.{Turn}
 use Rattle.atom_store.specs.declared.turn.Turn.TheVariants.{More, Finished}
@@ -8,7 +8,7 @@ use Rattle.space_map.specs.declared.gate_word.GateWord.{GateWord}
 use Rattle.space_map.specs.declared.page_word.PageWord.{PageWord}
 use Rattle.space_map.specs.declared.page_word.PageWord.TheVariants as page_word
 use Rattle.space_map.specs.PageWord.{age_of, encode_page}
-use Rattle.space_map.specs.Spaces.{page_of, board_page}
+use Rattle.space_map.specs.Spaces.{board_page, first_word}
 use Rattle.page_slots.specs.declared.claimed.Claimed.{Claimed}
 use Rattle.page_slots.specs.declared.claimed.Claimed.TheVariants as claimed
 use Rattle.page_slots.specs.Claim.{Claiming}
@@ -22,8 +22,7 @@ use Rattle.fault_duty.specs.declared.page_state.PageState.{PageState}
 use Rattle.fault_duty.specs.declared.page_state.PageState.TheVariants.{Opened, Scanned, Waits, Past}
 use Rattle.fault_duty.specs.declared.round_end.RoundEnd.{RoundEnd}
 use Rattle.fault_duty.specs.declared.round_end.RoundEnd.TheVariants.{ScanPage, ScanInPlace, Marked, AllLeft, NothingNow}
-use Rattle.fault_duty.specs.declared.duty_stage.DutyStage.{DutyStage}
-use Rattle.fault_duty.specs.declared.duty_stage.DutyStage.TheVariants.{LoadsGate, LoadsTraced, LoadsWanted, LoadsFrontFor, LoadsFront, LoadsPage, Claims, EndGate, EndArea, EndPage, EndFilling, EndAreaAgain, Traces, Ended}
+use Rattle.fault_duty.specs.declared.duty_stage.DutyStage.TheVariants.{LoadsTraced, LoadsFrontFor, LoadsFront, LoadsPage, EndArea, EndPage, EndFilling, EndAreaAgain, Ended}
 use Rattle.fault_duty.specs.Duty
 use Rattle.fault_duty.specs.Duty.{Round, told, told_at}
 use Rattle.fault_duty.specs.Theorems.{IsLater}
@@ -231,36 +230,41 @@ after_choice_ends : (found : Findings) (hindrance : Option ℕ) (result : RoundE
 after_choice_ends found (Some word) result tells = (word, refl, cc)
 after_choice_ends found None result tells = cc
 
+not_full : (front page : ℕ) → Duty.is_full front page ≡ false → front < first_word (page + 1)
+not_full front page test = grind (arith, nat_tests)
+
 passed_ends : (d : Round) (choice : Choice) (page : ℕ) (result : RoundEnd) → told_at (Duty.passed_by d choice page) ≡ Finished result
-    → (word : ℕ) × (choice.seen.hindrance ≡ Some word) × (result ≡ NothingNow word)
-passed_ends d choice page result tells = by_test (Duty.is_full choice.front (Duty.page_after d page)) tells
+    → (word : ℕ) × (choice.seen.hindrance ≡ Some word) × (result ≡ NothingNow word) × (choice.front < first_word (Duty.page_after d page + 1))
+passed_ends d choice page result tells = by_test (Duty.is_full choice.front (Duty.page_after d page)) refl tells
   where
-    by_test : (b : Bool) → told_at (cond b (LoadsPage choice (Duty.page_after d page)) (Duty.after_choice choice.seen choice.seen.hindrance)) ≡ Finished result
-        → (word : ℕ) × (choice.seen.hindrance ≡ Some word) × (result ≡ NothingNow word)
-    by_test true e = cc
-    by_test false e = after_choice_ends choice.seen choice.seen.hindrance result e
+    by_test : (b : Bool) → Duty.is_full choice.front (Duty.page_after d page) ≡ b → told_at (cond b (LoadsPage choice (Duty.page_after d page)) (Duty.after_choice choice.seen choice.seen.hindrance)) ≡ Finished result
+        → (word : ℕ) × (choice.seen.hindrance ≡ Some word) × (result ≡ NothingNow word) × (choice.front < first_word (Duty.page_after d page + 1))
+    by_test true test e = cc
+    by_test false test e =
+        let ends = after_choice_ends choice.seen choice.seen.hindrance result e in
+        (ends.0, ends.1, ends.2, not_full choice.front (Duty.page_after d page) test)
 
 -- why the choice ended
-pub data ChoiceEnds (d : Round) (choice : Choice) (loaded : ℕ) (result : RoundEnd) (o : Option PageWord) : Type 0 where
-  ByHindrance : (word : ℕ) → choice.seen.hindrance ≡ Some word → result ≡ NothingNow word → ChoiceEnds d choice loaded result o
-  ByScan : (worker : ℕ) → o ≡ Some (page_word.Scanning d.epoch worker) → result ≡ NothingNow loaded → ChoiceEnds d choice loaded result o
-  ByPast : (says : PageWord) → o ≡ Some says → IsLater says d.epoch → result ≡ NothingNow loaded → ChoiceEnds d choice loaded result o
+pub data ChoiceEnds (d : Round) (choice : Choice) (page loaded : ℕ) (result : RoundEnd) (o : Option PageWord) : Type 0 where
+  ByHindrance : (word : ℕ) → choice.seen.hindrance ≡ Some word → result ≡ NothingNow word → choice.front < first_word (Duty.page_after d page + 1) → ChoiceEnds d choice page loaded result o
+  ByScan : (worker : ℕ) → o ≡ Some (page_word.Scanning d.epoch worker) → result ≡ NothingNow loaded → choice.front < first_word (Duty.page_after d page + 1) → ChoiceEnds d choice page loaded result o
+  ByPast : (says : PageWord) → o ≡ Some says → IsLater says d.epoch → result ≡ NothingNow loaded → ChoiceEnds d choice page loaded result o
 
 page_state_ends : (d : Round) (choice : Choice) (page loaded : ℕ) (says : PageWord) (state : PageState) (result : RoundEnd) → Duty.state_of says d.epoch ≡ state
-    → told_at (Duty.chosen_by d choice page loaded says state) ≡ Finished result → ChoiceEnds d choice loaded result (Some says)
-page_state_ends d choice page loaded says Opened result is e = let ends = passed_ends d choice page result e in ByHindrance ends.0 ends.1 ends.2
+    → told_at (Duty.chosen_by d choice page loaded says state) ≡ Finished result → ChoiceEnds d choice page loaded result (Some says)
+page_state_ends d choice page loaded says Opened result is e = let ends = passed_ends d choice page result e in ByHindrance ends.0 ends.1 ends.2 ends.3
 page_state_ends d choice page loaded says Scanned result is e =
     let ends = passed_ends d (Duty.hindered choice loaded) page result e in
     let word = ends.1 in
     let told_is = ends.2 in
     let scans = (says_state says d.epoch).scanned is in
     let same : loaded ≡ ends.0 = cc in
-    ByScan scans.0 (ap Some scans.1) (told_is ∙ ap NothingNow (sym same))
+    ByScan scans.0 (ap Some scans.1) (told_is ∙ ap NothingNow (sym same)) ends.3
 page_state_ends d choice page loaded says Waits result is e = cc
 page_state_ends d choice page loaded says Past result is e = ByPast says refl ((says_state says d.epoch).past is) (cc)
 
 pub page_ends : (d : Round) (choice : Choice) (page loaded : ℕ) (result : RoundEnd) (o : Option PageWord)
-    → told_at (Duty.looked_at_page d choice page loaded o) ≡ Finished result → ChoiceEnds d choice loaded result o
+    → told_at (Duty.looked_at_page d choice page loaded o) ≡ Finished result → ChoiceEnds d choice page loaded result o
 page_ends d choice page loaded result (Some says) tells = page_state_ends d choice page loaded says (Duty.state_of says d.epoch) result refl tells
 page_ends d choice page loaded result None tells = cc
 

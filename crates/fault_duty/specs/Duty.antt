@@ -1,5 +1,5 @@
 -- A round of the duty, step by step: what it wants, what a reply makes of it, what it comes to, and what it has left.
-use Rattle.std.specs.Prelude.{ℕ, ◌+◌, ◌-◌, ◌*◌, ◌/◌, ◌%◌, ◌==◌, ◌&&◌, Bool, true, false, Option, Some, None, is_some, nat_lt, nat_le, if◌then◌else◌}
+use Rattle.std.specs.Prelude.{ℕ, ◌+◌, ◌-◌, ◌*◌, ◌%◌, ◌==◌, ◌&&◌, Bool, true, false, Option, Some, None, is_some, nat_lt, nat_le, if◌then◌else◌}
 use Rattle.atom_store.specs.declared.step.Step.{Step}
 use Rattle.atom_store.specs.declared.step.Step.TheVariants.{Load, Exchange}
 use Rattle.atom_store.specs.declared.reply.Reply.{Reply}

@@ -1,10 +1,10 @@
 -- Worked rows of the duty, in a heap of 4 pages a space whose mutator has one record, copied to the first words of space 1: each
 -- step with its reply, words as numbers.
-use Rattle.std.specs.Prelude.{ℕ, ◌++◌, List, [], ◌∷◌, true, false}
+use Rattle.std.specs.Prelude.{◌++◌, List, [], ◌∷◌}
 use Rattle.atom_store.specs.declared.step.Step.{Step}
-use Rattle.atom_store.specs.declared.step.Step.TheVariants.{Load, Store, Exchange}
+use Rattle.atom_store.specs.declared.step.Step.TheVariants.{Load, Exchange}
 use Rattle.atom_store.specs.declared.reply.Reply.{Reply}
-use Rattle.atom_store.specs.declared.reply.Reply.TheVariants.{Value, Done, Won, Lost}
+use Rattle.atom_store.specs.declared.reply.Reply.TheVariants.{Value, Won, Lost}
 use Rattle.atom_store.specs.Machine.{ComesTo}
 use Rattle.space_map.specs.Worked.{four_pages}
 use Rattle.fault_duty.specs.declared.caller.Caller.{Caller}
@@ -112,3 +112,11 @@ LaterWantedPageEnds =
 abbrev pub LaterFillingPageEnds : Type 0
 LaterFillingPageEnds =
     ScannerComesTo ((Load 0, Value 0x0000_0001_0000_0001) ∷ (Load 2, Value 1) ∷ (Load 5, Value 0x0000_03d0_0400_0003) ∷ (Load 24, Value 65537) ∷ (Load 0, Value 0x0000_0001_0000_0001) ∷ (Load 5, Value 0x0000_03d0_0400_0003) ∷ (Load 24, Value 65537) ∷ (Load 20, Value 131073) ∷ (Load 5, Value 0x0000_03d0_0400_0003) ∷ []) (NothingNow 131073)
+
+-- a board that another scans doesn't hinder the claim of a full page
+abbrev pub ScannedBoardIsPassed : Type 0
+ScannedBoardIsPassed =
+    MutatorComesTo Allocates
+    (((Load 0, Value 0x0000_0101_0000_0001) ∷ (Load 2, Value 1) ∷ (Load 5, Value 0x0000_00a0_0300_0082) ∷ (Load 24, Value 65542) ∷ (Load 20, Value 0) ∷ [])
+    ++ nothing_announced 609 24 ++ ((Load 0, Value 0x0000_0101_0000_0001) ∷ (Exchange 20 0 65538, Won) ∷ []))
+    (ScanPage 4)

@@ -58,8 +58,8 @@ pub record Fits (epoch : ℕ) (found : Findings) : Type 0 where
 abbrev pub FitsDutyStage : Round → DutyStage → Type 0
 FitsDutyStage d LoadsGate = ⊤
 FitsDutyStage d (LoadsTraced hindrance) = IsHindrance d.epoch hindrance
-FitsDutyStage d (LoadsWanted seen page) = Fits d.epoch seen × (page ≤ board_page d.layout.pages)
-FitsDutyStage d (LoadsFrontFor seen w) = Fits d.epoch seen × (w.page ≤ board_page d.layout.pages) × PageFits w.says
+FitsDutyStage d (LoadsWanted seen page) = Fits d.epoch seen × (d.caller ≡ Faulted page)
+FitsDutyStage d (LoadsFrontFor seen w) = Fits d.epoch seen × (d.caller ≡ Faulted w.page) × PageFits w.says
 FitsDutyStage d (LoadsFront seen) = Fits d.epoch seen
 FitsDutyStage d (LoadsPage choice page) = Fits d.epoch choice.seen × IsChoice d choice.front page
 FitsDutyStage d (Claims c) = IsOwnClaim d c

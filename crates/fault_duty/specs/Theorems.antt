@@ -18,11 +18,10 @@ use Rattle.fault_duty.specs.declared.caller.Caller.TheVariants.{Scans}
 use Rattle.fault_duty.specs.declared.choice.Choice.{Choice}
 use Rattle.fault_duty.specs.declared.end_look.EndLook.{EndLook}
 use Rattle.fault_duty.specs.declared.wanted_page.WantedPage.{WantedPage}
-use Rattle.fault_duty.specs.declared.round_end.RoundEnd.{RoundEnd}
 use Rattle.fault_duty.specs.declared.round_end.RoundEnd.TheVariants.{ScanPage, ScanInPlace, Marked, AllLeft, NothingNow}
 use Rattle.fault_duty.specs.declared.duty_stage.DutyStage.{DutyStage}
 use Rattle.fault_duty.specs.declared.duty_stage.DutyStage.TheVariants.{LoadsGate, LoadsTraced, LoadsWanted, LoadsFrontFor, LoadsFront, LoadsPage, Claims, EndGate, EndArea, EndPage, EndFilling, EndAreaAgain, Traces, Ended}
-use Rattle.fault_duty.specs.Duty.{Round, at_stage, front_of, duty_machine}
+use Rattle.fault_duty.specs.Duty.{Round, at_stage, front_of, page_after, duty_machine}
 use Rattle.fault_duty.specs.Soundness.{Forbids, IsChoice, IsOwnClaim, IsSoundRound}
 
 -- the word of a row of the round's table
@@ -78,8 +77,9 @@ ShowsNothing d (LoadsWanted seen page) words word = IsServed d page words word
 -- the word of the wanted page, as it was read, is of this epoch or a later one
 ShowsNothing d (LoadsFrontFor seen w) words word = (word ≡ encode_page w.says) × (d.epoch < age_of w.says)
 ShowsNothing d (LoadsFront seen) words word = ⊥
--- or no page is left to choose, and the word forbids to end the tracing
-ShowsNothing d (LoadsPage choice page) words word = IsPastPage d page words word ⊎ Forbids d.epoch word
+-- or no page is left to choose, since the next one isn't full, and the word forbids to end the tracing
+ShowsNothing d (LoadsPage choice page) words word =
+    IsPastPage d page words word ⊎ ((choice.front < first_word (page_after d page + 1)) × Forbids d.epoch word)
 ShowsNothing d (Claims c) words word = ShowsTaken c words word
 ShowsNothing d (EndGate traced) words word = NotStill d words word
 ShowsNothing d (EndArea traced) words word = ⊥

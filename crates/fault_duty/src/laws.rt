@@ -1,6 +1,6 @@
 //! What holds of the machines. Each function here does nothing: its contract is what is proved.
 
-ghost use Rattle.fault_duty.specs.Rows.{BoardIsClaimed, FillingPageIsClaimed, EpochIsMarked, TracedEpochIsLeft, ScannerEndsWithMutators, LostMarkEnds, LostBoardEnds, LostFillingPageEnds, MovedFrontEnds, BehindForbidsEnd, ScannedBoardForbidsEnd, FullPageIsWanted, NextFullPageIsChosen, OpenPageIsLeft, FillingPageIsNotWanted, NoFillingPage, LaterWantedPageEnds, LaterFillingPageEnds};
+ghost use Rattle.fault_duty.specs.Rows.{BoardIsClaimed, FillingPageIsClaimed, EpochIsMarked, TracedEpochIsLeft, ScannerEndsWithMutators, LostMarkEnds, LostBoardEnds, LostFillingPageEnds, MovedFrontEnds, BehindForbidsEnd, ScannedBoardForbidsEnd, FullPageIsWanted, NextFullPageIsChosen, OpenPageIsLeft, FillingPageIsNotWanted, NoFillingPage, LaterWantedPageEnds, LaterFillingPageEnds, ScannedBoardIsPassed};
 ghost use Rattle.fault_duty.specs.Theorems.{NothingIsShown, TracedEpochsEndRounds, ClaimsHaveCause, AllLeftIsSeen, AllLeftIsTold, MarkedEpochsAreTraced, ScannedPagesAreClaimed, PagesInPlaceAreClaimed};
 
 /// A round does nothing only where a word shows why.
@@ -43,4 +43,5 @@ pub fn rows_are_worked_out()
     ensures no_filling_page { NoFillingPage }
     ensures later_wanted_page { LaterWantedPageEnds }
     ensures later_filling_page { LaterFillingPageEnds }
+    ensures scanned_board_passed { ScannedBoardIsPassed }
 {}

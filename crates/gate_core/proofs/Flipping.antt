@@ -1,5 +1,5 @@
 -- What a flip's step does to the words, by what it then tells, and that what it has read stands.
-use Rattle.std.proofs.Common.{◌≡◌, ◌≢◌, ℕ, ◌+◌, ◌-◌, ◌*◌, ◌%◌, ◌^◌, ◌<◌, ◌≤◌, Bool, true, false, cond, ◌&&◌, nat_eq, ◌⊎◌, inl, inr, List, slice_index, Option, Some, None, arith, refl, sym, ap, subst, ◌∙◌}
+use Rattle.std.proofs.Common.{◌≡◌, ◌≢◌, ℕ, ◌+◌, ◌*◌, ◌%◌, ◌^◌, ◌<◌, ◌≤◌, Bool, true, false, cond, ◌&&◌, nat_eq, ◌⊎◌, inl, inr, List, slice_index, Option, Some, None, arith, refl, sym, ap, subst, ◌∙◌}
 use Rattle.std.proofs.lemmas.Bool.Decides.{nat_tests}
 use Rattle.atom_store.specs.declared.reply.Reply.{Reply}
 use Rattle.atom_store.specs.declared.reply.Reply.TheVariants as reply
@@ -10,10 +10,10 @@ use Rattle.atom_store.specs.Acts.{Acts}
 use Rattle.atom_store.specs.Runs.{after_step}
 use Rattle.atom_store.specs.Step.{reply_of, words_after}
 use Rattle.atom_store.proofs.Acting.{no_step}
-use Rattle.atom_store.proofs.Steps.{slice_index-words_after, slice_index-stored, slice_index-won, won_exactly}
+use Rattle.atom_store.proofs.Steps.{slice_index-words_after, slice_index-stored, slice_index-won}
 use Rattle.space_map.specs.declared.area_word.AreaWord.{AreaWord}
 use Rattle.space_map.specs.declared.gate_word.GateWord.{GateWord}
-use Rattle.space_map.specs.AreaWord.{AreaFits, decode_area, encode_area}
+use Rattle.space_map.specs.AreaWord.{decode_area, encode_area}
 use Rattle.space_map.specs.GateWord.{GateFits, decode_gate, encode_gate}
 use Rattle.space_map.specs.Spaces.{IsPageCount, to_space}
 use Rattle.space_map.specs.Table as row
@@ -27,7 +27,7 @@ use Rattle.gate_core.specs.declared.flipped.Flipped.{Flipped}
 use Rattle.gate_core.specs.declared.flipped.Flipped.TheVariants.{Went, NotYet}
 use Rattle.gate_core.specs.declared.flip_stage.FlipStage.{FlipStage}
 use Rattle.gate_core.specs.declared.flip_stage.FlipStage.TheVariants.{LoadsGate, LoadsArea, StoresArea, Exchanges, Ended}
-use Rattle.gate_core.specs.Flip.{Flipping, flip_machine, wanted, told_at, next_stage, looked, read_area, is_still, gate_flipped, used_in, area_reset}
+use Rattle.gate_core.specs.Flip.{Flipping, flip_machine, wanted, told_at, next_stage, looked, read_area, is_still, gate_flipped, area_reset}
 use Rattle.gate_core.specs.Soundness.{IsSoundFlipping, MayFlip}
 use Rattle.gate_core.specs.Theorems.{CountsUsed, IsReset, StandsAt, FlipsHeap, ForbidsFlip}
 

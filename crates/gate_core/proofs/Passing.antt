@@ -1,5 +1,5 @@
 -- What a passage's step does to the words, by what it then tells.
-use Rattle.std.proofs.Common.{◌≡◌, ◌≢◌, ℕ, ◌+◌, ◌-◌, ◌<◌, ◌≤◌, Bool, true, false, cond, ◌&&◌, nat_eq, ◌⊎◌, inl, inr, List, slice_index, Option, Some, None, arith, refl, sym, ap, ◌∙◌}
+use Rattle.std.proofs.Common.{◌≡◌, ◌≢◌, ℕ, Bool, true, false, cond, ◌&&◌, nat_eq, ◌⊎◌, inl, inr, List, slice_index, Option, Some, None, arith, refl, sym, ap, ◌∙◌}
 use Rattle.std.specs.Prelude.{not}
 use Rattle.std.proofs.lemmas.Bool.Decides.{nat_tests}
 use Rattle.atom_store.specs.declared.reply.Reply.{Reply}
@@ -7,7 +7,7 @@ use Rattle.atom_store.specs.declared.reply.Reply.TheVariants as reply
 use Rattle.atom_store.specs.declared.step.Step.TheVariants.{Exchange}
 use Rattle.atom_store.specs.declared.turn.Turn.TheVariants.{Finished}
 use Rattle.atom_store.specs.Acts.{Acts}
-use Rattle.atom_store.specs.Step.{reply_of, words_after}
+use Rattle.atom_store.specs.Step.{reply_of}
 use Rattle.atom_store.proofs.Acting.{no_step}
 use Rattle.atom_store.proofs.Steps.{slice_index-words_after, slice_index-won, won_exactly}
 use Rattle.space_map.specs.declared.gate_word.GateWord.{GateWord}
@@ -23,7 +23,7 @@ use Rattle.gate_core.specs.declared.passed.Passed.TheVariants.{Went, NotYet}
 use Rattle.gate_core.specs.declared.gate_stage.GateStage.{GateStage}
 use Rattle.gate_core.specs.declared.gate_stage.GateStage.TheVariants.{Loads, Exchanges, Ended}
 use Rattle.gate_core.specs.Gate.{Passing, gate_machine, told_at, next_stage, looked, allowed, allows, gate_after, is_clear}
-use Rattle.gate_core.specs.Soundness.{IsSoundPassing, MayPass, Counts}
+use Rattle.gate_core.specs.Soundness.{IsSoundPassing, MayPass}
 use Rattle.gate_core.specs.Theorems.{IsAllowed, IsForbidden, PassesGate, ForbidsPassage}
 
 abbrev at : Passing → GateStage → Passing

@@ -13,7 +13,6 @@ use Rattle.space_map.specs.AreaWord.{encode_area, decode_area}
 use Rattle.space_map.specs.GateWord.{encode_gate, decode_gate}
 use Rattle.space_map.specs.Spaces.{Layout, to_space}
 use Rattle.space_map.specs.Table.{Gate, Area, place_of}
-use Rattle.gate_core.specs.declared.reset.Reset.{Reset}
 use Rattle.gate_core.specs.declared.flipped.Flipped.{Flipped}
 use Rattle.gate_core.specs.declared.flipped.Flipped.TheVariants.{Went, NotYet}
 use Rattle.gate_core.specs.declared.flip_stage.FlipStage.{FlipStage}

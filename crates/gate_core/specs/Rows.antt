@@ -1,5 +1,5 @@
 -- Worked rows of the gate and the flip, in a heap of 4 pages a space: each step with its reply, words as numbers.
-use Rattle.std.specs.Prelude.{◌++◌, List, [], ◌∷◌, true, false}
+use Rattle.std.specs.Prelude.{List, [], ◌∷◌}
 use Rattle.atom_store.specs.declared.step.Step.{Step}
 use Rattle.atom_store.specs.declared.step.Step.TheVariants.{Load, Store, Exchange}
 use Rattle.atom_store.specs.declared.reply.Reply.{Reply}

@@ -8,7 +8,6 @@ use Rattle.gate_core.specs.declared.passage.Passage.{Passage}
 use Rattle.gate_core.specs.declared.passage.Passage.TheVariants.{Look, Attach, Park, Request, Resume, Forwarded, Leave}
 use Rattle.gate_core.specs.declared.gate_stage.GateStage.{GateStage}
 use Rattle.gate_core.specs.declared.gate_stage.GateStage.TheVariants as gate_stage
-use Rattle.gate_core.specs.declared.reset.Reset.{Reset}
 use Rattle.gate_core.specs.declared.flip_stage.FlipStage.{FlipStage}
 use Rattle.gate_core.specs.declared.flip_stage.FlipStage.TheVariants as flip_stage
 use Rattle.gate_core.specs.Gate.{Passing, allows}

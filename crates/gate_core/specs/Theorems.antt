@@ -1,5 +1,5 @@
 -- What is proved of passages of the gate and of the flip, by the words on which they make their steps.
-use Rattle.std.specs.Prelude.{◌≡◌, ◌≢◌, ℕ, ◌+◌, ◌*◌, ◌≤◌, ◌⊎◌, true, false, ⊤, List, Some}
+use Rattle.std.specs.Prelude.{◌≡◌, ◌≢◌, ℕ, ◌+◌, ◌⊎◌, true, false, ⊤, List, Some}
 use Rattle.atom_store.specs.declared.turn.Turn.{Turn}
 use Rattle.atom_store.specs.declared.turn.Turn.TheVariants.{Finished}
 use Rattle.atom_store.specs.Acts.{Acts, stepped}

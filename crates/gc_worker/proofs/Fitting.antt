@@ -11,7 +11,7 @@ use Rattle.gc_worker.specs.declared.stage.Stage.{Stage}
 use Rattle.gc_worker.specs.declared.stage.Stage.TheVariants.{Passes}
 use Rattle.gc_worker.specs.Fits.{Fits, FitsStage, FitsEnd, IsOwnPassage, IsEndBefore, FitsGate}
 use Rattle.gc_worker.specs.Held.{Held, at_stage}
-use Rattle.gc_worker.specs.Turned.{passes}
+use Rattle.gc_worker.specs.Turned.{passes, in_epoch}
 
 module _ (n mutators k : ℕ) (x : Held) (f : Fits n mutators k x) where
   -- a worker at another stage
@@ -25,6 +25,22 @@ module _ (n mutators k : ℕ) (x : Held) (f : Fits n mutators k x) where
     epoch = f.epoch;
     eight = f.eight;
     run = f.run;
+    end = end;
+    stage = fits;
+  }
+
+  -- one that comes into another epoch
+  pub come : (epoch : ℕ) → epoch < 2 ^ 32 → (stage : Stage) → FitsEnd stage (is_some x.account.end) → FitsStage (at_stage (in_epoch x epoch) stage) stage
+      → Fits n mutators k (at_stage (in_epoch x epoch) stage)
+  come epoch short stage end fits = record {
+    number = f.number;
+    few = f.few;
+    pages = f.pages;
+    counted = f.counted;
+    beside = f.beside;
+    epoch = short;
+    eight = f.eight;
+    run = tt;
     end = end;
     stage = fits;
   }

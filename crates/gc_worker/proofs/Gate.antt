@@ -1,2 +1,5 @@
 pub mod Words
 pub mod Looking
+pub mod Resuming
+pub mod Passing
+pub mod Exchanging

@@ -6,7 +6,7 @@ use Rattle.heap_state.specs.Era.{Era}
 use Rattle.heap_state.specs.Ghost.{Leads}
 use Rattle.gc_worker.specs.Turned.{Pointed, first_pointer, pointer_at}
 
-abbrev word_at : List ℕ → ℕ → Option ℕ
+abbrev pub word_at : List ℕ → ℕ → Option ℕ
 word_at registers r = pointer_in (decode (slice_index registers r))
 
 -- from register j on the first pointer is this one, or there is none in this and the next n

@@ -7,6 +7,5 @@ pub mod Tracing
 pub mod Flipping
 pub mod Opening
 pub mod Fields
-pub mod Plain
 pub mod Allocation
 pub mod Gate

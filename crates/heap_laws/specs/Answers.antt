@@ -1,5 +1,5 @@
 -- What a load may answer, by what the worker is about; and that the row which is read is one of the table.
-use Rattle.std.specs.Prelude.{◌≡◌, ◌≢◌, ℕ, ◌+◌, ◌*◌, ◌/◌, ◌<◌, ◌≤◌, ◌⊎◌, ⊤, true, false, Some, None, is_some, length}
+use Rattle.std.specs.Prelude.{◌≡◌, ◌≢◌, ℕ, ◌+◌, ◌*◌, ◌<◌, ◌≤◌, ◌⊎◌, ⊤, true, false, Some, None, is_some, length}
 use Rattle.heap_words.specs.declared.kind.Kind.{Kind as HeaderKind}
 use Rattle.heap_words.specs.Decoded.{Decoded, HeaderWord, BusyWord, ForwardWord, decode}
 use Rattle.plain_state.specs.State.{Plain}
@@ -7,7 +7,7 @@ use Rattle.space_map.specs.declared.area_word.AreaWord.{AreaWord}
 use Rattle.space_map.specs.declared.gate_word.GateWord.{GateWord}
 use Rattle.space_map.specs.AreaWord.{AreaFits}
 use Rattle.space_map.specs.GateWord.{GateFits}
-use Rattle.space_map.specs.Spaces.{to_space, space_start}
+use Rattle.space_map.specs.Spaces.{to_space, space_start, page_of, first_word}
 use Rattle.heap_state.specs.Configuration.{Configuration, Stands, table, era, memory, team}
 use Rattle.heap_state.specs.Era.{Era, Memory}
 use Rattle.heap_state.specs.Ghost.{Ghost, Lands}
@@ -17,6 +17,7 @@ use Rattle.heap_laws.specs.Gate.{gate_after}
 use Rattle.heap_laws.specs.Scanning.Words.{AtField, IsScanning}
 use Rattle.heap_laws.specs.Steps.{Ready, IsAreaNow}
 use Rattle.heap_laws.specs.Tracing.{IsFrontFor}
+use Rattle.space_map.specs.declared.spaces.TheConstants.{PAGE_WORDS}
 
 -- ---- an old record's header
 
@@ -40,7 +41,7 @@ OldHeadersAreRead = (E : Era) (m : Memory) (team : Team) (g : Ghost) (k : ℕ) (
 pub record CopyRows (E : Era) (c : Copy) : Type 0 where
   pub from : c.from + c.size ≤ E.board
   pub to : c.reserved ≡ true → c.to + c.size ≤ E.board
-  pub crossed : c.reserved ≡ true → 64 * c.crossed < c.to + c.size → c.crossed < E.board / 64
+  pub crossed : c.reserved ≡ true → first_word c.crossed < c.to + c.size → c.crossed < page_of E.board
 
 abbrev pub CopiesAreThere : Type 0
 CopiesAreThere = (E : Era) (m : Memory) (team : Team) (g : Ghost) (k : ℕ) (c : Copy) → Ready E m team g k → (team.worker k).copy ≡ Some c → CopyRows E c
@@ -60,10 +61,10 @@ pub record MeetsHeader (m : Memory) (a : ℕ) : Type 0 where
 -- header of the record over that word, which reaches past it; the next header, which is never 0; and a field or a board word,
 -- which leads to a record that nobody writes if it is a pointer. All are rows of the table.
 pub record ScanAnswers (E : Era) (m : Memory) (g : Ghost) (s : Scan) : Type 0 where
-  pub crossing : s.page ≢ E.board / 64 → (s.page < E.board / 64) × (E.start ≤ m.cross s.page) × (m.cross s.page ≤ 64 * s.page)
-  pub first : (a : ℕ) → s.page ≢ E.board / 64 → s.over ≡ Some a → (a ≤ 64 * s.page) × ((h : MeetsHeader m a) × (64 * s.page < a + (h.len + 1)))
-  pub next : (r : Seen) → s.page ≢ E.board / 64 → s.current ≡ Some r → s.cursor ≡ r.next → s.cursor < 64 * s.page + 64 → (s.inner ≡ true) ⊎ (s.in_place ≡ false) → MeetsHeader m s.cursor
-  pub field : AtField E s → (s.cursor < E.board + 64) × Lands g.size g.writer (m.heap s.cursor)
+  pub crossing : s.page ≢ page_of E.board → (s.page < page_of E.board) × (E.start ≤ m.cross s.page) × (m.cross s.page ≤ first_word s.page)
+  pub first : (a : ℕ) → s.page ≢ page_of E.board → s.over ≡ Some a → (a ≤ first_word s.page) × ((h : MeetsHeader m a) × (first_word s.page < a + (h.len + 1)))
+  pub next : (r : Seen) → s.page ≢ page_of E.board → s.current ≡ Some r → s.cursor ≡ r.next → s.cursor < first_word s.page + PAGE_WORDS → (s.inner ≡ true) ⊎ (s.in_place ≡ false) → MeetsHeader m s.cursor
+  pub field : AtField E s → (s.cursor < E.board + PAGE_WORDS) × Lands g.size g.writer (m.heap s.cursor)
   pub front : m.front ≤ E.board
 
 abbrev pub ScansAreAnswered : Type 0
@@ -95,7 +96,7 @@ PassagesFit = (E : Era) (m : Memory) (team : Team) (g : Ghost) (k : ℕ) (p : Pa
 
 -- an area word of a heap of so many pages a space: FRONT and LOW are in order, and within the space
 pub record AreaAnswers (pages : ℕ) (area : AreaWord) : Type 0 where
-  pub order : (area.front ≤ area.low) × (area.low ≤ 64 * pages)
+  pub order : (area.front ≤ area.low) × (area.low ≤ PAGE_WORDS * pages)
   pub fits : AreaFits area
 
 -- Both spaces' areas are in order, also for a worker of an epoch that is past. The area of the epoch's space is the one that the laws

@@ -1,5 +1,5 @@
 -- Atomic steps that are several changes of what a worker knows.
-use Rattle.std.specs.Prelude.{◌≡◌, ℕ, ◌+◌, ◌*◌, ◌<◌, ◌≤◌, ◌⊎◌, true, Option, Some, None}
+use Rattle.std.specs.Prelude.{◌≡◌, ℕ, ◌+◌, ◌<◌, ◌≤◌, ◌⊎◌, true, Option, Some, None}
 use Rattle.heap_words.specs.Decoded.{PointerWord, ForwardWord, decode}
 use Rattle.space_map.specs.declared.page_word.PageWord.{PageWord}
 use Rattle.space_map.specs.declared.page_word.PageWord.TheVariants.{Open}
@@ -13,6 +13,8 @@ use Rattle.heap_laws.specs.Flipping.Registers.{HasFoundCopy}
 use Rattle.heap_laws.specs.Scanning.Claims.{MayClaim, claiming, claim_of}
 use Rattle.heap_laws.specs.Steps.{Ready, Steps}
 use Rattle.heap_laws.specs.Tracing.{IsLooking, looking}
+use Rattle.space_map.specs.Spaces.{first_word}
+use Rattle.space_map.specs.declared.spaces.TheConstants.{PAGE_WORDS}
 
 -- ---- registers
 
@@ -60,7 +62,7 @@ RegistersAreSettled = (E : Era) (m : Memory) (team : Team) (g : Ghost) (k : ℕ)
 -- the last full page is found open, and there is no filling page
 abbrev pub LookingAtLastPageKeeps : Type 0
 LookingAtLastPageKeeps = (E : Era) (m : Memory) (team : Team) (g : Ghost) (k : ℕ) (l : Look) (p : ℕ) → Ready E m team g k → IsLooking team k l
-    → (p ≡ l.upto) ⊎ (64 * p ≡ l.start) → m.page p ≡ Open (team.worker k).epoch → ((q : ℕ) → 64 * q < l.front → l.front < 64 * q + 64 → ⊥)
+    → (p ≡ l.upto) ⊎ (first_word p ≡ l.start) → m.page p ≡ Open (team.worker k).epoch → ((q : ℕ) → first_word q < l.front → l.front < first_word q + PAGE_WORDS → ⊥)
     → Steps E m team g k None (looking (team.worker k) (record l { upto = p + 1; filled = true })) g
 
 -- a claim begins, and what the round has read is forgotten

@@ -1,10 +1,10 @@
 -- Copying a record, step by step: the header is taken, a place announced and reserved, the words copied, the crossings stored,
 -- and the copy published by a forward.
-use Rattle.std.specs.Prelude.{◌≡◌, ℕ, ◌+◌, ◌-◌, ◌*◌, ◌/◌, ◌<◌, ◌≤◌, ◌⊎◌, true, false, Some, None}
+use Rattle.std.specs.Prelude.{◌≡◌, ℕ, ◌+◌, ◌-◌, ◌<◌, ◌≤◌, ◌⊎◌, true, false, Some, None}
 use Rattle.heap_words.specs.declared.kind.Kind.{Kind}
 use Rattle.heap_words.specs.Decoded.{HeaderWord, BusyWord, ForwardWord, decode}
 use Rattle.space_map.specs.declared.area_word.AreaWord.{AreaWord}
-use Rattle.space_map.specs.Spaces.{to_space}
+use Rattle.space_map.specs.Spaces.{to_space, page_of, first_word}
 use Rattle.heap_state.specs.Era.{Era, Memory}
 use Rattle.heap_state.specs.Functions.{put}
 use Rattle.heap_state.specs.Ghost.{Ghost}
@@ -83,7 +83,7 @@ moved_by size area = record { front = area.front + size; low = area.low; owed = 
 abbrev pub PlacesAreReserved : Type 0
 PlacesAreReserved = (E : Era) (m : Memory) (team : Team) (g : Ghost) (k : ℕ) (c : Copy) (area : AreaWord) → Ready E m team g k
     → (team.worker k).copy ≡ Some c → c.announced ≡ true → c.reserved ≡ false → c.to ≡ m.front → IsAreaNow E m area
-    → Steps E m team g k (Some (AreaIs (to_space E.epoch) (moved_by c.size area))) (copying (team.worker k) (record c { reserved = true; crossed = (c.to + 63) / 64 }))
+    → Steps E m team g k (Some (AreaIs (to_space E.epoch) (moved_by c.size area))) (copying (team.worker k) (record c { reserved = true; crossed = page_of (c.to + 63) }))
     (reserved g k c.from c.to c.size)
 
 -- who copies nothing announces no place any more
@@ -114,7 +114,7 @@ WordsAreCopied = (E : Era) (m : Memory) (team : Team) (g : Ghost) (k : ℕ) (c :
 -- the copy's place is stored as the crossing of the next page that begins in it
 abbrev pub CrossingsAreStored : Type 0
 CrossingsAreStored = (E : Era) (m : Memory) (team : Team) (g : Ghost) (k : ℕ) (c : Copy) → Ready E m team g k
-    → (team.worker k).copy ≡ Some c → c.reserved ≡ true → c.to ≤ 64 * c.crossed → 64 * c.crossed < c.to + c.size
+    → (team.worker k).copy ≡ Some c → c.reserved ≡ true → c.to ≤ first_word c.crossed → first_word c.crossed < c.to + c.size
     → Steps E m team g k (Some (CrossIs c.crossed c.to)) (copying (team.worker k) (record c { crossed = c.crossed + 1 })) g
 
 -- ---- the forward
@@ -127,6 +127,6 @@ published g k a b = record g { writer = put g.writer b 0; keeper = put g.keeper 
 -- found the copy that it was asked for.
 abbrev pub CopiesArePublished : Type 0
 CopiesArePublished = (E : Era) (m : Memory) (team : Team) (g : Ghost) (k : ℕ) (c : Copy) (q : Quest) (v : ℕ) → Ready E m team g k
-    → (team.worker k).copy ≡ Some c → (team.worker k).quest ≡ Some q → c.reserved ≡ true → c.done ≡ c.size → c.to + c.size ≤ 64 * c.crossed
+    → (team.worker k).copy ≡ Some c → (team.worker k).quest ≡ Some q → c.reserved ≡ true → c.done ≡ c.size → c.to + c.size ≤ first_word c.crossed
     → decode v ≡ ForwardWord (c.size - 1) c.to
     → Steps E m team g k (Some (WordIs c.from v)) (record (team.worker k) { copy = None; quest = Some (record q { found = Some c.to }) }) (published g k c.from c.to)

@@ -9,12 +9,13 @@ use Rattle.heap_state.specs.Cycle.{Cycle}
 use Rattle.heap_state.specs.Entries.{Entry, TracedIs, AreaIs, PageIs, written}
 use Rattle.heap_state.specs.Worker.{Worker, Outside, Scanner, fresh}
 use Rattle.heap_laws.specs.Flipping.Reset.{whole_area}
+use Rattle.space_map.specs.declared.spaces.TheConstants.{PAGE_WORDS}
 
 -- ---- the table
 
 -- both spaces are whole, the epoch is traced, the board is open, and every other word is 0
 abbrev pub opening_entries : ℕ → List Entry
-opening_entries n = TracedIs 1 ∷ AreaIs 0 (whole_area (64 * n) 0) ∷ AreaIs 1 (whole_area (64 * n) 0) ∷ PageIs (board_page n) (Open 0) ∷ []
+opening_entries n = TracedIs 1 ∷ AreaIs 0 (whole_area (PAGE_WORDS * n) 0) ∷ AreaIs 1 (whole_area (PAGE_WORDS * n) 0) ∷ PageIs (board_page n) (Open 0) ∷ []
 
 -- ---- the workers
 

@@ -1,5 +1,5 @@
 -- One step of one worker: the row that it writes, and what it keeps.
-use Rattle.std.specs.Prelude.{◌≡◌, ℕ, ◌+◌, ◌/◌, ◌<◌, ◌≤◌, Option, Some, None}
+use Rattle.std.specs.Prelude.{◌≡◌, ℕ, ◌+◌, ◌<◌, ◌≤◌, Option, Some, None}
 use Rattle.plain_state.specs.State.{Plain}
 use Rattle.space_map.specs.declared.area_word.AreaWord.{AreaWord}
 use Rattle.space_map.specs.declared.gate_word.GateWord.{GateWord}
@@ -7,7 +7,7 @@ use Rattle.space_map.specs.declared.page_word.PageWord.{PageWord}
 use Rattle.space_map.specs.AreaWord.{AreaFits}
 use Rattle.space_map.specs.GateWord.{GateFits}
 use Rattle.space_map.specs.PageWord.{PageFits, age_of}
-use Rattle.space_map.specs.Spaces.{to_space}
+use Rattle.space_map.specs.Spaces.{to_space, page_of}
 use Rattle.heap_state.specs.Cycle.{Cycle}
 use Rattle.heap_state.specs.Entries.{Entry, GateIs, TracedIs, AreaIs, PageIs, CrossIs, WordIs, AnnounceIs}
 use Rattle.heap_state.specs.Era.{Era, Memory, IsLaidOut, from_space}
@@ -16,6 +16,7 @@ use Rattle.heap_state.specs.Ghost.{Ghost}
 use Rattle.heap_state.specs.Inductive.{Invariant, Knows}
 use Rattle.heap_state.specs.Values.{Shown}
 use Rattle.heap_state.specs.Worker.{Worker, Team}
+use Rattle.space_map.specs.declared.spaces.TheConstants.{PAGE_WORDS}
 
 -- The invariant holds, the gate is of the epoch, and worker k is one of the team. This is the first premise of each law.
 pub record Ready (E : Era) (m : Memory) (team : Team) (g : Ghost) (k : ℕ) : Type 0 where
@@ -76,9 +77,9 @@ pub data Writes (E : Era) (m : Memory) : Option Entry → Memory → Type 0 wher
   InTraced : (word : ℕ) → Writes E m (Some (TracedIs word)) (with_traced m word)
   InArea : (area : AreaWord) → AreaFits area → Writes E m (Some (AreaIs (to_space E.epoch) area)) (with_area m (E.start + area.front) (E.start + area.low) area.owed)
   InOldArea : (area : AreaWord) → AreaFits area → Writes E m (Some (AreaIs (from_space E.epoch) area)) (with_old_area m (E.old_start + area.front) (E.old_start + area.low) area.owed)
-  InPage : (page : ℕ) (word : PageWord) → page ≤ E.board / 64 → PageFits word → Writes E m (Some (PageIs page word)) (with_page m page word)
-  InCross : (page place : ℕ) → page < E.board / 64 → Writes E m (Some (CrossIs page place)) (with_crossing m page place)
-  InWord : (addr word : ℕ) → addr < E.board + 64 → Writes E m (Some (WordIs addr word)) (with_word m addr word)
+  InPage : (page : ℕ) (word : PageWord) → page ≤ page_of E.board → PageFits word → Writes E m (Some (PageIs page word)) (with_page m page word)
+  InCross : (page place : ℕ) → page < page_of E.board → Writes E m (Some (CrossIs page place)) (with_crossing m page place)
+  InWord : (addr word : ℕ) → addr < E.board + PAGE_WORDS → Writes E m (Some (WordIs addr word)) (with_word m addr word)
   InAnnounce : (worker place : ℕ) → worker < 24 → Writes E m (Some (AnnounceIs worker place)) (with_announced m worker place)
 
 -- ---- what is kept

@@ -1,5 +1,5 @@
 -- The end of the copied area: it is looked at, TRACED is exchanged, and then nothing leads into the old space.
-use Rattle.std.specs.Prelude.{◌≡◌, ◌≢◌, ℕ, ◌+◌, ◌*◌, ◌/◌, ◌<◌, ◌≤◌, ◌⊎◌, true, false, Some, None}
+use Rattle.std.specs.Prelude.{◌≡◌, ◌≢◌, ℕ, ◌+◌, ◌<◌, ◌≤◌, ◌⊎◌, true, false, Some, None}
 use Rattle.plain_state.specs.declared.value.Identity.{Identity}
 use Rattle.plain_state.specs.State.{Plain}
 use Rattle.space_map.specs.declared.page_word.PageWord.{PageWord}
@@ -13,6 +13,8 @@ use Rattle.heap_state.specs.Reachable.{Reachable}
 use Rattle.heap_state.specs.Worker.{Worker, Team, Copy, Scan, Round, Claim, Look, LastLook, is_mutator}
 use Rattle.heap_state.specs.Entries.{TracedIs}
 use Rattle.heap_laws.specs.Steps.{Ready, Steps}
+use Rattle.space_map.specs.Spaces.{page_of, first_word}
+use Rattle.space_map.specs.declared.spaces.TheConstants.{PAGE_WORDS}
 
 -- ---- a round
 
@@ -66,17 +68,17 @@ LookingAtFrontKeeps = (E : Era) (m : Memory) (team : Team) (g : Ghost) (k : ℕ)
 -- the board is found open
 abbrev pub LookingAtBoardKeeps : Type 0
 LookingAtBoardKeeps = (E : Era) (m : Memory) (team : Team) (g : Ghost) (k : ℕ) (l : Look) → Ready E m team g k → IsLooking team k l
-    → m.page (E.board / 64) ≡ Open (team.worker k).epoch → Steps E m team g k None (looking (team.worker k) (record l { board = true })) g
+    → m.page (page_of E.board) ≡ Open (team.worker k).epoch → Steps E m team g k None (looking (team.worker k) (record l { board = true })) g
 
 -- the next page is found open
 abbrev pub LookingAtPageKeeps : Type 0
 LookingAtPageKeeps = (E : Era) (m : Memory) (team : Team) (g : Ghost) (k : ℕ) (l : Look) (p : ℕ) → Ready E m team g k → IsLooking team k l
-    → (p ≡ l.upto) ⊎ (64 * p ≡ l.start) → m.page p ≡ Open (team.worker k).epoch → Steps E m team g k None (looking (team.worker k) (record l { upto = p + 1 })) g
+    → (p ≡ l.upto) ⊎ (first_word p ≡ l.start) → m.page p ≡ Open (team.worker k).epoch → Steps E m team g k None (looking (team.worker k) (record l { upto = p + 1 })) g
 
 -- the filling page is found open, or there is none
 abbrev pub LookingAtFillingPageKeeps : Type 0
 LookingAtFillingPageKeeps = (E : Era) (m : Memory) (team : Team) (g : Ghost) (k : ℕ) (l : Look) → Ready E m team g k → IsLooking team k l
-    → ((p : ℕ) → 64 * p < l.front → l.front < 64 * p + 64 → m.page p ≡ Open (team.worker k).epoch) → Steps E m team g k None (looking (team.worker k) (record l { filled = true })) g
+    → ((p : ℕ) → first_word p < l.front → l.front < first_word p + PAGE_WORDS → m.page p ≡ Open (team.worker k).epoch) → Steps E m team g k None (looking (team.worker k) (record l { filled = true })) g
 
 -- ---- the second look
 
@@ -85,7 +87,7 @@ pub record LooksAgain (E : Era) (m : Memory) (team : Team) (k : ℕ) (l : Look) 
   pub looks : (team.worker k).look ≡ Some l
   pub front : IsFrontFor E m (team.worker k) l.front
   pub board : l.board ≡ true
-  pub full : (l.front < 64 * l.upto + 64) ⊎ (l.front < l.start + 64)
+  pub full : (l.front < first_word l.upto + PAGE_WORDS) ⊎ (l.front < l.start + PAGE_WORDS)
 
 -- the worker that may exchange TRACED
 abbrev pub about_to_trace : Worker → Look → Worker
@@ -104,7 +106,7 @@ about_to_fill w p old = record w { look = None; claim = Some (filling_claim p ol
 
 abbrev pub ClaimingFillingPageKeeps : Type 0
 ClaimingFillingPageKeeps = (E : Era) (m : Memory) (team : Team) (g : Ghost) (k : ℕ) (l : Look) (p : ℕ) (old : PageWord) → Ready E m team g k → LooksAgain E m team k l
-    → l.start ≤ 64 * p → 64 * p < l.front → l.front < 64 * p + 64 → age_of old ≤ (team.worker k).epoch
+    → l.start ≤ first_word p → first_word p < l.front → l.front < first_word p + PAGE_WORDS → age_of old ≤ (team.worker k).epoch
     → Steps E m team g k None (about_to_fill (team.worker k) p old) g
 
 -- ---- TRACED is exchanged
@@ -135,7 +137,7 @@ SleeperLosesTraced = (E : Era) (m : Memory) (team : Team) (g : Ghost) (k : ℕ) 
 -- What then holds: each page of the epoch's records is open, no field, no board word and no register of a mutator without an end
 -- leads into the old space, nobody copies or scans, and no place is being written.
 pub record NothingLeads (E : Era) (m : Memory) (team : Team) (g : Ghost) : Type 0 where
-  pub opened : (x : ℕ) → Here E g.size g.writer g.kind x → m.page (x / 64) ≡ Open E.epoch
+  pub opened : (x : ℕ) → Here E g.size g.writer g.kind x → m.page (page_of x) ≡ Open E.epoch
   pub clean : (x : ℕ) → Here E g.size g.writer g.kind x → ¬ (Leads E (m.heap x))
   pub registers : (k r : ℕ) → k < team.count → r < 8 → is_mutator (team.worker k).post ≡ true → (team.worker k).account.end ≡ None → ¬ (Leads E ((team.worker k).registers r))
   pub none_copies : (k : ℕ) (c : Copy) → k < team.count → ¬ ((team.worker k).copy ≡ Some c)

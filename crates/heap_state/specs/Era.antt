@@ -4,6 +4,7 @@ use Rattle.space_map.specs.declared.gate_word.GateWord.{GateWord}
 use Rattle.space_map.specs.declared.page_word.PageWord.{PageWord}
 use Rattle.space_map.specs.Spaces.{to_space, space_start, first_word, board_page}
 use Rattle.heap_state.specs.Table.{Table}
+use Rattle.space_map.specs.declared.spaces.TheConstants.{PAGE_WORDS}
 
 -- An epoch; the first word and the number of words of its space, into which records are copied, and of the old space,
 -- which they are copied from; and the board's first word.
@@ -24,9 +25,9 @@ abbrev pub era_at : ℕ → (ℕ → ℕ) → ℕ → Era
 era_at n in_use epoch = record {
   epoch = epoch;
   start = space_start n (to_space epoch);
-  span = 64 * in_use (to_space epoch);
+  span = PAGE_WORDS * in_use (to_space epoch);
   old_start = space_start n (from_space epoch);
-  old_span = 64 * in_use (from_space epoch);
+  old_span = PAGE_WORDS * in_use (from_space epoch);
   board = first_word (board_page n);
 }
 
@@ -35,11 +36,11 @@ era_of t = era_at t.pages t.in_use t.gate.epoch
 
 -- the spaces are of whole pages, apart, and below the board
 pub record IsLaidOut (E : Era) : Type 0 where
-  pub start : E.start % 64 ≡ 0
-  pub span : E.span % 64 ≡ 0
-  pub old_start : E.old_start % 64 ≡ 0
-  pub old_span : E.old_span % 64 ≡ 0
-  pub board : E.board % 64 ≡ 0
+  pub start : E.start % PAGE_WORDS ≡ 0
+  pub span : E.span % PAGE_WORDS ≡ 0
+  pub old_start : E.old_start % PAGE_WORDS ≡ 0
+  pub old_span : E.old_span % PAGE_WORDS ≡ 0
+  pub board : E.board % PAGE_WORDS ≡ 0
   pub apart : (E.start + E.span ≤ E.old_start) ⊎ (E.old_start + E.old_span ≤ E.start)
   pub below : E.start + E.span ≤ E.board
   pub old_below : E.old_start + E.old_span ≤ E.board

@@ -1,5 +1,5 @@
 -- The invariant of the collected heap, by its words and workers alone.
-use Rattle.std.specs.Prelude.{◌≡◌, ◌≢◌, ℕ, ◌+◌, ◌*◌, ◌/◌, ◌<◌, ◌≤◌, ◌⊎◌, true, false, Contains, Some, None}
+use Rattle.std.specs.Prelude.{◌≡◌, ◌≢◌, ℕ, ◌+◌, ◌<◌, ◌≤◌, ◌⊎◌, true, false, Contains, Some, None}
 use Rattle.plain_state.specs.declared.kind.Kind.{Kind}
 use Rattle.heap_words.specs.Decoded.{HeaderWord, BusyWord, decode}
 use Rattle.heap_words.specs.declared.kind.Kind.{Kind as HeaderKind}
@@ -14,6 +14,8 @@ use Rattle.heap_state.specs.Represents.{IsCopying, IsInHeap, IsOwn, IsFieldOf}
 use Rattle.heap_state.specs.Sums.{uncopied}
 use Rattle.heap_state.specs.Walk.{Walked, walk_of, old_walk_of, CrossingsHold}
 use Rattle.heap_state.specs.Worker.{Worker, Stopped, Stock, Copy, Scan, Claim, is_mutator, is_live, is_late}
+use Rattle.space_map.specs.Spaces.{page_of, first_word}
+use Rattle.space_map.specs.declared.spaces.TheConstants.{PAGE_WORDS}
 
 -- the worker at a number below the count
 abbrev pub worker_of : Configuration → ℕ → Worker
@@ -76,7 +78,7 @@ pub record HeadersHold (c : Configuration) : Type 0 where
 -- On an open page no field leads into the old space, and no register does but of a mutator that is behind. TRACED is at most
 -- the epoch and one more. Where the epoch is traced nothing leads into the old space, and nobody is behind.
 pub record AccessHolds (c : Configuration) : Type 0 where
-  pub opened : (x : ℕ) → IsWalkedField c x ⊎ OnBoard (era c) x → (memory c).page (x / 64) ≡ Open (era c).epoch → ¬ (Leads (era c) ((memory c).heap x))
+  pub opened : (x : ℕ) → IsWalkedField c x ⊎ OnBoard (era c) x → (memory c).page (page_of x) ≡ Open (era c).epoch → ¬ (Leads (era c) ((memory c).heap x))
   pub registers : (k j : ℕ) → k < (team c).count → is_mutator (worker_of c k).post ≡ true → (worker_of c k).account.end ≡ None
       → is_late (era c).epoch (worker_of c k) ≡ false → j < 8 → ¬ (Leads (era c) ((worker_of c k).registers j))
   pub top : (memory c).traced ≤ (era c).epoch + 1
@@ -102,18 +104,18 @@ CrossingHolds c = CrossingsHold (table c) (kept_of c.workers)
 pub record ClaimsHold (c : Configuration) : Type 0 where
   pub scanned : (p k : ℕ) → (memory c).page p ≡ Scanning (era c).epoch k → (k < (team c).count) × ((s : Scan) × ((worker_of c k).scan ≡ Some s) × (s.page ≡ p))
   pub scans : (k : ℕ) (s : Scan) → k < (team c).count → (worker_of c k).scan ≡ Some s → (memory c).page s.page ≡ Scanning (era c).epoch k
-  pub passed : (k : ℕ) (s : Scan) (x : ℕ) → k < (team c).count → (worker_of c k).scan ≡ Some s → IsWalkedField c x ⊎ OnBoard (era c) x → x / 64 ≡ s.page → x < s.cursor
+  pub passed : (k : ℕ) (s : Scan) (x : ℕ) → k < (team c).count → (worker_of c k).scan ≡ Some s → IsWalkedField c x ⊎ OnBoard (era c) x → page_of x ≡ s.page → x < s.cursor
       → ¬ (Leads (era c) ((memory c).heap x))
   pub young : (p : ℕ) → age_of ((memory c).page p) ≤ (era c).epoch + 1
-  pub board : (memory c).traced ≡ (era c).epoch + 1 → (memory c).page ((era c).board / 64) ≡ Open (era c).epoch
-  pub first : (era c).epoch ≡ 0 → (memory c).page ((era c).board / 64) ≡ Open 0
-  pub copied : (memory c).traced ≡ (era c).epoch + 1 → (p : ℕ) → (era c).start ≤ 64 * p → 64 * p < (memory c).front → (memory c).page p ≡ Open (era c).epoch
+  pub board : (memory c).traced ≡ (era c).epoch + 1 → (memory c).page (page_of (era c).board) ≡ Open (era c).epoch
+  pub first : (era c).epoch ≡ 0 → (memory c).page (page_of (era c).board) ≡ Open 0
+  pub copied : (memory c).traced ≡ (era c).epoch + 1 → (p : ℕ) → (era c).start ≤ first_word p → first_word p < (memory c).front → (memory c).page p ≡ Open (era c).epoch
   pub knows : (k : ℕ) (q : Claim) → k < (team c).count → (worker_of c k).claim ≡ Some q → (worker_of c k).epoch ≡ (era c).epoch
-      → (q.page ≡ (era c).board / 64)
-      ⊎ (((era c).start ≤ 64 * q.page) × (64 * q.page < (memory c).front) × ((q.in_place ≡ true) ⊎ (64 * q.page + 64 ≤ (memory c).front)))
+      → (q.page ≡ page_of (era c).board)
+      ⊎ (((era c).start ≤ first_word q.page) × (first_word q.page < (memory c).front) × ((q.in_place ≡ true) ⊎ (first_word q.page + PAGE_WORDS ≤ (memory c).front)))
   pub late : (k : ℕ) (q : Claim) → k < (team c).count → (worker_of c k).claim ≡ Some q → q.sure ≡ true → (worker_of c k).epoch < (era c).epoch
       → (worker_of c k).epoch + 1 ≤ age_of ((memory c).page q.page)
-  pub alone : (p j k x : ℕ) → k < (team c).count → (memory c).page p ≡ Scanning (era c).epoch j → IsReserved c k x → x / 64 ≡ p → j ≡ k
+  pub alone : (p j k x : ℕ) → k < (team c).count → (memory c).page p ≡ Scanning (era c).epoch j → IsReserved c k x → page_of x ≡ p → j ≡ k
 
 -- No walked record has a word between FRONT and LOW. The words that a mutator has claimed in this epoch for new records lie
 -- from LOW up, and no two mutators have one in common. From its place on these words are 0 as far as it has stored zeros, and

@@ -1,5 +1,5 @@
 -- The walk over the records of a space.
-use Rattle.std.specs.Prelude.{◌≡◌, ◌<◌, ◌≤◌, Contains, ℕ, ⊤, zero, suc, ◌+◌, ◌-◌, ◌*◌, ◌==◌, Bool, true, false, List, [], ◌∷◌, ◌++◌, nat_lt, if◌then◌else◌}
+use Rattle.std.specs.Prelude.{◌≡◌, ◌<◌, ◌≤◌, Contains, ℕ, ⊤, zero, suc, ◌+◌, ◌-◌, ◌==◌, Bool, true, false, List, [], ◌∷◌, ◌++◌, nat_lt, if◌then◌else◌}
 use Rattle.heap_words.specs.Decoded.{Decoded, HeaderWord, BusyWord, ForwardWord, decode}
 use Rattle.space_map.specs.declared.page_word.PageWord.{PageWord}
 use Rattle.space_map.specs.declared.page_word.PageWord.TheVariants.{Unset, Open, Scanning}
@@ -124,8 +124,8 @@ IsOldReadable t kept =
 -- A page of the epoch's space whose first word is below FRONT, and in no place that is reserved, has the place of the walked
 -- record over that word as its crossing.
 pub record CrossingsHold (t : Table) (kept : List Kept) : Type 0 where
-  pub crossing : (p : ℕ) → (era_of t).start ≤ 64 * p → 64 * p < (memory_of t).front → ¬ (IsReservedIn kept (64 * p))
-      → (w : Walked) × Contains (walk_in t kept) w × (w.at ≤ 64 * p) × (64 * p < w.at + w.size) × (t.cross p ≡ w.at)
+  pub crossing : (p : ℕ) → (era_of t).start ≤ first_word p → first_word p < (memory_of t).front → ¬ (IsReservedIn kept (first_word p))
+      → (w : Walked) × Contains (walk_in t kept) w × (w.at ≤ first_word p) × (first_word p < w.at + w.size) × (t.cross p ≡ w.at)
 
 -- ---- those of a configuration
 

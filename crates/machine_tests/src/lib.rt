@@ -5,3 +5,9 @@
 
 #[cfg(test)]
 mod claiming;
+#[cfg(test)]
+mod copying;
+#[cfg(test)]
+mod scanning;
+#[cfg(test)]
+mod walking;

@@ -1,13 +1,12 @@
 -- What a claim's step does to the words, by what it then tells.
-use Rattle.std.proofs.Common.{◌≡◌, ◌≢◌, ℕ, ◌+◌, ◌*◌, ◌<◌, ◌≤◌, Bool, true, false, cond, ◌&&◌, nat_eq, nat_lt, nat_le, List, length, slice_index, Option, Some, None, arith, refl, sym, ap, ◌∙◌}
+use Rattle.std.proofs.Common.{◌≡◌, ◌≢◌, ℕ, ◌+◌, ◌*◌, ◌<◌, ◌≤◌, Bool, true, false, cond, nat_eq, List, slice_index, Option, Some, None, arith, refl, ap, ◌∙◌}
 use Rattle.std.proofs.lemmas.Bool.Decides.{nat_tests}
 use Rattle.atom_store.specs.declared.reply.Reply.{Reply}
 use Rattle.atom_store.specs.declared.reply.Reply.TheVariants as reply
 use Rattle.atom_store.specs.declared.step.Step.TheVariants.{Exchange}
-use Rattle.atom_store.specs.declared.turn.Turn.{Turn}
-use Rattle.atom_store.specs.declared.turn.Turn.TheVariants.{More, Finished}
+use Rattle.atom_store.specs.declared.turn.Turn.TheVariants.{Finished}
 use Rattle.atom_store.specs.Acts.{Acts}
-use Rattle.atom_store.specs.Step.{reply_of, words_after}
+use Rattle.atom_store.specs.Step.{reply_of}
 use Rattle.atom_store.proofs.Acting.{no_step}
 use Rattle.atom_store.proofs.Steps.{slice_index-words_after, slice_index-won, won_exactly, lost_tells_another, words_after-lost}
 use Rattle.space_map.specs.declared.gate_word.GateWord.{GateWord}
@@ -18,11 +17,10 @@ use Rattle.space_map.specs.Table.{Gate, Page, Announce, place_of}
 use Rattle.space_map.specs.TableWords.{word_in, HoldsTable}
 use Rattle.space_map.proofs.PageWords.{decode_page-encode_page}
 use Rattle.space_map.proofs.Rows.{place_of-lt}
-use Rattle.page_slots.specs.declared.claimed.Claimed.{Claimed}
 use Rattle.page_slots.specs.declared.claimed.Claimed.TheVariants.{Won, Taken}
 use Rattle.page_slots.specs.declared.claim_stage.ClaimStage.{ClaimStage}
 use Rattle.page_slots.specs.declared.claim_stage.ClaimStage.TheVariants.{LooksAtPlace, LooksAtGate, Exchanges, Ended}
-use Rattle.page_slots.specs.Claim.{Claiming, claim_machine, told_at, next_stage, looked_at_place, looked_at_gate, names_below_end}
+use Rattle.page_slots.specs.Claim.{Claiming, claim_machine, told_at, next_stage, looked_at_gate, names_below_end}
 use Rattle.page_slots.specs.Soundness.{IsSoundClaim}
 use Rattle.page_slots.specs.Theorems.{WinsPage, ShowsTaken, Announced, OtherEpoch, OtherWord}
 
@@ -112,7 +110,7 @@ takes c (LooksAtPlace k) before after word sound acts =
     let announced : ℕ = word_in c.layout.pages (Announce k) before in
     let shows = place_shows k announced word (names_below_end c.page announced) (nat_eq k 23) acts.tells in
     let below = names_below c.page announced shows.0 in
-    (Announced k sound.stage shows.1 (rw shows.1 below.0) (rw shows.1 below.1), acts.makes)
+    (Announced k sound.stage.0 shows.1 (rw shows.1 below.0) (rw shows.1 below.1), acts.makes)
   where
     names_below : (page announced : ℕ) → names_below_end page announced ≡ true → (0 < announced) × (announced ≤ 64 * (page + 1))
     names_below page announced is = grind (arith, nat_tests)

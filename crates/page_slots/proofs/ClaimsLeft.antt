@@ -29,9 +29,9 @@ by_gate epoch word (Some gate) t = by_epoch (nat_eq gate.epoch epoch)
     by_epoch false = omega arith
 by_gate epoch word None t = cc
 
-pub lowers : (c : Claiming) (stage : ClaimStage) (r : Reply) → FitsClaimStage stage → IsTrue (advances_at stage r)
+pub lowers : (c : Claiming) (stage : ClaimStage) (r : Reply) → FitsClaimStage c stage → IsTrue (advances_at stage r)
     → left_at (next_stage c stage r) < left_at stage
-lowers c (LooksAtPlace k) (Value word) fits t = by_place c.page k word fits
+lowers c (LooksAtPlace k) (Value word) fits t = by_place c.page k word fits.0
 lowers c LooksAtGate (Value word) fits t = by_gate c.epoch word (decode_gate word) t
 lowers c Exchanges Won fits t = omega arith
 lowers c Exchanges (Lost word) fits t = omega arith

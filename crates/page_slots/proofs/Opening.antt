@@ -1,5 +1,5 @@
 -- What the opening's step does to the words.
-use Rattle.std.proofs.Common.{◌≡◌, ℕ, ◌<◌, ◌≤◌, true, false, List, slice_index, arith, ap, ◌∙◌}
+use Rattle.std.proofs.Common.{ℕ, List, slice_index, arith, ap, ◌∙◌}
 use Rattle.atom_store.specs.declared.step.Step.TheVariants.{Store}
 use Rattle.atom_store.specs.declared.turn.Turn.TheVariants.{Finished}
 use Rattle.atom_store.specs.Acts.{Acts}

@@ -1,5 +1,5 @@
 -- What the machines keep of themselves: the rows that they want are in the table, and their words can be packed.
-use Rattle.std.specs.Prelude.{ℕ, ◌^◌, ◌<◌, ◌≤◌, ⊤}
+use Rattle.std.specs.Prelude.{◌≡◌, ◌≢◌, ℕ, ◌^◌, ◌<◌, ◌≤◌, false, ⊤}
 use Rattle.space_map.specs.PageWord.{PageFits, IsEarlier}
 use Rattle.space_map.specs.Spaces.{IsPageCount, board_page}
 use Rattle.page_slots.specs.declared.claim_stage.ClaimStage.{ClaimStage}
@@ -9,11 +9,12 @@ use Rattle.page_slots.specs.declared.open_stage.OpenStage.TheVariants as open_st
 use Rattle.page_slots.specs.Claim.{Claiming}
 use Rattle.page_slots.specs.Open.{Opening}
 
-abbrev pub FitsClaimStage : ClaimStage → Type 0
-FitsClaimStage (claim_stage.LooksAtPlace k) = k ≤ 23
-FitsClaimStage claim_stage.LooksAtGate = ⊤
-FitsClaimStage claim_stage.Exchanges = ⊤
-FitsClaimStage (claim_stage.Ended result) = ⊤
+-- announced places are looked at for a full page alone
+abbrev pub FitsClaimStage : Claiming → ClaimStage → Type 0
+FitsClaimStage c (claim_stage.LooksAtPlace k) = (k ≤ 23) × (c.in_place ≡ false) × (c.page ≢ board_page c.layout.pages)
+FitsClaimStage c claim_stage.LooksAtGate = ⊤
+FitsClaimStage c claim_stage.Exchanges = ⊤
+FitsClaimStage c (claim_stage.Ended result) = ⊤
 
 -- the page is a space's or the board, and the word read there is of no epoch, or of one before the claim's
 pub record IsSoundClaim (c : Claiming) : Type 0 where
@@ -23,7 +24,7 @@ pub record IsSoundClaim (c : Claiming) : Type 0 where
   pub epoch : c.epoch < 2 ^ 32
   pub found : PageFits c.found
   pub earlier : IsEarlier c.found c.epoch
-  pub stage : FitsClaimStage c.stage
+  pub stage : FitsClaimStage c c.stage
 
 -- the claim has a next step
 abbrev pub IsClaimGoing : ClaimStage → Type 0

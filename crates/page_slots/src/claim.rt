@@ -3,7 +3,7 @@ ghost use Rattle.atom_store.specs.Step.{place_in};
 ghost use Rattle.space_map.specs.PageWord.{IsEarlier, encode_page};
 ghost use Rattle.space_map.specs.Spaces.{board_page};
 ghost use Rattle.page_slots.specs.Claim.{begun, wanted, taken, told, left, advances, looked_at_place, looked_at_gate, first_stage};
-ghost use Rattle.page_slots.specs.Soundness.{IsSoundClaim, IsClaimGoing};
+ghost use Rattle.page_slots.specs.Soundness.{FitsClaimStage, IsClaimGoing};
 ghost use Rattle.space_map.specs.GateWord.{decode_gate};
 ghost use Rattle.space_map.specs.Table.{Page, place_of, table_length};
 
@@ -140,7 +140,7 @@ impl Claim {
     }
 
     fn look_at_place(&mut self, worker: u8, announced: u64) -> Turn<Claimed>
-        requires { worker ≤ 23 }
+        requires { FitsClaimStage self.old (ClaimStage.LooksAtPlace worker) }
         ensures state { self.new ≡ record self.old { stage = looked_at_place self.old.page worker announced } }
         ensures tells { result ≡ told self.new }
     {

@@ -25,7 +25,7 @@ use Rattle.heap_laws.proofs.Allocation.Stocks.{Places, places_of}
 use Rattle.heap_laws.proofs.Allocation.Values.{value_allocated}
 use Rattle.heap_laws.proofs.Allocation.Workers.{accesses_allocated}
 use Rattle.heap_laws.proofs.Fields.Laws.{both, goes_as}
-use Rattle.heap_laws.proofs.Plain.Gained.{gained_serial}
+use Rattle.plain_state.proofs.Gained.{gained_serial}
 use Rattle.plain_state.proofs.Lists.{slice_get-set_same, slice_get-set_other}
 
 module _ (E : Era) (m : Memory) (team : Team) (g : Ghost) (p : plain.Plain) (k : ℕ) (next : Worker) (q : plain.Mutator) (s : Stock) (c : Kind) (z v d pointer : ℕ) (r : plain.Record)

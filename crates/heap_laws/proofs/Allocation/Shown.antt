@@ -23,7 +23,7 @@ use Rattle.heap_laws.proofs.Allocation.FreeWords.{IsFree, word_same, board_same}
 use Rattle.heap_laws.proofs.Allocation.Header.{placed, new_place, free, mutator, zeros}
 use Rattle.heap_laws.proofs.Allocation.Parts.{NewPlace, unused as unused_place, was, same_size, same_writer}
 use Rattle.heap_laws.proofs.Allocation.Values.{field_lands, value_allocated}
-use Rattle.heap_laws.proofs.Plain.Gained.{gained_there, gained_elsewhere, gained_serial, gained_serial_other, gained_makers}
+use Rattle.plain_state.proofs.Gained.{gained_there, gained_elsewhere, gained_serial, gained_serial_other, gained_makers}
 use Rattle.plain_state.proofs.Lists.{slice_get-of_replicate}
 use Rattle.heap_laws.proofs.Frames.Values.{board_here, zero_value}
 

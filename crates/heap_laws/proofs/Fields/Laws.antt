@@ -18,7 +18,7 @@ use Rattle.heap_laws.specs.Fields.Stores.{IsAs, MutatorsStep, MutatorsStore, Mut
 use Rattle.heap_laws.proofs.Fields.Cycle.{stores_keep_cycle, board_stores_keep_cycle}
 use Rattle.heap_laws.proofs.Fields.Shown.{stores_show, board_stores_show}
 use Rattle.heap_laws.proofs.Fields.Stored.{words_are_stored, board_is_stored}
-use Rattle.heap_laws.proofs.Plain.Stored.{stored_serial}
+use Rattle.plain_state.proofs.Stored.{stored_serial}
 use Rattle.heap_laws.proofs.Fields.GoingOn.{mutators_go_on, going_on_shows, going_on_keeps_cycle}
 use Rattle.heap_laws.proofs.Steps.Learning.{shown_put}
 

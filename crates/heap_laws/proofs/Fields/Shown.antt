@@ -21,7 +21,7 @@ use Rattle.heap_laws.specs.Fields.Held.{MayHold}
 use Rattle.heap_state.proofs.Puts.{true_false}
 use Rattle.heap_laws.specs.Steps.{with_word}
 use Rattle.heap_laws.proofs.Frames.OtherWords.{shows_same}
-use Rattle.heap_laws.proofs.Plain.Stored.{stored_there, stored_elsewhere, stored_serial, stored_makers}
+use Rattle.plain_state.proofs.Stored.{stored_there, stored_elsewhere, stored_serial, stored_makers}
 use Rattle.plain_state.proofs.Lists.{slice_get-set_same, slice_get-set_other}
 use Rattle.heap_laws.proofs.Frames.Values.{one_place}
 

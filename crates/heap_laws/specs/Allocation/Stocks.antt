@@ -2,12 +2,13 @@
 use Rattle.std.specs.Prelude.{◌≡◌, ℕ, ◌+◌, ◌-◌, ◌*◌, ◌<◌, ◌≤◌, Bool, true, Some, if◌then◌else◌}
 use Rattle.space_map.specs.declared.area_word.AreaWord.{AreaWord}
 use Rattle.space_map.specs.declared.page_word.PageWord.TheVariants.{Open}
-use Rattle.space_map.specs.Spaces.{to_space}
+use Rattle.space_map.specs.Spaces.{to_space, first_word}
 use Rattle.heap_state.specs.Entries.{AreaIs, PageIs, WordIs}
 use Rattle.heap_state.specs.Era.{Era, Memory}
 use Rattle.heap_state.specs.Ghost.{Ghost}
 use Rattle.heap_state.specs.Worker.{Worker, Team, Stock, is_running}
 use Rattle.heap_laws.specs.Steps.{Ready, IsAreaNow, Steps}
+use Rattle.space_map.specs.declared.spaces.TheConstants.{PAGE_WORDS}
 
 -- the worker with this stock
 abbrev pub stocked : Worker → Stock → Worker
@@ -23,13 +24,13 @@ pub record HasStock (team : Team) (k : ℕ) (q : Stock) : Type 0 where
 -- The area has room for n pages, and so many words are owed from then on. While the epoch is not traced there is room beside the
 -- words owed, and these stay.
 pub record HasRoom (E : Era) (m : Memory) (area : AreaWord) (n owed : ℕ) : Type 0 where
-  pub room : area.front + 64 * n ≤ area.low
-  pub beside : m.traced ≤ E.epoch → (owed ≡ area.owed) × (area.front + 64 * n + owed ≤ area.low)
+  pub room : area.front + PAGE_WORDS * n ≤ area.low
+  pub beside : m.traced ≤ E.epoch → (owed ≡ area.owed) × (area.front + PAGE_WORDS * n + owed ≤ area.low)
   pub small : owed ≤ area.owed
 
 -- the area with LOW n pages lower, and so much owed
 abbrev pub lowered : AreaWord → (n owed : ℕ) → AreaWord
-lowered area n owed = record { front = area.front; low = area.low - 64 * n; owed = owed }
+lowered area n owed = record { front = area.front; low = area.low - PAGE_WORDS * n; owed = owed }
 
 -- what is owed beside the words that a worker claims: nothing any more, where it has seen that the epoch is traced
 abbrev pub owed_beside : Bool → AreaWord → ℕ
@@ -37,7 +38,7 @@ owed_beside traced_seen area = if traced_seen then 0 else area.owed
 
 -- a worker sees room for n pages beside the words owed
 abbrev pub SeesRoom : Bool → AreaWord → ℕ → Type 0
-SeesRoom traced_seen area n = area.front + 64 * n + owed_beside traced_seen area ≤ area.low
+SeesRoom traced_seen area n = area.front + PAGE_WORDS * n + owed_beside traced_seen area ≤ area.low
 
 -- what it sees is so
 abbrev pub RoomIsSeen : Type 0
@@ -48,10 +49,10 @@ RoomIsSeen = (E : Era) (m : Memory) (team : Team) (g : Ghost) (k n : ℕ) (area 
 abbrev pub claimed : (epoch start : ℕ) → AreaWord → ℕ → Stock
 claimed epoch start area n = record {
   epoch = epoch;
-  at = start + (area.low - 64 * n);
+  at = start + (area.low - PAGE_WORDS * n);
   end = start + area.low;
-  zeroed = start + (area.low - 64 * n);
-  opened = start + (area.low - 64 * n);
+  zeroed = start + (area.low - PAGE_WORDS * n);
+  opened = start + (area.low - PAGE_WORDS * n);
 }
 
 -- the area word is exchanged by a running mutator
@@ -73,13 +74,13 @@ StocksAreZeroed = (E : Era) (m : Memory) (team : Team) (g : Ghost) (k : ℕ) (q 
 -- ---- pages opened
 
 abbrev pub opened_further : Stock → Stock
-opened_further q = record q { opened = q.opened + 64 }
+opened_further q = record q { opened = q.opened + PAGE_WORDS }
 
 -- the page is the next one of the stock of worker k to open: all its words are 0
 pub record OpensNext (team : Team) (k : ℕ) (q : Stock) (page : ℕ) : Type 0 where
   pub own : HasStock team k q
   pub blank : q.zeroed ≡ q.end
-  pub at : 64 * page ≡ q.opened
+  pub at : first_word page ≡ q.opened
   pub more : q.opened < q.end
 
 -- its word is stored

@@ -1,5 +1,5 @@
 -- What a running mutator's registers, and the words that it accesses, are to the plain machine.
-use Rattle.std.specs.Prelude.{◌≡◌, ℕ, ◌+◌, ◌/◌, ◌^◌, ◌<◌, ⊤, true, length, Option, Some, None, slice_get, false}
+use Rattle.std.specs.Prelude.{◌≡◌, ℕ, ◌+◌, ◌<◌, ⊤, true, length, Option, Some, None, slice_get, false}
 use Rattle.heap_words.specs.declared.kind.Kind.{Kind as HeaderKind}
 use Rattle.heap_words.specs.Decoded.{NumberWord, PointerWord, HeaderWord, decode, number_in}
 use Rattle.heap_words.specs.Word.{number_word}
@@ -17,6 +17,8 @@ use Rattle.heap_laws.specs.Fields.Words.{IsWordOf, MayStore, StandsFor}
 use Rattle.heap_laws.specs.Fields.Held.{MayHold, HoldsValue}
 use Rattle.heap_laws.specs.Fields.Stores.{IsAs}
 use Rattle.heap_laws.specs.Steps.{Ready}
+use Rattle.space_map.specs.Spaces.{page_of}
+use Rattle.plain_state.specs.declared.sizes.TheConstants.{NUMBERS}
 
 -- ---- mutators
 
@@ -73,7 +75,7 @@ word_stored NumberRole w = number_in (decode w)
 -- a number that is stored by itself is one of 62 bits
 abbrev pub FitsRole : Role → ℕ → Type 0
 FitsRole FieldRole v = ⊤
-FitsRole NumberRole v = v < 2 ^ 62
+FitsRole NumberRole v = v < NUMBERS
 
 -- The word that is accessed is value x of the plain record there: on an open page, a word of a record that stands; what is loaded
 -- from it holds that value, and what is stored there for a value stands for it.
@@ -83,7 +85,7 @@ pub record IsValueOf (E : Era) (m : Memory) (g : Ghost) (p : plain.Plain) (f : A
   pub kind : record_there.kind ≡ g.kind f.at
   pub role : HasRole record_there.kind (word_of record_there.kind x) f.role
   pub word : IsWordOf E g.size g.writer g.kind f.at x
-  pub opens : m.page ((f.at + f.word) / 64) ≡ Open E.epoch
+  pub opens : m.page (page_of (f.at + f.word)) ≡ Open E.epoch
   pub value : Value
   pub there : slice_get record_there.values x ≡ Some value
   pub loaded : HoldsValue E g (word_held f.role (m.heap (f.at + f.word))) value
@@ -91,11 +93,11 @@ pub record IsValueOf (E : Era) (m : Memory) (g : Ghost) (p : plain.Plain) (f : A
 
 abbrev pub AccessesAreValues : Type 0
 AccessesAreValues = (E : Era) (m : Memory) (team : Team) (g : Ghost) (p : plain.Plain) (k : ℕ) (f : Access) (x : ℕ) → Ready E m team g k → Shown E m team g p
-    → (team.worker k).access ≡ Some f → (team.worker k).opened ≡ Some ((f.at + f.word) / 64) → f.word ≡ word_of (g.kind f.at) x → IsValueOf E m g p f x
+    → (team.worker k).access ≡ Some f → (team.worker k).opened ≡ Some (page_of (f.at + f.word)) → f.word ≡ word_of (g.kind f.at) x → IsValueOf E m g p f x
 
 -- ---- words of the board
 
 -- word x of the open board holds the value of the plain board
 abbrev pub BoardWordsAreValues : Type 0
 BoardWordsAreValues = (E : Era) (m : Memory) (team : Team) (g : Ghost) (p : plain.Plain) (k x : ℕ) → Ready E m team g k → Shown E m team g p
-    → m.page (E.board / 64) ≡ Open E.epoch → x < 16 → (y : Value) × (slice_get p.heap.board x ≡ Some y) × HoldsValue E g (m.heap (E.board + x)) y
+    → m.page (page_of E.board) ≡ Open E.epoch → x < 16 → (y : Value) × (slice_get p.heap.board x ≡ Some y) × HoldsValue E g (m.heap (E.board + x)) y

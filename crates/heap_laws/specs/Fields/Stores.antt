@@ -1,7 +1,7 @@
 -- One step of a running mutator that is one of the plain machine: it stores nothing, or in a record, on the board, or a new
 -- record's header.
 use Rattle.plain_state.specs.declared.value.Identity.{Identity}
-use Rattle.std.specs.Prelude.{◌≡◌, ℕ, ◌+◌, ◌-◌, ◌*◌, ◌/◌, ◌<◌, true, Some, None, slice_get, slice_set}
+use Rattle.std.specs.Prelude.{◌≡◌, ℕ, ◌+◌, ◌-◌, ◌*◌, ◌<◌, true, Some, None, slice_get, slice_set}
 use Rattle.heap_words.specs.Decoded.{PointerWord, decode}
 use Rattle.plain_state.specs.declared.end.End.{End}
 use Rattle.plain_state.specs.declared.end.End.TheVariants.{HeapFull}
@@ -24,6 +24,8 @@ use Rattle.heap_laws.specs.Fields.Words.{IsWordOf, MayStore, StandsFor}
 use Rattle.heap_laws.specs.Fields.Held.{with_mutator, HoldsValue, GoesOn}
 use Rattle.heap_laws.specs.Allocation.Records.{PlacesNext, allocated, next_identity}
 use Rattle.heap_laws.specs.Steps.{Ready, IsAreaNow, StepsTo, Steps}
+use Rattle.space_map.specs.Spaces.{page_of}
+use Rattle.space_map.specs.declared.spaces.TheConstants.{PAGE_WORDS}
 
 -- the worker has what the plain mutator has, with this plain heap
 pub record IsAs (g : Ghost) (heap : plain.Heap) (k : ℕ) (w : Worker) (q : plain.Mutator) : Type 0 where
@@ -48,7 +50,7 @@ MutatorsStep = (E : Era) (m : Memory) (team : Team) (g : Ghost) (p : plain.Plain
 abbrev pub MutatorsStore : Type 0
 MutatorsStore = (E : Era) (m : Memory) (team : Team) (g : Ghost) (p : plain.Plain) (k : ℕ) (next : Worker) (q : plain.Mutator) (a x v : ℕ) (r : plain.Record) (y : Value)
     → Ready E m team g k → is_running (team.worker k).post ≡ true → Shown E m team g p
-    → IsWordOf E g.size g.writer g.kind a x → m.page ((a + word_of (g.kind a) x) / 64) ≡ Open E.epoch → MayStore E g.size g.writer (g.kind a) x v
+    → IsWordOf E g.size g.writer g.kind a x → m.page (page_of (a + word_of (g.kind a) x)) ≡ Open E.epoch → MayStore E g.size g.writer (g.kind a) x v
     → plain.record_of p.heap (g.identity a) ≡ Some r → StandsFor g (g.kind a) x v y
     → GoesOn E m g (team.worker k) next → IsAs g p.heap k next q
     → StepsTo E m team g k (Some (WordIs (a + word_of (g.kind a) x) v)) next g (with_mutator (with_heap p (stored p.heap (g.identity a) r x y)) k q)
@@ -57,7 +59,7 @@ MutatorsStore = (E : Era) (m : Memory) (team : Team) (g : Ghost) (p : plain.Plai
 abbrev pub MutatorsStoreOnBoard : Type 0
 MutatorsStoreOnBoard = (E : Era) (m : Memory) (team : Team) (g : Ghost) (p : plain.Plain) (k : ℕ) (next : Worker) (q : plain.Mutator) (x v : ℕ) (y : Value)
     → Ready E m team g k → is_running (team.worker k).post ≡ true → Shown E m team g p
-    → x < 16 → m.page (E.board / 64) ≡ Open E.epoch → HoldsValue E g v y
+    → x < 16 → m.page (page_of E.board) ≡ Open E.epoch → HoldsValue E g v y
     → GoesOn E m g (team.worker k) next → IsAs g p.heap k next q
     → StepsTo E m team g k (Some (WordIs (E.board + x) v)) next g (with_mutator (with_heap p (with_board p.heap x y)) k q)
 
@@ -104,7 +106,7 @@ pub record EndsFull (E : Era) (m : Memory) (team : Team) (g : Ghost) (p : plain.
   pub traced : m.traced ≡ E.epoch + 1
   pub room_is : m.front + room ≡ m.low
   pub live_is : E.start + live ≡ m.front
-  pub short : room < 64 * asked
+  pub short : room < PAGE_WORDS * asked
   pub ends : StepsTo E m team g k None (with_end (team.worker k) (HeapFull asked room live)) g (with_mutator p k (record q { end = Some (HeapFull asked room live) }))
 
 abbrev pub MutatorsFindNoRoom : Type 0

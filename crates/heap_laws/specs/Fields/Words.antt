@@ -1,5 +1,5 @@
 -- Words of records of the epoch's space and of the board, as a mutator loads and stores them.
-use Rattle.std.specs.Prelude.{◌≡◌, ℕ, ◌+◌, ◌-◌, ◌/◌, ◌^◌, ◌<◌, ◌≤◌, true, false, Some, None}
+use Rattle.std.specs.Prelude.{◌≡◌, ℕ, ◌+◌, ◌-◌, ◌<◌, ◌≤◌, true, false, Some, None}
 use Rattle.heap_words.specs.Decoded.{NumberWord, PointerWord, HeaderWord, decode}
 use Rattle.plain_state.specs.declared.value.Value.{Value}
 use Rattle.plain_state.specs.declared.value.Value.TheVariants.{Number}
@@ -14,6 +14,8 @@ use Rattle.heap_state.specs.Values.{Shown, Shows, value_of}
 use Rattle.heap_state.specs.Worker.{Team, Access, is_mutator, is_late}
 use Rattle.heap_laws.specs.Fields.Held.{MayHold}
 use Rattle.heap_laws.specs.Steps.{Ready}
+use Rattle.space_map.specs.Spaces.{page_of}
+use Rattle.plain_state.specs.declared.sizes.TheConstants.{NUMBERS}
 
 -- ---- what is written
 
@@ -27,7 +29,7 @@ pub record IsWordOf (E : Era) (size writer : ℕ → ℕ) (kind : ℕ → Kind) 
 -- a word may stand at value x of a record of this kind: in a field, what a mutator may hold; elsewhere a number below 2^62
 pub record MayStore (E : Era) (size writer : ℕ → ℕ) (k : Kind) (x v : ℕ) : Type 0 where
   pub held : is_field k (word_of k x) ≡ true → MayHold E size writer v
-  pub number : is_field k (word_of k x) ≡ false → v < 2 ^ 62
+  pub number : is_field k (word_of k x) ≡ false → v < NUMBERS
 
 -- what a word at value x of a record of this kind shows: in a field, the value that it denotes; else its number
 pub record StandsFor (g : Ghost) (k : Kind) (x v : ℕ) (y : Value) : Type 0 where
@@ -52,22 +54,22 @@ HeadersAreRead = (E : Era) (m : Memory) (team : Team) (g : Ghost) (p : plain.Pla
 -- epoch's space that nobody writes, on an open page, and with the role that was read.
 pub record IsAccessed (E : Era) (m : Memory) (g : Ghost) (f : Access) : Type 0 where
   pub word : (x : ℕ) → f.word ≡ word_of (g.kind f.at) x → IsWordOf E g.size g.writer g.kind f.at x
-  pub opens : m.page ((f.at + f.word) / 64) ≡ Open E.epoch
+  pub opens : m.page (page_of (f.at + f.word)) ≡ Open E.epoch
   pub role : HasRole (g.kind f.at) f.word f.role
 
 abbrev pub AccessesAreAllowed : Type 0
 AccessesAreAllowed = (E : Era) (m : Memory) (team : Team) (g : Ghost) (k : ℕ) (f : Access) → Ready E m team g k
-    → (team.worker k).access ≡ Some f → (team.worker k).opened ≡ Some ((f.at + f.word) / 64) → IsAccessed E m g f
+    → (team.worker k).access ≡ Some f → (team.worker k).opened ≡ Some (page_of (f.at + f.word)) → IsAccessed E m g f
 
 -- what is loaded from a field on an open page, or from the open board, a mutator may hold; what is loaded from elsewhere in a
 -- record is a number below 2^62
 abbrev pub WordsAreLoaded : Type 0
 WordsAreLoaded = (E : Era) (m : Memory) (team : Team) (g : Ghost) (k a x : ℕ) → Ready E m team g k → IsWordOf E g.size g.writer g.kind a x
-    → m.page ((a + word_of (g.kind a) x) / 64) ≡ Open E.epoch → MayStore E g.size g.writer (g.kind a) x (m.heap (a + word_of (g.kind a) x))
+    → m.page (page_of (a + word_of (g.kind a) x)) ≡ Open E.epoch → MayStore E g.size g.writer (g.kind a) x (m.heap (a + word_of (g.kind a) x))
 
 abbrev pub BoardIsLoaded : Type 0
 BoardIsLoaded = (E : Era) (m : Memory) (team : Team) (g : Ghost) (k x : ℕ) → Ready E m team g k → x < 16
-    → m.page (E.board / 64) ≡ Open E.epoch → MayHold E g.size g.writer (m.heap (E.board + x))
+    → m.page (page_of E.board) ≡ Open E.epoch → MayHold E g.size g.writer (m.heap (E.board + x))
 
 -- the registers of a mutator without an end that is not behind are what it may hold
 abbrev pub RegistersAreHeld : Type 0

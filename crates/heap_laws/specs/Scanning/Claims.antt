@@ -1,5 +1,5 @@
 -- Pages that are claimed, scanned and opened.
-use Rattle.std.specs.Prelude.{◌≡◌, ℕ, ◌+◌, ◌*◌, ◌/◌, ◌<◌, ◌≤◌, ◌⊎◌, true, false, Some, None}
+use Rattle.std.specs.Prelude.{◌≡◌, ℕ, ◌+◌, ◌<◌, ◌≤◌, ◌⊎◌, true, false, Some, None}
 use Rattle.space_map.specs.declared.page_word.PageWord.{PageWord}
 use Rattle.space_map.specs.declared.page_word.PageWord.TheVariants.{Open, Scanning}
 use Rattle.space_map.specs.PageWord.{age_of}
@@ -8,6 +8,8 @@ use Rattle.heap_state.specs.Ghost.{Ghost}
 use Rattle.heap_state.specs.Worker.{Worker, Team, Round, Claim, Scan}
 use Rattle.heap_state.specs.Entries.{PageIs}
 use Rattle.heap_laws.specs.Steps.{Ready, Steps}
+use Rattle.space_map.specs.Spaces.{page_of, first_word}
+use Rattle.space_map.specs.declared.spaces.TheConstants.{PAGE_WORDS}
 
 -- ---- a claim is made ready
 
@@ -19,8 +21,8 @@ claiming w q = record w { claim = Some q }
 -- by FRONT as it reads it now or has read it in this round, or it is the board.
 pub record MayClaim (E : Era) (m : Memory) (team : Team) (k p : ℕ) (old : PageWord) : Type 0 where
   pub earlier : age_of old ≤ (team.worker k).epoch
-  pub full : (team.worker k).epoch ≡ E.epoch → (p ≡ E.board / 64)
-      ⊎ ((E.start ≤ 64 * p) × ((64 * p + 64 ≤ m.front) ⊎ ((r : Round) × (f : ℕ) × ((team.worker k).round ≡ Some r) × (r.front ≡ Some f) × (64 * p + 64 ≤ f))))
+  pub full : (team.worker k).epoch ≡ E.epoch → (p ≡ page_of E.board)
+      ⊎ ((E.start ≤ first_word p) × ((first_word p + PAGE_WORDS ≤ m.front) ⊎ ((r : Round) × (f : ℕ) × ((team.worker k).round ≡ Some r) × (r.front ≡ Some f) × (first_word p + PAGE_WORDS ≤ f))))
 
 abbrev pub claim_of : PageWord → ℕ → Claim
 claim_of old p = record { page = p; old = old; in_place = false; looked = 0; sure = false }
@@ -32,7 +34,7 @@ BeginningClaimKeeps = (E : Era) (m : Memory) (team : Team) (g : Ghost) (k p : �
 -- the place that the next worker announces does not begin below the end of the page
 pub record SeesNoPlace (m : Memory) (team : Team) (k : ℕ) (q : Claim) : Type 0 where
   pub claims : (team.worker k).claim ≡ Some q
-  pub free : (m.announced q.looked ≡ 0) ⊎ (64 * q.page + 64 < m.announced q.looked)
+  pub free : (m.announced q.looked ≡ 0) ⊎ (first_word q.page + PAGE_WORDS < m.announced q.looked)
 
 abbrev pub LookingAtPlaceKeeps : Type 0
 LookingAtPlaceKeeps = (E : Era) (m : Memory) (team : Team) (g : Ghost) (k : ℕ) (q : Claim) → Ready E m team g k → SeesNoPlace m team k q
@@ -53,14 +55,14 @@ LookingAtGateKeeps = (E : Era) (m : Memory) (team : Team) (g : Ghost) (k : ℕ) 
 -- filling one; the gate was read again; and the page has the word that was read.
 pub record WinsPage (E : Era) (m : Memory) (team : Team) (k : ℕ) (q : Claim) : Type 0 where
   pub claims : (team.worker k).claim ≡ Some q
-  pub looked : (team.count ≤ q.looked) ⊎ ((q.in_place ≡ true) ⊎ (q.page ≡ E.board / 64))
+  pub looked : (team.count ≤ q.looked) ⊎ ((q.in_place ≡ true) ⊎ (q.page ≡ page_of E.board))
   pub sure : q.sure ≡ true
   pub idle : (team.worker k).scan ≡ None
   pub unchanged : m.page q.page ≡ q.old
 
 -- the scan that a won claim begins, at the page's first word
 abbrev pub scan_from : Claim → Scan
-scan_from q = record { page = q.page; cursor = 64 * q.page; in_place = q.in_place; over = None; current = None; inner = false; ended = false }
+scan_from q = record { page = q.page; cursor = first_word q.page; in_place = q.in_place; over = None; current = None; inner = false; ended = false }
 
 -- the worker that scans the page that it claimed
 abbrev pub begins_scan : Worker → Claim → Worker

@@ -1,5 +1,5 @@
 -- The words of a page that is scanned: which are read, and what becomes of those that lead into the old space.
-use Rattle.std.specs.Prelude.{◌≡◌, ◌≢◌, ℕ, ◌+◌, ◌*◌, ◌/◌, ◌<◌, ◌≤◌, ◌==◌, ◌⊎◌, Bool, true, false, Some, None, nat_le, if◌then◌else◌}
+use Rattle.std.specs.Prelude.{◌≡◌, ◌≢◌, ℕ, ◌+◌, ◌<◌, ◌≤◌, ◌==◌, ◌⊎◌, Bool, true, false, Some, None, nat_le, if◌then◌else◌}
 use Rattle.heap_words.specs.declared.kind.Kind.{Kind as HeaderKind}
 use Rattle.plain_state.specs.declared.kind.Kind.{Kind}
 use Rattle.heap_words.specs.Decoded.{PointerWord, HeaderWord, decode}
@@ -9,6 +9,8 @@ use Rattle.heap_state.specs.Worker.{Worker, Team, Seen, Scanned, Quest, Scan}
 use Rattle.heap_state.specs.FieldSpan.{next_from, seen_at, entry_of}
 use Rattle.heap_state.specs.Entries.{WordIs}
 use Rattle.heap_laws.specs.Steps.{Ready, Steps}
+use Rattle.space_map.specs.Spaces.{page_of, first_word}
+use Rattle.space_map.specs.declared.spaces.TheConstants.{PAGE_WORDS}
 
 -- the worker whose scan is this, and that asks for no copy
 abbrev pub scanning : Worker → Scan → Worker
@@ -18,7 +20,7 @@ scanning w s = record w { scan = Some s; quest = None }
 
 -- the place is past what there is to scan on the page: on the board its 16 words, else the whole page
 abbrev pub is_past : Era → (page y : ℕ) → Bool
-is_past E page y = if page == E.board / 64 then nat_le (E.board + 16) y else nat_le (64 * page + 64) y
+is_past E page y = if page == page_of E.board then nat_le (E.board + 16) y else nat_le (first_word page + PAGE_WORDS) y
 
 -- the scan, gone on to y
 abbrev pub on_to : Era → Scan → ℕ → Scan
@@ -39,7 +41,7 @@ pub record IsScanning (team : Team) (k : ℕ) (s : Scan) : Type 0 where
 
 -- the cursor stands on a board word, or on a field of a record
 pub record AtField (E : Era) (s : Scan) : Type 0 where
-  pub on_page : s.cursor / 64 ≡ s.page
+  pub on_page : page_of s.cursor ≡ s.page
   pub place : (OnBoard E s.cursor × (s.current ≡ None)) ⊎ ((r : Seen) × (s.current ≡ Some r) × (s.cursor < r.fields_end))
 
 -- ---- the records on the page
@@ -47,23 +49,23 @@ pub record AtField (E : Era) (s : Scan) : Type 0 where
 -- the page's crossing is read
 abbrev pub ReadingCrossingKeeps : Type 0
 ReadingCrossingKeeps = (E : Era) (m : Memory) (team : Team) (g : Ghost) (k : ℕ) (s : Scan) → Ready E m team g k → IsScanning team k s
-    → s.page ≢ E.board / 64 → Steps E m team g k None (scanning (team.worker k) (record s { over = Some (m.cross s.page) })) g
+    → s.page ≢ page_of E.board → Steps E m team g k None (scanning (team.worker k) (record s { over = Some (m.cross s.page) })) g
 
 -- the header of the record over the page's first word is read
 abbrev pub ReadingFirstHeaderKeeps : Type 0
 ReadingFirstHeaderKeeps = (E : Era) (m : Memory) (team : Team) (g : Ghost) (k : ℕ) (s : Scan) (a len serial mutator : ℕ) (head : HeaderKind) → Ready E m team g k → IsScanning team k s
-    → s.page ≢ E.board / 64 → s.over ≡ Some a → s.cursor ≡ 64 * s.page → decode (m.heap a) ≡ HeaderWord head len serial mutator
+    → s.page ≢ page_of E.board → s.over ≡ Some a → s.cursor ≡ first_word s.page → decode (m.heap a) ≡ HeaderWord head len serial mutator
     → Steps E m team g k None (scanning (team.worker k) (in_record E s a (said_kind head (m.heap (a + 1))) (len + 1))) g
 
 -- at a record's end on the page being filled, FRONT is read: the scan is at it, or another record begins
 abbrev pub ReadingFrontKeeps : Type 0
 ReadingFrontKeeps = (E : Era) (m : Memory) (team : Team) (g : Ghost) (k : ℕ) (s : Scan) → Ready E m team g k → IsScanning team k s
-    → s.page ≢ E.board / 64 → Steps E m team g k None (scanning (team.worker k) (if s.cursor == m.front then record s { ended = true } else record s { inner = true })) g
+    → s.page ≢ page_of E.board → Steps E m team g k None (scanning (team.worker k) (if s.cursor == m.front then record s { ended = true } else record s { inner = true })) g
 
 -- the header of the next record is read, on a full page or where FRONT was seen past it
 abbrev pub ReadingNextHeaderKeeps : Type 0
 ReadingNextHeaderKeeps = (E : Era) (m : Memory) (team : Team) (g : Ghost) (k : ℕ) (s : Scan) (r : Seen) (len serial mutator : ℕ) (head : HeaderKind) → Ready E m team g k → IsScanning team k s
-    → s.page ≢ E.board / 64 → s.current ≡ Some r → s.cursor ≡ r.next → s.cursor < 64 * s.page + 64 → (s.inner ≡ true) ⊎ (s.in_place ≡ false)
+    → s.page ≢ page_of E.board → s.current ≡ Some r → s.cursor ≡ r.next → s.cursor < first_word s.page + PAGE_WORDS → (s.inner ≡ true) ⊎ (s.in_place ≡ false)
     → decode (m.heap s.cursor) ≡ HeaderWord head len serial mutator
     → Steps E m team g k None (scanning (team.worker k) (in_record E s s.cursor (said_kind head (m.heap (s.cursor + 1))) (len + 1))) g
 

@@ -1,18 +1,19 @@
 -- What a worker knows that copies a record.
-use Rattle.std.specs.Prelude.{◌≡◌, ℕ, ◌+◌, ◌-◌, ◌*◌, ◌/◌, ◌<◌, ◌≤◌, ◌⊎◌, Bool, true, false, Option, Some, None}
+use Rattle.std.specs.Prelude.{◌≡◌, ℕ, ◌+◌, ◌-◌, ◌<◌, ◌≤◌, ◌⊎◌, Bool, true, false, Option, Some, None}
 use Rattle.plain_state.specs.declared.kind.Kind.{Kind}
 use Rattle.heap_words.specs.Decoded.{PointerWord, HeaderWord, decode}
 use Rattle.plain_state.specs.declared.value.Identity.{Identity}
 use Rattle.heap_state.specs.Era.{Era}
 use Rattle.heap_state.specs.Ghost.{Here, header_kind}
 use Rattle.heap_state.specs.Worker.{Origin, Register, Scanned, Quest, Copy, Scan}
+use Rattle.space_map.specs.Spaces.{page_of, first_word}
 
 -- the word that a quest began from still leads to the old place: a register of who is late, the first not forwarded; or
 -- the word at the cursor of a scan that has not come to its end
 abbrev pub IsOrigin : (E : Era) (size writer : ℕ → ℕ) (kind : ℕ → Kind) (heap : ℕ → ℕ) (late : Bool) (done : ℕ) (registers : ℕ → ℕ) (scan : Option Scan) → ℕ → Origin → Type 0
 IsOrigin E size writer kind heap late done registers scan old (Register r) = (late ≡ true) × (done ≡ r) × (r < 8) × (decode (registers r) ≡ PointerWord old)
 IsOrigin E size writer kind heap late done registers scan old (Scanned x) =
-    ((s : Scan) × (scan ≡ Some s) × (s.cursor ≡ x) × (x / 64 ≡ s.page) × (s.ended ≡ false)) × Here E size writer kind x × (decode (heap x) ≡ PointerWord old)
+    ((s : Scan) × (scan ≡ Some s) × (s.cursor ≡ x) × (page_of x ≡ s.page) × (s.ended ≡ false)) × Here E size writer kind x × (decode (heap x) ≡ PointerWord old)
 
 -- a record stands at the old place; once the copy is known, it is the copy, and nobody writes it any more
 pub record Seeks (E : Era) (size writer copy : ℕ → ℕ) (q : Quest) : Type 0 where
@@ -31,7 +32,7 @@ pub record Copies (E : Era) (front : ℕ) (size writer copy keeper kept announce
   pub same : (j : ℕ) → 0 < j → j < c.done → heap (c.to + j) ≡ heap (c.from + j)
   pub bound : c.done ≤ c.size
   pub loaded : (v : ℕ) → c.word ≡ Some v → (0 < c.done) × (c.done < c.size) × (heap (c.from + c.done) ≡ v)
-  pub crossings : c.reserved ≡ true → (p : ℕ) → c.to ≤ 64 * p → 64 * p < c.to + c.size → p < c.crossed → cross p ≡ c.to
+  pub crossings : c.reserved ≡ true → (p : ℕ) → c.to ≤ first_word p → first_word p < c.to + c.size → p < c.crossed → cross p ≡ c.to
 
 -- the header that was kept is the record's, and so is the first word of the copy once a word is copied
 pub record Keeps (kind : ℕ → Kind) (identity : ℕ → Identity) (heap : ℕ → ℕ) (c : Copy) : Type 0 where

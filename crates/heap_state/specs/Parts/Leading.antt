@@ -1,15 +1,16 @@
 -- Where words lead.
-use Rattle.std.specs.Prelude.{◌≡◌, ℕ, ◌+◌, ◌/◌, ◌<◌, ◌≤◌}
+use Rattle.std.specs.Prelude.{◌≡◌, ℕ, ◌+◌, ◌<◌, ◌≤◌}
 use Rattle.plain_state.specs.declared.kind.Kind.{Kind}
 use Rattle.heap_words.specs.Decoded.{PointerWord, decode}
 use Rattle.space_map.specs.declared.page_word.PageWord.{PageWord}
 use Rattle.space_map.specs.declared.page_word.PageWord.TheVariants.{Open}
 use Rattle.heap_state.specs.Era.{Era}
 use Rattle.heap_state.specs.Ghost.{IsField, Leads, Lands, Here}
+use Rattle.space_map.specs.Spaces.{page_of}
 
 -- on an open page no field and no board word leads into the old space
 pub record Opened (E : Era) (size writer : ℕ → ℕ) (kind : ℕ → Kind) (heap : ℕ → ℕ) (page : ℕ → PageWord) : Type 0 where
-  pub opened : (x : ℕ) → Here E size writer kind x → page (x / 64) ≡ Open E.epoch → ¬ (Leads E (heap x))
+  pub opened : (x : ℕ) → Here E size writer kind x → page (page_of x) ≡ Open E.epoch → ¬ (Leads E (heap x))
 
 -- a field or a board word leads to a record that nobody writes any more
 pub record Landing (E : Era) (size writer : ℕ → ℕ) (kind : ℕ → Kind) (heap : ℕ → ℕ) : Type 0 where

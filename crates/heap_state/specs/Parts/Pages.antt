@@ -1,31 +1,33 @@
 -- Which pages are open, and when.
-use Rattle.std.specs.Prelude.{◌≡◌, ℕ, ◌+◌, ◌*◌, ◌/◌, ◌<◌, ◌≤◌, Some}
+use Rattle.std.specs.Prelude.{◌≡◌, ℕ, ◌+◌, ◌<◌, ◌≤◌, Some}
 use Rattle.space_map.specs.declared.page_word.PageWord.{PageWord}
 use Rattle.space_map.specs.declared.page_word.PageWord.TheVariants.{Open, Scanning}
 use Rattle.space_map.specs.PageWord.{age_of}
 use Rattle.heap_state.specs.Era.{Era}
 use Rattle.heap_state.specs.Worker.{Worker, Scan}
+use Rattle.space_map.specs.Spaces.{page_of, first_word}
+use Rattle.space_map.specs.declared.spaces.TheConstants.{PAGE_WORDS}
 
 -- No page wholly between FRONT and LOW has a word of this epoch. A page under a place that is still written is not open,
 -- and only who writes there scans it.
 pub record Shut (E : Era) (front low : ℕ) (size writer : ℕ → ℕ) (page : ℕ → PageWord) : Type 0 where
-  pub free : (p : ℕ) → front ≤ 64 * p → 64 * p + 64 ≤ low → age_of (page p) ≤ E.epoch
-  pub held : (b x : ℕ) → 0 < size b → 0 < writer b → b ≤ x → x < b + size b → ¬ (page (x / 64) ≡ Open E.epoch)
-  pub by : (b x k : ℕ) → 0 < size b → 0 < writer b → b ≤ x → x < b + size b → page (x / 64) ≡ Scanning E.epoch k → writer b ≡ k + 1
+  pub free : (p : ℕ) → front ≤ first_word p → first_word p + PAGE_WORDS ≤ low → age_of (page p) ≤ E.epoch
+  pub held : (b x : ℕ) → 0 < size b → 0 < writer b → b ≤ x → x < b + size b → ¬ (page (page_of x) ≡ Open E.epoch)
+  pub by : (b x k : ℕ) → 0 < size b → 0 < writer b → b ≤ x → x < b + size b → page (page_of x) ≡ Scanning E.epoch k → writer b ≡ k + 1
 
 -- nobody is behind, and the board and all full pages are open
 pub record Quiet (E : Era) (behind front : ℕ) (page : ℕ → PageWord) : Type 0 where
   pub none : behind ≡ 0
-  pub board : page (E.board / 64) ≡ Open E.epoch
-  pub full : (p : ℕ) → E.start ≤ 64 * p → 64 * p + 64 ≤ front → page p ≡ Open E.epoch
+  pub board : page (page_of E.board) ≡ Open E.epoch
+  pub full : (p : ℕ) → E.start ≤ first_word p → first_word p + PAGE_WORDS ≤ front → page p ≡ Open E.epoch
 
 -- the filling page, if there is one, is open
 abbrev pub IsLastOpen : Era → ℕ → (ℕ → PageWord) → Type 0
-IsLastOpen E front page = (p : ℕ) → 64 * p < front → front < 64 * p + 64 → page p ≡ Open E.epoch
+IsLastOpen E front page = (p : ℕ) → first_word p < front → front < first_word p + PAGE_WORDS → page p ≡ Open E.epoch
 
 -- where the filling page has a word of this epoch, all is quiet
 pub record Filling (E : Era) (behind front : ℕ) (page : ℕ → PageWord) : Type 0 where
-  pub filling : (p : ℕ) → 64 * p < front → front < 64 * p + 64 → age_of (page p) ≡ E.epoch + 1 → Quiet E behind front page
+  pub filling : (p : ℕ) → first_word p < front → front < first_word p + PAGE_WORDS → age_of (page p) ≡ E.epoch + 1 → Quiet E behind front page
 
 -- TRACED is the epoch or one more, and never 0; where it is one more all is quiet, and the filling page is open
 pub record Tracing (E : Era) (traced behind front : ℕ) (page : ℕ → PageWord) : Type 0 where
@@ -38,11 +40,11 @@ pub record Tracing (E : Era) (traced behind front : ℕ) (page : ℕ → PageWor
 -- No page's word is of a later epoch. The board's is of this epoch or the one before.
 pub record Aged (E : Era) (page : ℕ → PageWord) : Type 0 where
   pub young : (p : ℕ) → age_of (page p) ≤ E.epoch + 1
-  pub board : E.epoch ≤ age_of (page (E.board / 64))
+  pub board : E.epoch ≤ age_of (page (page_of E.board))
 
 -- the copied pages of the old space were open in the epoch before
 pub record OldPages (E : Era) (old_front : ℕ) (page : ℕ → PageWord) : Type 0 where
-  pub old : (p : ℕ) → E.old_start ≤ 64 * p → 64 * p < old_front → E.epoch ≤ age_of (page p)
+  pub old : (p : ℕ) → E.old_start ≤ first_word p → first_word p < old_front → E.epoch ≤ age_of (page p)
 
 -- whoever a page's word names scans that page
 pub record ScannedBy (E : Era) (count : ℕ) (page : ℕ → PageWord) (worker : ℕ → Worker) : Type 0 where

@@ -1,5 +1,5 @@
 -- Where records stand.
-use Rattle.std.specs.Prelude.{◌≡◌, ◌≢◌, ℕ, ◌+◌, ◌-◌, ◌/◌, ◌%◌, ◌^◌, ◌<◌, ◌≤◌, ◌⊎◌, false}
+use Rattle.std.specs.Prelude.{◌≡◌, ◌≢◌, ℕ, ◌+◌, ◌-◌, ◌%◌, ◌<◌, ◌≤◌, ◌⊎◌, false}
 use Rattle.plain_state.specs.declared.kind.Kind.{Kind}
 use Rattle.heap_words.specs.Decoded.{HeaderWord, BusyWord, ForwardWord, decode}
 use Rattle.plain_state.specs.declared.value.Identity.{Identity}
@@ -8,6 +8,9 @@ use Rattle.space_map.specs.declared.page_word.PageWord.{PageWord}
 use Rattle.space_map.specs.declared.page_word.PageWord.TheVariants.{Open}
 use Rattle.heap_state.specs.Era.{Era}
 use Rattle.heap_state.specs.Ghost.{header_kind}
+use Rattle.space_map.specs.Spaces.{page_of}
+use Rattle.space_map.specs.declared.spaces.TheConstants.{PAGE_WORDS}
+use Rattle.plain_state.specs.declared.sizes.TheConstants.{NUMBERS}
 
 -- No two records share a word. A record lies below FRONT, from LOW up, or in the old space. Below FRONT they follow
 -- one another without a gap.
@@ -17,7 +20,7 @@ pub record Laid (E : Era) (front low : ℕ) (size : ℕ → ℕ) : Type 0 where
       → ((E.start ≤ a) × (a + size a ≤ front))
       ⊎ (((low ≤ a) × (a + size a ≤ E.start + E.span)) ⊎ ((E.old_start ≤ a) × (a + size a ≤ E.old_start + E.old_span)))
   pub order : (E.start ≤ front) × (front ≤ low) × (low ≤ E.start + E.span)
-  pub aligned : low % 64 ≡ 0
+  pub aligned : low % PAGE_WORDS ≡ 0
   pub start : (E.start ≡ front) ⊎ (0 < size E.start)
   pub next : (a : ℕ) → E.start ≤ a → a < front → 0 < size a → (a + size a ≡ front) ⊎ (0 < size (a + size a))
 
@@ -32,9 +35,9 @@ pub record Headed (size writer copy keeper : ℕ → ℕ) (kind : ℕ → Kind) 
 -- Records from LOW up: their pages are open; one that begins within a page begins where another ends; and a word of an
 -- open page that belongs to no record is 0.
 pub record NewArea (low end epoch : ℕ) (size heap : ℕ → ℕ) (page : ℕ → PageWord) : Type 0 where
-  pub opened : (a x : ℕ) → 0 < size a → low ≤ a → a < end → a ≤ x → x < a + size a → page (x / 64) ≡ Open epoch
-  pub prior : (b : ℕ) → 0 < size b → low ≤ b → b < end → b % 64 ≢ 0 → (a : ℕ) × (0 < size a) × (a + size a ≡ b)
-  pub blank : (x : ℕ) → low ≤ x → x < end → page (x / 64) ≡ Open epoch → ((a : ℕ) → 0 < size a → (x < a) ⊎ (a + size a ≤ x)) → heap x ≡ 0
+  pub opened : (a x : ℕ) → 0 < size a → low ≤ a → a < end → a ≤ x → x < a + size a → page (page_of x) ≡ Open epoch
+  pub prior : (b : ℕ) → 0 < size b → low ≤ b → b < end → b % PAGE_WORDS ≢ 0 → (a : ℕ) × (0 < size a) × (a + size a ≡ b)
+  pub blank : (x : ℕ) → low ≤ x → x < end → page (page_of x) ≡ Open epoch → ((a : ℕ) → 0 < size a → (x < a) ⊎ (a + size a ≤ x)) → heap x ≡ 0
 
 -- nobody writes a record from LOW up
 pub record NewWritten (E : Era) (low : ℕ) (size writer : ℕ → ℕ) : Type 0 where
@@ -44,11 +47,11 @@ pub record NewWritten (E : Era) (low : ℕ) (size writer : ℕ → ℕ) : Type 0
 pub record SpaceOf (start front low end epoch : ℕ) (size heap : ℕ → ℕ) (page : ℕ → PageWord) : Type 0 where
   pub lies : (a : ℕ) → 0 < size a → start ≤ a → a < end → (a + size a ≤ front) ⊎ ((low ≤ a) × (a + size a ≤ end))
   pub order : (start ≤ front) × (front ≤ low) × (low ≤ end)
-  pub aligned : low % 64 ≡ 0
+  pub aligned : low % PAGE_WORDS ≡ 0
   pub first : (start ≡ front) ⊎ (0 < size start)
   pub next : (a : ℕ) → start ≤ a → a < front → 0 < size a → (a + size a ≡ front) ⊎ (0 < size (a + size a))
   pub new : NewArea low end epoch size heap page
 
 -- a word of a record that is no field is a number below 2^62
 pub record RawWords (size writer : ℕ → ℕ) (kind : ℕ → Kind) (heap : ℕ → ℕ) : Type 0 where
-  pub raw : (a i : ℕ) → 0 < size a → writer a ≡ 0 → 0 < i → i < size a → is_field (kind a) i ≡ false → heap (a + i) < 2 ^ 62
+  pub raw : (a i : ℕ) → 0 < size a → writer a ≡ 0 → 0 < i → i < size a → is_field (kind a) i ≡ false → heap (a + i) < NUMBERS

@@ -1,5 +1,5 @@
 -- What is proved of what keeps the invariant.
-use Rattle.std.specs.Prelude.{◌≡◌, ℕ, ◌+◌, ◌*◌, ◌<◌, Some}
+use Rattle.std.specs.Prelude.{◌≡◌, ℕ, ◌+◌, ◌<◌, Some}
 use Rattle.space_map.specs.declared.page_word.PageWord.{PageWord}
 use Rattle.plain_state.specs.State.{Plain}
 use Rattle.heap_state.specs.Configuration.{Configuration, Stands}
@@ -11,6 +11,8 @@ use Rattle.space_map.specs.declared.page_word.PageWord.TheVariants.{Scanning}
 use Rattle.heap_state.specs.Holds.{Holds}
 use Rattle.heap_state.specs.Represents.{Represents}
 use Rattle.heap_state.specs.Worker.{Team, Copy, Scan}
+use Rattle.space_map.specs.Spaces.{first_word}
+use Rattle.space_map.specs.declared.spaces.TheConstants.{PAGE_WORDS}
 
 -- ---- what stands
 
@@ -27,8 +29,8 @@ StandingIsSound = (c : Configuration) (p : Plain) → Stands c p → IsSound c p
 -- the worker scans the filling page
 pub record ScansFillingPage (E : Era) (front : ℕ) (page : ℕ → PageWord) (k : ℕ) : Type 0 where
   pub page_number : ℕ
-  pub begun : 64 * page_number < front
-  pub filling : front < 64 * page_number + 64
+  pub begun : first_word page_number < front
+  pub filling : front < first_word page_number + PAGE_WORDS
   pub scanned : page page_number ≡ Scanning E.epoch k
 
 -- Where all is quiet, who copies scans the filling page, and so nobody else copies. Where the epoch is traced nobody scans or

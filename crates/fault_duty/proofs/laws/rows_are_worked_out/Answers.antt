@@ -76,3 +76,7 @@ returns-clause-later_wanted_page c = (record { steps = refl; ends = refl }, reco
 pub returns-clause-later_filling_page : goal.returns-clause-later_filling_page
 unfolding decode_area area_in decode_gate gate_in encode_page decode_page place_of
 returns-clause-later_filling_page c = record { steps = refl; ends = refl }
+
+pub returns-clause-scanned_board_passed : goal.returns-clause-scanned_board_passed
+unfolding decode_area area_in decode_gate gate_in encode_page decode_page place_of
+returns-clause-scanned_board_passed c = record { steps = refl; ends = refl }

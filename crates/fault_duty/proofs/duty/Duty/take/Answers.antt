@@ -1,5 +1,4 @@
-use Rattle.std.proofs.Common.{◌≡◌, ◌<◌, IsTrue, subst}
-use Rattle.fault_duty.specs.Duty.{left, advances, taken}
+use Rattle.std.proofs.Common.{subst}
 use Rattle.fault_duty.specs.Soundness.{IsSoundRound}
 use Rattle.fault_duty.proofs.Lowering.{left-taken}
 use Rattle.fault_duty.proofs.duty.Duty.take.Goals as goal

@@ -1,0 +1,4 @@
+pub mod GoingOn
+pub mod Passing
+pub mod Crossing
+pub mod Front

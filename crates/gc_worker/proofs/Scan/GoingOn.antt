@@ -1,0 +1,76 @@
+-- A scan goes on: what the worker then knows of it, and that it fits.
+use Rattle.std.proofs.Common.{◌≡◌, ℕ, ◌+◌, ◌*◌, ◌/◌, ◌<◌, ◌≤◌, ◌^◌, ◌==◌, Bool, true, false, Option, Some, None, is_some, nat_lt, nat_le, refl, sym, ap, subst, ◌∙◌, arith, if◌then◌else◌}
+use Rattle.std.proofs.lemmas.Bool.{leb-true, cases_Bool}
+use Rattle.space_map.specs.Spaces.{first_word, board_page}
+use Rattle.page_slots.specs.Open as open_page
+use Rattle.page_scan.specs.Scanning.{Scanning, HasStep}
+use Rattle.page_scan.specs.Soundness as scan_sound
+use Rattle.page_scan.specs.Taken.{told, goes_on}
+use Rattle.page_scan.specs.declared.ending.Ending.{Ending}
+use Rattle.page_scan.specs.declared.scan_stage.ScanStage.{ScanStage}
+use Rattle.page_scan.specs.declared.scan_stage.ScanStage.TheVariants as scan_stage
+use Rattle.heap_state.specs.Worker.{Worker, Scan}
+use Rattle.heap_laws.specs.Composing.{IsAtMost, IsLessScan, LessScan, IsLessRound}
+use Rattle.heap_laws.specs.Scanning.Words.{scanning}
+use Rattle.gc_worker.specs.declared.back.Back.{Back}
+use Rattle.gc_worker.specs.declared.back.Back.TheVariants.{ToAccess, ToPlace, ToScanner}
+use Rattle.gc_worker.specs.declared.stage.Stage.{Stage}
+use Rattle.gc_worker.specs.declared.stage.Stage.TheVariants.{Scans, Opens}
+use Rattle.gc_worker.specs.Fits.{Fits, FitsScan, FitsBack}
+use Rattle.gc_worker.specs.Held.{Held, at_stage}
+use Rattle.gc_worker.specs.Knows.{knows, scan_of}
+use Rattle.gc_worker.specs.Turned.{turned_scan}
+use Rattle.gc_worker.proofs.Fitting.{refit, page_count}
+
+-- a worker that knows less of its scan, and the rest
+pub of_scan : (w : Worker) (a b : Scan) → IsLessScan a b → IsAtMost (record w { scan = Some a }) (record w { scan = Some b })
+of_scan w a b less = record {
+  post = refl;
+  epoch = refl;
+  account = refl;
+  registers = refl;
+  done = refl;
+  quest = refl;
+  copy = refl;
+  scan = LessScan a b refl refl less;
+  stock = λ _ e. e;
+  access = λ _ e. e;
+  opened = λ _ e. e;
+  round = λ r e. record { more = r; is = e; traced = refl; front = λ _ y. y };
+  claim = λ _ e. e;
+  look = λ _ e. e;
+  last_look = λ _ e. e;
+  gate_step = λ _ e. e;
+  reset = λ _ e. e;
+  traced_seen = λ e. e;
+  asks = λ _. refl;
+}
+
+-- where it goes back to stays
+still_back : (x : Held) (next : Stage) (back : Back) → FitsBack x back → FitsBack (at_stage x next) back
+still_back x next (ToAccess a) own = own
+still_back x next ToPlace own = tt
+still_back x next ToScanner own = tt
+
+module _ (x : Held) (v : Scanning) (back : Back) where
+  -- the worker whose scan comes to a stage
+  abbrev pub scans_to : ScanStage → Held
+  scans_to stage = turned_scan x (record v { stage = stage }) back (told stage)
+
+  abbrev pub at_scan : ScanStage → Scanning
+  at_scan stage = record v { stage = stage }
+
+  module _ (n mutators k : ℕ) (f : Fits n mutators k x) (unended : is_some x.account.end ≡ false) (fits : FitsScan x v) (own : FitsBack x back) where
+    -- it fits where the scan's stage is sound
+    sound_at : (next : Stage) (stage : ScanStage) → scan_sound.FitsStage v.layout.pages v.page stage → FitsScan (at_stage x next) (at_scan stage)
+    sound_at next stage sound = record { layout = fits.layout; epoch = fits.epoch; sound = record { pages = fits.sound.pages; page = fits.sound.page; fits = sound } }
+
+    pub going_fits : (stage : ScanStage) → HasStep stage → scan_sound.FitsStage v.layout.pages v.page stage → Fits n mutators k (at_stage x (Scans (at_scan stage) back))
+    going_fits stage going sound = refit n mutators k x f (Scans (at_scan stage) back) unended (sound_at (Scans (at_scan stage) back) stage sound, going, still_back x (Scans (at_scan stage) back) back own)
+
+    abbrev opening : Ending → Stage
+    opening e = Opens (open_page.begun x.layout v.page x.epoch) (at_scan (scan_stage.Ended e)) back
+
+    pub ended_fits : (e : Ending) → e.cursor < 2 ^ 20 → Fits n mutators k (scans_to (scan_stage.Ended e))
+    ended_fits e below = refit n mutators k x f (opening e) unended
+        (record { layout = refl; epoch = refl; page = refl; sound = record { pages = page_count n mutators k x f; page = rw (← fits.layout) fits.sound.page; epoch = f.epoch } }, sound_at (opening e) (scan_stage.Ended e) below, tt, still_back x (opening e) back own)
