@@ -5,3 +5,4 @@ pub mod Claiming
 pub mod Wanting
 pub mod Choosing
 pub mod Ending
+pub mod EndPages
