@@ -1,11 +1,9 @@
 -- A run, one event at a time.
-use Rattle.std.proofs.Common.{◌≡◌, ℕ, ◌+◌, ◌-◌, ◌<◌, ◌≤◌, List, [], ◌++◌, length, true, false, refl, sym, ◌∙◌, append_assoc, append-nil, arith, zero, suc}
+use Rattle.std.proofs.Common.{◌≡◌, ℕ, ◌+◌, ◌-◌, ◌<◌, ◌≤◌, List, [], ◌++◌, true, false, refl, sym, ◌∙◌, append_assoc, append-nil, arith, zero, suc}
 use Rattle.std.specs.Option.{option_to_list}
 use Rattle.plain_heap.specs.declared.mark.Mark.{Mark}
-use Rattle.std.proofs.lemmas.Option.{slice_get_past}
-use Rattle.gc_core.specs.Configuration.{CoreState, workers_of}
-use Rattle.gc_core.specs.Event.{event, event_of, core_after, idle}
-use Rattle.gc_core.specs.declared.stepped.Stepped.TheVariants.{Idle}
+use Rattle.gc_core.specs.Configuration.{CoreState}
+use Rattle.gc_core.specs.Event.{event_of, core_after}
 use Rattle.gc_core.specs.Run.{Ran, run_from, all_ended, after_event, mark_of}
 
 -- where every mutator has its end the run is over
