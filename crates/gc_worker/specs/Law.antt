@@ -116,7 +116,7 @@ abbrev pub IsProved : Stage → Type 0
 IsProved Looks = ⊤
 IsProved (Passes g after) = ⊤
 IsProved (Flips f) = ⊤
-IsProved (Forwards w) = ⊥
+IsProved (Forwards w) = ⊤
 IsProved (Accesses a) = ⊤
 IsProved (Places p) = ⊤
 IsProved (Serves d back) = IsRoundProved d.stage
