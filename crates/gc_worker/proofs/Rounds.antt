@@ -6,3 +6,4 @@ pub mod Wanting
 pub mod Choosing
 pub mod Ending
 pub mod EndPages
+pub mod Whole

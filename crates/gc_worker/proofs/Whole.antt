@@ -40,6 +40,7 @@ use Rattle.gc_worker.proofs.Flip.Resetting as resetting
 use Rattle.gc_worker.proofs.Flip.Flipping.{flips_gate}
 use Rattle.gc_worker.proofs.Opening.{opens}
 use Rattle.gc_worker.proofs.Copying.Whole.{evacuates, forwards}
+use Rattle.gc_worker.proofs.Rounds.Whole.{serves}
 use Rattle.gc_worker.proofs.Place.Stages.{places}
 use Rattle.gc_worker.proofs.Scan.Stages.{scans}
 use Rattle.page_scan.specs.Scanning.{Scanning}
@@ -94,7 +95,7 @@ module _ (c : Configuration) (p : Plain) (s : Stands c p) (k : ℕ) (x : Held) w
   by_stage (Forwards w) proved is = forwards c p s k x w is
   by_stage (Accesses a) proved is = rests c p s k (at_stage x (Accesses a)) refl
   by_stage (Places z) proved is = places c p s k x z is
-  by_stage (Serves d back) proved is = absurd proved
+  by_stage (Serves d back) proved is = serves c p s k x d back proved is
   by_stage (Scans z back) proved is = scans c p s k x z back is
   by_stage (Evacuates v z back) proved is = evacuates c p s k x v z back is
   by_stage (Opens o z back) proved is = opens_page o z back o.stage is

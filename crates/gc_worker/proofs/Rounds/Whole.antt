@@ -1,0 +1,38 @@
+-- A round, at each stage of which the law is shown.
+use Rattle.std.proofs.Common.{◌≡◌, ℕ, Some, refl, sym, ◌∙◌}
+use Rattle.plain_state.specs.State.{Plain}
+use Rattle.fault_duty.specs.declared.duty_stage.DutyStage.{DutyStage}
+use Rattle.fault_duty.specs.declared.duty_stage.DutyStage.TheVariants.{LoadsGate, LoadsTraced, LoadsWanted, LoadsFrontFor, LoadsFront, LoadsPage, Claims, EndGate, EndArea, EndPage, EndFilling, EndAreaAgain, Traces, Ended}
+use Rattle.fault_duty.specs.Duty.{Round}
+use Rattle.heap_state.specs.Configuration.{Configuration, Stands}
+use Rattle.gc_worker.specs.declared.back.Back.{Back}
+use Rattle.gc_worker.specs.declared.stage.Stage.TheVariants.{Serves}
+use Rattle.gc_worker.specs.Goes.{Is, StepsSo}
+use Rattle.gc_worker.specs.Held.{Held, at_stage}
+use Rattle.gc_worker.specs.Law.{IsRoundProved}
+use Rattle.gc_worker.proofs.Rounds.Going.{at}
+use Rattle.gc_worker.proofs.Rounds.Beginning.{loads_gate, loads_traced}
+use Rattle.gc_worker.proofs.Rounds.Wanting.{loads_wanted, loads_front_for}
+use Rattle.gc_worker.proofs.Rounds.Choosing.{loads_front, loads_page}
+use Rattle.gc_worker.proofs.Rounds.Ending.{loads_gate_again, loads_area, loads_filling, exchanges_traced}
+use Rattle.gc_worker.proofs.Rounds.EndPages.{loads_page_again}
+
+module _ (c : Configuration) (p : Plain) (s : Stands c p) (k : ℕ) (y : Held) (d : Round) (back : Back) where
+  by_stage : (stage : DutyStage) → IsRoundProved stage → Is c k (at c p s k y d back stage) → StepsSo c p s k (at c p s k y d back stage)
+  by_stage LoadsGate proved is = loads_gate c p s k y d back is
+  by_stage (LoadsTraced hindrance) proved is = loads_traced c p s k y d back hindrance is
+  by_stage (LoadsWanted found page) proved is = loads_wanted c p s k y d back found page is
+  by_stage (LoadsFrontFor found w) proved is = loads_front_for c p s k y d back found w is
+  by_stage (LoadsFront found) proved is = loads_front c p s k y d back found is
+  by_stage (LoadsPage choice page) proved is = loads_page c p s k y d back choice page is
+  by_stage (Claims claim) proved is = absurd proved
+  by_stage (EndGate traced) proved is = loads_gate_again c p s k y d back traced is
+  by_stage (EndArea traced) proved is = loads_area c p s k y d back traced is
+  by_stage (EndPage look page) proved is = loads_page_again c p s k y d back look page is
+  by_stage (EndFilling look) proved is = loads_filling c p s k y d back look is
+  by_stage (EndAreaAgain look filling) proved is = absurd proved
+  by_stage (Traces traced) proved is = exchanges_traced c p s k y d back traced is
+  by_stage (Ended result) proved is = λ q asked. absurd (let none = asked in cc)
+
+  pub serves : IsRoundProved d.stage → Is c k (at_stage y (Serves d back)) → StepsSo c p s k (at_stage y (Serves d back))
+  serves proved is = by_stage d.stage proved is
