@@ -18,7 +18,6 @@ use Rattle.fault_duty.specs.declared.round_end.RoundEnd.TheVariants.{NothingNow}
 use Rattle.fault_duty.specs.Duty as duty
 use Rattle.fault_duty.specs.Duty.{Round}
 use Rattle.fault_duty.specs.Soundness.{IsChoice, FitsFront, FitsDutyStage}
-use Rattle.fault_duty.proofs.Lowering.{to_start-le, to_start-to_page}
 use Rattle.heap_state.specs.Configuration.{Configuration, Stands, table, era, memory, team}
 use Rattle.heap_state.specs.Worker.{Worker, Look}
 use Rattle.heap_laws.specs.Steps.{with_worker}
@@ -32,7 +31,7 @@ use Rattle.gc_worker.specs.declared.back.Back.{Back}
 use Rattle.gc_worker.specs.Goes.{Is, Goes, StepsSo}
 use Rattle.gc_worker.specs.Held.{Held}
 use Rattle.gc_worker.specs.Knows.{knows, look_with, is_past_board, upto_before, upto_all}
-use Rattle.gc_worker.proofs.Rounds.Choosing.{next_choice, at_another}
+use Rattle.gc_worker.proofs.Rounds.Choosing.{to_start-le, to_start-to_page, next_choice, at_another}
 use Rattle.gc_worker.proofs.Rounds.Claiming.{board_now}
 use Rattle.gc_worker.proofs.Rounds.Going.{round, at, goes_on, ends, loads_it, same_pages}
 use Rattle.gc_worker.proofs.Rounds.Words.{page_now, page_says}
