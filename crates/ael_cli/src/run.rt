@@ -11,7 +11,7 @@ ghost use Rattle.ael_cli.specs.Schedule.{schedule_of};
 
 use crate::options::SimOptions;
 use crate::scheduler::Scheduler;
-use gc_core::{Core, Stepped};
+use gc_core::{Core, Stepped, missing_workers_are_idle};
 use mutator_asm::Item;
 use plain_heap::Mark;
 use std::alloc::{AllocError, Global};
@@ -37,6 +37,7 @@ fn step(core: &mut Core, worker: u8) -> Stepped
     if worker < core.workers() {
         core.step(worker)
     } else {
+        missing_workers_are_idle();
         Stepped::Idle
     }
 }

@@ -12,7 +12,7 @@ ghost use Rattle.gc_core.specs.Represents.{Represents};
 ghost use Rattle.gc_core.specs.Steady.{IsSteady};
 ghost use Rattle.gc_core.specs.Lone.{LoneMutatorsGoOn};
 ghost use Rattle.gc_core.specs.Run.{run_from};
-ghost use Rattle.gc_core.specs.Whole.{RunsFollow};
+ghost use Rattle.gc_core.specs.Whole.{MissingWorkersAreIdle, RunsFollow};
 
 /// Whatever the schedule, a run leaves a configuration that represents what the plain machine comes
 /// to by the order of the run.
@@ -36,4 +36,9 @@ pub fn runs_follow()
 /// or it has its end.
 pub fn lone_mutators_go_on()
     ensures { LoneMutatorsGoOn }
+{}
+
+/// A worker that isn't there is idle.
+pub fn missing_workers_are_idle()
+    ensures { MissingWorkersAreIdle }
 {}

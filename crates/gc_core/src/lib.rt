@@ -18,7 +18,7 @@ mod turn;
 mod values;
 
 pub use config::{Config, OpenError};
-pub use laws::{lone_mutators_go_on, runs_are_plain_runs, runs_follow};
+pub use laws::{lone_mutators_go_on, missing_workers_are_idle, runs_are_plain_runs, runs_follow};
 pub use machine::Core;
 pub use run::Run;
 pub use stepped::Stepped;

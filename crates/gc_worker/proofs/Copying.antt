@@ -3,4 +3,5 @@ pub mod Words
 pub mod Publishing
 pub mod Placing
 pub mod Finding
+pub mod Registers
 pub mod Whole

@@ -40,9 +40,9 @@ use Rattle.gc_worker.proofs.Flip.Resetting as resetting
 use Rattle.gc_worker.proofs.Flip.Flipping.{flips_gate}
 use Rattle.gc_worker.proofs.Opening.{opens}
 use Rattle.gc_worker.proofs.Rounds.Whole.{serves}
+use Rattle.gc_worker.proofs.Copying.Whole.{evacuates, forwards}
 use Rattle.gc_worker.proofs.Place.Stages.{places}
 use Rattle.gc_worker.proofs.Scan.Stages.{scans}
-use Rattle.gc_worker.proofs.Copying.Whole.{evacuates}
 use Rattle.page_scan.specs.Scanning.{Scanning}
 use Rattle.page_slots.specs.declared.open_stage.OpenStage.{OpenStage}
 use Rattle.page_slots.specs.declared.open_stage.OpenStage.TheVariants as open_stage
@@ -92,7 +92,7 @@ module _ (c : Configuration) (p : Plain) (s : Stands c p) (k : ℕ) (x : Held) w
   by_stage Looks proved is = looks x.task is
   by_stage (Passes g after) proved is = passes g after g.stage refl is
   by_stage (Flips f) proved is = flips f is
-  by_stage (Forwards w) proved is = absurd proved
+  by_stage (Forwards w) proved is = forwards c p s k x w is
   by_stage (Accesses a) proved is = rests c p s k (at_stage x (Accesses a)) refl
   by_stage (Places z) proved is = places c p s k x z is
   by_stage (Serves d back) proved is = serves c p s k x d back proved is

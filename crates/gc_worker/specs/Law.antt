@@ -125,7 +125,7 @@ abbrev pub IsProved : Stage → Type 0
 IsProved Looks = ⊤
 IsProved (Passes g after) = ⊤
 IsProved (Flips f) = ⊤
-IsProved (Forwards w) = ⊥
+IsProved (Forwards w) = ⊤
 IsProved (Accesses a) = ⊤
 IsProved (Places p) = ⊤
 IsProved (Serves d back) = IsRoundProved d.stage
@@ -142,3 +142,7 @@ StepsKeep = (h : Heap) (p o : Plain) (k : ℕ) (x : Held) (q : Step) → Workers
 abbrev pub FlipsAreWon : Type 0
 FlipsAreWon = (h : Heap) (p o : Plain) (k : ℕ) (x : Held) (f : Flipping) (r : Reset) (q : Step) → WorkersStand h p o → k < length h.workers → held_at h k ≡ x
     → x.stage ≡ Flips (record f { stage = Exchanges r }) → wanted x ≡ Some q → reply_of q h.words ≡ Won
+
+-- The place of a step is in the table by what the worker holds alone: a caller asks for it before it knows any word.
+abbrev pub PlacesFit : Type 0
+PlacesFit = (n mutators k : ℕ) (x : Held) (q : Step) → Fits n mutators k x → wanted x ≡ Some q → place_in q < table_length n

@@ -1,6 +1,6 @@
 //! What holds of a worker's steps. Each function here does nothing: its contract is what is proved.
 
-ghost use Rattle.gc_worker.specs.Law.{StepsKeep, FlipsAreWon};
+ghost use Rattle.gc_worker.specs.Law.{StepsKeep, FlipsAreWon, PlacesFit};
 
 /// A step of a worker is of a word of the table, and the worker may take the reply. What stood for a plain state before stands for it
 /// after, with what a cycle keeps; no page that was won is won again.
@@ -11,4 +11,9 @@ pub fn steps_keep()
 /// A flipper's exchange of the gate is never lost.
 pub fn flips_are_won()
     ensures { FlipsAreWon }
+{}
+
+/// The place of a step is in the table, by what the worker holds alone.
+pub fn places_fit()
+    ensures { PlacesFit }
 {}

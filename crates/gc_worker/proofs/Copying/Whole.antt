@@ -7,13 +7,15 @@ use Rattle.forwarding.specs.Evacuation.{Evacuation}
 use Rattle.page_scan.specs.Scanning.{Scanning}
 use Rattle.heap_state.specs.Configuration.{Configuration, Stands}
 use Rattle.gc_worker.specs.declared.back.Back.{Back}
-use Rattle.gc_worker.specs.declared.stage.Stage.TheVariants.{Evacuates}
+use Rattle.gc_worker.specs.declared.forwarding_register.ForwardingRegister.{ForwardingRegister}
+use Rattle.gc_worker.specs.declared.stage.Stage.TheVariants.{Forwards, Evacuates}
 use Rattle.gc_worker.specs.Goes.{Is, StepsSo}
 use Rattle.gc_worker.specs.Held.{Held, at_stage}
 use Rattle.gc_worker.proofs.Copying.Hosts.{Host, ForScan, ForRegister, at, wants_its}
 use Rattle.gc_worker.proofs.Copying.Finding.{scan_loads_header, scan_clears}
 use Rattle.gc_worker.proofs.Copying.Placing.{announces, loads_area, reserves}
 use Rattle.gc_worker.proofs.Copying.Publishing.{stores_forward, takes_header}
+use Rattle.gc_worker.proofs.Copying.Registers.{register_loads_header, register_clears}
 use Rattle.gc_worker.proofs.Copying.Words.{loads_word, stores_header, stores_word, stores_cross}
 
 module _ (c : Configuration) (p : Plain) (s : Stands c p) (k : ℕ) (y : Held) (v : Evacuation) where
@@ -40,3 +42,9 @@ module _ (c : Configuration) (p : Plain) (s : Stands c p) (k : ℕ) (y : Held) (
   pub evacuates : (scan : Scanning) (back : Back) → Is c k (at_stage y (Evacuates v scan back)) → StepsSo c p s k (at_stage y (Evacuates v scan back))
   evacuates scan back is =
       copies (ForScan scan back) (record { loads_header = scan_loads_header c p s k y v scan back; clears = scan_clears c p s k y v scan back }) v.stage is
+
+-- for a register that a late mutator forwards
+pub forwards : (c : Configuration) (p : Plain) (s : Stands c p) (k : ℕ) (y : Held) (w : ForwardingRegister) → Is c k (at_stage y (Forwards w)) → StepsSo c p s k (at_stage y (Forwards w))
+forwards c p s k y w is =
+    copies c p s k y w.evac (ForRegister w.register w.after)
+    (record { loads_header = register_loads_header c p s k y w.evac w.register w.after; clears = register_clears c p s k y w.evac w.register w.after }) w.evac.stage is

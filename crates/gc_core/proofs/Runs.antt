@@ -1,23 +1,10 @@
 -- A run, one event at a time.
-use Rattle.std.proofs.Common.{◌≡◌, ℕ, ◌+◌, ◌-◌, ◌<◌, ◌≤◌, List, [], ◌++◌, length, true, false, refl, sym, ◌∙◌, append_assoc, append-nil, arith, zero, suc}
+use Rattle.std.proofs.Common.{◌≡◌, ℕ, ◌+◌, ◌-◌, ◌<◌, ◌≤◌, List, [], ◌++◌, true, false, refl, sym, ◌∙◌, append_assoc, append-nil, arith, zero, suc}
 use Rattle.std.specs.Option.{option_to_list}
 use Rattle.plain_heap.specs.declared.mark.Mark.{Mark}
-use Rattle.std.proofs.lemmas.Option.{slice_get_past}
-use Rattle.gc_core.specs.Configuration.{CoreState, workers_of}
-use Rattle.gc_core.specs.Event.{event, event_of, core_after, idle}
-use Rattle.gc_core.specs.declared.stepped.Stepped.TheVariants.{Idle}
+use Rattle.gc_core.specs.Configuration.{CoreState}
+use Rattle.gc_core.specs.Event.{event_of, core_after}
 use Rattle.gc_core.specs.Run.{Ran, run_from, all_ended, after_event, mark_of}
-
--- a worker that isn't there changes nothing
-nobody : (s : CoreState) (w : ℕ) → workers_of s ≤ w → event_of s w ≡ idle s.configuration
-unfolding event
-nobody s w past = let none : length s.configuration.mutators ≤ w = omega arith in rw (slice_get_past s.configuration.mutators w none) refl
-
-pub nobody_tells : (s : CoreState) (w : ℕ) → workers_of s ≤ w → Idle ≡ (event_of s w).told
-nobody_tells s w past = rw (nobody s w past)
-
-pub nobody_moves : (s : CoreState) (w : ℕ) → workers_of s ≤ w → s ≡ core_after s w
-nobody_moves s w past = rw (nobody s w past)
 
 -- where every mutator has its end the run is over
 run_over : (schedule : ℕ → ℕ) (at n : ℕ) (s : CoreState) → all_ended s ≡ true → run_from schedule at n s ≡ record { last = s; order = [] }

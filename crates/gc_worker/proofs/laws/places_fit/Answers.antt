@@ -1,0 +1,5 @@
+use Rattle.gc_worker.proofs.Places.{places_fit}
+use Rattle.gc_worker.proofs.laws.places_fit.Goals as goal
+
+pub returns : goal.returns
+returns c = places_fit
