@@ -7,4 +7,5 @@ pub mod Choosing
 pub mod Ending
 pub mod EndPages
 pub mod Looking
+pub mod Winning
 pub mod Whole

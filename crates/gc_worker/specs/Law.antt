@@ -5,8 +5,6 @@ use Rattle.atom_store.specs.declared.step.Step.{Step}
 use Rattle.atom_store.specs.Step.{place_in, words_after, reply_of}
 use Rattle.space_map.specs.PageWord.{age_of}
 use Rattle.space_map.specs.Table.{Page, table_length}
-use Rattle.page_slots.specs.declared.claim_stage.ClaimStage.{ClaimStage}
-use Rattle.page_slots.specs.declared.claim_stage.ClaimStage.TheVariants as claim_stage
 use Rattle.fault_duty.specs.declared.duty_stage.DutyStage.{DutyStage}
 use Rattle.fault_duty.specs.declared.duty_stage.DutyStage.TheVariants.{LoadsGate, LoadsTraced, LoadsWanted, LoadsFrontFor, LoadsFront, LoadsPage, Claims, EndGate, EndArea, EndPage, EndFilling, EndAreaAgain, Traces, Ended}
 use Rattle.atom_store.specs.declared.reply.Reply.TheVariants.{Won}
@@ -96,14 +94,7 @@ pub record StepKeeps (h : Heap) (p o : Plain) (k : ℕ) (x : Held) (q : Step) : 
   pub kept : (w : PageWon) → IsOut h.pages h.words w → IsOut h.pages (words_after q h.words) w
   pub wins : WinsOne h.pages h.words (words_after q h.words) (won x (reply_of q h.words))
 
--- the stages of a round's claim of which this is shown so far: all looks before its exchange
-abbrev pub IsClaimProved : ClaimStage → Type 0
-IsClaimProved (claim_stage.LooksAtPlace k) = ⊤
-IsClaimProved claim_stage.LooksAtGate = ⊤
-IsClaimProved claim_stage.Exchanges = ⊥
-IsClaimProved (claim_stage.Ended result) = ⊤
-
--- the stages of a round of which this is shown so far: all but a claim's exchange, and FRONT read again at the end
+-- the stages of a round of which this is shown so far: all but FRONT read again at the end
 abbrev pub IsRoundProved : DutyStage → Type 0
 IsRoundProved LoadsGate = ⊤
 IsRoundProved (LoadsTraced hindrance) = ⊤
@@ -111,7 +102,7 @@ IsRoundProved (LoadsWanted found page) = ⊤
 IsRoundProved (LoadsFrontFor found w) = ⊤
 IsRoundProved (LoadsFront found) = ⊤
 IsRoundProved (LoadsPage choice page) = ⊤
-IsRoundProved (Claims c) = IsClaimProved c.stage
+IsRoundProved (Claims c) = ⊤
 IsRoundProved (EndGate traced) = ⊤
 IsRoundProved (EndArea traced) = ⊤
 IsRoundProved (EndPage look page) = ⊤

@@ -122,7 +122,7 @@ module _ (c : Configuration) (p : Plain) (s : Stands c p) (k : ℕ) (y : Held) (
     back_done ToPlace e of_epoch own = tt
     back_done ToScanner e of_epoch own = own
 
-    fits_done : Fits c.pages c.mutators k done
+    pub fits_done : Fits c.pages c.mutators k done
     fits_done =
         let f = is.fits in
         let own = f.stage.0 in

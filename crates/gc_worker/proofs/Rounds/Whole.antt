@@ -12,22 +12,23 @@ use Rattle.gc_worker.specs.declared.back.Back.{Back}
 use Rattle.gc_worker.specs.declared.stage.Stage.TheVariants.{Serves}
 use Rattle.gc_worker.specs.Goes.{Is, StepsSo}
 use Rattle.gc_worker.specs.Held.{Held, at_stage}
-use Rattle.gc_worker.specs.Law.{IsClaimProved, IsRoundProved}
+use Rattle.gc_worker.specs.Law.{IsRoundProved}
 use Rattle.gc_worker.proofs.Rounds.Going.{at}
 use Rattle.gc_worker.proofs.Rounds.Beginning.{loads_gate, loads_traced}
 use Rattle.gc_worker.proofs.Rounds.Wanting.{loads_wanted, loads_front_for}
 use Rattle.gc_worker.proofs.Rounds.Choosing.{loads_front, loads_page}
 use Rattle.gc_worker.proofs.Rounds.Ending.{loads_gate_again, loads_area, loads_filling, exchanges_traced}
 use Rattle.gc_worker.proofs.Rounds.Looking.{looks_at_announced, looks_at_gate_again}
+use Rattle.gc_worker.proofs.Rounds.Winning.{exchanges_page}
 use Rattle.gc_worker.proofs.Rounds.EndPages.{loads_page_again}
 
 module _ (c : Configuration) (p : Plain) (s : Stands c p) (k : ℕ) (y : Held) (d : Round) (back : Back) where
-  claims : (q : Claiming) (stage : ClaimStage) → IsClaimProved stage → Is c k (at c p s k y d back (Claims (record q { stage = stage })))
+  claims : (q : Claiming) (stage : ClaimStage) → Is c k (at c p s k y d back (Claims (record q { stage = stage })))
       → StepsSo c p s k (at c p s k y d back (Claims (record q { stage = stage })))
-  claims q (claim_stage.LooksAtPlace n) proved is = looks_at_announced c p s k y d back q n is
-  claims q claim_stage.LooksAtGate proved is = looks_at_gate_again c p s k y d back q is
-  claims q claim_stage.Exchanges proved is = absurd proved
-  claims q (claim_stage.Ended result) proved is = λ r asked. absurd (let none = asked in cc)
+  claims q (claim_stage.LooksAtPlace n) is = looks_at_announced c p s k y d back q n is
+  claims q claim_stage.LooksAtGate is = looks_at_gate_again c p s k y d back q is
+  claims q claim_stage.Exchanges is = exchanges_page c p s k y d back q is
+  claims q (claim_stage.Ended result) is = λ r asked. absurd (let none = asked in cc)
 
   by_stage : (stage : DutyStage) → IsRoundProved stage → Is c k (at c p s k y d back stage) → StepsSo c p s k (at c p s k y d back stage)
   by_stage LoadsGate proved is = loads_gate c p s k y d back is
@@ -36,7 +37,7 @@ module _ (c : Configuration) (p : Plain) (s : Stands c p) (k : ℕ) (y : Held) (
   by_stage (LoadsFrontFor found w) proved is = loads_front_for c p s k y d back found w is
   by_stage (LoadsFront found) proved is = loads_front c p s k y d back found is
   by_stage (LoadsPage choice page) proved is = loads_page c p s k y d back choice page is
-  by_stage (Claims claim) proved is = claims claim claim.stage proved is
+  by_stage (Claims claim) proved is = claims claim claim.stage is
   by_stage (EndGate traced) proved is = loads_gate_again c p s k y d back traced is
   by_stage (EndArea traced) proved is = loads_area c p s k y d back traced is
   by_stage (EndPage look page) proved is = loads_page_again c p s k y d back look page is
