@@ -21,7 +21,7 @@ use Rattle.page_scan.specs.Taken.{answered}
 use Rattle.heap_state.specs.Configuration.{Configuration, Stands, era, memory, team}
 use Rattle.heap_state.specs.Entries.{Entry, AnnounceIs}
 use Rattle.heap_state.specs.Ghost.{Ghost}
-use Rattle.heap_state.specs.Table.{table_of, word_in}
+use Rattle.heap_state.specs.Table.{word_in}
 use Rattle.heap_state.specs.Worker.{Worker, Copy}
 use Rattle.heap_laws.specs.Answers.{OldHeader, OldHeaderAnswers, InPlace, KeptBy, Forwards}
 use Rattle.heap_laws.proofs.Copying.Laws.{announces_are_cleared, forwards_are_found}
@@ -37,6 +37,7 @@ use Rattle.gc_worker.specs.Turned.{turned_copy}
 use Rattle.gc_worker.proofs.Copying.Hosts.{Host, ForScan, at, machine_at, wants_its, is_sound, has_pages, is_worker, takes, with_sound, tells_nothing, wins_nothing, copy_is, quest_with, quest_is}
 use Rattle.gc_worker.proofs.Copying.Publishing.{stays}
 use Rattle.gc_worker.proofs.Copying.Words.{heap_word}
+use Rattle.gc_worker.proofs.Eras.{board_is}
 use Rattle.gc_worker.proofs.Fitting.{refit}
 use Rattle.gc_worker.proofs.Gate.Words.{wants}
 use Rattle.gc_worker.proofs.Steps.{Law, becomes, loads, stores, row_fits, prepared}
@@ -81,10 +82,6 @@ module _ (y : Held) (v : Evacuation) (scan : Scanning) (back : Back) where
   answer_fits n mutators k z (scan_stage.Ended ending) to f has = absurd has
 
 -- ---- the old record's first word
-
-pub board_is : (c : Configuration) → (era c).board ≡ 128 * c.pages
-unfolding table_of
-board_is c = omega arith
 
 module _ (c : Configuration) (p : Plain) (s : Stands c p) (k : ℕ) (y : Held) (o : Host) (v : Evacuation) (is : Is c k (at y o v LoadsHeader)) where
   abbrev first_word : ℕ
