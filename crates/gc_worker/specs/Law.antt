@@ -14,6 +14,8 @@ use Rattle.gate_core.specs.Flip.{Flipping}
 use Rattle.heap_state.specs.Configuration.{Configuration, Stands, era, memory, team}
 use Rattle.heap_state.specs.Cycle.{Cycle}
 use Rattle.heap_state.specs.Table.{word_in, page_said}
+use Rattle.space_map.specs.Spaces.{IsInSpace, to_space}
+use Rattle.gc_worker.specs.declared.forwarding_register.ForwardingRegister.{ForwardingRegister}
 use Rattle.gc_worker.specs.declared.stage.Stage.{Stage}
 use Rattle.gc_worker.specs.declared.stage.Stage.TheVariants.{Looks, Passes, Flips, Forwards, Accesses, Places, Serves, Scans, Evacuates, Opens, Gone}
 use Rattle.gc_worker.specs.Fits.{Fits, Takes}
@@ -137,3 +139,8 @@ FlipsAreWon = (h : Heap) (p o : Plain) (k : ℕ) (x : Held) (f : Flipping) (r : 
 -- The place of a step is in the table by what the worker holds alone: a caller asks for it before it knows any word.
 abbrev pub PlacesFit : Type 0
 PlacesFit = (n mutators k : ℕ) (x : Held) (q : Step) → Fits n mutators k x → wanted x ≡ Some q → place_in q < table_length n
+
+-- a register whose record is being copied leads into the space that was copied into in the mutator's own epoch
+abbrev pub RegistersLeadBack : Type 0
+RegistersLeadBack = (h : Heap) (p o : Plain) (k : ℕ) (x : Held) (w : ForwardingRegister) → WorkersStand h p o → k < length h.workers → held_at h k ≡ x
+    → x.stage ≡ Forwards w → IsInSpace h.pages w.evac.addr (to_space x.epoch)

@@ -1,6 +1,6 @@
 //! What holds of a worker's steps. Each function here does nothing: its contract is what is proved.
 
-ghost use Rattle.gc_worker.specs.Law.{StepsKeep, FlipsAreWon, PlacesFit};
+ghost use Rattle.gc_worker.specs.Law.{StepsKeep, FlipsAreWon, PlacesFit, RegistersLeadBack};
 
 /// A step of a worker is of a word of the table, and the worker may take the reply. What stood for a plain state before stands for it
 /// after, with what a cycle keeps; no page that was won is won again.
@@ -16,4 +16,9 @@ pub fn flips_are_won()
 /// The place of a step is in the table, by what the worker holds alone.
 pub fn places_fit()
     ensures { PlacesFit }
+{}
+
+/// A register whose record is being copied leads into the space of the mutator's own epoch, which is the old one.
+pub fn registers_lead_back()
+    ensures { RegistersLeadBack }
 {}

@@ -1,10 +1,10 @@
 -- The old record's first word is loaded, and the announced place cleared: the two steps at which a copy may be found.
-use Rattle.std.proofs.Common.{◌≡◌, ℕ, ◌+◌, ◌*◌, ◌<◌, ◌≤◌, ◌^◌, Option, Some, None, refl, sym, ap, subst, ◌∙◌, arith}
+use Rattle.std.proofs.Common.{◌≡◌, ℕ, ◌*◌, ◌<◌, ◌^◌, Option, Some, None, refl, sym, ap, subst, ◌∙◌, arith}
 use Rattle.plain_state.specs.State.{Plain}
 use Rattle.atom_store.specs.declared.reply.Reply.{Reply}
 use Rattle.atom_store.specs.declared.reply.Reply.TheVariants.{Value, Done}
 use Rattle.atom_store.specs.declared.step.Step.TheVariants.{Load, Store}
-use Rattle.heap_words.specs.Decoded.{Decoded, HeaderWord, BusyWord, ForwardWord, decode}
+use Rattle.heap_words.specs.Decoded.{Decoded, ForwardWord, decode}
 use Rattle.heap_words.proofs.Ranges.{header_bounds, forward_bounds}
 use Rattle.space_map.specs.Table.{HeapWord, Announce, place_of}
 use Rattle.forwarding.specs.declared.evac_stage.EvacStage.{EvacStage}
@@ -17,12 +17,11 @@ use Rattle.page_scan.specs.declared.scan_stage.ScanStage.{ScanStage}
 use Rattle.page_scan.specs.declared.scan_stage.ScanStage.TheVariants.{LoadsCross, LoadsFirst, LoadsWord, Asks, StoresCopy, LoadsFront, LoadsNext}
 use Rattle.page_scan.specs.declared.scan_stage.ScanStage.TheVariants as scan_stage
 use Rattle.page_scan.specs.Scanning.{Scanning}
-use Rattle.page_scan.specs.Soundness as scan_sound
 use Rattle.page_scan.specs.Taken.{answered}
-use Rattle.heap_state.specs.Configuration.{Configuration, Stands, table, era, memory, team}
+use Rattle.heap_state.specs.Configuration.{Configuration, Stands, era, memory, team}
 use Rattle.heap_state.specs.Entries.{Entry, AnnounceIs}
 use Rattle.heap_state.specs.Ghost.{Ghost}
-use Rattle.heap_state.specs.Table.{table_of, word_in}
+use Rattle.heap_state.specs.Table.{word_in}
 use Rattle.heap_state.specs.Worker.{Worker, Copy}
 use Rattle.heap_laws.specs.Answers.{OldHeader, OldHeaderAnswers, InPlace, KeptBy, Forwards}
 use Rattle.heap_laws.proofs.Copying.Laws.{announces_are_cleared, forwards_are_found}
@@ -30,14 +29,15 @@ use Rattle.heap_laws.proofs.Steps.Answers.{old_headers_are_read}
 use Rattle.gc_worker.specs.declared.back.Back.{Back}
 use Rattle.gc_worker.specs.declared.back.Back.TheVariants.{ToAccess, ToPlace, ToScanner}
 use Rattle.gc_worker.specs.declared.stage.Stage.TheVariants.{Evacuates, Scans}
-use Rattle.gc_worker.specs.Fits.{Fits, FitsBack, FitsScan, HasAsked}
+use Rattle.gc_worker.specs.Fits.{Fits, FitsBack, HasAsked}
 use Rattle.gc_worker.specs.Goes.{Is, Goes, StepsSo}
-use Rattle.gc_worker.specs.Held.{Held, at_stage}
+use Rattle.gc_worker.specs.Held.{Held}
 use Rattle.gc_worker.specs.Knows.{knows, cursor_asked}
-use Rattle.gc_worker.specs.Turned.{turned, turned_copy}
-use Rattle.gc_worker.proofs.Copying.Hosts.{Host, ForScan, ForRegister, at, machine_at, wants_its, is_sound, has_pages, is_worker, takes, with_sound, tells_nothing, wins_nothing, copy_is, quest_with, quest_is}
+use Rattle.gc_worker.specs.Turned.{turned_copy}
+use Rattle.gc_worker.proofs.Copying.Hosts.{Host, ForScan, at, machine_at, wants_its, is_sound, has_pages, is_worker, takes, with_sound, tells_nothing, wins_nothing, copy_is, quest_with, quest_is}
 use Rattle.gc_worker.proofs.Copying.Publishing.{stays}
 use Rattle.gc_worker.proofs.Copying.Words.{heap_word}
+use Rattle.gc_worker.proofs.Eras.{board_is}
 use Rattle.gc_worker.proofs.Fitting.{refit}
 use Rattle.gc_worker.proofs.Gate.Words.{wants}
 use Rattle.gc_worker.proofs.Steps.{Law, becomes, loads, stores, row_fits, prepared}
@@ -82,10 +82,6 @@ module _ (y : Held) (v : Evacuation) (scan : Scanning) (back : Back) where
   answer_fits n mutators k z (scan_stage.Ended ending) to f has = absurd has
 
 -- ---- the old record's first word
-
-pub board_is : (c : Configuration) → (era c).board ≡ 128 * c.pages
-unfolding table_of
-board_is c = omega arith
 
 module _ (c : Configuration) (p : Plain) (s : Stands c p) (k : ℕ) (y : Held) (o : Host) (v : Evacuation) (is : Is c k (at y o v LoadsHeader)) where
   abbrev first_word : ℕ

@@ -1,16 +1,13 @@
 -- A worker that copies a record: for a word that it scans, or for a register that it forwards.
-use Rattle.std.proofs.Common.{◌≡◌, ℕ, Option, Some, None, false, is_some, refl, sym, ap, subst, ◌∙◌}
+use Rattle.std.proofs.Common.{◌≡◌, ℕ, Option, Some, None, refl, sym, ap, ◌∙◌}
 use Rattle.atom_store.specs.declared.reply.Reply.{Reply}
-use Rattle.atom_store.specs.declared.step.Step.{Step}
-use Rattle.atom_store.specs.declared.turn.Turn.{Turn}
 use Rattle.atom_store.specs.declared.turn.Turn.TheVariants.{More}
 use Rattle.forwarding.specs.declared.evac_stage.EvacStage.{EvacStage}
-use Rattle.forwarding.specs.declared.to.To.{To}
 use Rattle.forwarding.specs.Evacuation as evac
 use Rattle.forwarding.specs.Soundness as sound
 use Rattle.forwarding.specs.Taken as taken
 use Rattle.page_scan.specs.Scanning.{Scanning}
-use Rattle.heap_state.specs.Worker.{Worker, Copy, Quest, Origin, Register, Scanned}
+use Rattle.heap_state.specs.Worker.{Copy, Quest, Origin, Register, Scanned}
 use Rattle.gc_worker.specs.declared.after.After.{After}
 use Rattle.gc_worker.specs.declared.back.Back.{Back}
 use Rattle.gc_worker.specs.declared.back.Back.TheVariants.{ToAccess, ToPlace, ToScanner}

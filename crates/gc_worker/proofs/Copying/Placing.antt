@@ -1,11 +1,10 @@
 -- The copy's place: FRONT is loaded, announced, and moved past the copy.
-use Rattle.std.proofs.Common.{None, Option, Some, ap, arith, false, refl, subst, sym, true, ℕ, ⊎_elim, ◌%◌, ◌*◌, ◌+◌, ◌/◌, ◌==◌, ◌∙◌, ◌≡◌, ◌≢◌, ◌≤◌}
+use Rattle.std.proofs.Common.{None, Some, ap, arith, false, refl, subst, sym, true, ℕ, ⊎_elim, ◌%◌, ◌*◌, ◌+◌, ◌/◌, ◌∙◌, ◌≡◌, ◌≢◌, ◌≤◌}
 use Rattle.std.proofs.lemmas.Bool.{cases_eq, eq-eqb, eqb-true, ne_eqb}
 use Rattle.plain_state.specs.State.{Plain}
 use Rattle.atom_store.specs.declared.reply.Reply.{Reply}
 use Rattle.atom_store.specs.declared.reply.Reply.TheVariants.{Value, Done, Won, Lost}
 use Rattle.atom_store.specs.declared.step.Step.TheVariants.{Load, Store, Exchange}
-use Rattle.atom_store.specs.declared.turn.Turn.TheVariants.{More}
 use Rattle.space_map.specs.declared.area_word.AreaWord.{AreaWord}
 use Rattle.space_map.specs.AreaWord.{AreaFits, area_in, decode_area, encode_area}
 use Rattle.space_map.specs.Spaces.{to_space, space_start}
@@ -17,8 +16,8 @@ use Rattle.forwarding.specs.declared.kept_header.KeptHeader.{KeptHeader}
 use Rattle.forwarding.specs.Evacuation.{Evacuation, area_past, front_of, size_of}
 use Rattle.heap_laws.specs.Steps.{IsAreaNow}
 use Rattle.forwarding.specs.Soundness.{IsSound, KeepsHeader, HasRoom}
-use Rattle.forwarding.specs.Taken.{by_area, by_other_area, reserved_at, stage_after, told}
-use Rattle.heap_state.specs.Configuration.{Configuration, Stands, table, era, memory, team}
+use Rattle.forwarding.specs.Taken.{by_area, by_other_area, reserved_at, stage_after}
+use Rattle.heap_state.specs.Configuration.{Configuration, Stands, era, memory, team}
 use Rattle.heap_state.specs.Entries.{AnnounceIs, AreaIs}
 use Rattle.heap_state.specs.Table.{table_of, word_in}
 use Rattle.heap_state.specs.Worker.{Worker, Copy, is_late}

@@ -1,11 +1,11 @@
 -- The old header is taken, and the forward stored in its place.
-use Rattle.std.proofs.Common.{◌≡◌, ℕ, ◌+◌, ◌-◌, ◌*◌, ◌/◌, ◌<◌, ◌≤◌, Option, Some, None, refl, sym, ap, subst, ◌∙◌, arith}
+use Rattle.std.proofs.Common.{◌≡◌, ℕ, ◌+◌, ◌-◌, Option, Some, None, refl, sym, ap, subst, ◌∙◌, arith}
 use Rattle.plain_state.specs.State.{Plain}
 use Rattle.atom_store.specs.declared.reply.Reply.{Reply}
 use Rattle.atom_store.specs.declared.reply.Reply.TheVariants.{Done, Won, Lost}
 use Rattle.atom_store.specs.declared.step.Step.TheVariants.{Store, Exchange}
 use Rattle.atom_store.specs.declared.turn.Turn.TheVariants.{More}
-use Rattle.heap_words.specs.Decoded.{HeaderWord, BusyWord, ForwardWord, decode}
+use Rattle.heap_words.specs.Decoded.{ForwardWord, decode}
 use Rattle.heap_words.specs.Word.{busy_word, forward_word}
 use Rattle.heap_words.proofs.Decoding.{decode-busy_word, decode-forward_word}
 use Rattle.space_map.specs.Table.{HeapWord, place_of}
@@ -16,12 +16,12 @@ use Rattle.forwarding.specs.declared.reserved.Reserved.{Reserved}
 use Rattle.forwarding.specs.Evacuation.{Evacuation, size_of}
 use Rattle.forwarding.specs.Soundness.{FitsStage, IsSound}
 use Rattle.forwarding.specs.Taken.{stage_after, told}
-use Rattle.heap_state.specs.Configuration.{Configuration, Stands, table, era, memory, team}
+use Rattle.heap_state.specs.Configuration.{Configuration, Stands, era, memory, team}
 use Rattle.heap_state.specs.Entries.{Entry, WordIs}
 use Rattle.heap_state.specs.Ghost.{Ghost}
 use Rattle.heap_state.specs.Table.{word_in}
 use Rattle.heap_state.specs.Worker.{Worker, Copy}
-use Rattle.heap_laws.specs.Copying.{begun, copying, published, taken}
+use Rattle.heap_laws.specs.Copying.{begun, published, taken}
 use Rattle.heap_laws.proofs.Copying.Laws.{headers_are_taken, copies_are_published}
 use Rattle.gc_worker.specs.Goes.{Is, Goes, StepsSo}
 use Rattle.gc_worker.specs.Held.{Held}

@@ -1,5 +1,5 @@
 -- The copy that a register asked for is found: the register gets its address, and the next one that holds a pointer asks.
-use Rattle.std.proofs.Common.{◌≡◌, ◌≢◌, ℕ, ◌+◌, ◌-◌, ◌*◌, ◌<◌, ◌≤◌, ◌^◌, true, false, List, length, slice_index, Option, Some, None, is_some, refl, sym, ap, subst, ◌∙◌, arith, get_or-set_same, get_or-set_other, length-set}
+use Rattle.std.proofs.Common.{◌≡◌, ℕ, ◌+◌, ◌-◌, ◌*◌, ◌<◌, ◌≤◌, ◌^◌, true, List, length, slice_index, Option, Some, None, is_some, refl, sym, ap, subst, ◌∙◌, arith, get_or-set_same, get_or-set_other, length-set}
 use Rattle.std.specs.Prelude.{slice_set}
 use Rattle.plain_state.specs.State.{Plain}
 use Rattle.atom_store.specs.declared.reply.Reply.{Reply}
@@ -29,14 +29,14 @@ use Rattle.heap_laws.proofs.Copying.Laws.{announces_are_cleared}
 use Rattle.heap_laws.proofs.Steps.Composites.{registers_find_forwards, registers_are_settled}
 use Rattle.gc_worker.specs.declared.after.After.{After}
 use Rattle.gc_worker.specs.declared.stage.Stage.{Stage}
-use Rattle.gc_worker.specs.declared.stage.Stage.TheVariants.{Forwards, Passes}
+use Rattle.gc_worker.specs.declared.stage.Stage.TheVariants.{Forwards}
 use Rattle.gc_worker.specs.Fits.{Fits, FitsEnd, FitsStage}
 use Rattle.gc_worker.specs.Goes.{Is, Goes, StepsSo}
 use Rattle.gc_worker.specs.Held.{Held, at_stage}
 use Rattle.gc_worker.specs.Knows.{knows, found_in}
 use Rattle.gc_worker.specs.Turned.{Pointed, first_pointer, passes, forwards_it, turned_register}
 use Rattle.gc_worker.proofs.Copying.Finding.{loads_header}
-use Rattle.gc_worker.proofs.Copying.Hosts.{Host, ForRegister, at, machine_at, wants_its, is_sound, has_pages, is_worker, takes, with_sound, tells_nothing, wins_nothing, copy_is, quest_with, quest_is}
+use Rattle.gc_worker.proofs.Copying.Hosts.{Host, ForRegister, at, machine_at, wants_its, is_sound, has_pages, is_worker, takes, with_sound, tells_nothing, wins_nothing, quest_with, quest_is}
 use Rattle.gc_worker.proofs.Copying.Words.{heap_word}
 use Rattle.gc_worker.proofs.Eras.{board_is}
 use Rattle.gc_worker.proofs.Fitting.{page_count}

@@ -1,5 +1,5 @@
 -- The words of a copy, its crossings and its forward.
-use Rattle.std.proofs.Common.{◌≡◌, ℕ, ◌+◌, ◌-◌, ◌*◌, ◌/◌, ◌<◌, ◌≤◌, ◌⊎◌, inl, inr, Option, Some, None, true, false, refl, sym, ap, subst, ◌∙◌, arith, ⊎_elim}
+use Rattle.std.proofs.Common.{◌≡◌, ℕ, ◌+◌, ◌*◌, ◌/◌, ◌<◌, ◌≤◌, inl, inr, Option, Some, None, refl, sym, ap, subst, ◌∙◌, arith, ⊎_elim}
 use Rattle.std.proofs.lemmas.Bool.{cases_lt, lt-ltb, le-ltb}
 use Rattle.plain_state.specs.State.{Plain}
 use Rattle.atom_store.specs.declared.reply.Reply.{Reply}
@@ -15,17 +15,15 @@ use Rattle.forwarding.specs.declared.reserved.Reserved.{Reserved}
 use Rattle.forwarding.specs.Evacuation.{Evacuation, size_of}
 use Rattle.forwarding.specs.Soundness.{FitsStage, HasReserved}
 use Rattle.forwarding.specs.Taken.{copied, crossed, first_page, told}
-use Rattle.heap_state.specs.Configuration.{Configuration, Stands, table, era, memory, team}
+use Rattle.heap_state.specs.Configuration.{Configuration, Stands, era, memory, team}
 use Rattle.heap_state.specs.Entries.{Entry, WordIs, CrossIs}
 use Rattle.heap_state.specs.Worker.{Worker, Copy}
 use Rattle.heap_state.specs.Table.{table_of, word_in}
 use Rattle.heap_laws.specs.Copying.{IsNextWord, copying}
 use Rattle.heap_laws.proofs.Copying.Laws.{words_are_copied, old_words_are_loaded, crossings_are_stored}
-use Rattle.gc_worker.specs.Fits.{Fits}
 use Rattle.gc_worker.specs.Goes.{Is, Goes, StepsSo}
 use Rattle.gc_worker.specs.Held.{Held}
 use Rattle.gc_worker.specs.Knows.{knows, copy_at, found_in, moving}
-use Rattle.gc_worker.specs.Turned.{turned}
 use Rattle.gc_worker.specs.Wanted.{wanted}
 use Rattle.gc_worker.proofs.Copying.Hosts.{Host, at, machine_at, wants_its, tells_nothing, wins_nothing, turns, takes, is_sound, has_pages, with_sound, refits, copy_is, quest_with, quest_is, becomes_known}
 use Rattle.gc_worker.proofs.Gate.Words.{wants}
