@@ -24,7 +24,7 @@ use Rattle.ael_cli.specs.Stream.{Grows}
 use Rattle.ael_cli.specs.Success.{Succeeds}
 use Rattle.ael_cli.specs.Task.{Reads, Nothing, Everything, IsGiven, IsInput, IsUnread}
 use Rattle.ael_cli.specs.Words.{job_of}
-use Rattle.ael_cli.proofs.Staying.{plain_count}
+use Rattle.plain_heap.proofs.Staying.{plain_count}
 
 -- ---- the input
 

@@ -4,8 +4,9 @@ use Rattle.std.specs.Prelude.{map}
 use Rattle.std.specs.List.{list_all}
 use Rattle.plain_heap.specs.Print.{lines_of}
 use Rattle.gc_core.specs.Configuration.{Mutator, Configuration, fresh}
-use Rattle.gc_core.specs.Whole.{Seen, seen_of}
-use Rattle.ael_cli.specs.Seen.{lines_seen, is_halt, has_halted}
+use Rattle.gc_core.specs.Whole.{seen_of}
+use Rattle.ael_cli.specs.Seen.{is_halt, has_halted}
+use Rattle.plain_heap.specs.Print.{Seen, lines_seen}
 
 abbrev pub see : Mutator → Seen
 see k = record { printed = k.printed; end = k.end }

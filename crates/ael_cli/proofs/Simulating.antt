@@ -1,19 +1,18 @@
 -- What is seen of the core in the end is what is seen of the plain machine.
-use Rattle.std.proofs.Common.{◌≡◌, ℕ, ◌+◌, Bool, true, false, List, [], ◌∷◌, ◌++◌, refl, ap, ◌∙◌, cond}
+use Rattle.std.proofs.Common.{◌≡◌, ℕ, Bool, true, false, List, [], ◌∷◌, ◌++◌, refl, ap, ◌∙◌, cond}
 use Rattle.std.specs.Prelude.{map}
 use Rattle.std.specs.List.{list_all}
-use Rattle.plain_state.specs.State as plain
 use Rattle.mutator_asm.specs.declared.instr.Instr.{Instr}
 use Rattle.mutator_asm.specs.declared.item.Item.{Item}
 use Rattle.plain_heap.specs.declared.mark.Mark.{Mark}
-use Rattle.plain_heap.specs.Print.{lines_from, order_line}
+use Rattle.plain_heap.specs.Print.{Seen, lines_seen, order_line, plain_seen}
 use Rattle.gc_core.specs.Configuration.{Mutator, CoreState}
 use Rattle.gc_core.specs.Run.{Ran, all_ended}
-use Rattle.gc_core.specs.Whole.{Seen, seen_of, plain_seen, Follows}
+use Rattle.gc_core.specs.Whole.{seen_of, Follows}
 use Rattle.ael_cli.specs.declared.status.Status.{Status}
 use Rattle.ael_cli.specs.declared.status.Status.TheVariants.{Done, Ended, StepsOut}
 use Rattle.ael_cli.specs.declared.options.SimOptions.{SimOptions}
-use Rattle.ael_cli.specs.Seen.{lines_seen, has_ended, has_halted, status_seen}
+use Rattle.ael_cli.specs.Seen.{has_ended, has_halted, status_seen}
 use Rattle.ael_cli.specs.Simulation.{run_of, order_of, plain_of, flag_lines, IsSimulated}
 
 list_all-map : {A B : Type 0} (p : B → Bool) (f : A → B) (xs : List A) → list_all p (map f xs) ≡ list_all (λ x. p (f x)) xs
@@ -34,10 +33,6 @@ went_done s over halts = rw (ended-seen s, over, halts)
 pub went_otherwise : (s : CoreState) → all_ended s ≡ true → list_all has_halted (seen_of s.configuration) ≡ false → Ended ≡ status_seen (seen_of s.configuration)
 went_otherwise s over halts = rw (ended-seen s, over, halts)
 
-lines_seen-plain : (m : ℕ) (ks : List plain.Mutator) → lines_seen m (map (λ k. record { printed = k.printed; end = k.end }) ks) ≡ lines_from m ks
-lines_seen-plain m [] = refl
-lines_seen-plain m (k ∷ ks) = rw (lines_seen-plain (m + 1) ks)
-
 flag_lines-same : (options : SimOptions) (order : List Mark) (ran : Ran) → (options.order ≡ true → order ≡ ran.order)
     → flag_lines options (record { last = ran.last; order = order }) ≡ flag_lines options ran
 flag_lines-same options order ran kept = by_flag options.order kept where
@@ -53,7 +48,7 @@ pub simulated : (options : SimOptions) (program : List (List Instr)) (items : Li
 simulated options program items last order output status follows is_last kept printed went =
     let seen : seen_of last.configuration ≡ plain_seen (plain_of options program items) = rw is_last follows.seen in
     record {
-      prints = printed ∙ rw (seen, lines_seen-plain 0 (plain_of options program items).mutators, flag_lines-same options order (run_of options program items) kept) refl;
+      prints = printed ∙ rw (seen, flag_lines-same options order (run_of options program items) kept) refl;
       went = went ∙ ap status_seen seen;
       acts = follows.acts;
     }

@@ -6,7 +6,7 @@ use Rattle.mutator_asm.specs.Listing.{listing}
 use Rattle.mutator_asm.specs.Text.{IsText}
 use Rattle.plain_state.specs.State.{Mutator}
 use Rattle.plain_heap.specs.Order.{opening, plain}
-use Rattle.plain_heap.specs.Print.{lines_from, print_of}
+use Rattle.plain_heap.specs.Print.{lines_seen, print_of, seen_in}
 use Rattle.plain_heap.specs.Alone.{IsAsAlone, shares_nothing}
 use Rattle.gc_core.specs.Whole.{EachActs}
 use Rattle.ael_cli.specs.declared.job.Job.{Job}
@@ -69,7 +69,7 @@ PrintsListing call = (program : List (List Instr)) (items : List Item) → Succe
 pub record IsPrintedAsAlone (call : Call) (options : SimOptions) (program : List (List Instr)) (items : List Item) : Type 0 where
   pub mutators : List Mutator
   pub all : length mutators ≡ length program
-  pub prints : Grows call.out.held (lines_from 0 mutators ++ flag_lines options (run_of options program items)) call.out.holds
+  pub prints : Grows call.out.held (lines_seen 0 (seen_in mutators) ++ flag_lines options (run_of options program items)) call.out.holds
   pub alone : (m : ℕ) (k : Mutator) → slice_get mutators m ≡ Some k → IsAsAlone program options.turns m k
 
 -- where `sim` succeeds, the mutators of a program without `get`, `put` and `swap` print what they print alone

@@ -1,18 +1,12 @@
--- What is printed of mutators, and how a run went, by what is seen of them.
-use Rattle.std.specs.Prelude.{ℕ, ◌+◌, Bool, true, false, List, [], ◌∷◌, ◌++◌, Option, Some, if◌then◌else◌}
+-- How a run went, by what is seen of its mutators.
+use Rattle.std.specs.Prelude.{Bool, true, false, List, Option, Some, if◌then◌else◌}
 use Rattle.std.specs.Option.{is_some}
 use Rattle.std.specs.List.{list_all}
 use Rattle.plain_state.specs.declared.end.End.{End}
 use Rattle.plain_state.specs.declared.end.End.TheVariants as ends
-use Rattle.plain_heap.specs.Print.{lines_of}
-use Rattle.gc_core.specs.Whole.{Seen}
+use Rattle.plain_heap.specs.Print.{Seen}
 use Rattle.ael_cli.specs.declared.status.Status.{Status}
 use Rattle.ael_cli.specs.declared.status.Status.TheVariants.{Done, Ended, StepsOut}
-
--- the lines of mutators whose numbers begin with m
-abbrev pub lines_seen : ℕ → List Seen → List ℕ
-lines_seen m [] = []
-lines_seen m (k ∷ ks) = lines_of m k.printed k.end ++ lines_seen (m + 1) ks
 
 abbrev pub is_halt : Option End → Bool
 is_halt (Some ends.Halt) = true

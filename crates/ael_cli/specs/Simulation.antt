@@ -5,11 +5,11 @@ use Rattle.mutator_asm.specs.declared.instr.Instr.{Instr}
 use Rattle.mutator_asm.specs.declared.item.Item.{Item}
 use Rattle.plain_heap.specs.declared.mark.Mark.{Mark}
 use Rattle.plain_heap.specs.Order.{opening, plain}
-use Rattle.plain_heap.specs.Print.{print_of, order_line}
+use Rattle.plain_heap.specs.Print.{print_of, order_line, plain_seen}
 use Rattle.gc_core.specs.declared.config.Config.{Config}
 use Rattle.gc_core.specs.Configuration.{opening_core, workers_of}
 use Rattle.gc_core.specs.Run.{Ran, run_from}
-use Rattle.gc_core.specs.Whole.{EachActs, plain_seen}
+use Rattle.gc_core.specs.Whole.{EachActs}
 use Rattle.ael_cli.specs.declared.options.SimOptions.{SimOptions}
 use Rattle.ael_cli.specs.declared.status.Status.{Status}
 use Rattle.ael_cli.specs.ProgramTask.{program_task}

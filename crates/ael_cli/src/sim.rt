@@ -5,7 +5,8 @@ ghost use Rattle.std.specs.List.{list_all};
 ghost use Rattle.gc_core.specs.Configuration.{CoreState, opening_core};
 ghost use Rattle.gc_core.specs.Whole.{seen_of};
 ghost use Rattle.ael_cli.specs.Options.{AreInRange};
-ghost use Rattle.ael_cli.specs.Seen.{lines_seen, is_halt, has_halted, status_seen};
+ghost use Rattle.plain_heap.specs.Print.{lines_seen};
+ghost use Rattle.ael_cli.specs.Seen.{is_halt, has_halted, status_seen};
 ghost use Rattle.ael_cli.specs.Simulation.{config, flag_lines, IsSimulated};
 
 use crate::answer::Answer;

@@ -21,7 +21,8 @@ use Rattle.gc_core.specs.Event as event
 use Rattle.gc_core.specs.Event.{call}
 use Rattle.gc_core.specs.Represents.{Placement, RepresentsMutator, RepresentsBy, Represents}
 use Rattle.gc_core.specs.Steady.{IsSteady}
-use Rattle.gc_core.specs.Law.{plain_after, end_of, IsForWant, Meets}
+use Rattle.gc_core.specs.Law.{plain_after, IsForWant, Meets}
+use Rattle.plain_heap.specs.Order.{end_of}
 use Rattle.gc_core.proofs.Events.{event-scanner, event-ended, event-turn}
 use Rattle.plain_state.proofs.Lists.{slice_get-set_same}
 use Rattle.gc_core.proofs.Heaps.{made_by-past}

@@ -17,3 +17,4 @@ pub mod Running
 pub mod Lawful
 pub mod Whole
 pub mod Lone
+pub mod Runs

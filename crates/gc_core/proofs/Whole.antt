@@ -1,14 +1,13 @@
 -- What holds of whole runs: each mark acts, and what is seen of the core is what is seen of the
 -- plain machine.
-use Rattle.std.proofs.Common.{◌≡◌, ℕ, zero, suc, ◌+◌, Bool, true, false, List, [], ◌∷◌, ◌++◌, length, refl, arith}
+use Rattle.std.proofs.Common.{◌≡◌, ℕ, zero, suc, ◌+◌, Bool, true, false, List, [], ◌∷◌, length, refl, arith}
 use Rattle.std.specs.Prelude.{map, Some, slice_get}
 use Rattle.std.specs.Option.{option_to_list}
 use Rattle.plain_state.specs.declared.end.End.{End}
 use Rattle.plain_state.specs.declared.end.End.TheVariants as ends
 use Rattle.plain_state.specs.State as plain
 use Rattle.mutator_asm.specs.declared.instr.Instr.{Instr}
-use Rattle.plain_heap.specs.declared.mark.Mark.{Mark}
-use Rattle.plain_heap.specs.Order.{marked, state_after}
+use Rattle.plain_heap.specs.Order.{state_after}
 use Rattle.gc_core.specs.declared.stepped.Stepped.{Stepped}
 use Rattle.gc_core.specs.declared.stepped.Stepped.TheVariants.{Idle, Moved, Effect, Flipped, Ended}
 use Rattle.gc_core.specs.Configuration.{Mutator, Configuration, CoreState}
@@ -17,16 +16,13 @@ use Rattle.gc_core.specs.Law.{IsTold}
 use Rattle.gc_core.specs.Represents.{Represents}
 use Rattle.gc_core.specs.Run.{run_from, all_ended, mark_of}
 use Rattle.gc_core.specs.Steady.{IsSteady}
-use Rattle.gc_core.specs.Whole.{EachActs, Seen, seen_of, plain_seen}
+use Rattle.gc_core.specs.Whole.{Acts, EachActs, seen_of}
+use Rattle.plain_heap.specs.Print.{Seen, plain_seen}
+use Rattle.plain_heap.proofs.Marks.{EachMark-append}
 use Rattle.gc_core.proofs.Law.{event_law}
 use Rattle.gc_core.proofs.Steady.{event_keeps}
 
 -- ---- marks
-
-EachActs-append : (code : List (List Instr)) (turns : ℕ) (s : plain.Plain) (xs ys : List Mark) → EachActs code turns s xs → EachActs code turns (state_after code turns s xs) ys
-    → EachActs code turns s (xs ++ ys)
-EachActs-append code turns s [] ys a b = b
-EachActs-append code turns s (mark ∷ xs) ys a b = (a.0, EachActs-append code turns (marked code turns s mark) xs ys a.1 b)
 
 -- the mark of an end acts
 end_acts : (code : List (List Instr)) (turns : ℕ) (c : Configuration) (w : ℕ) (s : plain.Plain) (after : Configuration) (m : ℕ) (why : End)
@@ -58,7 +54,7 @@ acts_as : (schedule : ℕ → ℕ) (at n : ℕ) (s : CoreState) (p : plain.Plain
 unfolding run_from
 acts_as schedule at n s p true is now rest = rw is tt
 acts_as schedule at n s p false is now rest = rw is
-    (EachActs-append s.code s.turns p (option_to_list (mark_of (event_of s (schedule at)).told)) (run_from schedule (at + 1) n (core_after s (schedule at))).order now rest)
+    (EachMark-append (Acts s.code s.turns) s.code s.turns p (option_to_list (mark_of (event_of s (schedule at)).told)) (run_from schedule (at + 1) n (core_after s (schedule at))).order now rest)
 
 -- each mark of a run's order acts
 pub run_acts : (schedule : ℕ → ℕ) (at n : ℕ) (s : CoreState) (p : plain.Plain) → IsSteady s.code s.turns s.configuration → Represents s.configuration p

@@ -1,14 +1,14 @@
 -- The law of an event: it does to the represented plain state what the mark of it does, and what is
 -- told of it is what the plain machine has.
-use Rattle.std.specs.Prelude.{◌≡◌, ◌≢◌, ⊤, ℕ, ◌*◌, ◌<◌, List, Option, Some, None, slice_get}
-use Rattle.std.specs.Option.{option_map, option_to_list}
+use Rattle.std.specs.Prelude.{◌≡◌, ◌≢◌, ⊤, ℕ, ◌*◌, ◌<◌, List, Some, None}
+use Rattle.std.specs.Option.{option_to_list}
 use Rattle.plain_state.specs.declared.end.End.{End}
 use Rattle.plain_state.specs.declared.end.End.TheVariants as ends
 use Rattle.plain_state.specs.declared.sizes.TheConstants.{PAGE_WORDS}
 use Rattle.plain_state.specs.State.{Plain}
 use Rattle.mutator_asm.specs.declared.instr.Instr.{Instr}
 use Rattle.plain_heap.specs.Step.{asked_by}
-use Rattle.plain_heap.specs.Order.{state_after}
+use Rattle.plain_heap.specs.Order.{state_after, end_of}
 use Rattle.gc_core.specs.declared.stepped.Stepped.{Stepped}
 use Rattle.gc_core.specs.declared.stepped.Stepped.TheVariants.{Idle, Moved, Effect, Flipped, Ended}
 use Rattle.gc_core.specs.Configuration.{Configuration}
@@ -20,10 +20,6 @@ use Rattle.gc_core.specs.Steady.{IsSteady}
 -- the plain state after what is told of an event
 abbrev pub plain_after : List (List Instr) → ℕ → Plain → Stepped → Plain
 plain_after code turns s told = state_after code turns s (option_to_list (mark_of told))
-
--- the end of a mutator, where there is such a mutator
-abbrev pub end_of : Plain → ℕ → Option (Option End)
-end_of s m = option_map (λ k. k.end) (slice_get s.mutators m)
 
 -- an end for want of room comes where the next step of mutator m asks for more than there is
 abbrev pub IsForWant : List (List Instr) → ℕ → Plain → ℕ → End → Type 0

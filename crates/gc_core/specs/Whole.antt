@@ -1,7 +1,6 @@
 -- What holds of a whole run: the plain machine, executing its order, is what the core represents
 -- in the end, and each mark of the order acts.
-use Rattle.std.specs.Prelude.{◌≡◌, ⊤, ℕ, ◌*◌, ◌≤◌, ◌<◌, List, [], ◌∷◌, map, Option, Some, None, IsTrue}
-use Rattle.plain_state.specs.declared.end.End.{End}
+use Rattle.std.specs.Prelude.{◌≡◌, ℕ, ◌*◌, ◌≤◌, ◌<◌, List, map, Some, None, IsTrue}
 use Rattle.plain_state.specs.declared.sizes.TheConstants.{PAGE_WORDS}
 use Rattle.plain_state.specs.State as plain
 use Rattle.mutator_asm.specs.declared.instr.Instr.{Instr}
@@ -10,12 +9,12 @@ use Rattle.mutator_asm.specs.Program.{IsWellFormed}
 use Rattle.plain_heap.specs.declared.mark.Mark.{Mark}
 use Rattle.plain_heap.specs.declared.mark.Mark.TheVariants.{Step, Flip, Full}
 use Rattle.plain_heap.specs.Step.{asked_by}
-use Rattle.plain_heap.specs.Order.{opening, marked, plain}
+use Rattle.plain_heap.specs.Order.{opening, plain, end_of, EachMark}
+use Rattle.plain_heap.specs.Print.{Seen, plain_seen}
 use Rattle.gc_core.specs.declared.config.Config.{Config}
 use Rattle.gc_core.specs.Configuration.{Configuration, CoreState, is_size, opening_core, workers_of}
 use Rattle.gc_core.specs.Event.{core_after, event_of}
 use Rattle.gc_core.specs.declared.stepped.Stepped.TheVariants.{Idle}
-use Rattle.gc_core.specs.Law.{end_of}
 use Rattle.gc_core.specs.Represents.{Represents}
 use Rattle.gc_core.specs.Run.{Ran, run_from}
 
@@ -28,19 +27,11 @@ Acts code turns s (Full m asked room live) = (end_of s m ≡ Some None) × (aske
 
 -- each mark of an order acts on the state that the marks before it leave
 abbrev pub EachActs : List (List Instr) → ℕ → plain.Plain → List Mark → Type 0
-EachActs code turns s [] = ⊤
-EachActs code turns s (mark ∷ marks) = Acts code turns s mark × EachActs code turns (marked code turns s mark) marks
+EachActs code turns s order = EachMark (Acts code turns) code turns s order
 
--- what is seen of a mutator: the numbers that it printed, and its end
-pub record Seen : Type 0 where
-  pub printed : List ℕ
-  pub end : Option End
-
+-- what is seen of the core's mutators
 abbrev pub seen_of : Configuration → List Seen
 seen_of c = map (λ k. record { printed = k.printed; end = k.end }) c.mutators
-
-abbrev pub plain_seen : plain.Plain → List Seen
-plain_seen s = map (λ k. record { printed = k.printed; end = k.end }) s.mutators
 
 -- a run of a program by turns: the core represents the plain machine that executed the run's order
 pub record Follows (code : List (List Instr)) (turns : ℕ) (r : Ran) : Type 0 where

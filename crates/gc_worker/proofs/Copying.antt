@@ -1,3 +1,6 @@
 pub mod Hosts
 pub mod Words
 pub mod Publishing
+pub mod Placing
+pub mod Finding
+pub mod Whole

@@ -20,5 +20,5 @@ module _ (n mutators k : ℕ) (x : Held) (f : Fits n mutators k x) (unended : is
       epoch = tt;
       sound = record { pages = page_count n mutators k x f; caller = tt; epoch = omega arith; worker = let a = f.few in let b = f.number in omega (arith, a, b); stage = tt };
     },
-    tt,
+    own,
   )

@@ -2,3 +2,8 @@ pub mod GoingOn
 pub mod Passing
 pub mod Crossing
 pub mod Front
+pub mod Headers
+pub mod Spots
+pub mod Words
+pub mod Stored
+pub mod Stages

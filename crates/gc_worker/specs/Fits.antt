@@ -1,7 +1,7 @@
 -- What a worker keeps of itself: each machine is sound, and its layout, its worker and its epoch are the worker's own.
-use Rattle.std.specs.Prelude.{◌≡◌, ℕ, ◌+◌, ◌*◌, ◌^◌, ◌<◌, ◌≤◌, ⊤, Bool, true, false, length, Option, Some, None, is_some}
+use Rattle.std.specs.Prelude.{◌≡◌, ℕ, ◌+◌, ◌*◌, ◌^◌, ◌<◌, ◌≤◌, ◌⊎◌, ⊤, Bool, true, false, length, Option, Some, None, is_some}
 use Rattle.atom_store.specs.declared.reply.Reply.{Reply}
-use Rattle.space_map.specs.Spaces.{Layout, IsPageCount, board_page}
+use Rattle.space_map.specs.Spaces.{Layout, IsPageCount, board_page, first_word, space_start, to_space}
 use Rattle.alloc_end.specs.declared.run.Run.{Run}
 use Rattle.alloc_end.specs.Place as place
 use Rattle.alloc_end.specs.Soundness.{IsRun, IsSoundPlacing}
@@ -75,9 +75,13 @@ pub record FitsPlace (x : Held) (p : place.Placing) : Type 0 where
   pub epoch : p.epoch ≡ x.epoch
   pub sound : IsSoundPlacing p
 
+-- the page is the board, or none before the space of the worker's epoch
+abbrev pub IsFaulting : Held → (page : ℕ) → Type 0
+IsFaulting x page = (page ≡ board_page x.layout.pages) ⊎ (space_start x.layout.pages (to_space x.epoch) ≤ first_word page)
+
 -- who made the round: a mutator that goes back to its access made it for a page, one that allocates for none, and a scanner for all
 abbrev pub IsCallerOf : Held → Back → Caller → Type 0
-IsCallerOf x (ToAccess a) (callers.Faulted page) = ⊤
+IsCallerOf x (ToAccess a) (callers.Faulted page) = IsFaulting x page
 IsCallerOf x (ToAccess a) callers.Allocates = ⊥
 IsCallerOf x (ToAccess a) (callers.Scans mutators) = ⊥
 IsCallerOf x ToPlace callers.Allocates = ⊤
@@ -100,14 +104,14 @@ pub record FitsRound (x : Held) (d : duty.Round) (back : Back) : Type 0 where
   pub epoch : IsEpochOf x back d.epoch
   pub sound : IsSoundRound d
 
--- an access is of the worker's epoch
+-- an access is of the worker's epoch; a scanner has no run
 abbrev pub FitsAccess : Held → Access → Type 0
 FitsAccess x a = (a.spaces ≡ x.layout) × (a.epoch ≡ x.epoch)
 
 abbrev pub FitsBack : Held → Back → Type 0
 FitsBack x (ToAccess a) = FitsAccess x a
 FitsBack x ToPlace = ⊤
-FitsBack x ToScanner = ⊤
+FitsBack x ToScanner = x.run ≡ None
 
 pub record FitsScan (x : Held) (s : scan.Scanning) : Type 0 where
   pub layout : s.layout ≡ x.layout

@@ -1,5 +1,5 @@
 -- The next step of a worker.
-use Rattle.std.specs.Prelude.{ℕ, Option, Some, None}
+use Rattle.std.specs.Prelude.{ℕ, true, false, Option, Some, None, if◌then◌else◌}
 use Rattle.atom_store.specs.declared.step.Step.{Step}
 use Rattle.atom_store.specs.declared.step.Step.TheVariants.{Load}
 use Rattle.space_map.specs.Table.{Gate, place_of}
@@ -16,21 +16,23 @@ use Rattle.gc_worker.specs.declared.stage.Stage.{Stage}
 use Rattle.gc_worker.specs.declared.stage.Stage.TheVariants.{Looks, Passes, Flips, Forwards, Accesses, Places, Serves, Scans, Evacuates, Opens, Gone}
 use Rattle.gc_worker.specs.declared.task.Task.{Task}
 use Rattle.gc_worker.specs.Held.{Held}
+use Rattle.gc_worker.specs.Turned.{is_full}
 
 -- a look at the gate, where no task is given
 abbrev pub wanted_look : Held → Option Task → Option Step
 wanted_look x None = Some (Load (place_of x.layout.pages Gate))
 wanted_look x (Some task) = None
 
--- an allocation, up to the header
-abbrev pub wanted_place : place.Placing → PlaceStage → Option Step
-wanted_place p StoresHeader = None
-wanted_place p (LoadsArea traced) = None
-wanted_place p LoadsTraced = place.wanted p
-wanted_place p (ExchangesArea f) = place.wanted p
-wanted_place p (StoresZero new) = place.wanted p
-wanted_place p (OpensPage new) = place.wanted p
-wanted_place p (Ended result) = None
+-- an allocation, up to the header, and not where the heap may be found full
+abbrev pub wanted_place : Held → place.Placing → PlaceStage → Option Step
+wanted_place x p StoresHeader = None
+wanted_place x p (LoadsArea false) = place.wanted p
+wanted_place x p (LoadsArea true) = if is_full x then None else place.wanted p
+wanted_place x p LoadsTraced = place.wanted p
+wanted_place x p (ExchangesArea f) = place.wanted p
+wanted_place x p (StoresZero new) = place.wanted p
+wanted_place x p (OpensPage new) = place.wanted p
+wanted_place x p (Ended result) = None
 
 abbrev pub wanted_at : Held → Stage → Option Step
 wanted_at x Looks = wanted_look x x.task
@@ -38,7 +40,7 @@ wanted_at x (Passes g after) = gate.wanted g
 wanted_at x (Flips f) = flip.wanted f
 wanted_at x (Forwards w) = evac.wanted w.evac
 wanted_at x (Accesses a) = None
-wanted_at x (Places p) = wanted_place p p.stage
+wanted_at x (Places p) = wanted_place x p p.stage
 wanted_at x (Serves d back) = duty.wanted d
 wanted_at x (Scans s back) = scan.wanted s
 wanted_at x (Evacuates v s back) = evac.wanted v

@@ -11,3 +11,5 @@ mod Examples
 pub mod Stories
 pub mod Consistency
 pub mod Reached
+pub mod Marks
+pub mod Staying

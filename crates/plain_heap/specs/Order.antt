@@ -1,7 +1,8 @@
 -- An order, and the plain machine run by it.
-use Rattle.std.specs.Prelude.{◌≡◌, ℕ, Bool, true, false, List, [], ◌∷◌, ◌++◌, map, Option, Some, None, ◌==◌, if◌then◌else◌, slice_get, replicate}
+use Rattle.std.specs.Prelude.{◌≡◌, ⊤, ℕ, Bool, true, false, List, [], ◌∷◌, ◌++◌, map, Option, Some, None, ◌==◌, if◌then◌else◌, slice_get, replicate}
 use Rattle.std.specs.List.{list_any}
-use Rattle.std.specs.Option.{option_map_or}
+use Rattle.std.specs.Option.{option_map, option_map_or}
+use Rattle.plain_state.specs.declared.end.End.{End}
 use Rattle.plain_state.specs.declared.end.End.TheVariants.{HeapFull}
 use Rattle.plain_state.specs.declared.sizes.TheConstants.{REGISTERS, BOARD_WORDS}
 use Rattle.plain_state.specs.declared.value.Value.TheVariants.{Number}
@@ -85,3 +86,14 @@ StoryHasOpening = (code : List (List Instr)) (turns : ℕ) (order : List Mark) �
 abbrev pub StoryHasLastFlip : Type 0
 StoryHasLastFlip = (code : List (List Instr)) (turns asked : ℕ) (before after : List Mark) → list_any is_flip after ≡ false
     → (story code turns (before ++ Flip asked ∷ after)).flip ≡ plain code turns before
+
+-- ---- each mark of an order
+
+-- the end of a mutator, where there is such a mutator
+abbrev pub end_of : Plain → ℕ → Option (Option End)
+end_of s m = option_map (λ k. k.end) (slice_get s.mutators m)
+
+-- each mark of an order is so on the state that the marks before it leave
+abbrev pub EachMark : (Plain → Mark → Type 0) → List (List Instr) → ℕ → Plain → List Mark → Type 0
+EachMark IsSo code turns s [] = ⊤
+EachMark IsSo code turns s (mark ∷ marks) = IsSo s mark × EachMark IsSo code turns (marked code turns s mark) marks

@@ -1,5 +1,5 @@
 -- What is printed of a state, and the text of an order.
-use Rattle.std.specs.Prelude.{ℕ, ◌+◌, List, [], ◌∷◌, ◌++◌, Option, Some, None, codes, decimal}
+use Rattle.std.specs.Prelude.{ℕ, ◌+◌, List, [], ◌∷◌, ◌++◌, map, Option, Some, None, codes, decimal}
 use Rattle.std.specs.List.{flat_map}
 use Rattle.plain_state.specs.declared.end.End.{End}
 use Rattle.plain_state.specs.End.{text_of}
@@ -19,14 +19,25 @@ end_text (Some why) = text_of why
 abbrev pub lines_of : ℕ → List ℕ → Option End → List ℕ
 lines_of m numbers end = flat_map (λ n. line_of m (decimal n)) numbers ++ line_of m (end_text end)
 
--- the lines of mutators whose numbers begin with m
-abbrev pub lines_from : ℕ → List Mutator → List ℕ
-lines_from m [] = []
-lines_from m (k ∷ ks) = lines_of m k.printed k.end ++ lines_from (m + 1) ks
+-- what is seen of a mutator: the numbers that it printed, and its end
+pub record Seen : Type 0 where
+  pub printed : List ℕ
+  pub end : Option End
+
+abbrev pub seen_in : List Mutator → List Seen
+seen_in ks = map (λ k. record { printed = k.printed; end = k.end }) ks
+
+abbrev pub plain_seen : Plain → List Seen
+plain_seen s = seen_in s.mutators
+
+-- the lines of mutators whose numbers begin with m, by what is seen of them
+abbrev pub lines_seen : ℕ → List Seen → List ℕ
+lines_seen m [] = []
+lines_seen m (k ∷ ks) = lines_of m k.printed k.end ++ lines_seen (m + 1) ks
 
 -- the lines of all mutators
 abbrev pub print_of : Plain → List ℕ
-print_of s = lines_from 0 s.mutators
+print_of s = lines_seen 0 (plain_seen s)
 
 -- ---- the line of an order
 

@@ -32,11 +32,11 @@ use Rattle.gc_worker.proofs.Gate.Words.{wants}
 use Rattle.gc_worker.proofs.Steps.{Law, becomes, exchanges, nothing, stores, row_fits, prepared}
 
 module _ (c : Configuration) (p : Plain) (s : Stands c p) (k : ℕ) (y : Held) (o : Host) (v : Evacuation) where
-  abbrev here : EvacStage → Held
+  abbrev pub here : EvacStage → Held
   here z = at y o v z
 
   -- the copy goes on, with this ghost
-  goes : (e : Option Entry) (z q : EvacStage) (reply : Reply) (copy : Option Copy) (found : Option ℕ) (h : Ghost) → Is c k (here z) → stage_after v.layout v.epoch z reply ≡ q → told q ≡ More
+  pub goes : (e : Option Entry) (z q : EvacStage) (reply : Reply) (copy : Option Copy) (found : Option ℕ) (h : Ghost) → Is c k (here z) → stage_after v.layout v.epoch z reply ≡ q → told q ≡ More
       → Law c p s k (here z) e (record ((team c).worker k) { copy = copy; quest = Some (quest_with y v o found) }) h
       → copy_at v.layout v.addr v.epoch q ≡ copy → found_in q ≡ found → FitsStage v.layout.pages v.addr q → Goes c p s k e (here z) reply
   goes e z q reply copy found h is next more law copy_after found_after fits =
@@ -49,7 +49,7 @@ module _ (c : Configuration) (p : Plain) (s : Stands c p) (k : ℕ) (y : Held) (
       (refits y v c.pages c.mutators k o z q is.fits fits)
 
   -- nothing is written, and what the worker knows stays
-  stays : (z q : EvacStage) (reply : Reply) → Is c k (here z) → stage_after v.layout v.epoch z reply ≡ q → told q ≡ More
+  pub stays : (z q : EvacStage) (reply : Reply) → Is c k (here z) → stage_after v.layout v.epoch z reply ≡ q → told q ≡ More
       → copy_at v.layout v.addr v.epoch q ≡ copy_at v.layout v.addr v.epoch z → found_in q ≡ found_in z → FitsStage v.layout.pages v.addr q → Goes c p s k None (here z) reply
   stays z q reply is next more copy found fits =
       let sound = is_sound y v c.pages c.mutators k o z is.fits in

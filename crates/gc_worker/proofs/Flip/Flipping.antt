@@ -62,7 +62,7 @@ module _ (c : Configuration) (p : Plain) (s : Stands c p) (k : ℕ) (y : Held) (
     }
 
     -- while a flip is in progress the gate stands still
-    unmoved : gate_now c ≡ encode_gate r.gate
+    pub unmoved : gate_now c ≡ encode_gate r.gate
     unmoved =
         let won = (flip_keeps (era c) (memory c) (team c) s.ghost k q (prepared c p s k x is) flips).won in
         sym (encode_gate-gate_in (gate_now c)) ∙ ap encode_gate (sym (gate_word c) ∙ won)

@@ -1,5 +1,5 @@
 -- The crossing of the page that is scanned is loaded.
-use Rattle.std.proofs.Common.{◌≡◌, ℕ, ◌*◌, ◌/◌, ◌<◌, ◌≤◌, Some, None, refl, ap, subst, arith}
+use Rattle.std.proofs.Common.{◌≡◌, ℕ, ◌*◌, ◌/◌, ◌<◌, None, refl, ap, arith}
 use Rattle.plain_state.specs.State.{Plain}
 use Rattle.atom_store.specs.declared.step.Step.TheVariants.{Load}
 use Rattle.atom_store.specs.declared.reply.Reply.TheVariants.{Value}
@@ -8,16 +8,16 @@ use Rattle.page_scan.specs.Scanning.{Scanning}
 use Rattle.page_scan.specs.declared.scan_stage.ScanStage.TheVariants as scan_stage
 use Rattle.heap_state.specs.Configuration.{Configuration, Stands, era, memory, team, table}
 use Rattle.heap_state.specs.Table.{table_of, word_in}
-use Rattle.heap_state.specs.Worker.{Worker, Team}
+use Rattle.heap_state.specs.Worker.{Worker}
 use Rattle.heap_laws.specs.Answers.{ScanAnswers}
-use Rattle.heap_laws.specs.Scanning.Words.{scanning, IsScanning}
+use Rattle.heap_laws.specs.Scanning.Words.{IsScanning}
 use Rattle.heap_laws.proofs.Lifting.Configurations.{board_at}
 use Rattle.heap_laws.proofs.Scanning.Records.{reads_crossing}
 use Rattle.heap_laws.proofs.Steps.Answers.{scans_are_answered}
 use Rattle.gc_worker.specs.declared.back.Back.{Back}
 use Rattle.gc_worker.specs.declared.stage.Stage.TheVariants.{Scans}
 use Rattle.gc_worker.specs.Goes.{Is, Goes, StepsSo}
-use Rattle.gc_worker.specs.Held.{Held, at_stage}
+use Rattle.gc_worker.specs.Held.{Held}
 use Rattle.gc_worker.specs.Knows.{knows, scan_of}
 use Rattle.gc_worker.specs.Turned.{turned}
 use Rattle.gc_worker.proofs.Gate.Words.{wants}
@@ -63,10 +63,10 @@ module _ (c : Configuration) (p : Plain) (s : Stands c p) (k : ℕ) (y : Held) (
         let own = is.fits.stage in
         let first : (v.page < 2 * v.layout.pages) × (word < 128 * v.layout.pages) = (own.0.sound.fits, rw (own.0.layout, is.fits.pages) below) in
         quiet c p s k x None (Value word) s.ghost is.below law refl
-            (record { pages = own.0.sound.pages; page = own.0.sound.page; fits = first })
-            (going_fits x at_cross back c.pages c.mutators k is.fits is.fits.end own.0 own.2 (scan_stage.LoadsFirst word) tt first) tt
+        (record { pages = own.0.sound.pages; page = own.0.sound.page; fits = first })
+        (going_fits x at_cross back c.pages c.mutators k is.fits is.fits.end own.0 own.2 (scan_stage.LoadsFirst word) tt first) tt
 
     pub crosses : StepsSo c p s k x
     crosses =
         wants c p s k x (Load (place_of c.pages (Cross v.page))) (rw (is.fits.stage.0.layout, is.fits.pages) refl)
-            (loads c p s k x (Cross v.page) in_space goes)
+        (loads c p s k x (Cross v.page) in_space goes)

@@ -1,15 +1,15 @@
 -- FRONT is loaded at the end of a record, on the page that is being filled: the scan has ended, or another record begins.
-use Rattle.std.proofs.Common.{◌≡◌, ◌≢◌, ℕ, ◌+◌, ◌*◌, ◌/◌, ◌<◌, ◌≤◌, ◌^◌, ◌==◌, Bool, true, false, Some, None, refl, sym, ap, ◌∙◌, subst, arith, if◌then◌else◌, ⊎_elim}
+use Rattle.std.proofs.Common.{◌≡◌, ◌≢◌, ℕ, ◌+◌, ◌*◌, ◌/◌, ◌<◌, ◌==◌, Bool, true, false, Some, None, refl, sym, ap, ◌∙◌, arith, if◌then◌else◌, ⊎_elim}
 use Rattle.std.proofs.lemmas.Bool.{eq-eqb, ne_eqb, cases_eq}
 use Rattle.plain_state.specs.State.{Plain}
 use Rattle.atom_store.specs.declared.step.Step.TheVariants.{Load}
 use Rattle.atom_store.specs.declared.reply.Reply.TheVariants.{Value}
 use Rattle.space_map.specs.Spaces.{space_start, to_space}
 use Rattle.space_map.specs.Table.{Area, place_of}
-use Rattle.space_map.specs.AreaWord.{area_in, decode_area}
+use Rattle.space_map.specs.AreaWord.{decode_area}
 use Rattle.space_map.proofs.AreaWords.{decode_area-short}
 use Rattle.page_scan.specs.Scanning.{Scanning}
-use Rattle.page_scan.specs.Taken.{by_area, told}
+use Rattle.page_scan.specs.Taken.{by_area}
 use Rattle.page_scan.specs.declared.scanned_record.ScannedRecord.{ScannedRecord}
 use Rattle.page_scan.specs.declared.scan_stage.ScanStage.{ScanStage}
 use Rattle.page_scan.specs.declared.scan_stage.ScanStage.TheVariants as scan_stage
@@ -25,10 +25,9 @@ use Rattle.heap_laws.proofs.Steps.Composing.{steps_forget}
 use Rattle.gc_worker.specs.declared.back.Back.{Back}
 use Rattle.gc_worker.specs.declared.stage.Stage.TheVariants.{Scans}
 use Rattle.gc_worker.specs.Goes.{Is, Goes, StepsSo}
-use Rattle.gc_worker.specs.Held.{Held, at_stage}
+use Rattle.gc_worker.specs.Held.{Held}
 use Rattle.gc_worker.specs.Fits.{Fits}
 use Rattle.gc_worker.specs.Knows.{knows, scan_of}
-use Rattle.gc_worker.specs.Turned.{turned, turned_scan}
 use Rattle.gc_worker.proofs.Gate.Words.{wants}
 use Rattle.gc_worker.proofs.Scan.GoingOn.{of_scan, scans_to, going_fits, ended_fits}
 use Rattle.gc_worker.proofs.Steps.{Law, quiet, loads, prepared}
@@ -82,10 +81,10 @@ module _ (c : Configuration) (p : Plain) (s : Stands c p) (k : ℕ) (y : Held) (
         forgets : (b : Bool) → Law c p s k x None (scanning (knows x) (scan_by b)) s.ghost → Law c p s k x None (knows (scans_to x at_end back (stage_by b))) s.ghost
         forgets true l = steps_forget (era c) (memory c) (team c) s.ghost k None (scanning (knows x) (scan_by true)) (knows (scans_to x at_end back (stage_by true))) s.ghost l
             (of_scan (scanning (knows x) (scan_by true)) (scan_of at_end (scan_stage.Ended (record { cursor = r.next; at_front = true }))) (scan_by true)
-                (record { page = refl; cursor = refl; in_place = refl; over = λ _ e. e; current = λ _ e. absurd (cc); inner = λ e. e; ended = refl }))
+            (record { page = refl; cursor = refl; in_place = refl; over = λ _ e. e; current = λ _ e. absurd (cc); inner = λ e. e; ended = refl }))
         forgets false l = steps_forget (era c) (memory c) (team c) s.ghost k None (scanning (knows x) (scan_by false)) (knows (scans_to x at_end back (stage_by false))) s.ghost l
             (of_scan (scanning (knows x) (scan_by false)) (scan_of at_end (scan_stage.LoadsNext r)) (scan_by false)
-                (record { page = refl; cursor = refl; in_place = refl; over = λ _ e. e; current = λ _ e. e; inner = λ _. refl; ended = refl }))
+            (record { page = refl; cursor = refl; in_place = refl; over = λ _ e. e; current = λ _ e. e; inner = λ _. refl; ended = refl }))
 
     sound_by : (b : Bool) → scan_sound.FitsStage v.layout.pages v.page (stage_by b)
     sound_by true = let f = is.fits.stage.0.sound.fits in let short = f.0.short in let inside = f.0.inside in omega (arith, short, inside)
@@ -110,10 +109,10 @@ module _ (c : Configuration) (p : Plain) (s : Stands c p) (k : ℕ) (y : Held) (
         let b = r.next == (memory c).front in
         let after : by_area v.layout v.epoch r (decode_area word) ≡ stage_by b = comes_to b refl in
         quiet c p s k x None (Value word) s.ghost is.below (rw after (law_by b refl)) refl
-            (record { pages = is.fits.stage.0.sound.pages; page = is.fits.stage.0.sound.page; fits = rw after (sound_by b) })
-            (rw after (fits_by b)) tt
+        (record { pages = is.fits.stage.0.sound.pages; page = is.fits.stage.0.sound.page; fits = rw after (sound_by b) })
+        (rw after (fits_by b)) tt
 
     pub reads : StepsSo c p s k x
     reads =
         wants c p s k x (Load (place_of c.pages (Area (to_space v.epoch)))) (rw (is.fits.stage.0.layout, is.fits.pages) refl)
-            (loads c p s k x (Area (to_space v.epoch)) (omega arith) goes)
+        (loads c p s k x (Area (to_space v.epoch)) (omega arith) goes)

@@ -1,24 +1,20 @@
 -- A scan goes on: what the worker then knows of it, and that it fits.
-use Rattle.std.proofs.Common.{◌≡◌, ℕ, ◌+◌, ◌*◌, ◌/◌, ◌<◌, ◌≤◌, ◌^◌, ◌==◌, Bool, true, false, Option, Some, None, is_some, nat_lt, nat_le, refl, sym, ap, subst, ◌∙◌, arith, if◌then◌else◌}
-use Rattle.std.proofs.lemmas.Bool.{leb-true, cases_Bool}
-use Rattle.space_map.specs.Spaces.{first_word, board_page}
+use Rattle.std.proofs.Common.{◌≡◌, ℕ, ◌<◌, ◌^◌, false, Some, is_some, refl}
 use Rattle.page_slots.specs.Open as open_page
 use Rattle.page_scan.specs.Scanning.{Scanning, HasStep}
 use Rattle.page_scan.specs.Soundness as scan_sound
-use Rattle.page_scan.specs.Taken.{told, goes_on}
+use Rattle.page_scan.specs.Taken.{told}
 use Rattle.page_scan.specs.declared.ending.Ending.{Ending}
 use Rattle.page_scan.specs.declared.scan_stage.ScanStage.{ScanStage}
 use Rattle.page_scan.specs.declared.scan_stage.ScanStage.TheVariants as scan_stage
 use Rattle.heap_state.specs.Worker.{Worker, Scan}
-use Rattle.heap_laws.specs.Composing.{IsAtMost, IsLessScan, LessScan, IsLessRound}
-use Rattle.heap_laws.specs.Scanning.Words.{scanning}
+use Rattle.heap_laws.specs.Composing.{IsAtMost, IsLessScan, LessScan}
 use Rattle.gc_worker.specs.declared.back.Back.{Back}
 use Rattle.gc_worker.specs.declared.back.Back.TheVariants.{ToAccess, ToPlace, ToScanner}
 use Rattle.gc_worker.specs.declared.stage.Stage.{Stage}
 use Rattle.gc_worker.specs.declared.stage.Stage.TheVariants.{Scans, Opens}
 use Rattle.gc_worker.specs.Fits.{Fits, FitsScan, FitsBack}
 use Rattle.gc_worker.specs.Held.{Held, at_stage}
-use Rattle.gc_worker.specs.Knows.{knows, scan_of}
 use Rattle.gc_worker.specs.Turned.{turned_scan}
 use Rattle.gc_worker.proofs.Fitting.{refit, page_count}
 
@@ -47,10 +43,10 @@ of_scan w a b less = record {
 }
 
 -- where it goes back to stays
-still_back : (x : Held) (next : Stage) (back : Back) → FitsBack x back → FitsBack (at_stage x next) back
+pub still_back : (x : Held) (next : Stage) (back : Back) → FitsBack x back → FitsBack (at_stage x next) back
 still_back x next (ToAccess a) own = own
 still_back x next ToPlace own = tt
-still_back x next ToScanner own = tt
+still_back x next ToScanner own = own
 
 module _ (x : Held) (v : Scanning) (back : Back) where
   -- the worker whose scan comes to a stage

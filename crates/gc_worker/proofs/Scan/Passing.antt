@@ -1,6 +1,6 @@
 -- Where a scan goes on in a record: at its next field on the page, at the next record, or it has ended.
-use Rattle.std.proofs.Common.{◌≡◌, ◌≢◌, ℕ, ◌+◌, ◌*◌, ◌/◌, ◌<◌, ◌≤◌, ◌^◌, ◌==◌, Bool, true, false, Some, None, is_some, nat_lt, nat_le, refl, sym, ap, ◌∙◌, subst, arith, if◌then◌else◌}
-use Rattle.std.proofs.lemmas.Bool.{ne_eqb, ltb-true, ltb-false, leb-true, cases_Bool}
+use Rattle.std.proofs.Common.{◌≡◌, ◌≢◌, ℕ, ◌+◌, ◌*◌, ◌/◌, ◌<◌, ◌≤◌, Bool, true, false, Some, None, is_some, nat_lt, nat_le, refl, sym, ◌∙◌, arith, if◌then◌else◌}
+use Rattle.std.proofs.lemmas.Bool.{ne_eqb, ltb-true, leb-true}
 use Rattle.std.proofs.lemmas.Bool.Decides.{nat_tests}
 use Rattle.space_map.specs.Spaces.{first_word, board_page}
 use Rattle.page_scan.specs.Scanning.{Scanning}
@@ -13,7 +13,7 @@ use Rattle.page_scan.specs.declared.spot.Spot.TheVariants.{InRecord}
 use Rattle.heap_state.specs.Era.{Era}
 use Rattle.heap_state.specs.FieldSpan.{next_in}
 use Rattle.heap_state.specs.Worker.{Scan}
-use Rattle.heap_laws.specs.Composing.{IsAtMost, IsLessScan}
+use Rattle.heap_laws.specs.Composing.{IsAtMost}
 use Rattle.heap_laws.specs.Scanning.Words.{scanning, is_past}
 use Rattle.gc_worker.specs.declared.back.Back.{Back}
 use Rattle.gc_worker.specs.declared.stage.Stage.TheVariants.{Scans}

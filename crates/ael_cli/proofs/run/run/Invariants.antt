@@ -3,7 +3,7 @@ use Rattle.gc_core.specs.Configuration.{workers_of}
 use Rattle.gc_core.specs.Run.{run_from}
 use Rattle.ael_cli.specs.Schedule.{schedule_of}
 use Rattle.ael_cli.specs.Scheduler.{to_come}
-use Rattle.ael_cli.proofs.Runs.{ComesTo, ComesToOrder}
+use Rattle.gc_core.proofs.Runs.{ComesTo, ComesToOrder}
 use Rattle.ael_cli.proofs.run.run.Given as goal
 
 abbrev pub invariant-loop : goal.invariant-loop

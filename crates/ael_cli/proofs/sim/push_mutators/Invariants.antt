@@ -1,7 +1,7 @@
 use Rattle.std.proofs.Common.{◌++◌}
 use Rattle.std.specs.Prelude.{string_bytes}
 use Rattle.gc_core.specs.Whole.{seen_of}
-use Rattle.ael_cli.specs.Seen.{lines_seen}
+use Rattle.plain_heap.specs.Print.{lines_seen}
 use Rattle.ael_cli.proofs.Seeing.{Tells}
 use Rattle.ael_cli.proofs.sim.push_mutators.Given as goal
 

@@ -1,0 +1,6 @@
+pub mod Claiming
+pub mod Readying
+pub mod Opened
+pub mod Areas
+pub mod Traced
+pub mod Stages

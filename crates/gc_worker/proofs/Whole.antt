@@ -1,0 +1,217 @@
+-- The law of a step, from the laws of the kinds.
+use Rattle.std.proofs.Common.{◌≡◌, ◌≢◌, ℕ, ◌+◌, ◌*◌, ◌<◌, ◌≤◌, List, length, set, get_or, Option, Some, None, refl, sym, ap, subst, ◌∙◌, arith, ⊎_elim, get_or-set_same, get_or-set_other, length-set}
+use Rattle.std.proofs.lemmas.Bool.{cases_eq}
+use Rattle.std.proofs.lemmas.List.{map-set, get_or-map, length-map}
+use Rattle.plain_state.specs.State.{Plain}
+use Rattle.atom_store.specs.declared.reply.Reply.{Reply}
+use Rattle.atom_store.specs.declared.step.Step.{Step}
+use Rattle.atom_store.specs.Step.{words_after, reply_of}
+use Rattle.space_map.specs.declared.gate_word.GateWord.{GateWord}
+use Rattle.space_map.specs.Spaces.{Layout}
+use Rattle.gate_core.specs.declared.flip_stage.FlipStage.{FlipStage}
+use Rattle.gate_core.specs.declared.flip_stage.FlipStage.TheVariants as flip_stage
+use Rattle.gate_core.specs.declared.gate_stage.GateStage.{GateStage}
+use Rattle.gate_core.specs.declared.gate_stage.GateStage.TheVariants as gate_stage
+use Rattle.gate_core.specs.Flip.{Flipping}
+use Rattle.gate_core.specs.Gate.{Passing}
+use Rattle.heap_state.specs.Configuration.{Configuration, Stands, table, era, memory, team}
+use Rattle.heap_state.specs.Cycle.{Cycle}
+use Rattle.heap_state.specs.Entries.{Entry, GateIs, TracedIs, AreaIs, PageIs, CrossIs, WordIs, AnnounceIs}
+use Rattle.heap_state.specs.Table.{table_of}
+use Rattle.space_map.specs.PageWord.{age_of}
+use Rattle.heap_state.specs.Ghost.{Ghost}
+use Rattle.heap_state.specs.Worker.{Worker, Scanner, fresh}
+use Rattle.heap_laws.specs.Lifting.{StandsWith, stepped, Leaves, Flipped}
+use Rattle.gc_worker.specs.declared.after.After.{After}
+use Rattle.gc_worker.specs.declared.stage.Stage.{Stage}
+use Rattle.gc_worker.specs.declared.stage.Stage.TheVariants.{Looks, Passes, Flips, Forwards, Accesses, Places, Serves, Scans, Evacuates, Opens, Gone}
+use Rattle.gc_worker.specs.declared.task.Task.{Task}
+use Rattle.gc_worker.specs.Fits.{Fits}
+use Rattle.gc_worker.specs.Goes.{Is, Goes, Leads, Steps, StepsSo, Wins}
+use Rattle.gc_worker.specs.Held.{Held, at_stage}
+use Rattle.gc_worker.specs.Knows.{knows}
+use Rattle.gc_worker.specs.Law.{Heap, read, nobody, held_at, WorkersStand, moved, at_flip, age, IsOut, WinsOne, StepKeeps, IsProved, StepsKeep}
+use Rattle.gc_worker.specs.Turned.{Told, Silent, Answers, Marks, PageWon, turned, told, won}
+use Rattle.gc_worker.specs.Wanted.{wanted}
+use Rattle.gc_worker.proofs.Gate.Exchanging.{exchanges_gate}
+use Rattle.gc_worker.proofs.Gate.Looking as looking
+use Rattle.gc_worker.proofs.Gate.Passing.{loads_gate}
+use Rattle.gc_worker.proofs.Flip.Resetting as resetting
+use Rattle.gc_worker.proofs.Flip.Flipping.{flips_gate}
+use Rattle.gc_worker.proofs.Opening.{opens}
+use Rattle.gc_worker.proofs.Place.Stages.{places}
+use Rattle.gc_worker.proofs.Scan.Stages.{scans}
+use Rattle.gc_worker.proofs.Copying.Whole.{evacuates}
+use Rattle.page_scan.specs.Scanning.{Scanning}
+use Rattle.page_slots.specs.declared.open_stage.OpenStage.{OpenStage}
+use Rattle.page_slots.specs.declared.open_stage.OpenStage.TheVariants as open_stage
+use Rattle.page_slots.specs.Open.{Opening}
+use Rattle.gc_worker.specs.declared.back.Back.{Back}
+
+-- ---- each stage
+
+-- a worker that wants nothing owes nothing
+rests : (c : Configuration) (p : Plain) (s : Stands c p) (k : ℕ) (x : Held) → wanted x ≡ None → StepsSo c p s k x
+rests c p s k x none q asked = absurd (let e = sym none ∙ asked in cc)
+
+module _ (c : Configuration) (p : Plain) (s : Stands c p) (k : ℕ) (x : Held) where
+  -- the worker at this stage
+  abbrev Kind : Stage → Type 0
+  Kind stage = Is c k (at_stage x stage) → StepsSo c p s k (at_stage x stage)
+
+  looks : (task : Option Task) → Is c k (record x { task = task; stage = Looks }) → StepsSo c p s k (record x { task = task; stage = Looks })
+  looks None is = looking.steps c p s k x is
+  looks (Some task) is = rests c p s k (record x { task = Some task; stage = Looks }) refl
+
+  passes : (g : Passing) (after : After) → (stage : GateStage) → g.stage ≡ stage → Kind (Passes (record g { stage = stage }) after)
+  passes g after gate_stage.Loads e is = loads_gate c p s k x g.layout after g.passage is
+  passes g after (gate_stage.Exchanges gate) e is = exchanges_gate c p s k x g.layout gate after g.passage is
+  passes g after (gate_stage.Ended result) e is = rests c p s k (at_stage x (Passes (record g { stage = gate_stage.Ended result }) after)) refl
+
+  flips_own : (asked : ℕ) (stage : FlipStage) → Kind (Flips (record { layout = x.layout; epoch = x.epoch; asked = asked; stage = stage }))
+  flips_own asked flip_stage.LoadsGate is = resetting.loads_gate c p s k x asked is
+  flips_own asked (flip_stage.LoadsArea gate) is = resetting.loads_area c p s k x asked gate is
+  flips_own asked (flip_stage.StoresArea r) is = resetting.stores_area c p s k x asked r is
+  flips_own asked (flip_stage.Exchanges r) is = flips_gate c p s k x asked r is
+  flips_own asked (flip_stage.Ended result) is =
+      rests c p s k (at_stage x (Flips (record { layout = x.layout; epoch = x.epoch; asked = asked; stage = flip_stage.Ended result }))) refl
+
+  flips : (f : Flipping) → Kind (Flips f)
+  flips f is =
+      let same : f ≡ record { layout = x.layout; epoch = x.epoch; asked = f.asked; stage = f.stage } =
+      (λ i. record { layout = is.fits.stage.layout i; epoch = is.fits.stage.epoch i; asked = f.asked; stage = f.stage }) in
+      subst (λ (g : Flipping). StepsSo c p s k (at_stage x (Flips g))) (sym same)
+      (flips_own f.asked f.stage (subst (λ (g : Flipping). Is c k (at_stage x (Flips g))) same is))
+
+  opens_page : (o : Opening) (z : Scanning) (back : Back) (stage : OpenStage) → Kind (Opens (record o { stage = stage }) z back)
+  opens_page o z back open_stage.StoresOpen is = opens c p s k x o z back is
+  opens_page o z back (open_stage.Ended result) is = rests c p s k (at_stage x (Opens (record o { stage = open_stage.Ended result }) z back)) refl
+
+  by_stage : (stage : Stage) → IsProved stage → Kind stage
+  by_stage Looks proved is = looks x.task is
+  by_stage (Passes g after) proved is = passes g after g.stage refl is
+  by_stage (Flips f) proved is = flips f is
+  by_stage (Forwards w) proved is = absurd proved
+  by_stage (Accesses a) proved is = rests c p s k (at_stage x (Accesses a)) refl
+  by_stage (Places z) proved is = places c p s k x z is
+  by_stage (Serves d back) proved is = absurd proved
+  by_stage (Scans z back) proved is = scans c p s k x z back is
+  by_stage (Evacuates v z back) proved is = evacuates c p s k x v z back is
+  by_stage (Opens o z back) proved is = opens_page o z back o.stage is
+  by_stage Gone proved is = rests c p s k (at_stage x Gone) refl
+
+  pub kinds : IsProved x.stage → Is c k x → StepsSo c p s k x
+  kinds proved is = by_stage x.stage proved is
+
+-- ---- the heap
+
+page_age : (c : Configuration) (page : ℕ) → age_of ((table c).page page) ≡ age c.pages c.words page
+unfolding table_of
+page_age c page = refl
+
+module _ (h : Heap) (p o : Plain) (k : ℕ) (x : Held) (q : Step) (st : WorkersStand h p o) (l : k < length h.workers) (holds : held_at h k ≡ x) where
+  pub is : Is (read h) k x
+  is = record {
+    below = (let n = length-map h.workers knows in omega (arith, n, l));
+    as_known = get_or-map knows h.workers k nobody (fresh Scanner) l ∙ ap knows holds;
+    fits = subst (Fits h.pages h.mutators k) holds (st.fit k l);
+  }
+
+  abbrev r : Reply
+  r = reply_of q h.words
+
+  abbrev y : Held
+  y = turned x r
+
+  -- the others are as they were
+  all_fit : Fits h.pages h.mutators k y → (j : ℕ) → j < length (set h.workers k y) → Fits h.pages h.mutators j (get_or (set h.workers k y) j nobody)
+  all_fit fits j below = ⊎_elim
+      (λ (e : j ≡ k). subst (λ (z : Held). Fits h.pages h.mutators j z) (sym (ap (λ (i : ℕ). get_or (set h.workers k y) i nobody) e ∙ get_or-set_same h.workers k y nobody l))
+      (subst (λ (i : ℕ). Fits h.pages h.mutators i y) (sym e) fits))
+      (λ (d : j ≢ k). subst (λ (z : Held). Fits h.pages h.mutators j z) (sym (get_or-set_other h.workers k j y nobody d)) (st.fit j (let n = length-set h.workers k y in omega (arith, n, below))))
+      (cases_eq j k)
+
+  module _ (steps : Steps (read h) p st.stands k x q) where
+    -- the configuration after the step, as the heap then is
+    after : stepped (read h) steps.entry k (knows y) ≡ read (moved h k x q)
+    after = let w = sym steps.writes in λ i. record { pages = h.pages; words = w i; mutators = h.mutators; workers = sym (map-set knows h.workers k y) i }
+
+    abbrev later : Configuration
+    later = stepped (read h) steps.entry k (knows y)
+
+    -- a configuration that stands, and its cycle, are the heap's
+    comes : (h' : Ghost) (o' : Plain) (w : StandsWith later p h') → Cycle (era later) (memory later) (team later) h' o' → WorkersStand (moved h k x q) p o'
+    comes h' o' w cycle =
+        let both : (d : Configuration) → later ≡ d → (s : Stands d p) × Cycle (era d) (memory d) (team d) s.ghost o' =
+        λ d e. subst (λ (d : Configuration). (s : Stands d p) × Cycle (era d) (memory d) (team d) s.ghost o') e
+        (w.stands, subst (λ (g : Ghost). Cycle (era later) (memory later) (team later) g o') (sym w.with_ghost) cycle) in
+        let now = both (read (moved h k x q)) after in
+        record { stands = now.0; cycle = now.1; fit = all_fit steps.goes.fits }
+
+    -- by what it is to the plain machine
+    stands_by : (t : Told) (e : Option Entry) → steps.entry ≡ e → (g : Ghost) → Leads (read h) p st.stands.ghost k e y g t
+        → WorkersStand (moved h k x q) p (at_flip p o t)
+    stands_by Silent e same g leads =
+        let ours : Leaves (read h) steps.entry k (knows y) p st.stands.ghost g = subst (λ (f : Option Entry). Leaves (read h) f k (knows y) p st.stands.ghost g) (sym same) leads in
+        comes g o ours.standing (ours.cycle o st.cycle)
+    stands_by (Marks asked) (Some (GateIs gate)) same g leads =
+        let ours : Flipped (read h) gate k (knows y) p g = leads in
+        let cfg = ap (λ (f : Option Entry). stepped (read h) f k (knows y)) (sym same) in
+        comes g p (subst (λ (d : Configuration). StandsWith d p g) cfg ours.standing) (subst (λ (d : Configuration). Cycle (era d) (memory d) (team d) g p) cfg ours.begins)
+    stands_by (Marks asked) None same g leads = absurd leads
+    stands_by (Marks asked) (Some (TracedIs word)) same g leads = absurd leads
+    stands_by (Marks asked) (Some (AreaIs space area)) same g leads = absurd leads
+    stands_by (Marks asked) (Some (PageIs page word)) same g leads = absurd leads
+    stands_by (Marks asked) (Some (CrossIs page at)) same g leads = absurd leads
+    stands_by (Marks asked) (Some (WordIs addr word)) same g leads = absurd leads
+    stands_by (Marks asked) (Some (AnnounceIs worker at)) same g leads = absurd leads
+    stands_by (Answers task outcome) e same g leads = absurd leads
+
+    -- no page word's epoch falls
+    ages_by : (t : Told) (e : Option Entry) → steps.entry ≡ e → (g : Ghost) → Leads (read h) p st.stands.ghost k e y g t
+        → (page : ℕ) → age_of ((table (read h)).page page) ≤ age_of ((table later).page page)
+    ages_by Silent e same g leads page =
+        (subst (λ (f : Option Entry). Leaves (read h) f k (knows y) p st.stands.ghost g) (sym same) leads).ages page
+    ages_by (Marks asked) (Some (GateIs gate)) same g leads page =
+        let ours : Flipped (read h) gate k (knows y) p g = leads in
+        let kept : (table later).page ≡ (table (read h)).page = ap (λ (f : Option Entry). (table (stepped (read h) f k (knows y))).page) same ∙ ours.pages in
+        rw kept (omega arith)
+    ages_by (Marks asked) None same g leads page = absurd leads
+    ages_by (Marks asked) (Some (TracedIs word)) same g leads page = absurd leads
+    ages_by (Marks asked) (Some (AreaIs space area)) same g leads page = absurd leads
+    ages_by (Marks asked) (Some (PageIs place word)) same g leads page = absurd leads
+    ages_by (Marks asked) (Some (CrossIs place at)) same g leads page = absurd leads
+    ages_by (Marks asked) (Some (WordIs addr word)) same g leads page = absurd leads
+    ages_by (Marks asked) (Some (AnnounceIs worker at)) same g leads page = absurd leads
+    ages_by (Answers task outcome) e same g leads page = absurd leads
+
+    aged : (page : ℕ) → age_of ((table later).page page) ≡ age h.pages (words_after q h.words) page
+    aged page = ap (λ (d : Configuration). age_of ((table d).page page)) after ∙ page_age (read (moved h k x q)) page
+
+    ages : (page : ℕ) → age h.pages h.words page ≤ age h.pages (words_after q h.words) page
+    ages page =
+        let a = ages_by (told x r) steps.entry refl steps.goes.ghost_after steps.goes.leads page in
+        let b = page_age (read h) page in
+        let d = aged page in
+        omega (arith, a, b, d)
+
+    wins_by : (w : Option PageWon) → Wins (read h) steps.entry k y w → WinsOne h.pages h.words (words_after q h.words) w
+    wins_by None wins = tt
+    wins_by (Some w) wins =
+        let b = page_age (read h) w.page in
+        let d = aged w.page in
+        ((λ out. omega (arith, out.epoch, wins.before, b)), record { page = wins.page; epoch = omega (arith, wins.after, d) })
+
+    keeps : StepKeeps h p o k x q
+    keeps = record {
+      place = steps.place;
+      takes = steps.goes.takes;
+      fits = steps.goes.fits;
+      stands = stands_by (told x r) steps.entry refl steps.goes.ghost_after steps.goes.leads;
+      kept = λ w out. record { page = out.page; epoch = (let a = ages w.page in omega (arith, out.epoch, a)) };
+      wins = wins_by (won x r) steps.goes.wins;
+    }
+
+pub steps_keep : StepsKeep
+steps_keep h p o k x q st l holds asked proved =
+    keeps h p o k x q st l holds (kinds (read h) p st.stands k x proved (is h p o k x q st l holds) q asked)
