@@ -13,7 +13,8 @@ use Rattle.fault_duty.specs.declared.caller.Caller.TheVariants.{Faulted, Allocat
 use Rattle.fault_duty.specs.declared.findings.Findings.{Findings}
 use Rattle.fault_duty.specs.declared.duty_stage.DutyStage.{DutyStage}
 use Rattle.fault_duty.specs.declared.duty_stage.DutyStage.TheVariants.{LoadsGate, LoadsTraced, LoadsWanted, LoadsFrontFor, LoadsFront, LoadsPage, Claims, EndGate, EndArea, EndPage, EndFilling, EndAreaAgain, Traces, Ended}
-use Rattle.fault_duty.specs.Duty.{Round, to_start, to_page}
+use Rattle.fault_duty.specs.declared.page_state.PageState.TheVariants.{Opened}
+use Rattle.fault_duty.specs.Duty.{Round, state_of, to_start, to_page}
 
 abbrev pub FitsCaller : (pages : ℕ) → Caller → Type 0
 FitsCaller n (Faulted page) = page ≤ board_page n
@@ -67,7 +68,8 @@ FitsDutyStage d (EndGate traced) = traced ≢ d.epoch + 1
 FitsDutyStage d (EndArea traced) = traced ≢ d.epoch + 1
 FitsDutyStage d (EndPage look page) = (look.traced ≢ d.epoch + 1) × IsChoice d look.front page
 FitsDutyStage d (EndFilling look) = (look.traced ≢ d.epoch + 1) × FitsFront d look.front × (look.front % 64 ≢ 0)
-FitsDutyStage d (EndAreaAgain look filling) = (look.traced ≢ d.epoch + 1) × FitsFront d look.front × PageFits filling
+FitsDutyStage d (EndAreaAgain look filling) =
+    (look.traced ≢ d.epoch + 1) × FitsFront d look.front × PageFits filling × (look.front % 64 ≡ 0 → state_of filling d.epoch ≡ Opened)
 FitsDutyStage d (Traces traced) = traced ≢ d.epoch + 1
 FitsDutyStage d (Ended result) = ⊤
 
