@@ -184,7 +184,7 @@ module _ (c : Configuration) (p : Plain) (s : Stands c p) (k : ℕ) (y : Held) (
       let l : Law c p s k x None (knows (at c p s k y d back (EndAreaAgain look (Open d.epoch)))) s.ghost =
           rw (upto_end f, eq-eqb d.epoch d.epoch refl) (looked_all (is_open e) none) in
       goes_on c p s k y d back (EndPage look page) is None (Value loaded) (EndAreaAgain look (Open d.epoch)) s.ghost taken refl refl
-          (is.fits.stage.0.sound.stage.0, fits_front (EndAreaAgain look (Open d.epoch)), is.fits.stage.0.sound.epoch) l
+          (is.fits.stage.0.sound.stage.0, fits_front (EndAreaAgain look (Open d.epoch)), is.fits.stage.0.sound.epoch, (λ whole. rw (eq-eqb d.epoch d.epoch refl) refl)) l
 
   -- ---- all
 

@@ -196,7 +196,7 @@ module _ (c : Configuration) (p : Plain) (s : Stands c p) (k : ℕ) (y : Held) (
     next = EndAreaAgain look says
 
     next_fits : FitsDutyStage (round c p s k y d back next) next
-    next_fits = let f = is.fits.stage.0.sound.stage in (f.0, record { low = f.1.low; high = f.1.high }, PageFits-decode_page (page_now c page) says reads)
+    next_fits = let f = is.fits.stage.0.sound.stage in (f.0, record { low = f.1.low; high = f.1.high }, PageFits-decode_page (page_now c page) says reads, (λ whole. absurd (f.2 whole)))
 
     -- it is found open
     opened : duty.state_of says d.epoch ≡ Opened → Law c p s k x4 None (knows (at c p s k y d back next)) s.ghost
