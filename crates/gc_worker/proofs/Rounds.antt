@@ -8,4 +8,5 @@ pub mod Ending
 pub mod EndPages
 pub mod Looking
 pub mod Winning
+pub mod LookingAgain
 pub mod Whole

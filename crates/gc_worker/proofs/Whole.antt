@@ -30,7 +30,7 @@ use Rattle.gc_worker.specs.Fits.{Fits}
 use Rattle.gc_worker.specs.Goes.{Is, Goes, Leads, Steps, StepsSo, Wins}
 use Rattle.gc_worker.specs.Held.{Held, at_stage}
 use Rattle.gc_worker.specs.Knows.{knows}
-use Rattle.gc_worker.specs.Law.{Heap, read, nobody, held_at, WorkersStand, moved, at_flip, age, IsOut, WinsOne, StepKeeps, IsProved, StepsKeep}
+use Rattle.gc_worker.specs.Law.{Heap, read, nobody, held_at, WorkersStand, moved, at_flip, age, IsOut, WinsOne, StepKeeps, StepsKeep}
 use Rattle.gc_worker.specs.Turned.{Told, Silent, Answers, Marks, PageWon, turned, told, won}
 use Rattle.gc_worker.specs.Wanted.{wanted}
 use Rattle.gc_worker.proofs.Gate.Exchanging.{exchanges_gate}
@@ -88,21 +88,21 @@ module _ (c : Configuration) (p : Plain) (s : Stands c p) (k : ℕ) (x : Held) w
   opens_page o z back open_stage.StoresOpen is = opens c p s k x o z back is
   opens_page o z back (open_stage.Ended result) is = rests c p s k (at_stage x (Opens (record o { stage = open_stage.Ended result }) z back)) refl
 
-  by_stage : (stage : Stage) → IsProved stage → Kind stage
-  by_stage Looks proved is = looks x.task is
-  by_stage (Passes g after) proved is = passes g after g.stage refl is
-  by_stage (Flips f) proved is = flips f is
-  by_stage (Forwards w) proved is = forwards c p s k x w is
-  by_stage (Accesses a) proved is = rests c p s k (at_stage x (Accesses a)) refl
-  by_stage (Places z) proved is = places c p s k x z is
-  by_stage (Serves d back) proved is = serves c p s k x d back proved is
-  by_stage (Scans z back) proved is = scans c p s k x z back is
-  by_stage (Evacuates v z back) proved is = evacuates c p s k x v z back is
-  by_stage (Opens o z back) proved is = opens_page o z back o.stage is
-  by_stage Gone proved is = rests c p s k (at_stage x Gone) refl
+  by_stage : (stage : Stage) → Kind stage
+  by_stage Looks is = looks x.task is
+  by_stage (Passes g after) is = passes g after g.stage refl is
+  by_stage (Flips f) is = flips f is
+  by_stage (Forwards w) is = forwards c p s k x w is
+  by_stage (Accesses a) is = rests c p s k (at_stage x (Accesses a)) refl
+  by_stage (Places z) is = places c p s k x z is
+  by_stage (Serves d back) is = serves c p s k x d back is
+  by_stage (Scans z back) is = scans c p s k x z back is
+  by_stage (Evacuates v z back) is = evacuates c p s k x v z back is
+  by_stage (Opens o z back) is = opens_page o z back o.stage is
+  by_stage Gone is = rests c p s k (at_stage x Gone) refl
 
-  pub kinds : IsProved x.stage → Is c k x → StepsSo c p s k x
-  kinds proved is = by_stage x.stage proved is
+  pub kinds : Is c k x → StepsSo c p s k x
+  kinds is = by_stage x.stage is
 
 -- ---- the heap
 
@@ -214,5 +214,5 @@ module _ (h : Heap) (p o : Plain) (k : ℕ) (x : Held) (q : Step) (st : WorkersS
     }
 
 pub steps_keep : StepsKeep
-steps_keep h p o k x q st l holds asked proved =
-    keeps h p o k x q st l holds (kinds (read h) p st.stands k x proved (is h p o k x q st l holds) q asked)
+steps_keep h p o k x q st l holds asked =
+    keeps h p o k x q st l holds (kinds (read h) p st.stands k x (is h p o k x q st l holds) q asked)

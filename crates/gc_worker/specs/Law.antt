@@ -5,8 +5,6 @@ use Rattle.atom_store.specs.declared.step.Step.{Step}
 use Rattle.atom_store.specs.Step.{place_in, words_after, reply_of}
 use Rattle.space_map.specs.PageWord.{age_of}
 use Rattle.space_map.specs.Table.{Page, table_length}
-use Rattle.fault_duty.specs.declared.duty_stage.DutyStage.{DutyStage}
-use Rattle.fault_duty.specs.declared.duty_stage.DutyStage.TheVariants.{LoadsGate, LoadsTraced, LoadsWanted, LoadsFrontFor, LoadsFront, LoadsPage, Claims, EndGate, EndArea, EndPage, EndFilling, EndAreaAgain, Traces, Ended}
 use Rattle.atom_store.specs.declared.reply.Reply.TheVariants.{Won}
 use Rattle.gate_core.specs.declared.flip_stage.FlipStage.TheVariants.{Exchanges}
 use Rattle.gate_core.specs.declared.reset.Reset.{Reset}
@@ -96,40 +94,9 @@ pub record StepKeeps (h : Heap) (p o : Plain) (k : ℕ) (x : Held) (q : Step) : 
   pub kept : (w : PageWon) → IsOut h.pages h.words w → IsOut h.pages (words_after q h.words) w
   pub wins : WinsOne h.pages h.words (words_after q h.words) (won x (reply_of q h.words))
 
--- the stages of a round of which this is shown so far: all but FRONT read again at the end
-abbrev pub IsRoundProved : DutyStage → Type 0
-IsRoundProved LoadsGate = ⊤
-IsRoundProved (LoadsTraced hindrance) = ⊤
-IsRoundProved (LoadsWanted found page) = ⊤
-IsRoundProved (LoadsFrontFor found w) = ⊤
-IsRoundProved (LoadsFront found) = ⊤
-IsRoundProved (LoadsPage choice page) = ⊤
-IsRoundProved (Claims c) = ⊤
-IsRoundProved (EndGate traced) = ⊤
-IsRoundProved (EndArea traced) = ⊤
-IsRoundProved (EndPage look page) = ⊤
-IsRoundProved (EndFilling look) = ⊤
-IsRoundProved (EndAreaAgain look filling) = ⊥
-IsRoundProved (Traces traced) = ⊤
-IsRoundProved (Ended result) = ⊤
-
--- the stages of which this is shown so far
-abbrev pub IsProved : Stage → Type 0
-IsProved Looks = ⊤
-IsProved (Passes g after) = ⊤
-IsProved (Flips f) = ⊤
-IsProved (Forwards w) = ⊤
-IsProved (Accesses a) = ⊤
-IsProved (Places p) = ⊤
-IsProved (Serves d back) = IsRoundProved d.stage
-IsProved (Scans s back) = ⊤
-IsProved (Evacuates v s back) = ⊤
-IsProved (Opens o s back) = ⊤
-IsProved Gone = ⊤
-
 abbrev pub StepsKeep : Type 0
 StepsKeep = (h : Heap) (p o : Plain) (k : ℕ) (x : Held) (q : Step) → WorkersStand h p o → k < length h.workers → held_at h k ≡ x → wanted x ≡ Some q
-    → IsProved x.stage → StepKeeps h p o k x q
+    → StepKeeps h p o k x q
 
 -- the exchange of a flip is never lost
 abbrev pub FlipsAreWon : Type 0

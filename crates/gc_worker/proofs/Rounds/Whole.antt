@@ -1,4 +1,4 @@
--- A round, at each stage of which the law is shown.
+-- A round, at each of its stages.
 use Rattle.std.proofs.Common.{◌≡◌, ℕ, Some, refl, sym, ◌∙◌}
 use Rattle.plain_state.specs.State.{Plain}
 use Rattle.page_slots.specs.declared.claim_stage.ClaimStage.{ClaimStage}
@@ -12,7 +12,6 @@ use Rattle.gc_worker.specs.declared.back.Back.{Back}
 use Rattle.gc_worker.specs.declared.stage.Stage.TheVariants.{Serves}
 use Rattle.gc_worker.specs.Goes.{Is, StepsSo}
 use Rattle.gc_worker.specs.Held.{Held, at_stage}
-use Rattle.gc_worker.specs.Law.{IsRoundProved}
 use Rattle.gc_worker.proofs.Rounds.Going.{at}
 use Rattle.gc_worker.proofs.Rounds.Beginning.{loads_gate, loads_traced}
 use Rattle.gc_worker.proofs.Rounds.Wanting.{loads_wanted, loads_front_for}
@@ -20,6 +19,7 @@ use Rattle.gc_worker.proofs.Rounds.Choosing.{loads_front, loads_page}
 use Rattle.gc_worker.proofs.Rounds.Ending.{loads_gate_again, loads_area, loads_filling, exchanges_traced}
 use Rattle.gc_worker.proofs.Rounds.Looking.{looks_at_announced, looks_at_gate_again}
 use Rattle.gc_worker.proofs.Rounds.Winning.{exchanges_page}
+use Rattle.gc_worker.proofs.Rounds.LookingAgain.{loads_area_again}
 use Rattle.gc_worker.proofs.Rounds.EndPages.{loads_page_again}
 
 module _ (c : Configuration) (p : Plain) (s : Stands c p) (k : ℕ) (y : Held) (d : Round) (back : Back) where
@@ -30,21 +30,21 @@ module _ (c : Configuration) (p : Plain) (s : Stands c p) (k : ℕ) (y : Held) (
   claims q claim_stage.Exchanges is = exchanges_page c p s k y d back q is
   claims q (claim_stage.Ended result) is = λ r asked. absurd (let none = asked in cc)
 
-  by_stage : (stage : DutyStage) → IsRoundProved stage → Is c k (at c p s k y d back stage) → StepsSo c p s k (at c p s k y d back stage)
-  by_stage LoadsGate proved is = loads_gate c p s k y d back is
-  by_stage (LoadsTraced hindrance) proved is = loads_traced c p s k y d back hindrance is
-  by_stage (LoadsWanted found page) proved is = loads_wanted c p s k y d back found page is
-  by_stage (LoadsFrontFor found w) proved is = loads_front_for c p s k y d back found w is
-  by_stage (LoadsFront found) proved is = loads_front c p s k y d back found is
-  by_stage (LoadsPage choice page) proved is = loads_page c p s k y d back choice page is
-  by_stage (Claims claim) proved is = claims claim claim.stage is
-  by_stage (EndGate traced) proved is = loads_gate_again c p s k y d back traced is
-  by_stage (EndArea traced) proved is = loads_area c p s k y d back traced is
-  by_stage (EndPage look page) proved is = loads_page_again c p s k y d back look page is
-  by_stage (EndFilling look) proved is = loads_filling c p s k y d back look is
-  by_stage (EndAreaAgain look filling) proved is = absurd proved
-  by_stage (Traces traced) proved is = exchanges_traced c p s k y d back traced is
-  by_stage (Ended result) proved is = λ q asked. absurd (let none = asked in cc)
+  by_stage : (stage : DutyStage) → Is c k (at c p s k y d back stage) → StepsSo c p s k (at c p s k y d back stage)
+  by_stage LoadsGate is = loads_gate c p s k y d back is
+  by_stage (LoadsTraced hindrance) is = loads_traced c p s k y d back hindrance is
+  by_stage (LoadsWanted found page) is = loads_wanted c p s k y d back found page is
+  by_stage (LoadsFrontFor found w) is = loads_front_for c p s k y d back found w is
+  by_stage (LoadsFront found) is = loads_front c p s k y d back found is
+  by_stage (LoadsPage choice page) is = loads_page c p s k y d back choice page is
+  by_stage (Claims claim) is = claims claim claim.stage is
+  by_stage (EndGate traced) is = loads_gate_again c p s k y d back traced is
+  by_stage (EndArea traced) is = loads_area c p s k y d back traced is
+  by_stage (EndPage look page) is = loads_page_again c p s k y d back look page is
+  by_stage (EndFilling look) is = loads_filling c p s k y d back look is
+  by_stage (EndAreaAgain look filling) is = loads_area_again c p s k y d back look filling is
+  by_stage (Traces traced) is = exchanges_traced c p s k y d back traced is
+  by_stage (Ended result) is = λ q asked. absurd (let none = asked in cc)
 
-  pub serves : IsRoundProved d.stage → Is c k (at_stage y (Serves d back)) → StepsSo c p s k (at_stage y (Serves d back))
-  serves proved is = by_stage d.stage proved is
+  pub serves : Is c k (at_stage y (Serves d back)) → StepsSo c p s k (at_stage y (Serves d back))
+  serves is = by_stage d.stage is
