@@ -1,7 +1,7 @@
 -- The spaces of a configuration, by its number of pages.
-use Rattle.std.proofs.Common.{◌≡◌, ℕ, ◌+◌, ◌*◌}
+use Rattle.std.proofs.Common.{◌≡◌, ◌*◌}
 use Rattle.space_map.specs.Spaces.{to_space, space_start}
-use Rattle.heap_state.specs.Configuration.{Configuration, era, table}
+use Rattle.heap_state.specs.Configuration.{Configuration, era}
 use Rattle.heap_state.specs.Era.{from_space}
 use Rattle.heap_state.specs.Table.{table_of}
 

@@ -1,15 +1,10 @@
 -- What a worker keeps of itself, from one stage to the next.
-use Rattle.std.proofs.Common.{◌≡◌, ℕ, ◌<◌, ◌≤◌, ◌+◌, ◌^◌, true, false, Option, Some, None, is_some, refl, sym, ap, subst, arith}
+use Rattle.std.proofs.Common.{ℕ, ◌<◌, ◌^◌, is_some, refl, sym, subst}
 use Rattle.space_map.specs.Spaces.{IsPageCount}
-use Rattle.alloc_end.specs.Place as place
-use Rattle.alloc_end.specs.Soundness.{IsRun}
 use Rattle.gate_core.specs.declared.passage.Passage.{Passage}
-use Rattle.gate_core.specs.Gate as gate
-use Rattle.record_layout.specs.declared.header.Header.{Header}
 use Rattle.gc_worker.specs.declared.after.After.{After}
 use Rattle.gc_worker.specs.declared.stage.Stage.{Stage}
-use Rattle.gc_worker.specs.declared.stage.Stage.TheVariants.{Passes}
-use Rattle.gc_worker.specs.Fits.{Fits, FitsStage, FitsEnd, IsOwnPassage, IsEndBefore, FitsGate}
+use Rattle.gc_worker.specs.Fits.{Fits, FitsStage, FitsEnd, IsOwnPassage, IsEndBefore}
 use Rattle.gc_worker.specs.Held.{Held, at_stage}
 use Rattle.gc_worker.specs.Turned.{passes, in_epoch}
 

@@ -1,5 +1,5 @@
 -- What a worker forgets.
-use Rattle.std.proofs.Common.{◌≡◌, None, Some, refl}
+use Rattle.std.proofs.Common.{None, refl}
 use Rattle.heap_state.specs.Worker.{Worker}
 use Rattle.heap_laws.specs.Composing.{IsAtMost, SameScan}
 

@@ -1,19 +1,18 @@
 -- Where a mutator goes on that stopped, or that made a round: to the proofs of the heap it is one that looks at the gate.
-use Rattle.std.proofs.Common.{◌≡◌, ℕ, ◌+◌, ◌<◌, ◌≤◌, ◌^◌, Bool, true, false, cond, Option, Some, None, is_some, refl, sym, ap, subst, arith, nat_le}
+use Rattle.std.proofs.Common.{◌≡◌, ℕ, ◌+◌, Bool, true, false, cond, Option, Some, None, is_some, refl, sym, subst, arith, nat_le}
 use Rattle.std.proofs.lemmas.Bool.{leb-true}
 use Rattle.alloc_end.specs.declared.place_stage.PlaceStage.{PlaceStage}
 use Rattle.alloc_end.specs.declared.place_stage.PlaceStage.TheVariants.{LoadsTraced, StoresHeader}
 use Rattle.alloc_end.specs.declared.run.Run.{Run}
 use Rattle.alloc_end.specs.Place as place
 use Rattle.alloc_end.specs.Soundness.{IsRun, FitsPlaceStage}
-use Rattle.heap_state.specs.Worker.{Worker, Stock}
 use Rattle.record_layout.specs.declared.header.Header.{Header}
 use Rattle.gc_worker.specs.declared.after.After.{After}
 use Rattle.gc_worker.specs.declared.after.After.TheVariants as afters
 use Rattle.gc_worker.specs.declared.stage.Stage.TheVariants.{Looks, Places}
 use Rattle.gc_worker.specs.Fits.{Fits, FitsRun}
 use Rattle.gc_worker.specs.Held.{Held, at_stage, header_for, run_of, run_in}
-use Rattle.gc_worker.specs.Knows.{knows, known_at, stock_at, own_stock, traced_at}
+use Rattle.gc_worker.specs.Knows.{knows, known_at, stock_at, own_stock}
 use Rattle.gc_worker.specs.Turned.{places, goes_on}
 use Rattle.gc_worker.proofs.Fitting.{refit, page_count}
 

@@ -1,5 +1,5 @@
 -- A late mutator's register that is being forwarded leads into the old space.
-use Rattle.std.proofs.Common.{◌≡◌, ℕ, ◌+◌, ◌*◌, ◌%◌, ◌<◌, ◌≤◌, ◌==◌, ◌&&◌, Bool, true, false, length, Some, refl, sym, ap, subst, ◌∙◌, arith}
+use Rattle.std.proofs.Common.{◌≡◌, ℕ, ◌+◌, true, sym, ap, subst, ◌∙◌, arith}
 use Rattle.std.proofs.lemmas.Bool.{eqb-true}
 use Rattle.plain_state.specs.State.{Plain}
 use Rattle.atom_store.specs.declared.step.Step.TheVariants.{Load}
@@ -11,8 +11,8 @@ use Rattle.gc_worker.specs.declared.forwarding_register.ForwardingRegister.{Forw
 use Rattle.gc_worker.specs.declared.stage.Stage.TheVariants.{Forwards}
 use Rattle.gc_worker.specs.Goes.{Is}
 use Rattle.gc_worker.specs.Held.{Held, at_stage}
-use Rattle.gc_worker.specs.Knows.{knows, quest_for}
-use Rattle.gc_worker.specs.Law.{Heap, read, held_at, WorkersStand, RegistersLeadBack}
+use Rattle.gc_worker.specs.Knows.{quest_for}
+use Rattle.gc_worker.specs.Law.{Heap, read, WorkersStand, RegistersLeadBack}
 use Rattle.gc_worker.proofs.Eras.{old_start_is, old_span_is}
 use Rattle.gc_worker.proofs.Whole.{is}
 

@@ -1,5 +1,5 @@
 -- The place of a worker's step is one of the table, by its own soundness alone.
-use Rattle.std.proofs.Common.{◌≡◌, ℕ, ◌+◌, ◌*◌, ◌/◌, ◌%◌, ◌<◌, ◌≤◌, Bool, true, false, cond, Option, Some, None, refl, sym, ap, subst, ◌∙◌, arith}
+use Rattle.std.proofs.Common.{◌≡◌, ℕ, ◌+◌, ◌*◌, ◌<◌, ◌≤◌, Bool, true, false, cond, Option, Some, None, refl, sym, ap, subst, ◌∙◌, arith}
 use Rattle.std.proofs.lemmas.Option.{same_Some}
 use Rattle.atom_store.specs.declared.step.Step.{Step}
 use Rattle.atom_store.specs.Step.{place_in}
@@ -103,7 +103,6 @@ scan_place l page epoch (scan_stage.Ended ending) fits = nowhere l.pages
 pub open_place : (o : open_page.Opening) (stage : OpenStage) → slots_sound.IsSoundOpening o → InTable o.layout.pages (open_page.wanted_at o stage)
 open_place o open_stage.StoresOpen sound = at_row o.layout.pages (Page o.page) _ refl sound.page
 open_place o (open_stage.Ended result) sound = nowhere o.layout.pages
-
 
 allocation_place : (z : place.Placing) (stage : PlaceStage) → place_sound.FitsPlaceStage z.layout.pages (place.pages_for (place.size_of z.header)) z.run z.header stage → place_sound.IsRun z.layout.pages z.run
     → InTable z.layout.pages (place.wanted_at z stage)

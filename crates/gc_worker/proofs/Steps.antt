@@ -1,6 +1,6 @@
 -- From rows of the table to the words of a step, once for each sort of step; and the laws of the heap for steps that are none of the
 -- plain machine. No kind speaks of places.
-use Rattle.std.proofs.Common.{◌≡◌, ◌≢◌, ℕ, ◌+◌, ◌*◌, ◌<◌, ◌==◌, true, false, refl, length, Option, None, Some, subst, slice_index, arith, sym, ◌∙◌, ⊎_elim}
+use Rattle.std.proofs.Common.{◌≡◌, ◌≢◌, ℕ, ◌<◌, ◌==◌, true, false, refl, length, Option, None, Some, subst, slice_index, arith, sym, ◌∙◌, ⊎_elim}
 use Rattle.std.proofs.lemmas.Bool.{eq-eqb, ne_eqb, cases_eq}
 use Rattle.plain_state.specs.State.{Plain}
 use Rattle.atom_store.specs.declared.step.Step.TheVariants.{Load, Store, Exchange}
@@ -14,7 +14,6 @@ use Rattle.heap_state.specs.Ghost.{Ghost}
 use Rattle.heap_state.specs.Table.{word_in}
 use Rattle.heap_state.specs.Worker.{Worker}
 use Rattle.heap_laws.specs.Composing.{IsAtMost}
-use Rattle.heap_laws.specs.Lifting.{Leaves}
 use Rattle.heap_laws.specs.Steps.{Ready}
 use Rattle.heap_laws.specs.Steps as law
 use Rattle.heap_laws.proofs.Copying.Laws.{nothing_else_changes}

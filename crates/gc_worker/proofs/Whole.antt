@@ -1,13 +1,11 @@
 -- The law of a step, from the laws of the kinds.
-use Rattle.std.proofs.Common.{◌≡◌, ◌≢◌, ℕ, ◌+◌, ◌*◌, ◌<◌, ◌≤◌, List, length, set, get_or, Option, Some, None, refl, sym, ap, subst, ◌∙◌, arith, ⊎_elim, get_or-set_same, get_or-set_other, length-set}
+use Rattle.std.proofs.Common.{◌≡◌, ◌≢◌, ℕ, ◌<◌, ◌≤◌, length, set, get_or, Option, Some, None, refl, sym, ap, subst, ◌∙◌, arith, ⊎_elim, get_or-set_same, get_or-set_other, length-set}
 use Rattle.std.proofs.lemmas.Bool.{cases_eq}
 use Rattle.std.proofs.lemmas.List.{map-set, get_or-map, length-map}
 use Rattle.plain_state.specs.State.{Plain}
 use Rattle.atom_store.specs.declared.reply.Reply.{Reply}
 use Rattle.atom_store.specs.declared.step.Step.{Step}
 use Rattle.atom_store.specs.Step.{words_after, reply_of}
-use Rattle.space_map.specs.declared.gate_word.GateWord.{GateWord}
-use Rattle.space_map.specs.Spaces.{Layout}
 use Rattle.gate_core.specs.declared.flip_stage.FlipStage.{FlipStage}
 use Rattle.gate_core.specs.declared.flip_stage.FlipStage.TheVariants as flip_stage
 use Rattle.gate_core.specs.declared.gate_stage.GateStage.{GateStage}
@@ -20,17 +18,17 @@ use Rattle.heap_state.specs.Entries.{Entry, GateIs, TracedIs, AreaIs, PageIs, Cr
 use Rattle.heap_state.specs.Table.{table_of}
 use Rattle.space_map.specs.PageWord.{age_of}
 use Rattle.heap_state.specs.Ghost.{Ghost}
-use Rattle.heap_state.specs.Worker.{Worker, Scanner, fresh}
+use Rattle.heap_state.specs.Worker.{Scanner, fresh}
 use Rattle.heap_laws.specs.Lifting.{StandsWith, stepped, Leaves, Flipped}
 use Rattle.gc_worker.specs.declared.after.After.{After}
 use Rattle.gc_worker.specs.declared.stage.Stage.{Stage}
 use Rattle.gc_worker.specs.declared.stage.Stage.TheVariants.{Looks, Passes, Flips, Forwards, Accesses, Places, Serves, Scans, Evacuates, Opens, Gone}
 use Rattle.gc_worker.specs.declared.task.Task.{Task}
 use Rattle.gc_worker.specs.Fits.{Fits}
-use Rattle.gc_worker.specs.Goes.{Is, Goes, Leads, Steps, StepsSo, Wins}
+use Rattle.gc_worker.specs.Goes.{Is, Leads, Steps, StepsSo, Wins}
 use Rattle.gc_worker.specs.Held.{Held, at_stage}
 use Rattle.gc_worker.specs.Knows.{knows}
-use Rattle.gc_worker.specs.Law.{Heap, read, nobody, held_at, WorkersStand, moved, at_flip, age, IsOut, WinsOne, StepKeeps, StepsKeep}
+use Rattle.gc_worker.specs.Law.{Heap, read, nobody, held_at, WorkersStand, moved, at_flip, age, WinsOne, StepKeeps, StepsKeep}
 use Rattle.gc_worker.specs.Turned.{Told, Silent, Answers, Marks, PageWon, turned, told, won}
 use Rattle.gc_worker.specs.Wanted.{wanted}
 use Rattle.gc_worker.proofs.Gate.Exchanging.{exchanges_gate}

@@ -1,5 +1,5 @@
 -- The exchange of a flip is never lost.
-use Rattle.std.proofs.Common.{◌≡◌, ℕ, ◌<◌, ◌==◌, true, length, slice_index, Some, refl, sym, ap, subst, ◌∙◌}
+use Rattle.std.proofs.Common.{◌≡◌, ℕ, slice_index, Some, refl, sym, ap, subst, ◌∙◌}
 use Rattle.std.proofs.lemmas.Bool.{eq-eqb}
 use Rattle.std.proofs.lemmas.Option.{same_Some}
 use Rattle.plain_state.specs.State.{Plain}
@@ -16,7 +16,7 @@ use Rattle.heap_state.proofs.Table.Places.{word_in-row}
 use Rattle.gc_worker.specs.declared.stage.Stage.TheVariants.{Flips}
 use Rattle.gc_worker.specs.Goes.{Is}
 use Rattle.gc_worker.specs.Held.{Held, at_stage}
-use Rattle.gc_worker.specs.Law.{Heap, read, held_at, WorkersStand, FlipsAreWon}
+use Rattle.gc_worker.specs.Law.{Heap, read, WorkersStand, FlipsAreWon}
 use Rattle.gc_worker.specs.Wanted.{wanted}
 use Rattle.gc_worker.proofs.Flip.Flipping.{unmoved}
 use Rattle.gc_worker.proofs.Whole.{is}
@@ -34,7 +34,7 @@ module _ (h : Heap) (p o : Plain) (k : ℕ) (st : WorkersStand h p o) (r : Reset
       → reply_of (Exchange (place_of f.layout.pages Gate) (encode_gate r.gate) (encode_gate (gate_flipped r.gate))) h.words ≡ Won
   by_flip x f there =
       let same : record f { stage = Exchanges r } ≡ record { layout = x.layout; epoch = x.epoch; asked = f.asked; stage = Exchanges r } =
-          (λ i. record { layout = there.fits.stage.layout i; epoch = there.fits.stage.epoch i; asked = f.asked; stage = Exchanges r }) in
+      (λ i. record { layout = there.fits.stage.layout i; epoch = there.fits.stage.epoch i; asked = f.asked; stage = Exchanges r }) in
       subst (λ (g : Flipping). reply_of (Exchange (place_of g.layout.pages Gate) (encode_gate r.gate) (encode_gate (gate_flipped r.gate))) h.words ≡ Won) (sym same)
       (wins x f.asked (subst (λ (g : Flipping). Is (read h) k (at_stage x (Flips g))) same there))
 

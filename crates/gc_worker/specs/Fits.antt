@@ -1,17 +1,14 @@
 -- What a worker keeps of itself: each machine is sound, and its layout, its worker and its epoch are the worker's own.
-use Rattle.std.specs.Prelude.{◌≡◌, ℕ, ◌+◌, ◌*◌, ◌^◌, ◌<◌, ◌≤◌, ◌⊎◌, ⊤, Bool, true, false, length, Option, Some, None, is_some}
+use Rattle.std.specs.Prelude.{◌≡◌, ℕ, ◌+◌, ◌^◌, ◌<◌, ◌≤◌, ◌⊎◌, ⊤, Bool, true, false, length, Option, Some, None, is_some}
 use Rattle.atom_store.specs.declared.reply.Reply.{Reply}
-use Rattle.space_map.specs.Spaces.{Layout, IsPageCount, board_page, first_word, space_start, to_space}
+use Rattle.space_map.specs.Spaces.{IsPageCount, board_page, first_word, space_start, to_space}
 use Rattle.alloc_end.specs.declared.run.Run.{Run}
 use Rattle.alloc_end.specs.Place as place
 use Rattle.alloc_end.specs.Soundness.{IsRun, IsSoundPlacing}
 use Rattle.fault_duty.specs.declared.caller.Caller.{Caller}
 use Rattle.fault_duty.specs.declared.caller.Caller.TheVariants as callers
-use Rattle.fault_duty.specs.declared.duty_stage.DutyStage.{DutyStage}
-use Rattle.fault_duty.specs.declared.duty_stage.DutyStage.TheVariants as duty_stage
 use Rattle.fault_duty.specs.Duty as duty
 use Rattle.fault_duty.specs.Soundness.{IsSoundRound}
-use Rattle.forwarding.specs.declared.evac_stage.EvacStage.{EvacStage}
 use Rattle.forwarding.specs.Evacuation as evac
 use Rattle.forwarding.specs.Taken as evac_taken
 use Rattle.forwarding.specs.Soundness as evac_sound
@@ -28,7 +25,6 @@ use Rattle.page_scan.specs.Soundness as scan_sound
 use Rattle.page_slots.specs.Open as open_page
 use Rattle.page_slots.specs.Soundness.{IsSoundOpening}
 use Rattle.gc_worker.specs.declared.access.Access.{Access}
-use Rattle.gc_worker.specs.declared.after.After.{After}
 use Rattle.gc_worker.specs.declared.back.Back.{Back}
 use Rattle.gc_worker.specs.declared.back.Back.TheVariants.{ToAccess, ToPlace, ToScanner}
 use Rattle.gc_worker.specs.declared.forwarding_register.ForwardingRegister.{ForwardingRegister}
@@ -104,10 +100,11 @@ pub record FitsRound (x : Held) (d : duty.Round) (back : Back) : Type 0 where
   pub epoch : IsEpochOf x back d.epoch
   pub sound : IsSoundRound d
 
--- an access is of the worker's epoch; a scanner has no run
+-- an access is of the worker's epoch
 abbrev pub FitsAccess : Held → Access → Type 0
 FitsAccess x a = (a.spaces ≡ x.layout) × (a.epoch ≡ x.epoch)
 
+-- what it goes back to is its own; a scanner has no run
 abbrev pub FitsBack : Held → Back → Type 0
 FitsBack x (ToAccess a) = FitsAccess x a
 FitsBack x ToPlace = ⊤

@@ -4,9 +4,8 @@ use Rattle.plain_state.specs.State.{Plain}
 use Rattle.atom_store.specs.declared.reply.Reply.{Reply}
 use Rattle.atom_store.specs.declared.step.Step.{Step}
 use Rattle.atom_store.specs.Step.{place_in, words_after, reply_of}
-use Rattle.space_map.specs.declared.gate_word.GateWord.{GateWord}
 use Rattle.space_map.specs.PageWord.{age_of}
-use Rattle.heap_state.specs.Configuration.{Configuration, Stands, table, era, memory, team}
+use Rattle.heap_state.specs.Configuration.{Configuration, Stands, table, team}
 use Rattle.heap_state.specs.Entries.{Entry, GateIs}
 use Rattle.heap_state.specs.Ghost.{Ghost}
 use Rattle.heap_laws.specs.Lifting.{Leaves, Flipped, stepped}

@@ -1,6 +1,5 @@
 -- What the proofs of the heap know of a worker, component by component, each by cases on its stage.
-use Rattle.std.specs.Prelude.{ℕ, ◌+◌, ◌*◌, ◌/◌, ◌==◌, ◌||◌, Bool, true, false, Option, Some, None, nat_lt, slice_index, if◌then◌else◌}
-use Rattle.space_map.specs.declared.page_word.PageWord.{PageWord}
+use Rattle.std.specs.Prelude.{ℕ, ◌+◌, ◌/◌, ◌==◌, ◌||◌, Bool, true, false, Option, Some, None, nat_lt, slice_index, if◌then◌else◌}
 use Rattle.space_map.specs.Spaces.{Layout, page_of, first_word, board_page}
 use Rattle.alloc_end.specs.declared.place_stage.PlaceStage.{PlaceStage}
 use Rattle.alloc_end.specs.declared.place_stage.PlaceStage.TheVariants as place_stage
@@ -9,7 +8,6 @@ use Rattle.alloc_end.specs.declared.run.Run.{Run}
 use Rattle.alloc_end.specs.Place.{Placing, words_for}
 use Rattle.fault_duty.specs.declared.duty_stage.DutyStage.{DutyStage}
 use Rattle.fault_duty.specs.declared.duty_stage.DutyStage.TheVariants as duty_stage
-use Rattle.fault_duty.specs.declared.end_look.EndLook.{EndLook}
 use Rattle.fault_duty.specs.declared.page_state.PageState.{PageState}
 use Rattle.fault_duty.specs.declared.page_state.PageState.TheVariants as page_state
 use Rattle.fault_duty.specs.Duty as duty
@@ -25,8 +23,6 @@ use Rattle.gate_core.specs.declared.gate_stage.GateStage.{GateStage}
 use Rattle.gate_core.specs.declared.gate_stage.GateStage.TheVariants as gate_stage
 use Rattle.gate_core.specs.declared.passage.Passage as gate_passage
 use Rattle.gate_core.specs.declared.passage.Passage.TheVariants as passages
-use Rattle.gate_core.specs.Gate as gate
-use Rattle.gate_core.specs.Flip as flip
 use Rattle.page_scan.specs.declared.scan_stage.ScanStage.{ScanStage}
 use Rattle.page_scan.specs.declared.scan_stage.ScanStage.TheVariants as scan_stage
 use Rattle.page_scan.specs.declared.scanned_record.ScannedRecord.{ScannedRecord}
@@ -40,7 +36,6 @@ use Rattle.heap_laws.specs.Copying.{begun}
 use Rattle.heap_state.specs.Worker.{Worker, Post, Outside, Running, Stopped, Flipping, Passage, Enter, Park, Request, Forwarded, Resume, Leave, GateStep, Reset, Stock, Seen, Role, FieldRole, NumberRole, Origin, Register, Scanned, Quest, Copy, Scan, Round, Claim, Look, LastLook}
 use Rattle.heap_state.specs.Worker as workers
 use Rattle.heap_state.specs.Worker.{Access}
-use Rattle.gc_worker.specs.declared.access.Access as access
 use Rattle.gc_worker.specs.declared.access_stage.AccessStage.{AccessStage}
 use Rattle.gc_worker.specs.declared.access_stage.AccessStage.TheVariants.{LooksAtRecord, LoadsHeader, LooksAtField, LoadsField, StoresField, LooksAtBoard, LoadsBoard, StoresBoard, SwapsBoard}
 use Rattle.gc_worker.specs.declared.back.Back.{Back}

@@ -1,8 +1,8 @@
 -- The flip: the exchange of the gate, which is never lost.
-use Rattle.std.proofs.Common.{◌≡◌, ◌≢◌, ℕ, ◌+◌, ◌^◌, ◌<◌, true, Some, refl, ap, sym, subst, ◌∙◌, arith}
+use Rattle.std.proofs.Common.{◌≡◌, ℕ, ◌+◌, ◌^◌, ◌<◌, true, Some, refl, ap, sym, subst, ◌∙◌, arith}
 use Rattle.plain_state.specs.State.{Plain}
 use Rattle.atom_store.specs.declared.step.Step.TheVariants.{Exchange}
-use Rattle.atom_store.specs.declared.reply.Reply.TheVariants.{Won, Lost}
+use Rattle.atom_store.specs.declared.reply.Reply.TheVariants.{Won}
 use Rattle.space_map.specs.GateWord.{encode_gate}
 use Rattle.space_map.specs.Table.{Gate, place_of}
 use Rattle.space_map.proofs.GateWords.{encode_gate-gate_in}
@@ -10,7 +10,7 @@ use Rattle.gate_core.specs.declared.flip_stage.FlipStage.TheVariants.{Exchanges}
 use Rattle.gate_core.specs.declared.passage.Passage.TheVariants.{Resume}
 use Rattle.gate_core.specs.declared.reset.Reset as resets
 use Rattle.gate_core.specs.Flip.{gate_flipped}
-use Rattle.heap_state.specs.Configuration.{Configuration, Stands, table, era, memory, team}
+use Rattle.heap_state.specs.Configuration.{Configuration, Stands, era, memory, team}
 use Rattle.heap_state.specs.Entries.{GateIs}
 use Rattle.heap_state.specs.Worker.{Worker, Reset}
 use Rattle.heap_laws.specs.Flipping.Flip.{Flips, after_flip, flipped_gate, next_ghost}

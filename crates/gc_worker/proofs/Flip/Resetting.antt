@@ -1,5 +1,5 @@
 -- Before a flip: the gate must be still, the words in use are counted, and the other space's area is stored.
-use Rattle.std.proofs.Common.{◌≡◌, ℕ, ◌+◌, ◌-◌, ◌*◌, ◌^◌, ◌<◌, ◌≤◌, ◌==◌, ◌&&◌, Bool, true, false, cond, nat_eq, Option, Some, None, is_some, refl, ap, sym, subst, ◌∙◌, arith}
+use Rattle.std.proofs.Common.{◌≡◌, ℕ, ◌+◌, ◌*◌, ◌^◌, ◌<◌, ◌≤◌, ◌&&◌, Bool, true, false, cond, nat_eq, Some, None, refl, ap, sym, subst, ◌∙◌, arith}
 use Rattle.std.proofs.lemmas.Bool.Decides.{nat_tests}
 use Rattle.plain_state.specs.State.{Plain}
 use Rattle.atom_store.specs.declared.step.Step.TheVariants.{Load, Store}
@@ -8,33 +8,33 @@ use Rattle.space_map.specs.declared.area_word.AreaWord.{AreaWord}
 use Rattle.space_map.specs.declared.gate_word.GateWord.{GateWord}
 use Rattle.space_map.specs.AreaWord.{AreaFits, decode_area, encode_area}
 use Rattle.space_map.specs.GateWord.{decode_gate}
-use Rattle.space_map.specs.Spaces.{Layout, to_space}
+use Rattle.space_map.specs.Spaces.{to_space}
 use Rattle.space_map.specs.Table.{Gate, Area, place_of}
 use Rattle.gate_core.specs.declared.flip_stage.FlipStage.{FlipStage}
 use Rattle.gate_core.specs.declared.flip_stage.FlipStage.TheVariants.{LoadsGate, LoadsArea, StoresArea, Exchanges, Ended}
 use Rattle.gate_core.specs.declared.flipped.Flipped.TheVariants.{NotYet}
 use Rattle.gate_core.specs.declared.reset.Reset as resets
-use Rattle.gate_core.specs.Flip.{is_still, looked, read_area, used_in, area_reset, told_at, begun}
+use Rattle.gate_core.specs.Flip.{is_still, looked, read_area, used_in, area_reset, told_at}
 use Rattle.gate_core.specs.Soundness.{FitsFlipStage, MayFlip}
 use Rattle.heap_state.specs.Configuration.{Configuration, Stands, table, era, memory, team}
 use Rattle.heap_state.specs.Entries.{AreaIs}
 use Rattle.heap_state.specs.Era.{from_space}
-use Rattle.heap_state.specs.Worker.{Worker, Reset}
+use Rattle.heap_state.specs.Worker.{Worker}
 use Rattle.heap_laws.specs.Flipping.Reset.{resetting, whole_area}
 use Rattle.heap_laws.proofs.Flipping.Reset.{finds_still, reads_used, stores_area_word}
 use Rattle.heap_laws.proofs.Gate.Counts.{fits}
 use Rattle.heap_laws.proofs.Steps.Answers.{areas_are_read}
 use Rattle.gc_worker.specs.declared.stage.Stage.TheVariants.{Flips}
-use Rattle.gc_worker.specs.Fits.{Fits, FitsFlip}
+use Rattle.gc_worker.specs.Fits.{Fits}
 use Rattle.gc_worker.specs.Goes.{Is, Goes, StepsSo}
 use Rattle.gc_worker.specs.Held.{Held, at_stage}
-use Rattle.gc_worker.specs.Knows.{knows, known_at}
+use Rattle.gc_worker.specs.Knows.{knows}
 use Rattle.gc_worker.specs.Turned.{Silent, turned_flip, told_flip}
 use Rattle.gc_worker.proofs.Areas.{area_now, area_says, is_space}
-use Rattle.gc_worker.proofs.Eras.{old_span_is, span_is, start_is}
-use Rattle.gc_worker.proofs.Fitting.{refit, page_count}
+use Rattle.gc_worker.proofs.Eras.{old_span_is, span_is}
+use Rattle.gc_worker.proofs.Fitting.{refit}
 use Rattle.gc_worker.proofs.Gate.Words.{wants, gate_now, gate_says}
-use Rattle.gc_worker.proofs.Steps.{Law, becomes, loads, stores, row_fits, nothing, prepared}
+use Rattle.gc_worker.proofs.Steps.{Law, becomes, loads, stores, nothing, prepared}
 
 still_says : (g : GateWord) → is_still g ≡ true → (g.running ≡ 0) × (g.behind ≡ 0)
 still_says g is = by_running (nat_eq g.running 0) refl is

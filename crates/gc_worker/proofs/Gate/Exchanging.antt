@@ -1,5 +1,5 @@
 -- A passage of the gate is made by the exchange from the gate that was read.
-use Rattle.std.proofs.Common.{◌≡◌, ℕ, ◌+◌, ◌-◌, ◌^◌, ◌<◌, arith, Bool, true, false, Option, Some, None, is_some, refl, ap, sym, subst, ◌∙◌}
+use Rattle.std.proofs.Common.{◌≡◌, ℕ, ◌-◌, ◌^◌, ◌<◌, arith, Bool, true, Some, None, refl, ap, sym, subst, ◌∙◌}
 use Rattle.std.specs.Prelude.{nat_lt}
 use Rattle.plain_state.specs.State.{Plain}
 use Rattle.atom_store.specs.declared.step.Step.TheVariants.{Exchange}
@@ -21,7 +21,6 @@ use Rattle.heap_state.specs.Worker.{Worker, is_mutator}
 use Rattle.heap_state.specs.Worker as workers
 use Rattle.heap_laws.specs.Gate as laws
 use Rattle.heap_laws.proofs.Gate.Passages.{passes_gate}
-use Rattle.heap_laws.proofs.Steps.Answers.{passages_fit}
 use Rattle.gc_worker.specs.declared.after.After.{After}
 use Rattle.gc_worker.specs.declared.stage.Stage.TheVariants.{Passes, Flips, Looks, Gone}
 use Rattle.gc_worker.specs.Fits.{Fits}
@@ -33,7 +32,7 @@ use Rattle.gc_worker.proofs.Forgetting.{reads_are_forgotten}
 use Rattle.gc_worker.proofs.Fitting.{refit, come, before_passage, page_count}
 use Rattle.gc_worker.proofs.Going.{goes_on_known, goes_on_fits}
 use Rattle.gc_worker.proofs.Gate.Words.{wants, gate_now, gate_is}
-use Rattle.gc_worker.proofs.Steps.{Law, becomes, exchanges, nothing, less, prepared}
+use Rattle.gc_worker.proofs.Steps.{Law, becomes, exchanges, less, prepared}
 
 less_fits : (n : ℕ) → n < 2 ^ 8 → n - 1 < 2 ^ 8
 less_fits n l = omega (arith, l)

@@ -3,7 +3,6 @@ use Rattle.std.proofs.Common.{◌≡◌, ℕ, Bool, true, false, cond, Some, Non
 use Rattle.plain_state.specs.State.{Plain}
 use Rattle.atom_store.specs.declared.step.Step.TheVariants.{Load}
 use Rattle.atom_store.specs.declared.reply.Reply.TheVariants.{Value}
-use Rattle.space_map.specs.declared.gate_word.GateWord.{GateWord}
 use Rattle.space_map.specs.Table.{Gate, place_of}
 use Rattle.gate_core.specs.declared.passage.Passage.TheVariants.{Park}
 use Rattle.heap_state.specs.Configuration.{Configuration, Stands, table}
@@ -13,8 +12,8 @@ use Rattle.gc_worker.specs.Fits.{Fits}
 use Rattle.gc_worker.specs.Goes.{Is, Goes, StepsSo}
 use Rattle.gc_worker.specs.Held.{Held, at_stage}
 use Rattle.gc_worker.specs.Knows.{knows}
-use Rattle.gc_worker.specs.Turned.{passes, turned, turned_at, looked_by}
-use Rattle.gc_worker.proofs.Fitting.{refit, before_passage}
+use Rattle.gc_worker.specs.Turned.{passes, looked_by}
+use Rattle.gc_worker.proofs.Fitting.{before_passage}
 use Rattle.gc_worker.proofs.Gate.Words.{wants, gate_now, gate_says}
 use Rattle.gc_worker.proofs.Steps.{becomes, loads, nothing}
 

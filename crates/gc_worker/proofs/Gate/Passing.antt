@@ -1,12 +1,11 @@
 -- A passage of the gate begins with a load, which allows it or not.
-use Rattle.std.proofs.Common.{◌≡◌, ℕ, ◌+◌, ◌*◌, ◌<◌, ◌≤◌, ◌==◌, ◌&&◌, ◌⊎◌, Bool, true, false, cond, Option, Some, None, is_some, refl, ap, sym, subst, ◌∙◌, arith, ⊎_elim, slice_index}
+use Rattle.std.proofs.Common.{◌≡◌, ℕ, ◌+◌, ◌==◌, ◌&&◌, Bool, true, false, cond, Option, Some, None, is_some, refl, ap, sym, subst, ◌∙◌, arith}
 use Rattle.std.specs.Prelude.{not, nat_lt}
-use Rattle.std.proofs.lemmas.Bool.{true≢false, eqb-true}
+use Rattle.std.proofs.lemmas.Bool.{eqb-true}
 use Rattle.std.proofs.lemmas.Bool.Decides.{nat_tests}
 use Rattle.plain_state.specs.State.{Plain}
 use Rattle.atom_store.specs.declared.step.Step.TheVariants.{Load}
 use Rattle.atom_store.specs.declared.reply.Reply.TheVariants.{Value}
-use Rattle.heap_words.specs.Decoded.{decode}
 use Rattle.space_map.specs.declared.gate_word.GateWord.{GateWord}
 use Rattle.space_map.specs.GateWord.{decode_gate}
 use Rattle.space_map.specs.Spaces.{Layout}
@@ -16,7 +15,7 @@ use Rattle.gate_core.specs.declared.gate_stage.GateStage.TheVariants.{Loads, Exc
 use Rattle.gate_core.specs.declared.passage.Passage.{Passage}
 use Rattle.gate_core.specs.declared.passage.Passage.TheVariants.{Look, Attach, Park, Request, Resume, Forwarded, Leave}
 use Rattle.gate_core.specs.declared.passed.Passed.TheVariants.{NotYet}
-use Rattle.gate_core.specs.Gate.{Passing, allows, allowed, is_clear, told_at, looked}
+use Rattle.gate_core.specs.Gate.{allows, allowed, is_clear, told_at, looked}
 use Rattle.gate_core.specs.Soundness.{Counts, FitsGateStage, MayPass}
 use Rattle.heap_state.specs.Configuration.{Configuration, Stands, table, era, memory, team}
 use Rattle.heap_state.specs.Parts.Knowledge as parts
@@ -28,10 +27,10 @@ use Rattle.heap_laws.proofs.Steps.Answers.{passages_fit}
 use Rattle.heap_laws.proofs.Steps.Composites.{traced_is_forgotten}
 use Rattle.gc_worker.specs.declared.after.After.{After}
 use Rattle.gc_worker.specs.declared.stage.Stage.TheVariants.{Passes}
-use Rattle.gc_worker.specs.Fits.{Fits, IsOwnPassage, IsEndBefore}
+use Rattle.gc_worker.specs.Fits.{Fits}
 use Rattle.gc_worker.specs.Goes.{Is, Goes, StepsSo}
 use Rattle.gc_worker.specs.Held.{Held, at_stage, asked_by}
-use Rattle.gc_worker.specs.Knows.{knows, known_at}
+use Rattle.gc_worker.specs.Knows.{knows}
 use Rattle.gc_worker.specs.Turned.{passes, goes_on, forwards_from, epoch_in, turned_gate}
 use Rattle.gc_worker.proofs.Fitting.{refit, before_passage}
 use Rattle.gc_worker.proofs.Going.{goes_on_known, goes_on_fits}
@@ -86,7 +85,6 @@ module _ (c : Configuration) (p : Plain) (s : Stands c p) (k : ℕ) (y : Held) (
 
       abbrev answers : GateAnswers gate q
       answers = passages_fit (era c) (memory c) (team c) s.ghost k q (prepared c p s k x is) may_now
-
 
     -- the stage after the load
     abbrev after_load : Option GateWord → GateStage

@@ -1,20 +1,18 @@
 -- A stopped mutator meets the gate of a later epoch, and begins to forward its registers.
-use Rattle.std.proofs.Common.{◌≡◌, ℕ, ◌+◌, ◌*◌, ◌<◌, ◌≤◌, ◌==◌, ◌⊎◌, Bool, true, false, cond, List, slice_index, length, Option, Some, None, is_some, refl, ap, sym, subst, ◌∙◌, arith, ⊎_elim}
+use Rattle.std.proofs.Common.{◌≡◌, ℕ, ◌+◌, ◌*◌, ◌<◌, ◌≤◌, Bool, true, false, cond, slice_index, Option, Some, None, is_some, refl, ap, subst, ◌∙◌, arith, ⊎_elim}
 use Rattle.std.specs.Prelude.{nat_lt}
 use Rattle.std.proofs.lemmas.Bool.{ltb-true, eq-eqb}
 use Rattle.plain_state.specs.State.{Plain}
-use Rattle.heap_words.specs.Decoded.{PointerWord, decode}
-use Rattle.space_map.specs.Spaces.{IsPageCount}
+use Rattle.heap_words.specs.Decoded.{decode}
 use Rattle.forwarding.specs.Evacuation as evac
 use Rattle.gate_core.specs.declared.passage.Passage.TheVariants.{Resume, Forwarded}
 use Rattle.heap_state.specs.Configuration.{Configuration, Stands, era, memory, team}
 use Rattle.heap_state.specs.Worker.{Worker, Register, Quest, is_late}
 use Rattle.heap_laws.specs.Composites.{AsksAt, AllDone, AsksNext, LeadNowhere, come_to}
-use Rattle.heap_laws.specs.Steps.{Ready}
 use Rattle.heap_laws.proofs.Steps.Composites.{registers_are_passed}
 use Rattle.gc_worker.specs.declared.after.After.{After}
-use Rattle.gc_worker.specs.declared.stage.Stage.TheVariants.{Forwards, Passes}
-use Rattle.gc_worker.specs.Fits.{Fits, FitsRegister}
+use Rattle.gc_worker.specs.declared.stage.Stage.TheVariants.{Forwards}
+use Rattle.gc_worker.specs.Fits.{Fits}
 use Rattle.gc_worker.specs.Goes.{Is}
 use Rattle.gc_worker.specs.Held.{Held, at_stage}
 use Rattle.gc_worker.specs.Knows.{knows, known_at}

@@ -1,5 +1,5 @@
 -- A mutator that allocates reads the area, where it did not see the epoch traced: the pages fit, or a round of the duty is next.
-use Rattle.std.proofs.Common.{◌≡◌, ℕ, ◌+◌, ◌-◌, ◌*◌, ◌^◌, ◌<◌, ◌≤◌, Bool, true, false, cond, Option, Some, None, refl, ap, sym, subst, ◌∙◌, arith}
+use Rattle.std.proofs.Common.{◌≡◌, ℕ, ◌+◌, ◌-◌, Bool, true, false, cond, Some, None, refl, ap, sym, subst, ◌∙◌, arith}
 use Rattle.std.proofs.lemmas.Bool.{leb-true}
 use Rattle.plain_state.specs.State.{Plain}
 use Rattle.atom_store.specs.declared.step.Step.TheVariants.{Load}
@@ -13,7 +13,7 @@ use Rattle.alloc_end.specs.declared.allocated.Allocated.TheVariants.{Full}
 use Rattle.alloc_end.specs.declared.place_stage.PlaceStage.{PlaceStage}
 use Rattle.alloc_end.specs.declared.place_stage.PlaceStage.TheVariants.{LoadsArea, ExchangesArea, Ended}
 use Rattle.alloc_end.specs.declared.run.Run.{Run}
-use Rattle.alloc_end.specs.Place.{Placing, size_of, pages_for, words_for, looked_at_area, fits, shortage, told}
+use Rattle.alloc_end.specs.Place.{size_of, pages_for, words_for, looked_at_area, fits, shortage, told}
 use Rattle.alloc_end.specs.Soundness.{FitsPlaceStage}
 use Rattle.fault_duty.specs.declared.caller.Caller.TheVariants as callers
 use Rattle.fault_duty.specs.Duty as duty
@@ -24,13 +24,13 @@ use Rattle.gc_worker.specs.declared.stage.Stage.TheVariants.{Serves}
 use Rattle.gc_worker.specs.Fits.{Fits}
 use Rattle.gc_worker.specs.Goes.{Is, Goes, StepsSo}
 use Rattle.gc_worker.specs.Held.{Held, at_stage}
-use Rattle.gc_worker.specs.Knows.{knows, known_at}
-use Rattle.gc_worker.specs.Turned.{Told, Silent, turned_place, told_place}
+use Rattle.gc_worker.specs.Knows.{knows}
+use Rattle.gc_worker.specs.Turned.{Silent, turned_place, told_place}
 use Rattle.gc_worker.proofs.Areas.{area_now, area_says, is_space}
 use Rattle.gc_worker.proofs.Fitting.{refit, page_count}
 use Rattle.gc_worker.proofs.Gate.Words.{wants}
 use Rattle.gc_worker.proofs.Place.Claiming.{placing, at, replace}
-use Rattle.gc_worker.proofs.Steps.{Law, becomes, loads, nothing}
+use Rattle.gc_worker.proofs.Steps.{becomes, loads, nothing}
 
 module _ (c : Configuration) (p : Plain) (s : Stands c p) (k : ℕ) (y : Held) (run : Run) (header : Header) (is : Is c k (at c p s k y run header (LoadsArea false))) where
   abbrev x : Held

@@ -1,5 +1,5 @@
 -- A mutator claims pages for a record: TRACED is read, and the area is exchanged.
-use Rattle.std.proofs.Common.{◌≡◌, ℕ, ◌+◌, ◌-◌, ◌*◌, ◌/◌, ◌%◌, ◌^◌, ◌<◌, ◌≤◌, ◌==◌, Bool, true, false, cond, Option, Some, None, refl, ap, sym, subst, ◌∙◌, arith}
+use Rattle.std.proofs.Common.{◌≡◌, ℕ, ◌+◌, ◌-◌, ◌*◌, ◌<◌, ◌≤◌, ◌==◌, Bool, true, false, Some, None, refl, ap, sym, subst, ◌∙◌, arith}
 use Rattle.std.proofs.lemmas.Bool.{eqb-true}
 use Rattle.plain_state.specs.State.{Plain}
 use Rattle.atom_store.specs.declared.step.Step.TheVariants.{Load, Exchange}
@@ -32,7 +32,7 @@ use Rattle.gc_worker.specs.declared.stage.Stage.TheVariants.{Places}
 use Rattle.gc_worker.specs.Fits.{Fits}
 use Rattle.gc_worker.specs.Goes.{Is, Goes, StepsSo}
 use Rattle.gc_worker.specs.Held.{Held, at_stage}
-use Rattle.gc_worker.specs.Knows.{knows, known_at, zeroed_to}
+use Rattle.gc_worker.specs.Knows.{knows, zeroed_to}
 use Rattle.gc_worker.proofs.Areas.{area_now, area_is, is_space}
 use Rattle.gc_worker.proofs.Eras.{start_is, board_is, span_is}
 use Rattle.gc_worker.proofs.Fitting.{refit}
@@ -121,7 +121,7 @@ module _ (c : Configuration) (p : Plain) (s : Stands c p) (k : ℕ) (y : Held) (
       stock_is : claimed y.epoch (era c).start f.area asked ≡ zeroed_to (placing (ExchangesArea f)) (record { first = first_claimed (placing (ExchangesArea f)) f; next = first_claimed (placing (ExchangesArea f)) f })
       stock_is =
           let start : (era c).start ≡ space_start y.layout.pages space =
-              start_is c ∙ (ap (λ (n : ℕ). space_start n (to_space (era c).epoch)) (sym is.fits.pages) ∙ ap (space_start y.layout.pages) same_space) in
+          start_is c ∙ (ap (λ (n : ℕ). space_start n (to_space (era c).epoch)) (sym is.fits.pages) ∙ ap (space_start y.layout.pages) same_space) in
           let first : (era c).start + (f.area.low - 64 * asked) ≡ first_claimed (placing (ExchangesArea f)) f = ap (λ (n : ℕ). n + (f.area.low - 64 * asked)) start in
           let end : (era c).start + f.area.low ≡ first_claimed (placing (ExchangesArea f)) f + words_for header = omega (arith, start, room.kept) in
           λ i. record { epoch = y.epoch; at = first i; end = end i; zeroed = first i; opened = first i }
@@ -143,7 +143,7 @@ module _ (c : Configuration) (p : Plain) (s : Stands c p) (k : ℕ) (y : Held) (
           let seen : ((team c).worker k).traced_seen ≡ f.traced = ap (λ (v : Worker). v.traced_seen) is.as_known in
           let ready = prepared c p s k x is in
           let has = subst (λ (b : Bool). room_laws.HasRoom (era c) (memory c) f.area asked (owed_beside b f.area)) seen
-              (room_is_seen (era c) (memory c) (team c) s.ghost k asked f.area ready (subst (λ (b : Bool). SeesRoom b f.area asked) (sym seen) sees)) in
+          (room_is_seen (era c) (memory c) (team c) s.ghost k asked f.area ready (subst (λ (b : Bool). SeesRoom b f.area asked) (sym seen) sees)) in
           subst (λ (v : Worker). Law c p s k x (Some (AreaIs (to_space (era c).epoch) word)) (stocked v (claimed v.epoch (era c).start f.area asked)) s.ghost) is.as_known
           (claims_pages (era c) (memory c) (team c) s.ghost k asked (owed_beside f.traced f.area) f.area ready (rw is.as_known refl) is_now has)
 

@@ -1,33 +1,28 @@
 -- The words of the pages that were claimed are cleared.
-use Rattle.std.proofs.Common.{◌≡◌, ℕ, ◌+◌, ◌-◌, ◌*◌, ◌/◌, ◌%◌, ◌<◌, ◌≤◌, Bool, true, false, cond, Option, Some, None, refl, ap, sym, subst, ◌∙◌, arith}
+use Rattle.std.proofs.Common.{◌≡◌, ℕ, ◌+◌, ◌%◌, Bool, true, false, cond, Some, refl, ap, sym, subst, ◌∙◌, arith}
 use Rattle.std.specs.Prelude.{nat_lt}
 use Rattle.std.proofs.lemmas.Bool.{ltb-true, ltb-false}
 use Rattle.plain_state.specs.State.{Plain}
 use Rattle.atom_store.specs.declared.step.Step.TheVariants.{Store}
 use Rattle.atom_store.specs.declared.reply.Reply.TheVariants.{Done}
 use Rattle.record_layout.specs.declared.header.Header.{Header}
-use Rattle.space_map.specs.declared.page_word.PageWord.TheVariants.{Open}
-use Rattle.space_map.specs.PageWord.{encode_page}
 use Rattle.space_map.specs.Spaces.{page_of, first_word}
-use Rattle.space_map.specs.Table.{Page, HeapWord, place_of}
+use Rattle.space_map.specs.Table.{HeapWord, place_of}
 use Rattle.alloc_end.specs.declared.new_pages.NewPages.{NewPages}
 use Rattle.alloc_end.specs.declared.place_stage.PlaceStage.{PlaceStage}
-use Rattle.alloc_end.specs.declared.place_stage.PlaceStage.TheVariants.{StoresZero, OpensPage, StoresHeader}
+use Rattle.alloc_end.specs.declared.place_stage.PlaceStage.TheVariants.{StoresZero, OpensPage}
 use Rattle.alloc_end.specs.declared.run.Run.{Run}
-use Rattle.alloc_end.specs.Place.{Placing, size_of, pages_for, words_for, cleared, opened, told}
-use Rattle.alloc_end.specs.Soundness.{FitsPlaceStage, IsSoundPlacing}
+use Rattle.alloc_end.specs.Place.{size_of, pages_for, words_for, told}
+use Rattle.alloc_end.specs.Soundness.{FitsPlaceStage}
 use Rattle.heap_state.specs.Configuration.{Configuration, Stands, era, memory, team}
-use Rattle.heap_state.specs.Entries.{Entry, WordIs, PageIs}
+use Rattle.heap_state.specs.Entries.{WordIs}
 use Rattle.heap_state.specs.Worker.{Worker, Stock}
-use Rattle.heap_laws.specs.Allocation.Stocks.{stocked, zeroed_further, opened_further}
-use Rattle.heap_laws.proofs.Allocation.Laws.{zeroes_words, opens_pages}
-use Rattle.gc_worker.specs.declared.stage.Stage.TheVariants.{Places}
-use Rattle.gc_worker.specs.Fits.{Fits}
+use Rattle.heap_laws.specs.Allocation.Stocks.{stocked, zeroed_further}
+use Rattle.heap_laws.proofs.Allocation.Laws.{zeroes_words}
 use Rattle.gc_worker.specs.Goes.{Is, Goes, StepsSo}
-use Rattle.gc_worker.specs.Held.{Held, at_stage}
-use Rattle.gc_worker.specs.Knows.{knows, known_at, zeroed_to, opened_to, stock_of}
+use Rattle.gc_worker.specs.Held.{Held}
+use Rattle.gc_worker.specs.Knows.{knows, zeroed_to}
 use Rattle.gc_worker.specs.Turned.{Told, Silent, turned_place, told_place}
-use Rattle.gc_worker.proofs.Fitting.{refit}
 use Rattle.gc_worker.proofs.Gate.Words.{wants}
 use Rattle.gc_worker.proofs.Place.Claiming.{placing, at, replace, now}
 use Rattle.gc_worker.proofs.Steps.{Law, becomes, stores, row_fits, prepared}

@@ -45,6 +45,6 @@ module _ (c : Configuration) (p : Plain) (s : Stands c p) (k : ℕ) (x : Held) w
   pub places : (z : Placing) → Is c k (at_stage x (Places z)) → StepsSo c p s k (at_stage x (Places z))
   places z is =
       let same : z ≡ record { layout = x.layout; run = z.run; header = z.header; epoch = x.epoch; stage = z.stage } =
-          (λ i. record { layout = is.fits.stage.layout i; run = z.run; header = z.header; epoch = is.fits.stage.epoch i; stage = z.stage }) in
+      (λ i. record { layout = is.fits.stage.layout i; run = z.run; header = z.header; epoch = is.fits.stage.epoch i; stage = z.stage }) in
       subst (λ (y : Placing). StepsSo c p s k (at_stage x (Places y))) (sym same)
       (own z.run z.header z.stage (subst (λ (y : Placing). Is c k (at_stage x (Places y))) same is))

@@ -1,5 +1,5 @@
 -- A mutator that allocates reads the area, where it saw the epoch traced: the pages fit, or it requests a flip, if that can help.
-use Rattle.std.proofs.Common.{◌≡◌, ℕ, ◌+◌, ◌-◌, ◌*◌, ◌^◌, ◌<◌, ◌≤◌, ◌==◌, Bool, true, false, cond, Option, Some, None, refl, ap, sym, subst, ◌∙◌, arith}
+use Rattle.std.proofs.Common.{◌≡◌, ℕ, ◌+◌, ◌-◌, ◌^◌, ◌==◌, Bool, true, false, cond, Some, None, refl, ap, sym, subst, ◌∙◌, arith}
 use Rattle.std.proofs.lemmas.Bool.{leb-true, eqb-false, or_parts}
 use Rattle.std.specs.Prelude.{nat_lt}
 use Rattle.plain_state.specs.State.{Plain}
@@ -14,7 +14,7 @@ use Rattle.alloc_end.specs.declared.allocated.Allocated.TheVariants.{Full}
 use Rattle.alloc_end.specs.declared.place_stage.PlaceStage.{PlaceStage}
 use Rattle.alloc_end.specs.declared.place_stage.PlaceStage.TheVariants.{LoadsArea, ExchangesArea, Ended}
 use Rattle.alloc_end.specs.declared.run.Run.{Run}
-use Rattle.alloc_end.specs.Place.{Placing, size_of, pages_for, words_for, looked_at_area, fits, shortage, told}
+use Rattle.alloc_end.specs.Place.{size_of, pages_for, words_for, looked_at_area, fits, shortage, told}
 use Rattle.alloc_end.specs.Soundness.{FitsPlaceStage}
 use Rattle.gate_core.specs.declared.passage.Passage.TheVariants.{Request}
 use Rattle.heap_state.specs.Configuration.{Configuration, Stands, table}
@@ -23,13 +23,13 @@ use Rattle.gc_worker.specs.declared.after.After.TheVariants as afters
 use Rattle.gc_worker.specs.Fits.{Fits}
 use Rattle.gc_worker.specs.Goes.{Is, Goes, StepsSo}
 use Rattle.gc_worker.specs.Held.{Held, at_stage}
-use Rattle.gc_worker.specs.Knows.{knows, known_at}
-use Rattle.gc_worker.specs.Turned.{Told, Silent, is_full, passes, ended, end_of, told_end, turned_place, told_place}
+use Rattle.gc_worker.specs.Knows.{knows}
+use Rattle.gc_worker.specs.Turned.{Silent, is_full, passes, ended, end_of, told_end, turned_place, told_place}
 use Rattle.gc_worker.proofs.Areas.{area_now, area_says, is_space}
 use Rattle.gc_worker.proofs.Fitting.{before_passage}
 use Rattle.gc_worker.proofs.Gate.Words.{wants}
 use Rattle.gc_worker.proofs.Place.Claiming.{placing, at, replace}
-use Rattle.gc_worker.proofs.Steps.{Law, becomes, loads, nothing}
+use Rattle.gc_worker.proofs.Steps.{becomes, loads, nothing}
 
 module _ (c : Configuration) (p : Plain) (s : Stands c p) (k : ℕ) (y : Held) (run : Run) (header : Header) (is : Is c k (at c p s k y run header (LoadsArea true)))
     (helps : is_full y ≡ false) where

@@ -1,16 +1,14 @@
 -- A round begins: it loads the gate and TRACED.
-use Rattle.std.proofs.Common.{◌≡◌, ◌≢◌, ℕ, ◌+◌, ◌<◌, ◌≤◌, Bool, true, false, cond, nat_eq, Option, Some, None, is_some, refl, sym, ap, subst, ◌∙◌, arith}
+use Rattle.std.proofs.Common.{◌≡◌, ◌≢◌, ℕ, ◌+◌, Bool, true, false, cond, nat_eq, Option, Some, None, refl, sym, ap, subst, ◌∙◌, arith}
 use Rattle.std.specs.Prelude.{nat_lt}
 use Rattle.std.proofs.lemmas.Bool.Decides.{nat_tests}
 use Rattle.plain_state.specs.State.{Plain}
 use Rattle.atom_store.specs.declared.reply.Reply.TheVariants.{Value}
 use Rattle.space_map.specs.declared.gate_word.GateWord.{GateWord}
-use Rattle.space_map.specs.GateWord.{decode_gate}
 use Rattle.space_map.specs.Table.{Gate, Traced}
 use Rattle.fault_duty.specs.declared.caller.Caller.{Caller}
 use Rattle.fault_duty.specs.declared.caller.Caller.TheVariants.{Faulted, Allocates, Scans}
 use Rattle.fault_duty.specs.declared.findings.Findings.{Findings}
-use Rattle.fault_duty.specs.declared.duty_stage.DutyStage.{DutyStage}
 use Rattle.fault_duty.specs.declared.duty_stage.DutyStage.TheVariants.{LoadsGate, LoadsTraced, LoadsWanted, LoadsFront, Ended}
 use Rattle.fault_duty.specs.declared.round_end.RoundEnd.TheVariants.{AllLeft, NothingNow}
 use Rattle.fault_duty.specs.Duty as duty
@@ -18,7 +16,7 @@ use Rattle.fault_duty.specs.Duty.{Round}
 use Rattle.fault_duty.specs.Soundness as duty_sound
 use Rattle.fault_duty.specs.Soundness.{IsSoundRound, IsHindrance, Forbids, BehindGate, FitsDutyStage}
 use Rattle.heap_state.specs.Configuration.{Configuration, Stands, table, era, memory, team}
-use Rattle.heap_state.specs.Worker.{Worker, Scanner, is_mutator}
+use Rattle.heap_state.specs.Worker.{Worker, is_mutator}
 use Rattle.heap_laws.specs.Gate as gate_laws
 use Rattle.heap_laws.specs.Tracing.{in_round}
 use Rattle.heap_laws.proofs.Gate.Scanner.{takes_epoch_of_gate}
@@ -26,14 +24,13 @@ use Rattle.heap_laws.proofs.Tracing.Looks.{reads_traced}
 use Rattle.gc_worker.specs.declared.back.Back.{Back}
 use Rattle.gc_worker.specs.declared.back.Back.TheVariants.{ToAccess, ToPlace, ToScanner}
 use Rattle.gc_worker.specs.declared.stage.Stage.TheVariants.{Serves, Gone}
-use Rattle.gc_worker.specs.Fits.{Fits, FitsRound, FitsBack, IsCallerOf}
 use Rattle.gc_worker.specs.Goes.{Is, Goes, StepsSo}
 use Rattle.gc_worker.specs.Held.{Held, at_stage}
-use Rattle.gc_worker.specs.Knows.{knows, known_at, own_stock, post_gone}
-use Rattle.gc_worker.specs.Turned.{turned, turned_round}
+use Rattle.gc_worker.specs.Knows.{knows, own_stock, post_gone}
+use Rattle.gc_worker.specs.Turned.{turned_round}
 use Rattle.gc_worker.proofs.Fitting.{refit}
 use Rattle.gc_worker.proofs.Gate.Words.{gate_now, gate_says}
-use Rattle.gc_worker.proofs.Rounds.Going.{round, at, sound_at, fits_at, goes_on, ends, loads_it}
+use Rattle.gc_worker.proofs.Rounds.Going.{round, at, sound_at, goes_on, ends, loads_it}
 use Rattle.gc_worker.proofs.Rounds.Words.{traced_now, traced_word}
 use Rattle.gc_worker.proofs.Steps.{Law, becomes, nothing, prepared}
 

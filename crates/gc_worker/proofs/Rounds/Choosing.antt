@@ -1,5 +1,5 @@
 -- A round chooses a page: the board, or a full one.
-use Rattle.std.proofs.Common.{◌≡◌, ◌≢◌, ℕ, ◌+◌, ◌*◌, ◌/◌, ◌%◌, ◌<◌, ◌≤◌, ◌⊎◌, inl, inr, Bool, true, false, cond, nat_eq, nat_le, Option, Some, None, refl, sym, ap, subst, ◌∙◌, arith, ⊎_elim}
+use Rattle.std.proofs.Common.{◌≡◌, ◌≢◌, ℕ, ◌+◌, ◌*◌, ◌/◌, ◌%◌, ◌<◌, ◌≤◌, ◌⊎◌, inl, inr, Bool, true, false, cond, nat_eq, Option, Some, None, refl, sym, ap, subst, ◌∙◌, arith}
 use Rattle.std.proofs.lemmas.Bool.{cases_eq}
 use Rattle.std.proofs.lemmas.Bool.Decides.{nat_tests}
 use Rattle.std.proofs.Math.Nat.{mul-le-mul_left}
@@ -7,9 +7,8 @@ use Rattle.plain_state.specs.State.{Plain}
 use Rattle.atom_store.specs.declared.reply.Reply.TheVariants.{Value}
 use Rattle.space_map.specs.declared.area_word.AreaWord.{AreaWord}
 use Rattle.space_map.specs.declared.page_word.PageWord.{PageWord}
-use Rattle.space_map.specs.declared.page_word.PageWord.TheVariants.{Scanning}
-use Rattle.space_map.specs.PageWord.{PageFits, decode_page}
-use Rattle.space_map.specs.Spaces.{IsPageCount, board_page, first_word, to_space, space_start}
+use Rattle.space_map.specs.PageWord.{decode_page}
+use Rattle.space_map.specs.Spaces.{IsPageCount, board_page, to_space, space_start}
 use Rattle.space_map.specs.Table.{Area, Page}
 use Rattle.space_map.proofs.PageWords.{PageFits-decode_page}
 use Rattle.fault_duty.specs.declared.findings.Findings.{Findings}
@@ -17,8 +16,7 @@ use Rattle.fault_duty.specs.declared.choice.Choice.{Choice}
 use Rattle.fault_duty.specs.declared.page_state.PageState.{PageState}
 use Rattle.fault_duty.specs.declared.page_state.PageState.TheVariants.{Opened, Scanned, Waits, Past}
 use Rattle.fault_duty.specs.declared.duty_stage.DutyStage.{DutyStage}
-use Rattle.fault_duty.specs.declared.duty_stage.DutyStage.TheVariants.{LoadsFront, LoadsPage, Claims, EndGate, Ended}
-use Rattle.fault_duty.specs.declared.round_end.RoundEnd.TheVariants.{NothingNow}
+use Rattle.fault_duty.specs.declared.duty_stage.DutyStage.TheVariants.{LoadsFront, LoadsPage, EndGate}
 use Rattle.fault_duty.specs.Duty as duty
 use Rattle.fault_duty.specs.Duty.{Round}
 use Rattle.fault_duty.specs.Soundness as duty_sound
@@ -185,8 +183,10 @@ module _ (c : Configuration) (p : Plain) (s : Stands c p) (k : ℕ) (y : Held) (
             let to = to_start-to_page rd in
             let low = is_choice.in_space other in
             let full = is_choice.full other in
-            inr (omega (arith, start, to, low),
-            inr (record { traced = choice.seen.traced; front = Some choice.front }, choice.front, ap (λ (v : Worker). v.round) is.as_known, refl, omega (arith, full)))
+            inr (
+              omega (arith, start, to, low),
+              inr (record { traced = choice.seen.traced; front = Some choice.front }, choice.front, ap (λ (v : Worker). v.round) is.as_known, refl, omega (arith, full)),
+            )
 
     -- what it has found after this page: whether this one forbids to end the tracing
     module _ (now : Findings) (same : now.traced ≡ choice.seen.traced) (fits : duty_sound.Fits d.epoch now) where
@@ -212,9 +212,11 @@ module _ (c : Configuration) (p : Plain) (s : Stands c p) (k : ℕ) (y : Held) (
           → duty.taken_at rd (LoadsPage choice page) (Value loaded)
           ≡ round c p s k y d back (cond b (LoadsPage then (duty.page_after rd page)) (duty.after_choice now now.hindrance)) → Goes c p s k None z (Value loaded)
       passed_by true full taken =
-          goes_on c p s k y d back (LoadsPage choice page) is None (Value loaded) (LoadsPage then (duty.page_after rd page)) s.ghost taken refl refl
-          (fits, at_another rd (LoadsPage then (duty.page_after rd page)) choice.front (duty.page_after rd page)
-          (next_choice rd choice.front page is.fits.stage.0.sound.pages is_choice full))
+          goes_on c p s k y d back (LoadsPage choice page) is None (Value loaded) (LoadsPage then (duty.page_after rd page)) s.ghost taken refl refl (
+            fits,
+            at_another rd (LoadsPage then (duty.page_after rd page)) choice.front (duty.page_after rd page)
+                (next_choice rd choice.front page is.fits.stage.0.sound.pages is_choice full),
+          )
           (nothing c p s k z is (knows (at c p s k y d back (LoadsPage then (duty.page_after rd page)))) same_round)
       passed_by false full taken = after_by_hindrance now.hindrance taken
 

@@ -1,14 +1,13 @@
 -- The end of the area: the board and the full pages are found open, one by one.
-use Rattle.std.proofs.Common.{◌≡◌, ◌≢◌, ℕ, ◌+◌, ◌*◌, ◌/◌, ◌%◌, ◌<◌, ◌≤◌, ◌==◌, ◌||◌, ◌⊎◌, inl, inr, Bool, true, false, cond, Some, None, nat_eq, nat_lt, nat_le, refl, sym, ap, subst, ◌∙◌, arith, if◌then◌else◌, ⊎_elim}
+use Rattle.std.proofs.Common.{◌≡◌, ◌≢◌, ℕ, ◌+◌, ◌*◌, ◌%◌, ◌<◌, ◌≤◌, ◌==◌, ◌⊎◌, inl, inr, Bool, true, false, Some, None, nat_lt, refl, sym, ap, subst, ◌∙◌, arith, if◌then◌else◌, ⊎_elim}
 use Rattle.std.proofs.lemmas.Bool.{eq-eqb, ne_eqb, eqb-true, cases_eq, ltb-true}
 use Rattle.std.proofs.lemmas.Bool.Decides.{nat_tests}
 use Rattle.std.proofs.lemmas.Option.{same_Some}
 use Rattle.plain_state.specs.State.{Plain}
 use Rattle.atom_store.specs.declared.reply.Reply.TheVariants.{Value}
-use Rattle.space_map.specs.declared.page_word.PageWord.{PageWord}
 use Rattle.space_map.specs.declared.page_word.PageWord.TheVariants.{Open}
-use Rattle.space_map.specs.PageWord.{decode_page, encode_page, PageFits}
-use Rattle.space_map.specs.Spaces.{board_page, first_word, page_of, to_space, space_start}
+use Rattle.space_map.specs.PageWord.{decode_page, encode_page}
+use Rattle.space_map.specs.Spaces.{board_page, page_of}
 use Rattle.space_map.specs.Table.{Page}
 use Rattle.space_map.proofs.PageWords.{decode_page-encode_page}
 use Rattle.fault_duty.specs.declared.end_look.EndLook.{EndLook}
@@ -17,14 +16,13 @@ use Rattle.fault_duty.specs.declared.duty_stage.DutyStage.TheVariants.{EndPage, 
 use Rattle.fault_duty.specs.declared.round_end.RoundEnd.TheVariants.{NothingNow}
 use Rattle.fault_duty.specs.Duty as duty
 use Rattle.fault_duty.specs.Duty.{Round}
-use Rattle.fault_duty.specs.Soundness.{IsChoice, FitsFront, FitsDutyStage}
+use Rattle.fault_duty.specs.Soundness.{IsChoice, FitsFront}
 use Rattle.heap_state.specs.Configuration.{Configuration, Stands, table, era, memory, team}
 use Rattle.heap_state.specs.Worker.{Worker, Look}
 use Rattle.heap_laws.specs.Steps.{with_worker}
 use Rattle.heap_laws.specs.Steps as law
 use Rattle.heap_laws.specs.Tracing.{looking}
 use Rattle.heap_state.proofs.Puts.{put_same}
-use Rattle.heap_laws.proofs.Lifting.Configurations.{board_at}
 use Rattle.heap_laws.proofs.Steps.Composing.{steps_follow, steps_are_ready}
 use Rattle.heap_laws.proofs.Tracing.Looks.{looks_at_board, looks_at_page, looks_at_filling}
 use Rattle.gc_worker.specs.declared.back.Back.{Back}
@@ -79,16 +77,16 @@ module _ (c : Configuration) (p : Plain) (s : Stands c p) (k : ℕ) (y : Held) (
       at_board e =
           let q = eq-eqb page (board_page d.layout.pages) e in
           let t = subst (λ (w : Worker). Law c p s k x None (looking w (record before { board = true })) s.ghost) is.as_known
-              (looks_at_board (era c) (memory c) (team c) s.ghost k before (prepared c p s k x is) (record { looks = has_look })
-                  (ap (λ z. (table c).page z) (sym (board_now c p s k y d back (EndPage look page) is) ∙ sym e) ∙ open_now ∙ ap Open (sym of_worker))) in
+          (looks_at_board (era c) (memory c) (team c) s.ghost k before (prepared c p s k x is) (record { looks = has_look })
+          (ap (λ z. (table c).page z) (sym (board_now c p s k y d back (EndPage look page) is) ∙ sym e) ∙ open_now ∙ ap Open (sym of_worker))) in
           rw q (rw q at t)
 
       at_page : page ≢ board_page d.layout.pages → Law c p s k x None (looking (knows x) (after false)) s.ghost
       at_page n =
           let q = ne_eqb page (board_page d.layout.pages) n in
           let t = subst (λ (w : Worker). Law c p s k x None (looking w (record before { upto = page + 1 })) s.ghost) is.as_known
-              (looks_at_page (era c) (memory c) (team c) s.ghost k before page (prepared c p s k x is) (record { looks = has_look })
-                  (rw q (first_by (page == duty.to_page d) refl)) (open_now ∙ ap Open (sym of_worker))) in
+          (looks_at_page (era c) (memory c) (team c) s.ghost k before page (prepared c p s k x is) (record { looks = has_look })
+          (rw q (first_by (page == duty.to_page d) refl)) (open_now ∙ ap Open (sym of_worker))) in
           rw q (rw q at t)
         where
           first_by : (b : Bool) → (page == duty.to_page d) ≡ b → (page ≡ (if b then 0 else page)) ⊎ (64 * page ≡ duty.to_start d)
@@ -136,16 +134,16 @@ module _ (c : Configuration) (p : Plain) (s : Stands c p) (k : ℕ) (y : Held) (
   goes_next f e taken =
       let l : Law c p s k x None (knows (at c p s k y d back (EndPage look next))) s.ghost = rw (past_next f, upto_next f) (looked (is_open e)) in
       goes_on c p s k y d back (EndPage look page) is None (Value loaded) (EndPage look next) s.ghost taken refl refl
-          (is.fits.stage.0.sound.stage.0, at_another rd (EndPage look next) look.front next (next_choice rd look.front page is.fits.stage.0.sound.pages choice f)) l
+      (is.fits.stage.0.sound.stage.0, at_another rd (EndPage look next) look.front next (next_choice rd look.front page is.fits.stage.0.sound.pages choice f)) l
 
   -- ---- after the last page
 
   upto_end : duty.is_full look.front next ≡ false → upto_all d look.front ≡ seen_to
   upto_end f = ⊎_elim
       (λ (e : page ≡ board_page d.layout.pages). let m = next_is.0 e in let a = m.0 in let l = not_full f in let g = to_start-to_page d in
-          upto_none (nat_lt look.front (duty.to_start d + 64)) refl (omega (arith, a, l, g)) m.1)
+      upto_none (nat_lt look.front (duty.to_start d + 64)) refl (omega (arith, a, l, g)) m.1)
       (λ (n : page ≢ board_page d.layout.pages). let m = next_is.1 n in let a = m.0 in let b = m.1 in let l = not_full f in let g = to_start-to_page d in let low = choice.in_space n in let w = choice.full n in
-          upto_some (nat_lt look.front (duty.to_start d + 64)) refl (omega (arith, g, low, w)) (omega (arith, a, b, l, w)))
+      upto_some (nat_lt look.front (duty.to_start d + 64)) refl (omega (arith, g, low, w)) (omega (arith, a, b, l, w)))
       (cases_eq page (board_page d.layout.pages))
     where
       upto_none : (b : Bool) → nat_lt look.front (duty.to_start d + 64) ≡ b → look.front < duty.to_start d + 64 → seen_to ≡ 0 → (if b then 0 else page_of look.front) ≡ seen_to
@@ -164,7 +162,7 @@ module _ (c : Configuration) (p : Plain) (s : Stands c p) (k : ℕ) (y : Held) (
   goes_filling f e some taken =
       let l : Law c p s k x None (knows (at c p s k y d back (EndFilling look))) s.ghost = rw (upto_end f) (looked (is_open e)) in
       goes_on c p s k y d back (EndPage look page) is None (Value loaded) (EndFilling look) s.ghost taken refl refl
-          (is.fits.stage.0.sound.stage.0, fits_front (EndFilling look), some) l
+      (is.fits.stage.0.sound.stage.0, fits_front (EndFilling look), some) l
 
   -- there is no filling page
   looked_all : (table c).page page ≡ Open d.epoch → look.front % 64 ≡ 0 → Law c p s k x None (looking (knows x) (after true)) s.ghost
@@ -172,19 +170,19 @@ module _ (c : Configuration) (p : Plain) (s : Stands c p) (k : ℕ) (y : Held) (
       let first = looked open_now in
       let there : (with_worker (team c) k (looking (knows x) (after false))).worker k ≡ looking (knows x) (after false) = put_same (team c).worker k (looking (knows x) (after false)) in
       let second = looks_at_filling (era c) first.later (with_worker (team c) k (looking (knows x) (after false))) s.ghost k (after false)
-          (steps_are_ready (era c) (memory c) (team c) s.ghost k None (looking (knows x) (after false)) s.ghost (prepared c p s k x is) first)
-          (record { looks = ap (λ (w : Worker). w.look) there })
-          (λ q low high. absurd (omega (arith, low, high, none))) in
+      (steps_are_ready (era c) (memory c) (team c) s.ghost k None (looking (knows x) (after false)) s.ghost (prepared c p s k x is) first)
+      (record { looks = ap (λ (w : Worker). w.look) there })
+      (λ q low high. absurd (omega (arith, low, high, none))) in
       steps_follow (era c) (memory c) (team c) s.ghost k None (looking (knows x) (after false)) (looking (knows x) (after true)) s.ghost s.ghost first
-          (subst (λ (w : Worker). law.Steps (era c) first.later (with_worker (team c) k (looking (knows x) (after false))) s.ghost k None (looking w (after true)) s.ghost) there second)
+      (subst (λ (w : Worker). law.Steps (era c) first.later (with_worker (team c) k (looking (knows x) (after false))) s.ghost k None (looking w (after true)) s.ghost) there second)
 
   goes_again : duty.is_full look.front next ≡ false → loaded ≡ encode_page (Open d.epoch) → look.front % 64 ≡ 0
       → duty.taken_at rd (EndPage look page) (Value loaded) ≡ round c p s k y d back (EndAreaAgain look (Open d.epoch)) → Goes c p s k None x (Value loaded)
   goes_again f e none taken =
       let l : Law c p s k x None (knows (at c p s k y d back (EndAreaAgain look (Open d.epoch)))) s.ghost =
-          rw (upto_end f, eq-eqb d.epoch d.epoch refl) (looked_all (is_open e) none) in
+      rw (upto_end f, eq-eqb d.epoch d.epoch refl) (looked_all (is_open e) none) in
       goes_on c p s k y d back (EndPage look page) is None (Value loaded) (EndAreaAgain look (Open d.epoch)) s.ghost taken refl refl
-          (is.fits.stage.0.sound.stage.0, fits_front (EndAreaAgain look (Open d.epoch)), is.fits.stage.0.sound.epoch, (λ whole. rw (eq-eqb d.epoch d.epoch refl) refl)) l
+      (is.fits.stage.0.sound.stage.0, fits_front (EndAreaAgain look (Open d.epoch)), is.fits.stage.0.sound.epoch, (λ whole. rw (eq-eqb d.epoch d.epoch refl) refl)) l
 
   -- ---- all
 

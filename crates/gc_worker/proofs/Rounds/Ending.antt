@@ -1,11 +1,11 @@
 -- The end of the area: the gate, AREA, and the exchange of TRACED.
-use Rattle.std.proofs.Common.{◌≡◌, ◌≢◌, ℕ, ◌+◌, ◌*◌, ◌/◌, ◌%◌, ◌<◌, ◌≤◌, ◌==◌, ◌&&◌, Bool, true, false, cond, Some, None, nat_eq, nat_lt, refl, sym, ap, subst, ◌∙◌, arith, if◌then◌else◌}
+use Rattle.std.proofs.Common.{◌≡◌, ℕ, ◌+◌, ◌*◌, ◌≤◌, ◌==◌, ◌&&◌, Bool, true, false, cond, Some, None, nat_eq, nat_lt, refl, sym, ap, subst, ◌∙◌, arith, if◌then◌else◌}
 use Rattle.std.proofs.lemmas.Bool.{eq-eqb, eqb-true}
 use Rattle.plain_state.specs.State.{Plain}
 use Rattle.atom_store.specs.declared.step.Step.TheVariants.{Exchange}
 use Rattle.atom_store.specs.declared.reply.Reply.TheVariants.{Value, Won, Lost}
 use Rattle.space_map.specs.declared.gate_word.GateWord.{GateWord}
-use Rattle.space_map.specs.Spaces.{board_page, space_start, to_space, page_of, first_word}
+use Rattle.space_map.specs.Spaces.{board_page, to_space, page_of}
 use Rattle.space_map.specs.Table.{Gate, Traced, Area, Page, place_of}
 use Rattle.fault_duty.specs.declared.duty_stage.DutyStage.{DutyStage}
 use Rattle.fault_duty.specs.declared.duty_stage.DutyStage.TheVariants.{EndGate, EndArea, EndPage, EndFilling, EndAreaAgain, Traces, Ended}
@@ -13,10 +13,10 @@ use Rattle.fault_duty.specs.declared.round_end.RoundEnd.TheVariants.{NothingNow,
 use Rattle.fault_duty.specs.declared.end_look.EndLook.{EndLook}
 use Rattle.fault_duty.specs.declared.page_state.PageState.{PageState}
 use Rattle.fault_duty.specs.declared.page_state.PageState.TheVariants.{Opened, Scanned, Waits, Past}
-use Rattle.fault_duty.specs.Soundness.{FitsFront, FitsDutyStage}
+use Rattle.fault_duty.specs.Soundness.{FitsDutyStage}
 use Rattle.space_map.specs.declared.page_word.PageWord.{PageWord}
 use Rattle.space_map.specs.declared.page_word.PageWord.TheVariants.{Unset, Open, Scanning}
-use Rattle.space_map.specs.PageWord.{decode_page, PageFits}
+use Rattle.space_map.specs.PageWord.{decode_page}
 use Rattle.space_map.proofs.PageWords.{PageFits-decode_page}
 use Rattle.fault_duty.specs.Duty as duty
 use Rattle.fault_duty.specs.Duty.{Round}
@@ -25,7 +25,7 @@ use Rattle.heap_state.specs.Entries.{Entry, TracedIs}
 use Rattle.heap_state.specs.Worker.{Worker, Look, LastLook}
 use Rattle.heap_state.specs.Worker as workers
 use Rattle.heap_state.proofs.Table.LaidOut.{table_pages}
-use Rattle.heap_laws.specs.Composing.{IsAtMost, ends_round, SameScan}
+use Rattle.heap_laws.specs.Composing.{ends_round, SameScan}
 use Rattle.heap_laws.specs.Tracing.{first_look, looking, has_traced}
 use Rattle.heap_laws.proofs.Steps.Composing.{steps_forget}
 use Rattle.heap_laws.proofs.Tracing.Looks.{begins_look, looks_at_front, looks_at_filling}
@@ -72,17 +72,17 @@ module _ (c : Configuration) (p : Plain) (s : Stands c p) (k : ℕ) (y : Held) (
     wins same =
         let l : LastLook = record { traced = traced } in
         let t : Law c p s k x (Some (TracedIs (((team c).worker k).epoch + 1))) (has_traced ((team c).worker k)) s.ghost =
-            (tracing.traces (era c) (memory c) (team c) s.ghost k l (prepared c p s k x is) (record { looks = ap (λ (w : Worker). w.last_look) is.as_known; unchanged = traced_word c ∙ same })).steps in
+        (tracing.traces (era c) (memory c) (team c) s.ghost k l (prepared c p s k x is) (record { looks = ap (λ (w : Worker). w.last_look) is.as_known; unchanged = traced_word c ∙ same })).steps in
         let u : Law c p s k x (Some entry) (ends_round (knows x)) s.ghost =
-            subst (λ (w : Worker). Law c p s k x (Some (TracedIs (w.epoch + 1))) (has_traced w) s.ghost) is.as_known t in
+        subst (λ (w : Worker). Law c p s k x (Some (TracedIs (w.epoch + 1))) (has_traced w) s.ghost) is.as_known t in
         subst (λ (w : Worker). Law c p s k x (Some entry) w s.ghost) (sym (ended_known c p s k y d back (Traces traced) is refl (own_stock_same c p s k y d back (Traces traced) is))) u
 
     pub exchanges_traced : StepsSo c p s k x
     exchanges_traced =
         wants c p s k x (Exchange (place_of c.pages Traced) traced (d.epoch + 1)) (ap (λ n. Some (Exchange (place_of n Traced) traced (d.epoch + 1))) (same_pages c p s k y d back (Traces traced) is))
-            (exchanges c p s k x entry traced tt
-                (λ same. ends_with c p s k y d back (Traces traced) is (Some entry) Won Marked s.ghost refl refl refl (wins same))
-                (λ other. ends c p s k y d back (Traces traced) is (Lost (traced_now c)) (traced_now c) refl refl refl))
+        (exchanges c p s k x entry traced tt
+        (λ same. ends_with c p s k y d back (Traces traced) is (Some entry) Won Marked s.ghost refl refl refl (wins same))
+        (λ other. ends c p s k y d back (Traces traced) is (Lost (traced_now c)) (traced_now c) refl refl refl))
 
   -- ---- AREA
 
@@ -100,9 +100,9 @@ module _ (c : Configuration) (p : Plain) (s : Stands c p) (k : ℕ) (y : Held) (
     learnt =
         let l : Look = look_with d traced (duty.to_start d) false 0 false in
         let t : Law c p s k x2 None (looking (knows x2) (record l { front = front })) s.ghost =
-            subst (λ (w : Worker). Law c p s k x2 None (looking w (record l { front = front })) s.ghost) is.as_known
-            (looks_at_front (era c) (memory c) (team c) s.ghost k l front (prepared c p s k x2 is) (record { looks = ap (λ (w : Worker). w.look) is.as_known }) refl refl
-                (front_for c p s k y d back (EndArea traced) is refl)) in
+        subst (λ (w : Worker). Law c p s k x2 None (looking w (record l { front = front })) s.ghost) is.as_known
+        (looks_at_front (era c) (memory c) (team c) s.ghost k l front (prepared c p s k x2 is) (record { looks = ap (λ (w : Worker). w.look) is.as_known }) refl refl
+        (front_for c p s k y d back (EndArea traced) is refl)) in
         rw (eq-eqb (board_page d.layout.pages) (board_page d.layout.pages) refl) t
 
     pub loads_area : StepsSo c p s k x2
@@ -129,11 +129,11 @@ module _ (c : Configuration) (p : Plain) (s : Stands c p) (k : ℕ) (y : Held) (
     begins of_now none =
         let r : workers.Round = record { traced = traced; front = None } in
         let start : duty.to_start d ≡ (era c).start =
-            let n : (table c).pages ≡ c.pages = table_pages c.pages c.words in rw (← of_now, n, same_pages c p s k y d back (EndGate traced) is) refl in
+        let n : (table c).pages ≡ c.pages = table_pages c.pages c.words in rw (← of_now, n, same_pages c p s k y d back (EndGate traced) is) refl in
         let t : Law c p s k x3 None (looking (knows x3) (first_look (era c) r)) s.ghost =
-            subst (λ (w : Worker). Law c p s k x3 None (looking w (first_look (era c) r)) s.ghost) is.as_known
-            (begins_look (era c) (memory c) (team c) s.ghost k r (prepared c p s k x3 is)
-                (record { round = ap (λ (w : Worker). w.round) is.as_known; same = of_now ∙ ap (λ (w : Worker). w.epoch) (sym is.as_known); none = none })) in
+        subst (λ (w : Worker). Law c p s k x3 None (looking w (first_look (era c) r)) s.ghost) is.as_known
+        (begins_look (era c) (memory c) (team c) s.ghost k r (prepared c p s k x3 is)
+        (record { round = ap (λ (w : Worker). w.round) is.as_known; same = of_now ∙ ap (λ (w : Worker). w.epoch) (sym is.as_known); none = none })) in
         steps_forget (era c) (memory c) (team c) s.ghost k None (looking (knows x3) (first_look (era c) r)) (knows (at c p s k y d back (EndArea traced))) s.ghost t (record {
           post = refl;
           epoch = refl;
@@ -162,13 +162,13 @@ module _ (c : Configuration) (p : Plain) (s : Stands c p) (k : ℕ) (y : Held) (
     gate_by true test taken =
         let q = both_by (gate.epoch == d.epoch) (gate.behind == 0) test in
         goes_on c p s k y d back (EndGate traced) is None (Value (gate_now c)) (EndArea traced) s.ghost taken refl refl is.fits.stage.0.sound.stage
-            (begins (eqb-true gate.epoch d.epoch q.0) (eqb-true gate.behind 0 q.1))
+        (begins (eqb-true gate.epoch d.epoch q.0) (eqb-true gate.behind 0 q.1))
     gate_by false test taken = ends c p s k y d back (EndGate traced) is (Value (gate_now c)) (gate_now c) taken refl refl
 
     pub loads_gate_again : StepsSo c p s k x3
     loads_gate_again = loads_it c p s k y d back (EndGate traced) is Gate tt refl
         (gate_by ((gate.epoch == d.epoch) && (gate.behind == 0)) refl
-            (ap (λ o. round c p s k y d back (duty.ended_gate (round c p s k y d back (EndGate traced)) traced (gate_now c) o)) (gate_says c p s)))
+        (ap (λ o. round c p s k y d back (duty.ended_gate (round c p s k y d back (EndGate traced)) traced (gate_now c) o)) (gate_says c p s)))
 
   -- ---- the filling page
 
@@ -204,10 +204,10 @@ module _ (c : Configuration) (p : Plain) (s : Stands c p) (k : ℕ) (y : Held) (
         let l : Look = look_with d look.traced look.front true (upto_all d look.front) false in
         let open_now : says ≡ Open d.epoch = open_said says d.epoch state in
         let t : Law c p s k x4 None (looking (knows x4) (record l { filled = true })) s.ghost =
-            subst (λ (w : Worker). Law c p s k x4 None (looking w (record l { filled = true })) s.ghost) is.as_known
-            (looks_at_filling (era c) (memory c) (team c) s.ghost k l (prepared c p s k x4 is) (record { looks = ap (λ (w : Worker). w.look) is.as_known })
-                (λ q low high. let e : q ≡ page = omega (arith, low, high) in
-                    ap (λ z. (table c).page z) e ∙ open_now ∙ ap (λ (w : Worker). Open w.epoch) (sym is.as_known))) in
+        subst (λ (w : Worker). Law c p s k x4 None (looking w (record l { filled = true })) s.ghost) is.as_known
+        (looks_at_filling (era c) (memory c) (team c) s.ghost k l (prepared c p s k x4 is) (record { looks = ap (λ (w : Worker). w.look) is.as_known })
+        (λ q low high. let e : q ≡ page = omega (arith, low, high) in
+        ap (λ z. (table c).page z) e ∙ open_now ∙ ap (λ (w : Worker). Open w.epoch) (sym is.as_known))) in
         rw state t
 
     other : (state : PageState) → duty.state_of says d.epoch ≡ state → is_open_state state ≡ false → knows x4 ≡ knows (at c p s k y d back next)
@@ -226,4 +226,4 @@ module _ (c : Configuration) (p : Plain) (s : Stands c p) (k : ℕ) (y : Held) (
     pub loads_filling : StepsSo c p s k x4
     loads_filling = loads_it c p s k y d back (EndFilling look) is (Page page) in_table refl
         (filling_by (duty.state_of says d.epoch) refl
-            (ap (λ o. round c p s k y d back (duty.looked_at_filling (round c p s k y d back (EndFilling look)) look (page_now c page) o)) reads))
+        (ap (λ o. round c p s k y d back (duty.looked_at_filling (round c p s k y d back (EndFilling look)) look (page_now c page) o)) reads))

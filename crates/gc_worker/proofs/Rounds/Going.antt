@@ -1,9 +1,8 @@
 -- A round goes on at another stage, or ends: what the worker is then, and what it knows.
-use Rattle.std.proofs.Common.{◌≡◌, ℕ, ◌+◌, ◌<◌, ◌≤◌, ◌^◌, false, Option, Some, None, is_some, refl, sym, ap, subst, ◌∙◌, arith}
+use Rattle.std.proofs.Common.{◌≡◌, ℕ, Option, Some, None, refl, sym, ap, subst, ◌∙◌}
 use Rattle.plain_state.specs.State.{Plain}
 use Rattle.atom_store.specs.declared.reply.Reply.{Reply}
 use Rattle.atom_store.specs.declared.turn.Turn.TheVariants.{More, Finished}
-use Rattle.alloc_end.specs.declared.run.Run.{Run}
 use Rattle.fault_duty.specs.declared.caller.Caller.{Caller}
 use Rattle.fault_duty.specs.declared.caller.Caller.TheVariants as callers
 use Rattle.fault_duty.specs.declared.duty_stage.DutyStage.{DutyStage}
@@ -21,17 +20,17 @@ use Rattle.space_map.specs.Spaces.{Layout}
 use Rattle.space_map.specs.Table.{Row, IsRow, place_of}
 use Rattle.atom_store.specs.declared.step.Step.TheVariants.{Load}
 use Rattle.atom_store.specs.declared.reply.Reply.TheVariants.{Value}
-use Rattle.heap_state.specs.Worker.{Worker, Stock}
+use Rattle.heap_state.specs.Worker.{Worker}
 use Rattle.heap_laws.specs.Composing.{ends_round}
 use Rattle.heap_laws.proofs.Steps.Composites.{rounds_end}
 use Rattle.gc_worker.specs.declared.back.Back.{Back}
 use Rattle.gc_worker.specs.declared.back.Back.TheVariants.{ToAccess, ToPlace, ToScanner}
 use Rattle.gc_worker.specs.declared.stage.Stage.TheVariants.{Serves}
-use Rattle.gc_worker.specs.Fits.{Fits, FitsStage, FitsRound, FitsBack, IsCallerOf, IsEpochOf}
+use Rattle.gc_worker.specs.Fits.{Fits, FitsBack, IsCallerOf, IsEpochOf}
 use Rattle.gc_worker.specs.Goes.{Is, Goes, StepsSo}
-use Rattle.gc_worker.specs.Held.{Held, at_stage, header_for}
-use Rattle.gc_worker.specs.Knows.{knows, known_at, own_stock, epoch_at}
-use Rattle.gc_worker.specs.Turned.{turned, turned_round, back_from, of_round, won_in}
+use Rattle.gc_worker.specs.Held.{Held, header_for}
+use Rattle.gc_worker.specs.Knows.{knows, own_stock, epoch_at}
+use Rattle.gc_worker.specs.Turned.{turned_round, back_from, won_in}
 use Rattle.gc_worker.proofs.Fitting.{refit}
 use Rattle.gc_worker.proofs.Going.{places_known}
 use Rattle.gc_worker.proofs.GoingBack.{back_fits}

@@ -1,36 +1,31 @@
 -- A round looks at the page that a mutator wants.
-use Rattle.std.proofs.Common.{◌≡◌, ◌≢◌, ℕ, ◌+◌, ◌*◌, ◌/◌, ◌<◌, ◌≤◌, ◌⊎◌, inl, inr, Bool, true, false, cond, nat_eq, nat_le, Option, Some, None, refl, sym, ap, subst, ◌∙◌, arith, ⊎_elim}
-use Rattle.std.proofs.lemmas.Bool.{cases_eq}
+use Rattle.std.proofs.Common.{◌≡◌, ℕ, ◌+◌, ◌*◌, ◌≤◌, ◌⊎◌, inl, inr, Bool, true, false, cond, nat_eq, Some, None, refl, sym, ap, subst, ◌∙◌, arith}
 use Rattle.std.proofs.lemmas.Bool.Decides.{nat_tests}
 use Rattle.plain_state.specs.State.{Plain}
 use Rattle.atom_store.specs.declared.reply.Reply.TheVariants.{Value}
 use Rattle.space_map.specs.declared.area_word.AreaWord.{AreaWord}
 use Rattle.space_map.specs.declared.page_word.PageWord.{PageWord}
-use Rattle.space_map.specs.PageWord.{PageFits, age_of, encode_page, decode_page}
+use Rattle.space_map.specs.PageWord.{PageFits, encode_page, decode_page}
 use Rattle.space_map.specs.Spaces.{Layout, board_page, first_word, to_space, space_start}
 use Rattle.space_map.specs.Table.{Area, Page}
 use Rattle.space_map.proofs.PageWords.{PageFits-decode_page}
-use Rattle.fault_duty.specs.declared.caller.Caller.{Caller}
 use Rattle.fault_duty.specs.declared.caller.Caller.TheVariants.{Faulted}
 use Rattle.fault_duty.specs.declared.findings.Findings.{Findings}
 use Rattle.fault_duty.specs.declared.wanted_page.WantedPage.{WantedPage}
 use Rattle.fault_duty.specs.declared.page_state.PageState.{PageState}
 use Rattle.fault_duty.specs.declared.page_state.PageState.TheVariants.{Opened, Scanned, Waits, Past}
-use Rattle.fault_duty.specs.declared.duty_stage.DutyStage.{DutyStage}
-use Rattle.fault_duty.specs.declared.duty_stage.DutyStage.TheVariants.{LoadsWanted, LoadsFrontFor, LoadsFront, Claims, Ended}
-use Rattle.fault_duty.specs.declared.round_end.RoundEnd.TheVariants.{NothingNow}
+use Rattle.fault_duty.specs.declared.duty_stage.DutyStage.TheVariants.{LoadsWanted, LoadsFrontFor, LoadsFront}
 use Rattle.fault_duty.specs.Duty as duty
 use Rattle.fault_duty.specs.Duty.{Round}
 use Rattle.fault_duty.specs.Soundness.{FitsCaller}
 use Rattle.heap_state.specs.Configuration.{Configuration, Stands, table, era, memory, team}
 use Rattle.heap_state.specs.Worker.{Worker}
 use Rattle.heap_state.specs.Worker as workers
-use Rattle.heap_laws.specs.Answers.{AreasAnswer}
 use Rattle.heap_laws.specs.Scanning.Claims.{MayClaim}
 use Rattle.heap_laws.proofs.Steps.Answers.{areas_are_read}
 use Rattle.gc_worker.specs.declared.back.Back.{Back}
 use Rattle.gc_worker.specs.declared.back.Back.TheVariants.{ToAccess, ToPlace, ToScanner}
-use Rattle.gc_worker.specs.Fits.{FitsRound, IsCallerOf, IsEpochOf, IsFaulting}
+use Rattle.gc_worker.specs.Fits.{IsCallerOf, IsEpochOf}
 use Rattle.gc_worker.specs.Goes.{Is, Goes, StepsSo}
 use Rattle.gc_worker.specs.Held.{Held}
 use Rattle.gc_worker.specs.Knows.{knows}
@@ -149,9 +144,9 @@ module _ (c : Configuration) (p : Plain) (s : Stands c p) (k : ℕ) (y : Held) (
     may full waits = record {
       earlier = earlier_now c p s k y d back (LoadsFrontFor found w) is w.page w.says refl waits;
       full = λ now. elim served [
-          inl at_board ↦ inl (at_board ∙ board_now c p s k y d back (LoadsFrontFor found w) is)
+        | inl at_board ↦ inl (at_board ∙ board_now c p s k y d back (LoadsFrontFor found w) is)
         | inr in_space ↦ inr (full_now (sym (ap (λ (v : Worker). v.epoch) is.as_known) ∙ now) in_space)
-        ];
+      ];
     }
       where
         full_now : d.epoch ≡ (era c).epoch → duty.to_start d ≤ first_word w.page

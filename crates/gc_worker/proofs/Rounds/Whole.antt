@@ -1,5 +1,5 @@
 -- A round, at each stage of which the law is shown.
-use Rattle.std.proofs.Common.{◌≡◌, ℕ, Some, refl, sym, ◌∙◌}
+use Rattle.std.proofs.Common.{ℕ}
 use Rattle.plain_state.specs.State.{Plain}
 use Rattle.page_slots.specs.declared.claim_stage.ClaimStage.{ClaimStage}
 use Rattle.page_slots.specs.declared.claim_stage.ClaimStage.TheVariants as claim_stage

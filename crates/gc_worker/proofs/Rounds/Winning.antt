@@ -1,11 +1,10 @@
 -- A round's claim exchanges the page's word, and the worker scans the page that it won.
-use Rattle.std.proofs.Common.{◌≡◌, ◌≢◌, ℕ, ◌+◌, ◌*◌, ◌/◌, ◌<◌, ◌≤◌, ◌⊎◌, inl, inr, Bool, true, false, cond, nat_eq, ◌||◌, Option, Some, None, is_some, refl, sym, ap, subst, ◌∙◌, arith}
+use Rattle.std.proofs.Common.{◌≡◌, ◌≢◌, ℕ, ◌+◌, ◌*◌, ◌/◌, ◌≤◌, ◌⊎◌, inl, inr, Bool, true, false, cond, nat_eq, Option, Some, None, refl, sym, ap, subst, ◌∙◌, arith}
 use Rattle.std.proofs.lemmas.Bool.Decides.{nat_tests}
 use Rattle.std.proofs.lemmas.Option.{same_Some}
 use Rattle.plain_state.specs.State.{Plain}
 use Rattle.atom_store.specs.declared.step.Step.TheVariants.{Exchange}
 use Rattle.atom_store.specs.declared.reply.Reply.TheVariants.{Won, Lost}
-use Rattle.space_map.specs.declared.page_word.PageWord.{PageWord}
 use Rattle.space_map.specs.declared.page_word.PageWord.TheVariants.{Scanning}
 use Rattle.space_map.specs.PageWord.{encode_page, decode_page, age_of}
 use Rattle.space_map.specs.Spaces.{Layout, IsPageCount, board_page, first_word}
@@ -13,7 +12,6 @@ use Rattle.space_map.specs.Table.{Page, place_of}
 use Rattle.space_map.proofs.PageWords.{decode_page-encode_page}
 use Rattle.page_slots.specs.declared.claim_stage.ClaimStage.TheVariants.{Exchanges}
 use Rattle.page_slots.specs.Claim.{Claiming}
-use Rattle.page_slots.specs.Claim as claim
 use Rattle.page_scan.specs.declared.scan_stage.ScanStage.{ScanStage}
 use Rattle.page_scan.specs.declared.scan_stage.ScanStage.TheVariants.{LoadsCross, LoadsWord}
 use Rattle.page_scan.specs.declared.spot.Spot.TheVariants.{OnBoard}
@@ -21,25 +19,23 @@ use Rattle.page_scan.specs.Scanning as scan
 use Rattle.page_scan.specs.Soundness as scan_sound
 use Rattle.fault_duty.specs.declared.duty_stage.DutyStage.TheVariants.{Claims}
 use Rattle.fault_duty.specs.declared.round_end.RoundEnd.TheVariants.{ScanPage, ScanInPlace}
-use Rattle.fault_duty.specs.Duty as duty
 use Rattle.fault_duty.specs.Duty.{Round}
 use Rattle.fault_duty.specs.Soundness.{IsOwnClaim}
 use Rattle.heap_state.specs.Configuration.{Configuration, Stands, table, era, memory, team}
 use Rattle.heap_state.specs.Entries.{Entry, PageIs}
 use Rattle.heap_state.specs.Worker.{Worker, Quest}
-use Rattle.heap_state.specs.Worker as workers
 use Rattle.heap_state.proofs.Puts.{put_at}
 use Rattle.heap_laws.specs.Lifting.{stepped}
-use Rattle.heap_laws.specs.Scanning.Claims.{WinsPage, ClaimsPage, begins_scan, scan_from}
+use Rattle.heap_laws.specs.Scanning.Claims.{ClaimsPage, begins_scan, scan_from}
 use Rattle.heap_laws.proofs.Scanning.Claimed as claimed_laws
 use Rattle.heap_laws.proofs.Lifting.Configurations.{seen}
 use Rattle.gc_worker.specs.declared.back.Back.{Back}
 use Rattle.gc_worker.specs.declared.stage.Stage.TheVariants.{Scans}
 use Rattle.gc_worker.specs.Fits.{Fits}
 use Rattle.gc_worker.specs.Goes.{Is, Goes, StepsSo}
-use Rattle.gc_worker.specs.Held.{Held, at_stage}
+use Rattle.gc_worker.specs.Held.{Held}
 use Rattle.gc_worker.specs.Knows.{knows, claim_with, looked_all, scan_of, quest_at}
-use Rattle.gc_worker.specs.Turned.{turned, served_by, scans, of_round}
+use Rattle.gc_worker.specs.Turned.{turned, served_by}
 use Rattle.gc_worker.proofs.Eras.{board_is}
 use Rattle.gc_worker.proofs.Fitting.{refit}
 use Rattle.gc_worker.proofs.Gate.Words.{wants}
@@ -132,9 +128,9 @@ module _ (c : Configuration) (p : Plain) (s : Stands c p) (k : ℕ) (y : Held) (
   law same =
       let t : Law c p s k x (Some (PageIs q.page (Scanning ((team c).worker k).epoch k))) (begins_scan ((team c).worker k) (claim_with q (looked_all q) true)) s.ghost = (wins_it same).steps in
       let u : Law c p s k x (Some (PageIs q.page (Scanning q.epoch k))) (begins_scan ((team c).worker k) (claim_with q (looked_all q) true)) s.ghost =
-          subst (λ (e : ℕ). Law c p s k x (Some (PageIs q.page (Scanning e k))) (begins_scan ((team c).worker k) (claim_with q (looked_all q) true)) s.ghost) epoch_is t in
+      subst (λ (e : ℕ). Law c p s k x (Some (PageIs q.page (Scanning e k))) (begins_scan ((team c).worker k) (claim_with q (looked_all q) true)) s.ghost) epoch_is t in
       let v : Law c p s k x (Some entry) (begins_scan ((team c).worker k) (claim_with q (looked_all q) true)) s.ghost =
-          subst (λ (j : ℕ). Law c p s k x (Some (PageIs q.page (Scanning q.epoch j))) (begins_scan ((team c).worker k) (claim_with q (looked_all q) true)) s.ghost) (sym worker_is) u in
+      subst (λ (j : ℕ). Law c p s k x (Some (PageIs q.page (Scanning q.epoch j))) (begins_scan ((team c).worker k) (claim_with q (looked_all q) true)) s.ghost) (sym worker_is) u in
       subst (λ (w : Worker). Law c p s k x (Some entry) w s.ghost) (ap (λ (w : Worker). begins_scan w (claim_with q (looked_all q) true)) is.as_known ∙ knows_scan) v
 
   same_layout : q.layout ≡ y.layout
@@ -150,9 +146,11 @@ module _ (c : Configuration) (p : Plain) (s : Stands c p) (k : ℕ) (y : Held) (
       let f = fits_done c p s k y d back (Claims (record q { stage = Exchanges })) is in
       let low : q.page ≤ board_page y.layout.pages = subst (λ (l : Layout). q.page ≤ board_page l.pages) same_layout own.sound.page in
       let first = first_fits (nat_eq q.page (board_page y.layout.pages)) refl low in
-      refit c.pages c.mutators k (done c p s k y d back) f (Scans begun back) f.end
-      (record { layout = refl; epoch = refl; sound = record { pages = subst (λ (l : Layout). IsPageCount l.pages) is.fits.stage.0.layout is.fits.stage.0.sound.pages; page = low; fits = first.0 } }, first.1,
-      still_back (done c p s k y d back) (Scans begun back) back f.stage.1)
+      refit c.pages c.mutators k (done c p s k y d back) f (Scans begun back) f.end (
+        record { layout = refl; epoch = refl; sound = record { pages = subst (λ (l : Layout). IsPageCount l.pages) is.fits.stage.0.layout is.fits.stage.0.sound.pages; page = low; fits = first.0 } },
+        first.1,
+        still_back (done c p s k y d back) (Scans begun back) back f.stage.1,
+      )
 
   goes_won : page_now c q.page ≡ encode_page q.found → Goes c p s k (Some entry) x Won
   goes_won same =
@@ -164,7 +162,7 @@ module _ (c : Configuration) (p : Plain) (s : Stands c p) (k : ℕ) (y : Held) (
         page = inside;
         before = (let a : age_of ((table c).page q.page) ≡ age_of q.found = ap age_of now in let l = own.sound.earlier in omega (arith, a, l));
         after = (let t = (seen c (Some entry) k (knows (turned x Won)) s.formed is.below (inside, (let e = own.sound.epoch in e, let w = own.sound.worker in omega (arith, w)))).table_said in
-        let a : age_of ((table (stepped c (Some entry) k (knows (turned x Won)))).page q.page) ≡ q.epoch + 1 =
+            let a : age_of ((table (stepped c (Some entry) k (knows (turned x Won)))).page q.page) ≡ q.epoch + 1 =
             ap (λ z. age_of (z.page q.page)) t ∙ ap age_of (put_at (table c).page q.page (Scanning q.epoch q.worker) q.page refl) in omega (arith, a));
       })
 
