@@ -1,31 +1,54 @@
 -- The options of a simulation, by the rows of what was given.
-use Rattle.std.specs.Prelude.{◌≤◌, IsTrue, List, map}
+use Rattle.std.specs.Prelude.{◌≤◌, IsTrue, List, [], ◌∷◌, codes}
 use Rattle.clap.specs.Walk.{Row, Text}
 use Rattle.gc_core.specs.Configuration.{is_size}
 use Rattle.simple_commands.specs.Options.{number_given}
 use Rattle.simple_commands.specs.Readers.{number_of, was_given}
 use Rattle.simple_commands.specs.declared.options.Numbers.{Numbers}
 use Rattle.ael_cli.specs.declared.options.SimOptions.{SimOptions}
-use Rattle.ael_cli.specs.declared.options.TheConstants.{ORDER, PAGES, SCANNERS, SEED, SIM_FLAGS, SIM_NUMBERS, SIM_WIDE, STEPS, TURNS}
+
+-- `--pages`
+abbrev pub pages_option : Text × Numbers
+pages_option = (codes "pages", record { least = 4; most = 2048; default = 256 })
+
+-- `--scanners`
+abbrev pub scanners_option : Text × Numbers
+scanners_option = (codes "scanners", record { least = 0; most = 8; default = 1 })
+
+-- `--turns`
+abbrev pub turns_option : Text × Numbers
+turns_option = (codes "turns", record { least = 1; most = 10000000; default = 1000000 })
+
+-- `--steps`
+abbrev pub steps_option : Text × Numbers
+steps_option = (codes "steps", record { least = 1; most = 100000000; default = 10000000 })
+
+-- `--seed`, which has no default
+abbrev pub seed_option : Text
+seed_option = codes "seed"
+
+-- `--order`
+abbrev pub order_flag : Text
+order_flag = codes "order"
 
 -- the tables of `sim`
 abbrev pub sim_numbers : List (Text × Numbers)
-sim_numbers = map (λ o. (o.0.now, o.1)) SIM_NUMBERS
+sim_numbers = pages_option ∷ scanners_option ∷ turns_option ∷ steps_option ∷ []
 
 abbrev pub sim_wide : List Text
-sim_wide = map (λ name. name.now) SIM_WIDE
+sim_wide = seed_option ∷ []
 
 abbrev pub sim_flags : List Text
-sim_flags = map (λ name. name.now) SIM_FLAGS
+sim_flags = order_flag ∷ []
 
 abbrev pub options_of : List Row → SimOptions
 options_of rows = record {
-  pages = number_given (PAGES.0.now, PAGES.1) rows;
-  scanners = number_given (SCANNERS.0.now, SCANNERS.1) rows;
-  turns = number_given (TURNS.0.now, TURNS.1) rows;
-  steps = number_given (STEPS.0.now, STEPS.1) rows;
-  seed = number_of SEED.now rows;
-  order = was_given ORDER.now rows;
+  pages = number_given pages_option rows;
+  scanners = number_given scanners_option rows;
+  turns = number_given turns_option rows;
+  steps = number_given steps_option rows;
+  seed = number_of seed_option rows;
+  order = was_given order_flag rows;
 }
 
 -- a space may have so many pages, there may be so many scanners, and a mutator may execute so many instructions

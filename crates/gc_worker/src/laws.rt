@@ -3,7 +3,7 @@
 ghost use Rattle.gc_worker.specs.Law.{StepsKeep, FlipsAreWon, PlacesFit, RegistersLeadBack};
 
 /// A step of a worker is of a word of the table, and the worker may take the reply. What stood for a plain state before stands for it
-/// after, with what a cycle keeps; no page that was won is won again.
+/// after, with what a cycle keeps; no page that was won in an epoch is won again in it.
 pub fn steps_keep()
     ensures { StepsKeep }
 {}
@@ -18,7 +18,7 @@ pub fn places_fit()
     ensures { PlacesFit }
 {}
 
-/// A register whose record is being copied leads into the space of the mutator's own epoch, which is the old one.
+/// A register whose record is being copied leads into the space that was copied into in the mutator's own epoch.
 pub fn registers_lead_back()
     ensures { RegistersLeadBack }
 {}
