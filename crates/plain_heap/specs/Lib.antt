@@ -1,3 +1,4 @@
+pub mod Action
 pub mod Call
 pub mod Outcome
 pub mod Step
