@@ -99,7 +99,7 @@ with_task x task = record x { task = Some task }
 
 -- such a one may be given a task
 abbrev pub TasksMayBegin : Type 0
-TasksMayBegin = (n mutators k : ℕ) (x : Held) (task : Task) → Fits n mutators k x → IsIdle x → MayBegin x (Some task)
+TasksMayBegin = (n mutators k : ℕ) (x : Held) (task : Task) → Fits n mutators k x → IsIdle x → MayBegin x.account x.registers (Some task)
     → Readies n mutators k x (with_task x task)
 
 -- ---- the task that was begun

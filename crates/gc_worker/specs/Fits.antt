@@ -1,5 +1,5 @@
 -- What a worker keeps of itself: each machine is sound, and its layout, its worker and its epoch are the worker's own.
-use Rattle.std.specs.Prelude.{◌≡◌, ℕ, ◌+◌, ◌^◌, ◌<◌, ◌≤◌, ◌⊎◌, ⊤, Bool, true, false, length, Option, Some, None, Ok, is_some, nat_lt, slice_index, IsTrue}
+use Rattle.std.specs.Prelude.{◌≡◌, ℕ, ◌+◌, ◌^◌, ◌<◌, ◌≤◌, ◌⊎◌, ⊤, Bool, true, false, List, length, Option, Some, None, Ok, is_some, nat_lt, slice_index, IsTrue}
 use Rattle.atom_store.specs.declared.reply.Reply.{Reply}
 use Rattle.space_map.specs.Spaces.{IsPageCount, board_page, first_word, space_start, to_space}
 use Rattle.alloc_end.specs.declared.run.Run.{Run}
@@ -25,6 +25,8 @@ use Rattle.page_scan.specs.Soundness as scan_sound
 use Rattle.page_slots.specs.Open as open_page
 use Rattle.page_slots.specs.Soundness.{IsOpeningGoing, IsSoundOpening}
 use Rattle.gc_worker.specs.declared.access.Access.{Access}
+use Rattle.gc_worker.specs.declared.access_stage.AccessStage.{AccessStage}
+use Rattle.heap_state.specs.Worker.{Account}
 use Rattle.gc_worker.specs.declared.back.Back.{Back}
 use Rattle.gc_worker.specs.declared.back.Back.TheVariants.{ToAccess, ToPlace, ToScanner}
 use Rattle.gc_worker.specs.declared.forwarding_register.ForwardingRegister.{ForwardingRegister}
@@ -183,48 +185,48 @@ FitsEnd (Passes g after) ended = IsEndBefore g.passage ended
 FitsEnd Gone ended = ⊤
 FitsEnd stage ended = ended ≡ false
 
--- ---- the task
+-- ---- the task, by a worker's account and registers
 
 -- An instruction that may be begun: one that a text can have; and where it makes a record, the record's serial fits a header.
-pub record FitsCall (x : Held) (instr : Instr) : Type 0 where
+pub record FitsCall (account : Account) (registers : List ℕ) (instr : Instr) : Type 0 where
   pub valid : IsTrue (is_valid instr)
-  pub serial : (m : Making) → making_in (action (seen x.account x.registers) instr) ≡ Some m → x.account.serial + 1 < 2 ^ 40
+  pub serial : (m : Making) → making_in (action (seen account registers) instr) ≡ Some m → account.serial + 1 < 2 ^ 40
 
-abbrev pub MayBegin : Held → Option Task → Type 0
-MayBegin x None = ⊤
-MayBegin x (Some (Calls instr)) = FitsCall x instr
-MayBegin x (Some (Stops end)) = ⊤
+abbrev pub MayBegin : Account → (registers : List ℕ) → Option Task → Type 0
+MayBegin account registers None = ⊤
+MayBegin account registers (Some (Calls instr)) = FitsCall account registers instr
+MayBegin account registers (Some (Stops end)) = ⊤
 
 -- it executes an instruction whose action is this
-pub record Executes (x : Held) (act : Action) : Type 0 where
+pub record Executes (account : Account) (registers : List ℕ) (task : Option Task) (act : Action) : Type 0 where
   pub instr : Instr
-  pub task : x.task ≡ Some (Calls instr)
-  pub call : FitsCall x instr
-  pub acts : action (seen x.account x.registers) instr ≡ Ok act
+  pub task_is : task ≡ Some (Calls instr)
+  pub call : FitsCall account registers instr
+  pub acts : action (seen account registers) instr ≡ Ok act
 
 -- it executes one that makes a record
-pub record IsMaking (x : Held) : Type 0 where
+pub record IsMaking (account : Account) (registers : List ℕ) (task : Option Task) : Type 0 where
   pub making : Making
-  pub executes : Executes x (Makes making.kind making.into making.len)
+  pub executes : Executes account registers task (Makes making.kind making.into making.len)
 
--- it executes one that makes this access
-pub record IsAccessing (x : Held) (a : Access) : Type 0 where
+-- it executes one whose access is at this stage
+pub record IsAccessing (account : Account) (registers : List ℕ) (task : Option Task) (stage : AccessStage) : Type 0 where
   pub act : Action
-  pub executes : Executes x act
-  pub is : IsAccessOf act a.stage
+  pub executes : Executes account registers task act
+  pub is : IsAccessOf act stage
 
 abbrev pub FitsTaskAfter : Held → After → Type 0
-FitsTaskAfter x afters.Looks = MayBegin x x.task
-FitsTaskAfter x afters.Places = IsMaking x
+FitsTaskAfter x afters.Looks = MayBegin x.account x.registers x.task
+FitsTaskAfter x afters.Places = IsMaking x.account x.registers x.task
 
 abbrev pub FitsTaskBack : Held → Back → Type 0
-FitsTaskBack x (ToAccess a) = IsAccessing x a
-FitsTaskBack x ToPlace = IsMaking x
+FitsTaskBack x (ToAccess a) = IsAccessing x.account x.registers x.task a.stage
+FitsTaskBack x ToPlace = IsMaking x.account x.registers x.task
 FitsTaskBack x ToScanner = x.task ≡ None
 
 abbrev pub FitsTaskBefore : Held → Passage → After → Type 0
 FitsTaskBefore x passages.Leave after = x.task ≡ None
-FitsTaskBefore x passages.Request after = IsMaking x × (after ≡ afters.Places)
+FitsTaskBefore x passages.Request after = IsMaking x.account x.registers x.task × (after ≡ afters.Places)
 FitsTaskBefore x passages.Attach after = FitsTaskAfter x after
 FitsTaskBefore x passages.Park after = FitsTaskAfter x after
 FitsTaskBefore x (passages.Resume epoch) after = FitsTaskAfter x after
@@ -233,12 +235,12 @@ FitsTaskBefore x passages.Look after = ⊥
 
 -- its task is the one that brought it to the stage; at a look it may have one or none
 abbrev pub FitsTask : Held → Stage → Type 0
-FitsTask x Looks = MayBegin x x.task
+FitsTask x Looks = MayBegin x.account x.registers x.task
 FitsTask x (Passes g after) = FitsTaskBefore x g.passage after
-FitsTask x (Flips f) = IsMaking x × (f.asked ≡ asked_by x)
+FitsTask x (Flips f) = IsMaking x.account x.registers x.task × (f.asked ≡ asked_by x)
 FitsTask x (Forwards w) = FitsTaskAfter x w.after
-FitsTask x (Accesses a) = IsAccessing x a
-FitsTask x (Places p) = IsMaking x × (header_for x ≡ Some p.header)
+FitsTask x (Accesses a) = IsAccessing x.account x.registers x.task a.stage
+FitsTask x (Places p) = IsMaking x.account x.registers x.task × (header_for x ≡ Some p.header)
 FitsTask x (Serves d back) = FitsTaskBack x back
 FitsTask x (Scans s back) = FitsTaskBack x back
 FitsTask x (Evacuates v s back) = FitsTaskBack x back
