@@ -27,7 +27,7 @@ use Rattle.mmu_model.specs.declared.access.Access as protection
 use Rattle.mmu_model.specs.declared.access.Access.TheVariants.{Allowed, Fault}
 use Rattle.mmu_model.specs.Access.{access_of}
 use Rattle.heap_state.specs.Worker as workers
-use Rattle.heap_laws.specs.Fields.{word_held, FitsRole}
+use Rattle.heap_laws.specs.Fields.Effects.{word_held, FitsRole}
 use Rattle.gc_worker.specs.declared.access.Access.{Access}
 use Rattle.gc_worker.specs.declared.access_stage.AccessStage.{AccessStage}
 use Rattle.gc_worker.specs.declared.access_stage.AccessStage.TheVariants.{LooksAtRecord, LoadsHeader, LooksAtField, LoadsField, StoresField, LooksAtBoard, LoadsBoard, StoresBoard, LoadsForSwap, SwapsBoard}
