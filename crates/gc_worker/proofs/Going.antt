@@ -1,20 +1,21 @@
 -- Where a mutator goes on that stopped, or that made a round: to the proofs of the heap it is one that looks at the gate.
-use Rattle.std.proofs.Common.{◌≡◌, ℕ, ◌+◌, Bool, true, false, cond, Option, Some, None, is_some, refl, sym, subst, arith, nat_le}
+use Rattle.std.proofs.Common.{◌≡◌, ℕ, ◌+◌, Bool, true, false, cond, Option, Some, None, is_some, refl, sym, subst, arith, nat_lt, nat_le}
 use Rattle.std.proofs.lemmas.Bool.{leb-true}
 use Rattle.alloc_end.specs.declared.place_stage.PlaceStage.{PlaceStage}
 use Rattle.alloc_end.specs.declared.place_stage.PlaceStage.TheVariants.{LoadsTraced, StoresHeader}
 use Rattle.alloc_end.specs.declared.run.Run.{Run}
 use Rattle.alloc_end.specs.Place as place
-use Rattle.alloc_end.specs.Soundness.{IsRun, FitsPlaceStage}
+use Rattle.alloc_end.specs.Soundness.{IsRun, IsPlacingGoing, FitsPlaceStage}
 use Rattle.record_layout.specs.declared.header.Header.{Header}
 use Rattle.gc_worker.specs.declared.after.After.{After}
 use Rattle.gc_worker.specs.declared.after.After.TheVariants as afters
 use Rattle.gc_worker.specs.declared.stage.Stage.TheVariants.{Looks, Places}
-use Rattle.gc_worker.specs.Fits.{Fits, FitsRun}
+use Rattle.gc_worker.specs.Fits.{Fits, FitsRun, FitsTaskAfter, IsMaking}
 use Rattle.gc_worker.specs.Held.{Held, at_stage, header_for, run_of, run_in}
 use Rattle.gc_worker.specs.Knows.{knows, known_at, stock_at, own_stock}
 use Rattle.gc_worker.specs.Turned.{places, goes_on}
 use Rattle.gc_worker.proofs.Fitting.{refit, page_count}
+use Rattle.gc_worker.proofs.Making.{makes_header}
 
 -- ---- an allocation begins
 
@@ -55,12 +56,16 @@ pub goes_on_known : (x : Held) (after : After) → knows (at_stage x (goes_on x 
 goes_on_known x afters.Looks = refl
 goes_on_known x afters.Places = places_known x (header_for x)
 
-module _ (n mutators k : ℕ) (x : Held) (f : Fits n mutators k x) (unended : is_some x.account.end ≡ false) where
-  pub places_fit : (header : Option Header) → Fits n mutators k (at_stage x (places x header))
-  places_fit None = refit n mutators k x f Looks unended tt
-  places_fit (Some header) = refit n mutators k x f (Places (place.begun x.layout (run_of x) header x.epoch)) unended (record {
+module _ (n mutators k : ℕ) (x : Held) (f : Fits n mutators k x) (unended : is_some x.account.end ≡ false) (mutator : nat_lt x.number x.mutators ≡ true) where
+  going_by : (header : Header) (b : Bool) → IsPlacingGoing (first_at b)
+  going_by header true = tt
+  going_by header false = tt
+
+  places_by : (making : IsMaking x.account x.registers x.task) (header : Option Header) → header_for x ≡ header → Fits n mutators k (at_stage x (places x header))
+  places_by making (Some header) is = refit n mutators k x f (Places (place.begun x.layout (run_of x) header x.epoch)) unended mutator (making, is) (record {
     layout = refl;
     epoch = refl;
+    going = going_by header (nat_le ((run_of x).at + place.size_of header) (run_of x).end);
     sound = record {
       pages = page_count n mutators k x f;
       run = subst (λ (m : ℕ). IsRun m (run_of x)) (sym f.pages) (is_run n x.run f.run);
@@ -68,7 +73,11 @@ module _ (n mutators k : ℕ) (x : Held) (f : Fits n mutators k x) (unended : is
       stage = stage_by x header (nat_le ((run_of x).at + place.size_of header) (run_of x).end) refl;
     };
   })
+  places_by making None is = absurd (makes_header n mutators k x f making is)
 
-  pub goes_on_fits : (after : After) → Fits n mutators k (at_stage x (goes_on x after))
-  goes_on_fits afters.Looks = refit n mutators k x f Looks unended tt
-  goes_on_fits afters.Places = places_fit (header_for x)
+  pub places_fit : IsMaking x.account x.registers x.task → Fits n mutators k (at_stage x (places x (header_for x)))
+  places_fit making = places_by making (header_for x) refl
+
+  pub goes_on_fits : (after : After) → FitsTaskAfter x after → Fits n mutators k (at_stage x (goes_on x after))
+  goes_on_fits afters.Looks task = refit n mutators k x f Looks unended mutator task tt
+  goes_on_fits afters.Places making = places_fit making

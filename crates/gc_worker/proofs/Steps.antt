@@ -51,6 +51,8 @@ module _ (c : Configuration) (p : Plain) (s : Stands c p) (k : ℕ) (x : Held) w
     ghost_after = h;
     leads = rw silent (steps_are_lifted c p s e k (knows (turned x reply)) h below l);
     wins = wins;
+    answered = rw silent tt;
+    full = rw silent tt;
   }
 
   -- the same where the worker becomes this, and wins no page

@@ -1,14 +1,14 @@
 -- What a worker keeps of itself: each machine is sound, and its layout, its worker and its epoch are the worker's own.
-use Rattle.std.specs.Prelude.{◌≡◌, ℕ, ◌+◌, ◌^◌, ◌<◌, ◌≤◌, ◌⊎◌, ⊤, Bool, true, false, length, Option, Some, None, is_some}
+use Rattle.std.specs.Prelude.{◌≡◌, ℕ, ◌+◌, ◌^◌, ◌<◌, ◌≤◌, ◌⊎◌, ⊤, Bool, true, false, List, length, Option, Some, None, Ok, is_some, nat_lt, slice_index, IsTrue}
 use Rattle.atom_store.specs.declared.reply.Reply.{Reply}
 use Rattle.space_map.specs.Spaces.{IsPageCount, board_page, first_word, space_start, to_space}
 use Rattle.alloc_end.specs.declared.run.Run.{Run}
 use Rattle.alloc_end.specs.Place as place
-use Rattle.alloc_end.specs.Soundness.{IsRun, IsSoundPlacing}
+use Rattle.alloc_end.specs.Soundness.{IsRun, IsPlacingGoing, IsSoundPlacing}
 use Rattle.fault_duty.specs.declared.caller.Caller.{Caller}
 use Rattle.fault_duty.specs.declared.caller.Caller.TheVariants as callers
 use Rattle.fault_duty.specs.Duty as duty
-use Rattle.fault_duty.specs.Soundness.{IsSoundRound}
+use Rattle.fault_duty.specs.Soundness.{IsRoundGoing, IsSoundRound}
 use Rattle.forwarding.specs.Evacuation as evac
 use Rattle.forwarding.specs.Taken as evac_taken
 use Rattle.forwarding.specs.Soundness as evac_sound
@@ -16,21 +16,34 @@ use Rattle.gate_core.specs.declared.passage.Passage.{Passage}
 use Rattle.gate_core.specs.declared.passage.Passage.TheVariants as passages
 use Rattle.gate_core.specs.Gate as gate
 use Rattle.gate_core.specs.Flip as flip
-use Rattle.gate_core.specs.Soundness.{IsSoundPassing, IsSoundFlipping}
+use Rattle.gate_core.specs.Soundness.{IsPassingGoing, IsSoundPassing, IsFlippingGoing, IsSoundFlipping}
 use Rattle.page_scan.specs.declared.scan_stage.ScanStage.{ScanStage}
 use Rattle.page_scan.specs.declared.scan_stage.ScanStage.TheVariants as scan_stage
 use Rattle.page_scan.specs.Scanning as scan
 use Rattle.page_scan.specs.Taken as scan_taken
 use Rattle.page_scan.specs.Soundness as scan_sound
 use Rattle.page_slots.specs.Open as open_page
-use Rattle.page_slots.specs.Soundness.{IsSoundOpening}
+use Rattle.page_slots.specs.Soundness.{IsOpeningGoing, IsSoundOpening}
 use Rattle.gc_worker.specs.declared.access.Access.{Access}
+use Rattle.gc_worker.specs.declared.access_stage.AccessStage.{AccessStage}
+use Rattle.heap_state.specs.Worker.{Account}
 use Rattle.gc_worker.specs.declared.back.Back.{Back}
 use Rattle.gc_worker.specs.declared.back.Back.TheVariants.{ToAccess, ToPlace, ToScanner}
 use Rattle.gc_worker.specs.declared.forwarding_register.ForwardingRegister.{ForwardingRegister}
 use Rattle.gc_worker.specs.declared.stage.Stage.{Stage}
 use Rattle.gc_worker.specs.declared.stage.Stage.TheVariants.{Looks, Passes, Flips, Forwards, Accesses, Places, Serves, Scans, Evacuates, Opens, Gone}
-use Rattle.gc_worker.specs.Held.{Held}
+use Rattle.gc_worker.specs.declared.after.After.{After}
+use Rattle.gc_worker.specs.declared.after.After.TheVariants as afters
+use Rattle.gc_worker.specs.declared.task.Task.{Task}
+use Rattle.gc_worker.specs.declared.task.Task.TheVariants.{Calls, Stops}
+use Rattle.gc_worker.specs.Access.{IsSoundAccess, IsAccessOf}
+use Rattle.gc_worker.specs.Access as access
+use Rattle.gc_worker.specs.Seen.{IsValueWord, Making, making_in, seen}
+use Rattle.gc_worker.specs.Held.{Held, asked_by, header_for}
+use Rattle.plain_state.specs.declared.sizes.TheConstants.{REGISTERS, MOST_PRINTED}
+use Rattle.mutator_asm.specs.declared.instr.Instr.{Instr}
+use Rattle.mutator_asm.specs.Program.{is_valid}
+use Rattle.plain_heap.specs.Action.{Action, Makes, action}
 
 -- ---- what each machine is to its worker
 
@@ -47,11 +60,13 @@ IsOwnPassage epoch passages.Leave = ⊤
 pub record FitsGate (x : Held) (g : gate.Passing) : Type 0 where
   pub layout : g.layout ≡ x.layout
   pub passage : IsOwnPassage x.epoch g.passage
+  pub going : IsPassingGoing g.stage
   pub sound : IsSoundPassing g
 
 pub record FitsFlip (x : Held) (f : flip.Flipping) : Type 0 where
   pub layout : f.layout ≡ x.layout
   pub epoch : f.epoch ≡ x.epoch
+  pub going : IsFlippingGoing f.stage
   pub sound : IsSoundFlipping f
 
 -- a copy for a worker, in this epoch
@@ -59,16 +74,18 @@ pub record FitsCopy (x : Held) (epoch : ℕ) (v : evac.Evacuation) : Type 0 wher
   pub layout : v.layout ≡ x.layout
   pub of_epoch : v.epoch ≡ epoch
   pub worker : v.worker ≡ x.number
+  pub going : evac.IsGoing v.stage
   pub sound : evac_sound.IsSound v
 
 -- a register's copy is made in the epoch after the mutator's
 pub record FitsRegister (x : Held) (w : ForwardingRegister) : Type 0 where
-  pub register : w.register < 8
+  pub register : w.register < REGISTERS
   pub copy : FitsCopy x (x.epoch + 1) w.evac
 
 pub record FitsPlace (x : Held) (p : place.Placing) : Type 0 where
   pub layout : p.layout ≡ x.layout
   pub epoch : p.epoch ≡ x.epoch
+  pub going : IsPlacingGoing p.stage
   pub sound : IsSoundPlacing p
 
 -- the page is the board, or none before the space of the worker's epoch
@@ -98,11 +115,14 @@ pub record FitsRound (x : Held) (d : duty.Round) (back : Back) : Type 0 where
   pub worker : d.worker ≡ x.number
   pub caller : IsCallerOf x back d.caller
   pub epoch : IsEpochOf x back d.epoch
+  pub going : IsRoundGoing d.stage
   pub sound : IsSoundRound d
 
 -- an access is of the worker's epoch
-abbrev pub FitsAccess : Held → Access → Type 0
-FitsAccess x a = (a.spaces ≡ x.layout) × (a.epoch ≡ x.epoch)
+pub record FitsAccess (x : Held) (a : Access) : Type 0 where
+  pub layout : a.spaces ≡ x.layout
+  pub epoch : a.epoch ≡ x.epoch
+  pub sound : IsSoundAccess a
 
 -- what it goes back to is its own; a scanner has no run
 abbrev pub FitsBack : Held → Back → Type 0
@@ -132,6 +152,7 @@ pub record FitsOpening (x : Held) (o : open_page.Opening) (s : scan.Scanning) : 
   pub layout : o.layout ≡ x.layout
   pub epoch : o.epoch ≡ x.epoch
   pub page : o.page ≡ s.page
+  pub going : IsOpeningGoing o.stage
   pub sound : IsSoundOpening o
 
 -- ---- the worker
@@ -164,6 +185,91 @@ FitsEnd (Passes g after) ended = IsEndBefore g.passage ended
 FitsEnd Gone ended = ⊤
 FitsEnd stage ended = ended ≡ false
 
+-- ---- the task, by a worker's account and registers
+
+-- An instruction that may be begun: one that a text can have; and where it makes a record, the record's serial fits a header.
+pub record FitsCall (account : Account) (registers : List ℕ) (instr : Instr) : Type 0 where
+  pub valid : IsTrue (is_valid instr)
+  pub serial : (m : Making) → making_in (action (seen account registers) instr) ≡ Some m → account.serial + 1 < 2 ^ 40
+
+abbrev pub MayBegin : Account → (registers : List ℕ) → Option Task → Type 0
+MayBegin account registers None = ⊤
+MayBegin account registers (Some (Calls instr)) = FitsCall account registers instr
+MayBegin account registers (Some (Stops end)) = ⊤
+
+-- it executes an instruction whose action is this
+pub record Executes (account : Account) (registers : List ℕ) (task : Option Task) (act : Action) : Type 0 where
+  pub instr : Instr
+  pub task_is : task ≡ Some (Calls instr)
+  pub call : FitsCall account registers instr
+  pub acts : action (seen account registers) instr ≡ Ok act
+
+-- it executes one that makes a record
+pub record IsMaking (account : Account) (registers : List ℕ) (task : Option Task) : Type 0 where
+  pub making : Making
+  pub executes : Executes account registers task (Makes making.kind making.into making.len)
+
+-- it executes one whose access is at this stage
+pub record IsAccessing (account : Account) (registers : List ℕ) (task : Option Task) (stage : AccessStage) : Type 0 where
+  pub act : Action
+  pub executes : Executes account registers task act
+  pub is : IsAccessOf act stage
+
+abbrev pub FitsTaskAfter : Held → After → Type 0
+FitsTaskAfter x afters.Looks = MayBegin x.account x.registers x.task
+FitsTaskAfter x afters.Places = IsMaking x.account x.registers x.task
+
+abbrev pub FitsTaskBack : Held → Back → Type 0
+FitsTaskBack x (ToAccess a) = IsAccessing x.account x.registers x.task a.stage
+FitsTaskBack x ToPlace = IsMaking x.account x.registers x.task
+FitsTaskBack x ToScanner = x.task ≡ None
+
+abbrev pub FitsTaskBefore : Held → Passage → After → Type 0
+FitsTaskBefore x passages.Leave after = x.task ≡ None
+FitsTaskBefore x passages.Request after = IsMaking x.account x.registers x.task × (after ≡ afters.Places)
+FitsTaskBefore x passages.Attach after = FitsTaskAfter x after
+FitsTaskBefore x passages.Park after = FitsTaskAfter x after
+FitsTaskBefore x (passages.Resume epoch) after = FitsTaskAfter x after
+FitsTaskBefore x passages.Forwarded after = FitsTaskAfter x after
+FitsTaskBefore x passages.Look after = ⊥
+
+-- its task is the one that brought it to the stage; at a look it may have one or none
+abbrev pub FitsTask : Held → Stage → Type 0
+FitsTask x Looks = MayBegin x.account x.registers x.task
+FitsTask x (Passes g after) = FitsTaskBefore x g.passage after
+FitsTask x (Flips f) = IsMaking x.account x.registers x.task × (f.asked ≡ asked_by x)
+FitsTask x (Forwards w) = FitsTaskAfter x w.after
+FitsTask x (Accesses a) = IsAccessing x.account x.registers x.task a.stage
+FitsTask x (Places p) = IsMaking x.account x.registers x.task × (header_for x ≡ Some p.header)
+FitsTask x (Serves d back) = FitsTaskBack x back
+FitsTask x (Scans s back) = FitsTaskBack x back
+FitsTask x (Evacuates v s back) = FitsTaskBack x back
+FitsTask x (Opens o s back) = FitsTaskBack x back
+FitsTask x Gone = x.task ≡ None
+
+-- ---- the side
+
+abbrev pub IsOnSideBack : Back → (is_mutator : Bool) → Type 0
+IsOnSideBack (ToAccess a) is_mutator = is_mutator ≡ true
+IsOnSideBack ToPlace is_mutator = is_mutator ≡ true
+IsOnSideBack ToScanner is_mutator = is_mutator ≡ false
+
+-- a mutator that is gone has its end
+abbrev pub IsGoneBy : (is_mutator ended : Bool) → Type 0
+IsGoneBy true ended = ended ≡ true
+IsGoneBy false ended = ⊤
+
+-- a mutator is at a mutator's stage, and a scanner at one of a scanner
+abbrev pub IsOnSide : Stage → (is_mutator ended : Bool) → Type 0
+IsOnSide (Serves d back) is_mutator ended = IsOnSideBack back is_mutator
+IsOnSide (Scans s back) is_mutator ended = IsOnSideBack back is_mutator
+IsOnSide (Evacuates v s back) is_mutator ended = IsOnSideBack back is_mutator
+IsOnSide (Opens o s back) is_mutator ended = IsOnSideBack back is_mutator
+IsOnSide Gone is_mutator ended = IsGoneBy is_mutator ended
+IsOnSide stage is_mutator ended = is_mutator ≡ true
+
+-- ---- the whole
+
 abbrev pub FitsRun : (pages : ℕ) → Option Run → Type 0
 FitsRun n None = ⊤
 FitsRun n (Some run) = IsRun n run
@@ -176,9 +282,13 @@ pub record Fits (n mutators k : ℕ) (x : Held) : Type 0 where
   pub counted : IsPageCount n
   pub beside : x.mutators ≡ mutators
   pub epoch : x.epoch < 2 ^ 32
-  pub eight : length x.registers ≡ 8
+  pub eight : length x.registers ≡ REGISTERS
+  pub registers : (r : ℕ) → r < REGISTERS → IsValueWord (slice_index x.registers r)
+  pub few_printed : length x.account.printed ≤ MOST_PRINTED
   pub run : FitsRun n x.run
   pub end : FitsEnd x.stage (is_some x.account.end)
+  pub side : IsOnSide x.stage (nat_lt x.number x.mutators) (is_some x.account.end)
+  pub task : FitsTask x x.stage
   pub stage : FitsStage x x.stage
 
 -- the machine at a stage may take the reply
@@ -187,7 +297,7 @@ TakesAt Looks reply = ⊤
 TakesAt (Passes g after) reply = IsSoundPassing (gate.taken g reply)
 TakesAt (Flips f) reply = IsSoundFlipping (flip.taken f reply)
 TakesAt (Forwards w) reply = evac_sound.IsSound (evac_taken.taken w.evac reply)
-TakesAt (Accesses a) reply = ⊤
+TakesAt (Accesses a) reply = access.Takes a.stage reply
 TakesAt (Places p) reply = IsSoundPlacing (place.taken p reply)
 TakesAt (Serves d back) reply = IsSoundRound (duty.taken d reply)
 TakesAt (Scans s back) reply = scan_sound.IsSound (scan_taken.taken s reply)

@@ -10,7 +10,9 @@ use Rattle.heap_state.specs.Entries.{Entry, GateIs}
 use Rattle.heap_state.specs.Ghost.{Ghost}
 use Rattle.heap_laws.specs.Lifting.{Leaves, Flipped, stepped}
 use Rattle.heap_laws.specs.Lifting.{words_after as row_after}
+use Rattle.gc_worker.specs.Answer.{IsAnswered, after_told}
 use Rattle.gc_worker.specs.Fits.{Fits, Takes}
+use Rattle.gc_worker.specs.Full.{FullWhereTold}
 use Rattle.gc_worker.specs.Held.{Held}
 use Rattle.gc_worker.specs.Knows.{knows}
 use Rattle.gc_worker.specs.Wanted.{wanted}
@@ -22,12 +24,13 @@ pub record Is (c : Configuration) (k : ℕ) (x : Held) : Type 0 where
   pub as_known : (team c).worker k ≡ knows x
   pub fits : Fits c.pages c.mutators k x
 
--- What a step leaves that writes this row, or none, by what it is to the plain machine: the same plain state; or a flip.
+-- What a step leaves that writes this row, or none, by what it is to the plain machine: the same plain state; that after an
+-- instruction; or a flip.
 abbrev pub Leads : (c : Configuration) (p : Plain) (g : Ghost) (k : ℕ) → Option Entry → Held → Ghost → Told → Type 0
 Leads c p g k e y h Silent = Leaves c e k (knows y) p g h
 Leads c p g k (Some (GateIs gate)) y h (Marks asked) = Flipped c gate k (knows y) p h
 Leads c p g k e y h (Marks asked) = ⊥
-Leads c p g k e y h (Answers task outcome) = ⊥
+Leads c p g k e y h (Answers task outcome) = Leaves c e k (knows y) (after_told p k (Answers task outcome)) g h
 
 -- the page had no word of this epoch or a later one, and has one now
 pub record IsWon (c : Configuration) (e : Option Entry) (k : ℕ) (y : Held) (w : PageWon) : Type 0 where
@@ -46,6 +49,8 @@ pub record Goes (c : Configuration) (p : Plain) (s : Stands c p) (k : ℕ) (e : 
   pub ghost_after : Ghost
   pub leads : Leads c p s.ghost k e (turned x reply) ghost_after (told x reply)
   pub wins : Wins c e k (turned x reply) (won x reply)
+  pub answered : IsAnswered p k (told x reply)
+  pub full : FullWhereTold c.pages c.words x (told x reply)
 
 -- The step is of a word of the table. It writes the word of a row, or none, and goes as above with the reply of these words.
 pub record Steps (c : Configuration) (p : Plain) (s : Stands c p) (k : ℕ) (x : Held) (q : Step) : Type 0 where

@@ -37,12 +37,11 @@ use Rattle.heap_state.specs.Worker.{Worker, Post, Outside, Running, Stopped, Fli
 use Rattle.heap_state.specs.Worker as workers
 use Rattle.heap_state.specs.Worker.{Access}
 use Rattle.gc_worker.specs.declared.access_stage.AccessStage.{AccessStage}
-use Rattle.gc_worker.specs.declared.access_stage.AccessStage.TheVariants.{LooksAtRecord, LoadsHeader, LooksAtField, LoadsField, StoresField, LooksAtBoard, LoadsBoard, StoresBoard, SwapsBoard}
+use Rattle.gc_worker.specs.declared.access_stage.AccessStage.TheVariants.{LooksAtRecord, LoadsHeader, LooksAtField, LoadsField, StoresField, LooksAtBoard, LoadsBoard, StoresBoard, LoadsForSwap, SwapsBoard}
 use Rattle.gc_worker.specs.declared.back.Back.{Back}
 use Rattle.gc_worker.specs.declared.back.Back.TheVariants.{ToAccess, ToPlace, ToScanner}
 use Rattle.gc_worker.specs.declared.field_access.FieldAccess.{FieldAccess}
-use Rattle.gc_worker.specs.declared.field_access.Role as roles
-use Rattle.gc_worker.specs.declared.field_access.Role.TheVariants.{Field, Number}
+use Rattle.gc_worker.specs.Access.{role_of, field_at}
 use Rattle.gc_worker.specs.declared.stage.Stage.{Stage}
 use Rattle.gc_worker.specs.declared.stage.Stage.TheVariants.{Looks, Passes, Flips, Forwards, Accesses, Places, Serves, Scans, Evacuates, Opens, Gone}
 use Rattle.gc_worker.specs.Held.{Held, asked_by}
@@ -190,28 +189,25 @@ traced_seen_in stage = false
 
 -- ---- accesses
 
-abbrev pub role_of : roles.Role → Role
-role_of Field = FieldRole
-role_of Number = NumberRole
-
 abbrev pub access_of : FieldAccess → Access
 access_of f = record { at = f.at; word = f.word; role = role_of f.role }
 
 abbrev pub access_at : AccessStage → Option Access
-access_at (LooksAtField f) = Some (access_of f)
-access_at (LoadsField f) = Some (access_of f)
-access_at (StoresField f) = Some (access_of f)
+access_at (LooksAtField f usage) = Some (access_of f)
+access_at (LoadsField f into) = Some (access_of f)
+access_at (StoresField f new) = Some (access_of f)
 access_at stage = None
 
 -- the page found open: the header's, then the field's; or the board's
 abbrev pub opened_at : Layout → AccessStage → Option ℕ
 opened_at l (LoadsHeader r) = Some (page_of r.at)
-opened_at l (LooksAtField f) = Some (page_of f.at)
-opened_at l (LoadsField f) = Some (page_of (f.at + f.word))
-opened_at l (StoresField f) = Some (page_of (f.at + f.word))
-opened_at l (LoadsBoard b) = Some (board_page l.pages)
-opened_at l (StoresBoard b) = Some (board_page l.pages)
-opened_at l (SwapsBoard b) = Some (board_page l.pages)
+opened_at l (LooksAtField f usage) = Some (page_of f.at)
+opened_at l (LoadsField f into) = Some (page_of (field_at f))
+opened_at l (StoresField f new) = Some (page_of (field_at f))
+opened_at l (LoadsBoard word into) = Some (board_page l.pages)
+opened_at l (StoresBoard word new) = Some (board_page l.pages)
+opened_at l (LoadsForSwap s) = Some (board_page l.pages)
+opened_at l (SwapsBoard s old) = Some (board_page l.pages)
 opened_at l (LooksAtRecord r) = None
 opened_at l (LooksAtBoard b) = None
 

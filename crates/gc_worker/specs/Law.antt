@@ -1,10 +1,10 @@
 -- The law of a step, over the words, what all workers hold, and the plain state: in these alone a caller that steps one worker speaks.
-use Rattle.std.specs.Prelude.{◌≡◌, ℕ, ◌*◌, ◌<◌, ◌≤◌, ⊤, List, [], length, map, Option, Some, None, slice_index_or, slice_set}
+use Rattle.std.specs.Prelude.{◌≡◌, ℕ, ◌+◌, ◌*◌, ◌<◌, ◌≤◌, ⊤, List, [], length, map, Option, Some, None, slice_index_or, slice_set}
 use Rattle.plain_state.specs.State.{Plain}
 use Rattle.atom_store.specs.declared.step.Step.{Step}
 use Rattle.atom_store.specs.Step.{place_in, words_after, reply_of}
 use Rattle.space_map.specs.PageWord.{age_of}
-use Rattle.space_map.specs.Table.{Page, table_length}
+use Rattle.space_map.specs.Table.{Gate, Page, table_length}
 use Rattle.atom_store.specs.declared.reply.Reply.TheVariants.{Won}
 use Rattle.gate_core.specs.declared.flip_stage.FlipStage.TheVariants.{Exchanges}
 use Rattle.gate_core.specs.declared.reset.Reset.{Reset}
@@ -16,9 +16,11 @@ use Rattle.space_map.specs.Spaces.{IsInSpace, to_space}
 use Rattle.gc_worker.specs.declared.forwarding_register.ForwardingRegister.{ForwardingRegister}
 use Rattle.gc_worker.specs.declared.stage.Stage.TheVariants.{Flips, Forwards, Gone}
 use Rattle.gc_worker.specs.Fits.{Fits, Takes}
-use Rattle.gc_worker.specs.Held.{Held}
+use Rattle.gc_worker.specs.Answer.{IsAnswered, after_told}
+use Rattle.gc_worker.specs.Full.{FullWhereTold}
+use Rattle.gc_worker.specs.Held.{Held, asked_by}
 use Rattle.gc_worker.specs.Knows.{knows}
-use Rattle.gc_worker.specs.Turned.{Told, Silent, Answers, Marks, PageWon, turned, told, won}
+use Rattle.gc_worker.specs.Turned.{Told, Silent, Answers, Marks, PageWon, epoch_said, turned, told, won}
 use Rattle.gc_worker.specs.Wanted.{wanted}
 
 -- ---- a heap with its workers
@@ -69,6 +71,10 @@ at_flip p o Silent = o
 at_flip p o (Answers task outcome) = o
 at_flip p o (Marks asked) = p
 
+-- the epoch that the gate says
+abbrev pub epoch_of : ℕ → List ℕ → ℕ
+epoch_of n words = epoch_said 0 (word_in n words Gate)
+
 -- the epoch that a page's word says, and one more, or 0
 abbrev pub age : ℕ → List ℕ → (page : ℕ) → ℕ
 age n words page = age_of (page_said (word_in n words (Page page)))
@@ -82,16 +88,31 @@ abbrev pub WinsOne : ℕ → List ℕ → List ℕ → Option PageWon → Type 0
 WinsOne n words later None = ⊤
 WinsOne n words later (Some w) = ¬ (IsOut n words w) × IsOut n later w
 
--- The step is of a word of the table, and the worker may take the reply, after which it is sound. The heap stands after it for the
--- same plain state, and keeps what a cycle keeps, which begins at a flip. What is out stays out, and a page that is won was not out before
--- and is out after.
+-- A flip is for the pages that the flipper's task asks for, and is the gate's step into the next epoch.
+pub record FlipsOnce (n : ℕ) (words later : List ℕ) (x : Held) (asked : ℕ) : Type 0 where
+  pub asked_is : asked ≡ asked_by x
+  pub epoch : epoch_of n words ≡ x.epoch
+  pub next : epoch_of n later ≡ x.epoch + 1
+
+abbrev pub FlipsWhereTold : (n : ℕ) → (words later : List ℕ) → Held → Told → Type 0
+FlipsWhereTold n words later x Silent = epoch_of n later ≡ epoch_of n words
+FlipsWhereTold n words later x (Answers task outcome) = epoch_of n later ≡ epoch_of n words
+FlipsWhereTold n words later x (Marks asked) = FlipsOnce n words later x asked
+
+-- The step is of a word of the table, and the worker may take the reply, after which it is sound. Where it answers the task, the plain
+-- machine's mutator may come to that, and the heap stands for the plain state after it; else for the same plain state. What a cycle keeps
+-- it keeps, and a cycle begins at a flip. What is out stays out, and a page that is won was not out before and is out after. Where the
+-- heap is said to be full, it is; a flip, and nothing else, raises the epoch by one.
 pub record StepKeeps (h : Heap) (p o : Plain) (k : ℕ) (x : Held) (q : Step) : Type 0 where
   pub place : place_in q < length h.words
   pub takes : Takes x (reply_of q h.words)
   pub fits : Fits h.pages h.mutators k (turned x (reply_of q h.words))
-  pub stands : WorkersStand (moved h k x q) p (at_flip p o (told x (reply_of q h.words)))
+  pub answered : IsAnswered p k (told x (reply_of q h.words))
+  pub stands : WorkersStand (moved h k x q) (after_told p k (told x (reply_of q h.words))) (at_flip p o (told x (reply_of q h.words)))
   pub kept : (w : PageWon) → IsOut h.pages h.words w → IsOut h.pages (words_after q h.words) w
   pub wins : WinsOne h.pages h.words (words_after q h.words) (won x (reply_of q h.words))
+  pub full : FullWhereTold h.pages h.words x (told x (reply_of q h.words))
+  pub flips : FlipsWhereTold h.pages h.words (words_after q h.words) x (told x (reply_of q h.words))
 
 abbrev pub StepsKeep : Type 0
 StepsKeep = (h : Heap) (p o : Plain) (k : ℕ) (x : Held) (q : Step) → WorkersStand h p o → k < length h.workers → held_at h k ≡ x → wanted x ≡ Some q

@@ -1,7 +1,12 @@
+pub mod Seen
 pub mod Held
+pub mod Access
 pub mod Turned
+pub mod Answer
+pub mod Full
 pub mod Wanted
 pub mod Knows
 pub mod Fits
 pub mod Goes
 pub mod Law
+pub mod Between

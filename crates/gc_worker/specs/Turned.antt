@@ -1,11 +1,11 @@
 -- What a reply makes of a worker: its machine takes the reply, and where that ends the machine, another stage follows.
-use Rattle.std.specs.Prelude.{ℕ, zero, suc, ◌+◌, ◌-◌, ◌^◌, ◌==◌, ◌||◌, Bool, true, false, List, Option, Some, None, nat_lt, slice_index, slice_set, if◌then◌else◌}
+use Rattle.std.specs.Prelude.{ℕ, zero, suc, ◌+◌, ◌-◌, ◌^◌, ◌==◌, ◌||◌, Bool, true, false, List, [], ◌∷◌, ◌++◌, Option, Some, None, Result, Ok, Err, nat_lt, slice_index, slice_set, if◌then◌else◌}
 use Rattle.atom_store.specs.declared.reply.Reply.{Reply}
 use Rattle.atom_store.specs.declared.reply.Reply.TheVariants as replies
 use Rattle.atom_store.specs.declared.turn.Turn.{Turn}
 use Rattle.atom_store.specs.declared.turn.Turn.TheVariants.{More, Finished}
 use Rattle.heap_words.specs.Decoded.{decode, pointer_in}
-use Rattle.heap_words.specs.Word.{pointer_word}
+use Rattle.heap_words.specs.Word.{number_word, pointer_word}
 use Rattle.plain_state.specs.declared.end.End.{End}
 use Rattle.plain_state.specs.declared.end.End.TheVariants.{HeapFull}
 use Rattle.record_layout.specs.declared.header.Header.{Header}
@@ -49,7 +49,17 @@ use Rattle.gc_worker.specs.declared.forwarding_register.ForwardingRegister.{Forw
 use Rattle.gc_worker.specs.declared.stage.Stage.{Stage}
 use Rattle.gc_worker.specs.declared.stage.Stage.TheVariants.{Looks, Passes, Flips, Forwards, Accesses, Places, Serves, Scans, Evacuates, Opens, Gone}
 use Rattle.gc_worker.specs.declared.task.Task.{Task}
-use Rattle.gc_worker.specs.Held.{Held, at_stage, header_for, asked_by, run_of}
+use Rattle.gc_worker.specs.declared.access.Access.{Access}
+use Rattle.gc_worker.specs.declared.access_stage.AccessStage.{AccessStage}
+use Rattle.gc_worker.specs.declared.accessed.Accessed.{Accessed}
+use Rattle.gc_worker.specs.declared.accessed.Accessed.TheVariants.{Faults, Brings, Stored, Fails}
+use Rattle.gc_worker.specs.declared.task.Task.TheVariants.{Calls, Stops}
+use Rattle.gc_worker.specs.Access as access
+use Rattle.gc_worker.specs.Held.{Held, at_stage, making_for, header_for, asked_by, run_of}
+use Rattle.gc_worker.specs.Seen.{Making, seen, word_for}
+use Rattle.plain_heap.specs.Action.{Action, Sets, Jumps, Links, Prints, Makes, action}
+use Rattle.plain_heap.specs.Action as plain_action
+use Rattle.alloc_end.specs.declared.run.Run.{Run}
 
 -- ---- where it goes on
 
@@ -142,9 +152,70 @@ abbrev pub turned_gate : Held → gate.Passing → After → Turn Passed → Hel
 turned_gate x g after More = at_stage x (Passes g after)
 turned_gate x g after (Finished result) = passed_by x after g.passage result
 
--- by the gate at a look without a task
+-- ---- an instruction's effect
+
+-- the mutator goes on at an instruction, and has answered its task
+abbrev pub jumped : Held → (target : ℕ) → Held
+jumped x target =
+    at_stage (record x { account = record x.account { counter = target; executed = x.account.executed + 1 }; task = None }) Looks
+
+-- the number of the next instruction
+abbrev pub next_of : Held → ℕ
+next_of x = plain_action.next_of (seen x.account x.registers)
+
+-- it goes on with the next instruction
+abbrev pub went_on : Held → Held
+went_on x = jumped x (next_of x)
+
+abbrev pub with_word : Held → (register word : ℕ) → Held
+with_word x register word = record x { registers = slice_set x.registers register word }
+
+-- a register gets a word, and the mutator goes on
+abbrev pub loads : Held → (into word : ℕ) → Held
+loads x into word = went_on (with_word x into word)
+
+abbrev pub prints : Held → ℕ → Held
+prints x n = went_on (record x { account = record x.account { printed = x.account.printed ++ n ∷ [] } })
+
+-- the mutator has its end, and leaves
+abbrev pub with_end : Held → End → Held
+with_end x end = record x { account = record x.account { end = Some end } }
+
+abbrev pub ended : Held → End → Held
+ended x end = at_stage (record (with_end x end) { task = None }) (passes x Leave afters.Looks)
+
+-- ---- the look that begins an instruction
+
+-- the epoch in which it begins is kept
+abbrev pub begins : Held → Held
+begins x = record x { begun = x.epoch }
+
+-- an access begins
+abbrev pub accesses : Held → Option AccessStage → Held
+accesses x (Some stage) = at_stage x (Accesses (record { spaces = x.layout; epoch = x.epoch; stage = stage }))
+accesses x None = x
+
+-- by the instruction's action
+abbrev pub acts : Held → Action → Held
+acts x (Sets d v) = loads x d (word_for v)
+acts x (Jumps target) = jumped x target
+acts x (Links d target) = jumped (with_word x d (number_word (next_of x))) target
+acts x (Prints n) = prints x n
+acts x (Makes kind d n) = at_stage x (places x (header_for x))
+acts x act = accesses x (access.begun act)
+
+abbrev pub acted : Held → Result Action End → Held
+acted x (Ok act) = acts x act
+acted x (Err why) = ended x why
+
+abbrev pub started : Held → Option Task → Held
+started x None = at_stage x Looks
+started x (Some (Calls instr)) = acted (begins x) (action (seen x.account x.registers) instr)
+started x (Some (Stops end)) = ended (begins x) end
+
+-- a request makes it park first
 abbrev pub looked_by : Held → Option GateWord → Held
-looked_by x (Some gate) = at_stage x (if gate.request then passes x Park afters.Looks else Looks)
+looked_by x (Some gate) = if gate.request then at_stage x (passes x Park afters.Looks) else started x x.task
 looked_by x None = x
 
 abbrev pub turned_look : Held → Reply → Held
@@ -167,7 +238,7 @@ turned_flip x f (Finished result) = flipped_by x f result
 
 -- the register gets the copy's address, and the next ones are forwarded
 abbrev pub with_copy : Held → (register to : ℕ) → Held
-with_copy x register to = record x { registers = slice_set x.registers register (pointer_word to) }
+with_copy x register to = with_word x register (pointer_word to)
 
 abbrev pub forwarded_to : Held → ForwardingRegister → To → Held
 forwarded_to x w to =
@@ -184,12 +255,6 @@ turned_register x w (Finished to) = forwarded_to x w to
 abbrev pub is_full : Held → Bool
 is_full x = nat_lt x.begun x.epoch || (x.epoch == 2 ^ 32 - 1)
 
-abbrev pub with_end : Held → End → Held
-with_end x end = record x { account = record x.account { end = Some end } }
-
-abbrev pub ended : Held → End → Held
-ended x end = at_stage (record (with_end x end) { task = None }) (passes x Leave afters.Looks)
-
 abbrev pub end_of : Shortage → End
 end_of s = HeapFull s.asked s.room s.live
 
@@ -197,14 +262,33 @@ abbrev pub full_by : Held → Shortage → (traced : Bool) → Held
 full_by x s false = at_stage x (Serves (duty.begun x.layout callers.Allocates x.epoch x.number) ToPlace)
 full_by x s true = if is_full x then ended x (end_of s) else at_stage x (passes x Request afters.Places)
 
--- what an allocation comes to; that of a header isn't defined yet
-abbrev pub allocated_by : Held → Allocated → Held
-allocated_by x (Placed at) = x
-allocated_by x (Full s) = full_by x s s.traced
+-- the record stands, and the register that the task names leads to it
+abbrev pub with_record : Held → Run → (at : ℕ) → Option Making → Held
+with_record x run at (Some m) =
+    loads (record x { account = record x.account { serial = x.account.serial + 1 }; run = Some run }) m.into (pointer_word at)
+with_record x run at None = x
+
+-- what an allocation comes to
+abbrev pub allocated_by : Held → place.Placing → Allocated → Held
+allocated_by x p (Placed at) = with_record x p.run at (making_for x x.task)
+allocated_by x p (Full s) = full_by x s s.traced
 
 abbrev pub turned_place : Held → place.Placing → Turn Allocated → Held
 turned_place x p More = at_stage x (Places p)
-turned_place x p (Finished result) = allocated_by x result
+turned_place x p (Finished result) = allocated_by x p result
+
+-- ---- accesses
+
+-- a round is made for a page that isn't open, and then the access looks at it again
+abbrev pub accessed_by : Held → Access → Accessed → Held
+accessed_by x a (Faults page) = at_stage x (Serves (duty.begun x.layout (callers.Faulted page) x.epoch x.number) (ToAccess a))
+accessed_by x a (Brings into word) = loads x into word
+accessed_by x a Stored = went_on x
+accessed_by x a (Fails why) = ended x why
+
+abbrev pub turned_access : Held → Access → Turn Accessed → Held
+turned_access x a More = at_stage x (Accesses a)
+turned_access x a (Finished result) = accessed_by x a result
 
 -- ---- rounds
 
@@ -257,7 +341,7 @@ turned_at x Looks reply = turned_look x reply
 turned_at x (Passes g after) reply = turned_gate x (gate.taken g reply) after (gate.told (gate.taken g reply))
 turned_at x (Flips f) reply = turned_flip x (flip.taken f reply) (flip.told (flip.taken f reply))
 turned_at x (Forwards w) reply = turned_register x (with_evac w (evac_taken.taken w.evac reply)) (evac_taken.told (evac_taken.taken w.evac reply).stage)
-turned_at x (Accesses access) reply = x
+turned_at x (Accesses a) reply = turned_access x (access.taken a reply) (access.told a reply)
 turned_at x (Places p) reply = turned_place x (place.taken p reply) (place.told (place.taken p reply))
 turned_at x (Serves d back) reply = turned_round x (duty.taken d reply) back (duty.told (duty.taken d reply))
 turned_at x (Scans s back) reply = turned_scan x (scan_taken.taken s reply) back (scan_taken.told (scan_taken.taken s reply).stage)
@@ -295,13 +379,52 @@ abbrev pub told_full : Held → Shortage → (traced : Bool) → Told
 told_full x s false = Silent
 told_full x s true = if is_full x then told_end x.task (end_of s) else Silent
 
+-- the task is done
+abbrev pub told_effect : Option Task → Told
+told_effect (Some task) = Answers task Effect
+told_effect None = Silent
+
 abbrev pub told_place : Held → Turn Allocated → Told
-told_place x (Finished (Placed at)) = Silent
+told_place x (Finished (Placed at)) = told_effect x.task
 told_place x (Finished (Full s)) = told_full x s s.traced
 told_place x More = Silent
 
+abbrev pub told_access : Option Task → Turn Accessed → Told
+told_access task (Finished (Faults page)) = Silent
+told_access task (Finished (Brings into word)) = told_effect task
+told_access task (Finished Stored) = told_effect task
+told_access task (Finished (Fails why)) = told_end task why
+told_access task More = Silent
+
+-- an action that the registers alone decide is the effect
+abbrev pub told_action : Task → Action → Told
+told_action task (Sets d v) = Answers task Effect
+told_action task (Jumps target) = Answers task Effect
+told_action task (Links d target) = Answers task Effect
+told_action task (Prints n) = Answers task Effect
+told_action task act = Silent
+
+abbrev pub told_acted : Task → Result Action End → Told
+told_acted task (Ok act) = told_action task act
+told_acted task (Err why) = Answers task (Ends why)
+
+abbrev pub told_start : Held → Option Task → Told
+told_start x None = Silent
+told_start x (Some (Calls instr)) = told_acted (Calls instr) (action (seen x.account x.registers) instr)
+told_start x (Some (Stops end)) = Answers (Stops end) (Ends end)
+
+abbrev pub told_gate : Held → Option GateWord → Told
+told_gate x (Some gate) = if gate.request then Silent else told_start x x.task
+told_gate x None = Silent
+
+abbrev pub told_look : Held → Reply → Told
+told_look x (replies.Value word) = told_gate x (decode_gate word)
+told_look x reply = Silent
+
 abbrev pub told_at : Held → Stage → Reply → Told
+told_at x Looks reply = told_look x reply
 told_at x (Flips f) reply = told_flip (flip.told (flip.taken f reply))
+told_at x (Accesses a) reply = told_access x.task (access.told a reply)
 told_at x (Places p) reply = told_place x (place.told (place.taken p reply))
 told_at x stage reply = Silent
 

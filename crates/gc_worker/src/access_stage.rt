@@ -1,5 +1,5 @@
 use crate::board_access::{BoardAccess, BoardSwap};
-use crate::field_access::FieldAccess;
+use crate::field_access::{FieldAccess, FieldUse};
 use crate::record_access::RecordAccess;
 
 /// What an access is about to do.
@@ -10,17 +10,19 @@ pub enum AccessStage {
     /// Load the header.
     LoadsHeader(RecordAccess),
     /// Load the word of the field's page, which is another: it must be open.
-    LooksAtField(FieldAccess),
-    /// Load the field.
-    LoadsField(FieldAccess),
-    /// Store in the field.
-    StoresField(FieldAccess),
+    LooksAtField(FieldAccess, FieldUse),
+    /// Load the field into this register.
+    LoadsField(FieldAccess, u8),
+    /// Store this in the field.
+    StoresField(FieldAccess, u64),
     /// Load the word of the board's page: it must be open.
     LooksAtBoard(BoardAccess),
-    /// Load the word of the board.
-    LoadsBoard(BoardAccess),
-    /// Store in the word of the board.
-    StoresBoard(BoardAccess),
-    /// Exchange the word of the board.
-    SwapsBoard(BoardSwap),
+    /// Load this word of the board into this register.
+    LoadsBoard(u32, u8),
+    /// Store in this word of the board.
+    StoresBoard(u32, u64),
+    /// Load the word of the board that is to be exchanged.
+    LoadsForSwap(BoardSwap),
+    /// Exchange the word of the board, from this one.
+    SwapsBoard(BoardSwap, u64),
 }

@@ -1,11 +1,12 @@
 /// What is done with a word of the board.
 #[derive(Clone, Copy, Debug, PartialEq, Eq)]
 pub enum BoardUse {
-    Loads,
-    /// Stores this word.
+    /// This register gets it.
+    Loads(u8),
+    /// This word is stored there.
     Stores(u64),
-    /// Exchanges the word for this one.
-    Swaps(u64),
+    /// This register gets it, and this word takes its place.
+    Swaps(u8, u64),
 }
 
 /// The access to a word of the board.
@@ -16,10 +17,13 @@ pub struct BoardAccess {
     pub usage: BoardUse,
 }
 
-/// The exchange of a word of the board, from this one.
+/// The exchange of a word of the board for another.
 #[derive(Clone, Copy, Debug, PartialEq, Eq)]
 pub struct BoardSwap {
+    /// The word's number, from 0.
     pub word: u32,
-    pub old: u64,
+    /// The register that gets the word.
+    pub into: u8,
+    /// What takes its place.
     pub new: u64,
 }

@@ -1,5 +1,3 @@
-use crate::record_access::RecordUse;
-
 /// What stands at a word of a record.
 #[derive(Clone, Copy, Debug, PartialEq, Eq)]
 pub enum Role {
@@ -9,7 +7,7 @@ pub enum Role {
     Number,
 }
 
-/// The access to a word of a record whose header was read.
+/// A word of a record whose header was read.
 #[derive(Clone, Copy, Debug, PartialEq, Eq)]
 pub struct FieldAccess {
     /// The record's address.
@@ -17,5 +15,13 @@ pub struct FieldAccess {
     /// The word, counted from the header.
     pub word: u32,
     pub role: Role,
-    pub usage: RecordUse,
+}
+
+/// What is done with it.
+#[derive(Clone, Copy, Debug, PartialEq, Eq)]
+pub enum FieldUse {
+    /// This register gets what stands there.
+    Loads(u8),
+    /// This will stand there.
+    Stores(u64),
 }

@@ -7,6 +7,7 @@
 
 mod access;
 mod access_stage;
+mod accessed;
 mod after;
 mod back;
 mod board_access;
@@ -19,10 +20,11 @@ mod task;
 
 pub use access::Access;
 pub use access_stage::AccessStage;
+pub use accessed::Accessed;
 pub use after::After;
 pub use back::Back;
 pub use board_access::{BoardAccess, BoardSwap, BoardUse};
-pub use field_access::{FieldAccess, Role};
+pub use field_access::{FieldAccess, FieldUse, Role};
 pub use forwarding_register::ForwardingRegister;
 pub use laws::{flips_are_won, places_fit, registers_lead_back, steps_keep};
 pub use record_access::{RecordAccess, RecordUse};

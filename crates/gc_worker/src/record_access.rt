@@ -1,9 +1,11 @@
 /// What is done with a record.
 #[derive(Clone, Copy, Debug, PartialEq, Eq)]
 pub enum RecordUse {
-    TellsLength,
-    Loads,
-    /// Stores this word.
+    /// This register gets its length.
+    TellsLength(u8),
+    /// This register gets a value of it.
+    Loads(u8),
+    /// This word becomes a value of it.
     Stores(u64),
 }
 

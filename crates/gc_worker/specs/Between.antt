@@ -1,0 +1,163 @@
+-- What is so between any two steps, how a heap begins, and what a worker may become without a step.
+use Rattle.std.specs.Prelude.{◌≡◌, ℕ, ◌+◌, ◌<◌, ◌≤◌, ◌↔◌, ⊤, List, [], length, true, Option, Some, None, nat_lt, replicate, slice_get, slice_index, slice_set, if◌then◌else◌}
+use Rattle.heap_words.specs.declared.kind.Kind.{Kind}
+use Rattle.heap_words.specs.Decoded.{NumberWord, PointerWord, HeaderWord, decode}
+use Rattle.plain_state.specs.declared.end.End.{End}
+use Rattle.plain_state.specs.declared.value.Identity.{Identity}
+use Rattle.plain_state.specs.declared.value.Value.TheVariants.{Number, Reference}
+use Rattle.plain_state.specs.declared.sizes.TheConstants.{REGISTERS}
+use Rattle.plain_state.specs.State.{Mutator, Plain}
+use Rattle.space_map.specs.Spaces.{IsInSpace, IsPageCount, to_space}
+use Rattle.space_map.specs.Table.{HeapWord, table_length}
+use Rattle.atom_store.specs.declared.reply.Reply.{Reply}
+use Rattle.atom_store.specs.declared.step.Step.{Step}
+use Rattle.fault_duty.specs.declared.caller.Caller.TheVariants as callers
+use Rattle.fault_duty.specs.Duty as duty
+use Rattle.gate_core.specs.declared.passage.Passage.TheVariants.{Attach}
+use Rattle.heap_state.specs.Entries.{written}
+use Rattle.heap_state.specs.Table.{word_in}
+use Rattle.heap_state.specs.Values.{Accounts}
+use Rattle.heap_state.specs.Worker.{is_running}
+use Rattle.heap_laws.specs.Opening.{opening_entries, opening_plain}
+use Rattle.gc_worker.specs.declared.after.After.TheVariants as afters
+use Rattle.gc_worker.specs.declared.back.Back.TheVariants.{ToScanner}
+use Rattle.gc_worker.specs.declared.stage.Stage.TheVariants.{Serves, Gone}
+use Rattle.gc_worker.specs.declared.task.Task.{Task}
+use Rattle.gc_worker.specs.Fits.{Fits, MayBegin}
+use Rattle.gc_worker.specs.Held.{Held}
+use Rattle.gc_worker.specs.Knows.{knows, post_in}
+use Rattle.gc_worker.specs.Law.{Heap, held_at, WorkersStand}
+use Rattle.gc_worker.specs.Turned.{Told, Silent, Answers, Marks, Outcome, passes, turned, told}
+use Rattle.gc_worker.specs.Wanted.{wanted}
+
+-- ---- how it begins
+
+-- worker k before its first step: a mutator that is about to attach, or a scanner before its first round
+abbrev pub fresh : (n mutators k : ℕ) → Held
+fresh n mutators k = record {
+  number = k;
+  layout = record { pages = n };
+  mutators = mutators;
+  epoch = 0;
+  begun = 0;
+  account = record { counter = 0; printed = []; executed = 0; serial = 0; end = None };
+  registers = replicate REGISTERS 0;
+  run = None;
+  task = None;
+  stage = Gone;
+}
+
+abbrev pub fresh_mutator : (n mutators k : ℕ) → Held
+fresh_mutator n mutators k = let x = fresh n mutators k in record x { stage = passes x Attach afters.Looks }
+
+abbrev pub fresh_scanner : (n mutators k : ℕ) → Held
+fresh_scanner n mutators k = let x = fresh n mutators k in record x { stage = Serves (duty.begun x.layout (callers.Scans mutators) 0 k) ToScanner }
+
+abbrev pub fresh_worker : (n mutators k : ℕ) → Held
+fresh_worker n mutators k = if nat_lt k mutators then fresh_mutator n mutators k else fresh_scanner n mutators k
+
+-- so many workers from this number on
+unfoldable pub fresh_workers : (n mutators from count : ℕ) → List Held
+fresh_workers n mutators from zero = []
+fresh_workers n mutators from (suc count) = fresh_worker n mutators from ∷ fresh_workers n mutators (from + 1) count
+
+abbrev pub opening : (n mutators scanners : ℕ) → Heap
+opening n mutators scanners = record {
+  pages = n;
+  words = written n (opening_entries n);
+  mutators = mutators;
+  workers = fresh_workers n mutators 0 (mutators + scanners);
+}
+
+-- it stands for the plain state in which nothing was made yet, and a cycle begins there
+abbrev pub HeapsOpen : Type 0
+HeapsOpen = (n mutators scanners : ℕ) → IsPageCount n → 1 ≤ mutators → mutators ≤ 16 → mutators + scanners ≤ 24
+    → WorkersStand (opening n mutators scanners) (opening_plain mutators) (opening_plain mutators)
+
+-- ---- what a worker may become without a step
+
+-- to the proofs of the heap it is the same, and it is still sound
+pub record Readies (n mutators k : ℕ) (was now : Held) : Type 0 where
+  pub same : knows now ≡ knows was
+  pub fits : Fits n mutators k was → Fits n mutators k now
+
+abbrev pub with_worker : Heap → (k : ℕ) → Held → Heap
+with_worker h k x = record h { workers = slice_set h.workers k x }
+
+abbrev pub ReadyingStands : Type 0
+ReadyingStands = (h : Heap) (p o : Plain) (k : ℕ) (now : Held) → WorkersStand h p o → k < length h.workers
+    → Readies h.pages h.mutators k (held_at h k) now → WorkersStand (with_worker h k now) p o
+
+-- a mutator that has no end, and no task that it has not answered
+pub record IsIdle (x : Held) : Type 0 where
+  pub is_mutator : x.number < x.mutators
+  pub no_end : x.account.end ≡ None
+  pub no_task : x.task ≡ None
+
+abbrev pub with_task : Held → Task → Held
+with_task x task = record x { task = Some task }
+
+-- such a one may be given a task
+abbrev pub TasksMayBegin : Type 0
+TasksMayBegin = (n mutators k : ℕ) (x : Held) (task : Task) → Fits n mutators k x → IsIdle x → MayBegin x.account x.registers (Some task)
+    → Readies n mutators k x (with_task x task)
+
+-- ---- the task that was begun
+
+abbrev pub IsNoAnswer : Told → Type 0
+IsNoAnswer Silent = ⊤
+IsNoAnswer (Answers task outcome) = ⊥
+IsNoAnswer (Marks asked) = ⊤
+
+-- A step answers no other task than the one begun; it keeps that one until it answers it, and then there is none. The worker's number,
+-- layout and number of mutators never change.
+pub record GoesOn (x : Held) (reply : Reply) : Type 0 where
+  pub asked : (task : Task) (outcome : Outcome) → told x reply ≡ Answers task outcome → x.task ≡ Some task
+  pub kept : IsNoAnswer (told x reply) → (turned x reply).task ≡ x.task
+  pub rests : (task : Task) (outcome : Outcome) → told x reply ≡ Answers task outcome → (turned x reply).task ≡ None
+  pub number : (turned x reply).number ≡ x.number
+  pub layout : (turned x reply).layout ≡ x.layout
+  pub mutators : (turned x reply).mutators ≡ x.mutators
+
+abbrev pub WorkersGoOn : Type 0
+WorkersGoOn = (n mutators k : ℕ) (x : Held) (reply : Reply) → Fits n mutators k x → GoesOn x reply
+
+-- a worker that is no mutator that has left, nor a scanner that has seen all leave, wants a step
+abbrev pub WorkersWant : Type 0
+WorkersWant = (n mutators k : ℕ) (x : Held) → Fits n mutators k x → (wanted x ≡ None) ↔ (x.stage ≡ Gone)
+
+-- ---- what is so at any time
+
+-- Registers show those of the plain mutator: a number stands exactly where that number does, and a pointer exactly where a reference does.
+pub record Shows (registers : List ℕ) (q : Mutator) : Type 0 where
+  pub numbers : (j n : ℕ) → j < REGISTERS → decode (slice_index registers j) ≡ NumberWord n → slice_get q.registers j ≡ Some (Number n)
+  pub pointers : (j a : ℕ) → j < REGISTERS → decode (slice_index registers j) ≡ PointerWord a → (i : Identity) × (slice_get q.registers j ≡ Some (Reference i))
+
+-- each pointer in a register is one into the space of the worker's epoch, to a record's header
+pub record Lands (n : ℕ) (words : List ℕ) (x : Held) : Type 0 where
+  pub in_space : (j a : ℕ) → j < REGISTERS → decode (slice_index x.registers j) ≡ PointerWord a → IsInSpace n a (to_space x.epoch)
+  pub header : (j a : ℕ) → j < REGISTERS → decode (slice_index x.registers j) ≡ PointerWord a
+      → (kind : Kind) × (len : ℕ) × (serial : ℕ) × (mutator : ℕ) × (decode (word_in n words (HeapWord a)) ≡ HeaderWord kind len serial mutator)
+
+-- two registers that lead to one record hold one pointer
+abbrev pub AreAlike : List ℕ → Mutator → Type 0
+AreAlike registers q = (j i a b : ℕ) → j < REGISTERS → i < REGISTERS → decode (slice_index registers j) ≡ PointerWord a → decode (slice_index registers i) ≡ PointerWord b
+    → slice_get q.registers j ≡ slice_get q.registers i → a ≡ b
+
+-- a mutator is as its plain one; where it has no end its registers show that one's, and where it runs they lead to where the records are
+pub record IsAsPlain (h : Heap) (p : Plain) (k : ℕ) (x : Held) (q : Mutator) : Type 0 where
+  pub account : Accounts p.heap k x.account q
+  pub shows : q.end ≡ None → Shows x.registers q
+  pub lands : q.end ≡ None → is_running (post_in x x.stage) ≡ true → Lands h.pages h.words x
+  pub alike : q.end ≡ None → is_running (post_in x x.stage) ≡ true → AreAlike x.registers q
+
+-- the table has all its words, each worker is sound, and each mutator is as its plain one, of which there are as many
+pub record IsSo (h : Heap) (p : Plain) : Type 0 where
+  pub whole : length h.words ≡ table_length h.pages
+  pub fit : (k : ℕ) → k < length h.workers → Fits h.pages h.mutators k (held_at h k)
+  pub as_many : length p.mutators ≡ h.mutators
+  pub enough : h.mutators ≤ length h.workers
+  pub mutators : (k : ℕ) (q : Mutator) → slice_get p.mutators k ≡ Some q → IsAsPlain h p k (held_at h k) q
+
+abbrev pub WhatStandsIsSo : Type 0
+WhatStandsIsSo = (h : Heap) (p o : Plain) → WorkersStand h p o → IsSo h p

@@ -1,0 +1,13 @@
+use plain_state::End;
+
+/// What an access comes to.
+#[derive(Clone, Copy, Debug, PartialEq, Eq)]
+pub enum Accessed {
+    /// This page isn't open.
+    Faults(u32),
+    /// This register gets this word.
+    Brings(u8, u64),
+    Stored,
+    /// It is the mutator's end.
+    Fails(End),
+}
