@@ -1,3 +1,7 @@
 pub mod Denoting
 pub mod Owning
 pub mod Representing
+pub mod Dropping
+pub mod Dropped
+pub mod Showing
+pub mod Represented

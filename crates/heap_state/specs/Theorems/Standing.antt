@@ -24,6 +24,10 @@ pub record IsSound (c : Configuration) (p : Plain) : Type 0 where
 abbrev pub StandingIsSound : Type 0
 StandingIsSound = (c : Configuration) (p : Plain) → Stands c p → IsSound c p
 
+-- what keeps the invariant of the proofs and shows one plain state shows each that it represents
+abbrev pub RepresentedStands : Type 0
+RepresentedStands = (c : Configuration) (p q : Plain) → Stands c p → Represents c q → Stands c q
+
 -- ---- what stands still
 
 -- the worker scans the filling page
