@@ -25,7 +25,7 @@ use Rattle.gc_worker.specs.declared.stage.Stage.{Stage}
 use Rattle.gc_worker.specs.declared.stage.Stage.TheVariants.{Looks, Passes, Flips, Forwards, Accesses, Places, Serves, Scans, Evacuates, Opens, Gone}
 use Rattle.gc_worker.specs.Answer.{after_told}
 use Rattle.gc_worker.specs.Fits.{Fits}
-use Rattle.gc_worker.specs.Goes.{Is, Leads, Steps, StepsSo, Wins}
+use Rattle.gc_worker.specs.Goes.{Is, Leads, Steps, StepsSo, Wins, FlipIsOwn}
 use Rattle.gc_worker.specs.Held.{Held, at_stage}
 use Rattle.gc_worker.specs.Knows.{knows}
 use Rattle.gc_worker.specs.Law.{Heap, read, nobody, held_at, WorkersStand, moved, at_flip, epoch_of, age, WinsOne, FlipsOnce, FlipsWhereTold, StepKeeps, StepsKeep}
@@ -35,7 +35,6 @@ use Rattle.gc_worker.proofs.Gate.Exchanging.{exchanges_gate}
 use Rattle.gc_worker.proofs.Look.{looks}
 use Rattle.gc_worker.proofs.Access.{accesses}
 use Rattle.gc_worker.proofs.Gate.Words.{gate_says}
-use Rattle.gc_worker.proofs.Flip.Telling.{flips_for}
 use Rattle.gc_worker.proofs.Gate.Passing.{loads_gate}
 use Rattle.gc_worker.proofs.Flip.Resetting as resetting
 use Rattle.gc_worker.proofs.Flip.Flipping.{flips_gate}
@@ -213,30 +212,29 @@ module _ (h : Heap) (p o : Plain) (k : ℕ) (x : Held) (q : Step) (st : WorkersS
     same_epoch p' o' w e same g leads =
         epoch_after p' o' w ∙ ((subst (λ (f : Option Entry). Leaves (read h) f k (knows y) p' st.stands.ghost g) (sym same) leads).epoch ∙ sym epoch_is)
 
-    next_epoch : (asked : ℕ) (p' o' : Plain) → told x r ≡ Marks asked → WorkersStand (moved h k x q) p' o' → (e : Option Entry) → steps.entry ≡ e → (g : Ghost) → Leads (read h) p st.stands.ghost k e y g (Marks asked)
+    next_epoch : (asked : ℕ) (p' o' : Plain) → FlipIsOwn (read h) x (Marks asked) → WorkersStand (moved h k x q) p' o' → (e : Option Entry) → steps.entry ≡ e → (g : Ghost) → Leads (read h) p st.stands.ghost k e y g (Marks asked)
         → FlipsOnce h.pages h.words (words_after q h.words) x asked
-    next_epoch asked p' o' says w (Some (GateIs gate)) same g leads =
+    next_epoch asked p' o' own w (Some (GateIs gate)) same g leads =
         let ours : Flipped (read h) gate k (knows y) p g = leads in
         let cfg = ap (λ (f : Option Entry). (table (stepped (read h) f k (knows y))).gate.epoch) same in
-        let flip = flips_for (read h) p st.stands k x is r asked says in
         record {
-          asked_is = flip.0;
-          epoch = epoch_is ∙ sym flip.1;
-          next = epoch_after p' o' w ∙ (cfg ∙ (ours.epoch ∙ ap (λ (e : ℕ). e + 1) (sym flip.1)));
+          asked_is = own.0;
+          epoch = epoch_is ∙ own.1;
+          next = epoch_after p' o' w ∙ (cfg ∙ (ours.epoch ∙ ap (λ (e : ℕ). e + 1) own.1));
         }
-    next_epoch asked p' o' says w None same g leads = absurd leads
-    next_epoch asked p' o' says w (Some (TracedIs word)) same g leads = absurd leads
-    next_epoch asked p' o' says w (Some (AreaIs space area)) same g leads = absurd leads
-    next_epoch asked p' o' says w (Some (PageIs place word)) same g leads = absurd leads
-    next_epoch asked p' o' says w (Some (CrossIs place at)) same g leads = absurd leads
-    next_epoch asked p' o' says w (Some (WordIs addr word)) same g leads = absurd leads
-    next_epoch asked p' o' says w (Some (AnnounceIs worker at)) same g leads = absurd leads
+    next_epoch asked p' o' own w None same g leads = absurd leads
+    next_epoch asked p' o' own w (Some (TracedIs word)) same g leads = absurd leads
+    next_epoch asked p' o' own w (Some (AreaIs space area)) same g leads = absurd leads
+    next_epoch asked p' o' own w (Some (PageIs place word)) same g leads = absurd leads
+    next_epoch asked p' o' own w (Some (CrossIs place at)) same g leads = absurd leads
+    next_epoch asked p' o' own w (Some (WordIs addr word)) same g leads = absurd leads
+    next_epoch asked p' o' own w (Some (AnnounceIs worker at)) same g leads = absurd leads
 
-    flips_by : (t : Told) → told x r ≡ t → WorkersStand (moved h k x q) (after_told p k t) (at_flip p o t) → Leads (read h) p st.stands.ghost k steps.entry y steps.goes.ghost_after t
+    flips_by : (t : Told) → FlipIsOwn (read h) x t → WorkersStand (moved h k x q) (after_told p k t) (at_flip p o t) → Leads (read h) p st.stands.ghost k steps.entry y steps.goes.ghost_after t
         → FlipsWhereTold h.pages h.words (words_after q h.words) x t
-    flips_by Silent says w leads = same_epoch p o w steps.entry refl steps.goes.ghost_after leads
-    flips_by (Answers task outcome) says w leads = same_epoch (after_told p k (Answers task outcome)) o w steps.entry refl steps.goes.ghost_after leads
-    flips_by (Marks asked) says w leads = next_epoch asked p p says w steps.entry refl steps.goes.ghost_after leads
+    flips_by Silent own w leads = same_epoch p o w steps.entry refl steps.goes.ghost_after leads
+    flips_by (Answers task outcome) own w leads = same_epoch (after_told p k (Answers task outcome)) o w steps.entry refl steps.goes.ghost_after leads
+    flips_by (Marks asked) own w leads = next_epoch asked p p own w steps.entry refl steps.goes.ghost_after leads
 
     wins_by : (w : Option PageWon) → Wins (read h) steps.entry k y w → WinsOne h.pages h.words (words_after q h.words) w
     wins_by None wins = tt
@@ -258,7 +256,7 @@ module _ (h : Heap) (p o : Plain) (k : ℕ) (x : Held) (q : Step) (st : WorkersS
       kept = λ w out. record { page = out.page; epoch = (let a = ages w.page in omega (arith, out.epoch, a)) };
       wins = wins_by (won x r) steps.goes.wins;
       full = steps.goes.full;
-      flips = flips_by (told x r) refl standing steps.goes.leads;
+      flips = flips_by (told x r) steps.goes.flip standing steps.goes.leads;
     }
 
 pub steps_keep : StepsKeep
