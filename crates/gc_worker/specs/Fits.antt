@@ -1,7 +1,7 @@
 -- What a worker keeps of itself: each machine is sound, and its layout, its worker and its epoch are the worker's own.
 use Rattle.std.specs.Prelude.{◌≡◌, ℕ, ◌+◌, ◌^◌, ◌<◌, ◌≤◌, ◌⊎◌, ⊤, Bool, true, false, List, length, Option, Some, None, Ok, is_some, nat_lt, slice_index, IsTrue}
 use Rattle.atom_store.specs.declared.reply.Reply.{Reply}
-use Rattle.space_map.specs.Spaces.{IsPageCount, board_page, first_word, space_start, to_space}
+use Rattle.space_map.specs.Spaces.{Layout, IsPageCount, board_page, first_word, space_start, to_space}
 use Rattle.alloc_end.specs.declared.run.Run.{Run}
 use Rattle.alloc_end.specs.Place as place
 use Rattle.alloc_end.specs.Soundness.{IsRun, IsPlacingGoing, IsSoundPlacing}
@@ -118,15 +118,15 @@ pub record FitsRound (x : Held) (d : duty.Round) (back : Back) : Type 0 where
   pub going : IsRoundGoing d.stage
   pub sound : IsSoundRound d
 
--- an access is of the worker's epoch
-pub record FitsAccess (x : Held) (a : Access) : Type 0 where
-  pub layout : a.spaces ≡ x.layout
-  pub epoch : a.epoch ≡ x.epoch
+-- an access is of its worker's layout and epoch
+pub record FitsAccess (l : Layout) (e : ℕ) (a : Access) : Type 0 where
+  pub layout : a.spaces ≡ l
+  pub epoch : a.epoch ≡ e
   pub sound : IsSoundAccess a
 
 -- what it goes back to is its own; a scanner has no run
 abbrev pub FitsBack : Held → Back → Type 0
-FitsBack x (ToAccess a) = FitsAccess x a
+FitsBack x (ToAccess a) = FitsAccess x.layout x.epoch a
 FitsBack x ToPlace = ⊤
 FitsBack x ToScanner = x.run ≡ None
 
@@ -162,7 +162,7 @@ FitsStage x Looks = ⊤
 FitsStage x (Passes g after) = FitsGate x g
 FitsStage x (Flips f) = FitsFlip x f
 FitsStage x (Forwards w) = FitsRegister x w
-FitsStage x (Accesses a) = FitsAccess x a
+FitsStage x (Accesses a) = FitsAccess x.layout x.epoch a
 FitsStage x (Places p) = FitsPlace x p
 FitsStage x (Serves d back) = FitsRound x d back × FitsBack x back
 FitsStage x (Scans s back) = FitsScan x s × GoesOn s.stage × FitsBack x back

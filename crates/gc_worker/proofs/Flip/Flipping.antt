@@ -55,10 +55,12 @@ module _ (c : Configuration) (p : Plain) (s : Stands c p) (k : ℕ) (y : Held) (
     goes : Goes c p s k (Some (GateIs (gate_flipped r.gate))) x Won
     goes = record {
       takes = record { pages = is.fits.stage.sound.pages; epoch = is.fits.stage.sound.epoch; stage = tt };
-      fits = before_passage c.pages c.mutators k x is.fits (Resume x.epoch) afters.Places is.fits.end refl;
+      fits = before_passage c.pages c.mutators k x is.fits (Resume x.epoch) afters.Places is.fits.end is.fits.side is.fits.task.0 refl;
       ghost_after = next_ghost (era c) s.ghost;
       leads = flipped;
       wins = tt;
+      answered = tt;
+      full = tt;
     }
 
     -- while a flip is in progress the gate stands still

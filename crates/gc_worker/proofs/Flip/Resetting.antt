@@ -15,7 +15,7 @@ use Rattle.gate_core.specs.declared.flip_stage.FlipStage.TheVariants.{LoadsGate,
 use Rattle.gate_core.specs.declared.flipped.Flipped.TheVariants.{NotYet}
 use Rattle.gate_core.specs.declared.reset.Reset as resets
 use Rattle.gate_core.specs.Flip.{is_still, looked, read_area, used_in, area_reset, told_at}
-use Rattle.gate_core.specs.Soundness.{FitsFlipStage, MayFlip}
+use Rattle.gate_core.specs.Soundness.{IsFlippingGoing, FitsFlipStage, MayFlip}
 use Rattle.heap_state.specs.Configuration.{Configuration, Stands, table, era, memory, team}
 use Rattle.heap_state.specs.Entries.{AreaIs}
 use Rattle.heap_state.specs.Era.{from_space}
@@ -52,10 +52,10 @@ module _ (c : Configuration) (p : Plain) (s : Stands c p) (k : ℕ) (y : Held) (
   next before stage = turned_flip (at before) (record { layout = y.layout; epoch = y.epoch; asked = asked; stage = stage }) (told_at stage)
 
   -- a flipper at another stage
-  reflip : (before stage : FlipStage) → Is c k (at before) → FitsFlipStage y.layout.pages stage → Fits c.pages c.mutators k (at stage)
-  reflip before stage is fits =
-      refit c.pages c.mutators k (at before) is.fits (Flips (record { layout = y.layout; epoch = y.epoch; asked = asked; stage = stage })) is.fits.end
-      (record { layout = refl; epoch = refl; sound = record { pages = is.fits.stage.sound.pages; epoch = is.fits.stage.sound.epoch; stage = fits } })
+  reflip : (before stage : FlipStage) → Is c k (at before) → IsFlippingGoing stage → FitsFlipStage y.layout.pages stage → Fits c.pages c.mutators k (at stage)
+  reflip before stage is going fits =
+      refit c.pages c.mutators k (at before) is.fits (Flips (record { layout = y.layout; epoch = y.epoch; asked = asked; stage = stage })) is.fits.end is.fits.side is.fits.task
+      (record { layout = refl; epoch = refl; going = going; sound = record { pages = is.fits.stage.sound.pages; epoch = is.fits.stage.sound.epoch; stage = fits } })
 
   -- its epoch is the current one
   pub now : (before : FlipStage) → Is c k (at before) → y.epoch ≡ (era c).epoch
@@ -92,7 +92,7 @@ module _ (c : Configuration) (p : Plain) (s : Stands c p) (k : ℕ) (y : Held) (
         goes true test (at (LoadsArea gate)) refl may
         (subst (λ (w : Worker). Law c p s k (at LoadsGate) None (resetting w (record { read = gate; used = None; stored = false })) s.ghost) is.as_known
         (finds_still (era c) (memory c) (team c) s.ghost k (prepared c p s k (at LoadsGate) is) (rw is.as_known refl) still.0 still.1))
-        (reflip LoadsGate (LoadsArea gate) is may)
+        (reflip LoadsGate (LoadsArea gate) is tt may)
     by_gate false test =
         goes false test (at LoadsGate) refl tt (nothing c p s k (at LoadsGate) is (knows (at LoadsGate)) refl) is.fits
 
@@ -142,7 +142,7 @@ module _ (c : Configuration) (p : Plain) (s : Stands c p) (k : ℕ) (y : Held) (
         (reads_used (era c) (memory c) (team c) s.ghost k (record { read = gate; used = None; stored = false }) used (prepared c p s k (at (LoadsArea gate)) is) (rw is.as_known refl) refl counted))
         (ap (λ (t : FlipStage). told_flip (told_at t)) reads_area) refl
         (record { pages = is.fits.stage.sound.pages; epoch = is.fits.stage.sound.epoch; stage = subst (FitsFlipStage y.layout.pages) (sym reads_area) (is.fits.stage.sound.stage, used_fits) })
-        (reflip (LoadsArea gate) (StoresArea found) is (is.fits.stage.sound.stage, used_fits))
+        (reflip (LoadsArea gate) (StoresArea found) is tt (is.fits.stage.sound.stage, used_fits))
 
     pub loads_area : StepsSo c p s k (at (LoadsArea gate))
     loads_area =
@@ -181,4 +181,4 @@ module _ (c : Configuration) (p : Plain) (s : Stands c p) (k : ℕ) (y : Held) (
         (stores c p s k (at (StoresArea r)) (AreaIs (to_space (y.epoch + 1)) fresh_area) (is_space (y.epoch + 1))
         (becomes c p s k (at (StoresArea r)) (Some (AreaIs (to_space (y.epoch + 1)) fresh_area)) Done (at (Exchanges r)) s.ghost refl is.below stored refl refl
         (record { pages = is.fits.stage.sound.pages; epoch = is.fits.stage.sound.epoch; stage = is.fits.stage.sound.stage })
-        (reflip (StoresArea r) (Exchanges r) is is.fits.stage.sound.stage)))
+        (reflip (StoresArea r) (Exchanges r) is tt is.fits.stage.sound.stage)))

@@ -1,5 +1,5 @@
 -- A passage of the gate is made by the exchange from the gate that was read.
-use Rattle.std.proofs.Common.{◌≡◌, ℕ, ◌-◌, ◌^◌, ◌<◌, arith, Bool, true, Some, None, refl, ap, sym, subst, ◌∙◌}
+use Rattle.std.proofs.Common.{◌≡◌, ℕ, ◌-◌, ◌^◌, ◌<◌, arith, Bool, true, Some, None, refl, ap, sym, subst, ◌∙◌, false, is_some, nat_lt}
 use Rattle.std.specs.Prelude.{nat_lt}
 use Rattle.plain_state.specs.State.{Plain}
 use Rattle.atom_store.specs.declared.step.Step.TheVariants.{Exchange}
@@ -23,7 +23,7 @@ use Rattle.heap_laws.specs.Gate as laws
 use Rattle.heap_laws.proofs.Gate.Passages.{passes_gate}
 use Rattle.gc_worker.specs.declared.after.After.{After}
 use Rattle.gc_worker.specs.declared.stage.Stage.TheVariants.{Passes, Flips, Looks, Gone}
-use Rattle.gc_worker.specs.Fits.{Fits}
+use Rattle.gc_worker.specs.Fits.{Fits, IsGoneBy}
 use Rattle.gc_worker.specs.Goes.{Is, Goes, StepsSo}
 use Rattle.gc_worker.specs.Held.{Held, at_stage, asked_by}
 use Rattle.gc_worker.specs.Knows.{knows, known_at, post_gone}
@@ -51,8 +51,8 @@ module _ (c : Configuration) (p : Plain) (s : Stands c p) (k : ℕ) (y : Held) (
         becomes c p s k x None (Lost (gate_now c)) (at passage Loads) s.ghost refl is.below
         (less c p s k x is (knows (at passage Loads)) (rw same (reads_are_forgotten (knows x)))) refl refl
         (record { pages = is.fits.stage.sound.pages; stage = tt })
-        (refit c.pages c.mutators k x is.fits (Passes (record { layout = l; passage = passage; stage = Loads }) after) is.fits.end
-        (record { layout = is.fits.stage.layout; passage = is.fits.stage.passage; sound = record { pages = is.fits.stage.sound.pages; stage = tt } }))
+        (refit c.pages c.mutators k x is.fits (Passes (record { layout = l; passage = passage; stage = Loads }) after) is.fits.end is.fits.side is.fits.task
+        (record { layout = is.fits.stage.layout; passage = is.fits.stage.passage; going = tt; sound = record { pages = is.fits.stage.sound.pages; stage = tt } }))
 
     -- one that is won
     module _ (q : workers.Passage) (stands : (knows x).gate_step ≡ Some (record { read = gate; passage = q })) (same : gate_after passage gate ≡ laws.gate_after q gate) where
@@ -89,14 +89,14 @@ module _ (c : Configuration) (p : Plain) (s : Stands c p) (k : ℕ) (y : Held) (
       let z = at_stage (in_epoch x gate.epoch) Looks in
       exchanges_it Attach is
       (wins Attach is workers.Enter refl refl z (ap (λ (e : ℕ). at_stage (in_epoch x e) Looks) (said (gate_after Attach gate) fits x.epoch)) refl
-      (come c.pages c.mutators k x is.fits gate.epoch may.fits.epoch_fits Looks is.fits.end tt)) (loses Attach is refl)
+      (come c.pages c.mutators k x is.fits gate.epoch may.fits.epoch_fits Looks is.fits.end is.fits.side is.fits.task tt)) (loses Attach is refl)
 
   parks : (is : Is c k (at Park (Exchanges gate))) → StepsSo c p s k (at Park (Exchanges gate))
   parks is =
       let x = at Park (Exchanges gate) in
       exchanges_it Park is
       (wins Park is workers.Park refl refl (at_stage x (passes x (Resume x.epoch) after)) refl refl
-      (before_passage c.pages c.mutators k x is.fits (Resume x.epoch) after is.fits.end refl)) (loses Park is refl)
+      (before_passage c.pages c.mutators k x is.fits (Resume x.epoch) after is.fits.end is.fits.side is.fits.task refl)) (loses Park is refl)
 
   requests : (is : Is c k (at Request (Exchanges gate))) → StepsSo c p s k (at Request (Exchanges gate))
   requests is =
@@ -104,8 +104,8 @@ module _ (c : Configuration) (p : Plain) (s : Stands c p) (k : ℕ) (y : Held) (
       let z = at_stage x (Flips (flip.begun x.layout x.epoch (asked_by x))) in
       exchanges_it Request is
       (wins Request is (workers.Request (asked_by x)) refl refl z refl refl
-      (refit c.pages c.mutators k x is.fits (Flips (flip.begun x.layout x.epoch (asked_by x))) is.fits.end
-      (record { layout = refl; epoch = refl; sound = record { pages = page_count c.pages c.mutators k x is.fits; epoch = is.fits.stage.passage; stage = tt } })))
+      (refit c.pages c.mutators k x is.fits (Flips (flip.begun x.layout x.epoch (asked_by x))) is.fits.end is.fits.side (is.fits.task.0, refl)
+      (record { layout = refl; epoch = refl; going = tt; sound = record { pages = page_count c.pages c.mutators k x is.fits; epoch = is.fits.stage.passage; stage = tt } })))
       (loses Request is refl)
 
   resumes : (epoch : ℕ) (is : Is c k (at (Resume epoch) (Exchanges gate))) → StepsSo c p s k (at (Resume epoch) (Exchanges gate))
@@ -113,7 +113,7 @@ module _ (c : Configuration) (p : Plain) (s : Stands c p) (k : ℕ) (y : Held) (
       let x = at (Resume epoch) (Exchanges gate) in
       exchanges_it (Resume epoch) is
       (wins (Resume epoch) is workers.Resume refl refl (at_stage x (goes_on x after)) refl (sym (goes_on_known x after))
-      (goes_on_fits c.pages c.mutators k x is.fits is.fits.end after)) (loses (Resume epoch) is refl)
+      (goes_on_fits c.pages c.mutators k x is.fits is.fits.end is.fits.side after is.fits.task)) (loses (Resume epoch) is refl)
 
   forwards : (is : Is c k (at Forwarded (Exchanges gate))) → StepsSo c p s k (at Forwarded (Exchanges gate))
   forwards is =
@@ -123,8 +123,8 @@ module _ (c : Configuration) (p : Plain) (s : Stands c p) (k : ℕ) (y : Held) (
       let z = at_stage (in_epoch x gate.epoch) (passes x (Resume gate.epoch) after) in
       exchanges_it Forwarded is
       (wins Forwarded is workers.Forwarded refl refl z (ap (λ (e : ℕ). at_stage (in_epoch x e) (passes x (Resume e) after)) (said (gate_after Forwarded gate) fits x.epoch)) refl
-      (come c.pages c.mutators k x is.fits gate.epoch may.fits.epoch_fits (passes x (Resume gate.epoch) after) is.fits.end
-      (record { layout = refl; passage = refl; sound = record { pages = page_count c.pages c.mutators k x is.fits; stage = tt } }))) (loses Forwarded is refl)
+      (come c.pages c.mutators k x is.fits gate.epoch may.fits.epoch_fits (passes x (Resume gate.epoch) after) is.fits.end is.fits.side is.fits.task
+      (record { layout = refl; passage = refl; going = tt; sound = record { pages = page_count c.pages c.mutators k x is.fits; stage = tt } }))) (loses Forwarded is refl)
 
   -- who leaves is a mutator
   is_member : (is : Is c k (at Leave (Exchanges gate))) → nat_lt y.number y.mutators ≡ true
@@ -132,12 +132,16 @@ module _ (c : Configuration) (p : Plain) (s : Stands c p) (k : ℕ) (y : Held) (
       let e : is_mutator ((team c).worker k).post ≡ true = ap (λ (w : Worker). is_mutator w.post) is.as_known in
       rw (is.fits.number, is.fits.beside) (sym (s.invariant.staffed.posts k is.below) ∙ e)
 
+  gone : (b : Bool) → is_some y.account.end ≡ true → IsGoneBy b (is_some y.account.end)
+  gone true ended = ended
+  gone false ended = tt
+
   leaves : (is : Is c k (at Leave (Exchanges gate))) → StepsSo c p s k (at Leave (Exchanges gate))
   leaves is =
       let x = at Leave (Exchanges gate) in
       exchanges_it Leave is
       (wins Leave is workers.Leave refl refl (at_stage x Gone) refl (ap (λ (b : Bool). record (known_at x Gone) { post = post_gone b }) (sym (is_member is)))
-      (refit c.pages c.mutators k x is.fits Gone tt tt)) (loses Leave is refl)
+      (refit c.pages c.mutators k x is.fits Gone tt (gone (nat_lt y.number y.mutators) is.fits.end) is.fits.task tt)) (loses Leave is refl)
 
   pub exchanges_gate : (passage : Passage) → Is c k (at passage (Exchanges gate)) → StepsSo c p s k (at passage (Exchanges gate))
   exchanges_gate Look is = absurd is.fits.stage.passage

@@ -26,8 +26,9 @@ use Rattle.heap_laws.proofs.Gate.Reading.{reads_gate}
 use Rattle.heap_laws.proofs.Steps.Answers.{passages_fit}
 use Rattle.heap_laws.proofs.Steps.Composites.{traced_is_forgotten}
 use Rattle.gc_worker.specs.declared.after.After.{After}
+use Rattle.gc_worker.specs.declared.after.After.TheVariants as afters
 use Rattle.gc_worker.specs.declared.stage.Stage.TheVariants.{Passes}
-use Rattle.gc_worker.specs.Fits.{Fits}
+use Rattle.gc_worker.specs.Fits.{Fits, FitsTaskAfter, IsMaking}
 use Rattle.gc_worker.specs.Goes.{Is, Goes, StepsSo}
 use Rattle.gc_worker.specs.Held.{Held, at_stage, asked_by}
 use Rattle.gc_worker.specs.Knows.{knows}
@@ -113,8 +114,8 @@ module _ (c : Configuration) (p : Plain) (s : Stands c p) (k : ℕ) (y : Held) (
         let sound : MayPass passage gate = record { fits = (answers q may).fits; allowed = test; counts = counts (answers q may) } in
         goes true test (at passage (Exchanges gate)) same (subst (FitsGateStage passage) (sym stage) sound)
         (subst (λ (w : Worker). Law c p s k x None w s.ghost) known (learnt q may))
-        (refit c.pages c.mutators k x is.fits (Passes (record { layout = l; passage = passage; stage = Exchanges gate }) after) is.fits.end
-        (record { layout = is.fits.stage.layout; passage = is.fits.stage.passage; sound = record { pages = is.fits.stage.sound.pages; stage = sound } }))
+        (refit c.pages c.mutators k x is.fits (Passes (record { layout = l; passage = passage; stage = Exchanges gate }) after) is.fits.end is.fits.side is.fits.task
+        (record { layout = is.fits.stage.layout; passage = is.fits.stage.passage; going = tt; sound = record { pages = is.fits.stage.sound.pages; stage = sound } }))
 
     pub steps_of : Goes c p s k None x (Value (gate_now c)) → StepsSo c p s k x
     steps_of g = wants c p s k x (Load (place_of c.pages Gate)) (ap (λ n. Some (Load (place_of n Gate))) (ap (λ (m : Layout). m.pages) is.fits.stage.layout ∙ is.fits.pages)) (loads c p s k x Gate tt g)
@@ -128,14 +129,18 @@ module _ (c : Configuration) (p : Plain) (s : Stands c p) (k : ℕ) (y : Held) (
   attaches is false test =
       let x = at Attach Loads in
       let z = at_stage x (passes x Attach after) in
-      goes Attach is false test z refl tt (nothing c p s k x is (knows z) refl) (before_passage c.pages c.mutators k x is.fits Attach after is.fits.end tt)
+      goes Attach is false test z refl tt (nothing c p s k x is (knows z) refl) (before_passage c.pages c.mutators k x is.fits Attach after is.fits.end is.fits.side is.fits.task tt)
 
   parks : (is : Is c k (at Park Loads)) (b : Bool) → allows Park gate ≡ b → Goes c p s k None (at Park Loads) (Value (gate_now c))
   parks is true test = exchange_next Park is workers.Park (refl, is.fits.end, test) test refl refl (λ a. a.counted) refl
   parks is false test =
       let x = at Park Loads in
       let z = at_stage x (goes_on x after) in
-      goes Park is false test z refl tt (nothing c p s k x is (knows z) (sym (goes_on_known x after))) (goes_on_fits c.pages c.mutators k x is.fits is.fits.end after)
+      goes Park is false test z refl tt (nothing c p s k x is (knows z) (sym (goes_on_known x after))) (goes_on_fits c.pages c.mutators k x is.fits is.fits.end is.fits.side after is.fits.task)
+
+  -- who requests a flip allocates
+  request_stops : (b : After) → IsMaking y.account y.registers y.task × (b ≡ afters.Places) → FitsTaskAfter y b
+  request_stops b task = subst (FitsTaskAfter y) (sym task.1) task.0
 
   requests : (is : Is c k (at Request Loads)) (b : Bool) → allows Request gate ≡ b → Goes c p s k None (at Request Loads) (Value (gate_now c))
   requests is true test =
@@ -143,7 +148,7 @@ module _ (c : Configuration) (p : Plain) (s : Stands c p) (k : ℕ) (y : Held) (
   requests is false test =
       let x = at Request Loads in
       let z = at_stage x (passes x Park after) in
-      goes Request is false test z refl tt (less c p s k x is (knows z) (traced_is_forgotten (knows x) refl refl)) (before_passage c.pages c.mutators k x is.fits Park after is.fits.end tt)
+      goes Request is false test z refl tt (less c p s k x is (knows z) (traced_is_forgotten (knows x) refl refl)) (before_passage c.pages c.mutators k x is.fits Park after is.fits.end is.fits.side (request_stops after is.fits.task) tt)
 
   resumes : (epoch : ℕ) (is : Is c k (at (Resume epoch) Loads)) (b : Bool) → allows (Resume epoch) gate ≡ b → Goes c p s k None (at (Resume epoch) Loads) (Value (gate_now c))
   resumes epoch is true test =
@@ -154,7 +159,7 @@ module _ (c : Configuration) (p : Plain) (s : Stands c p) (k : ℕ) (y : Held) (
       let later = nat_lt x.epoch gate.epoch in
       goes (Resume epoch) is false test (stopped_at c p s k x after is refl is.fits.end later)
       (ap (λ (o : Option GateWord). at_stage x (cond (nat_lt x.epoch (epoch_in x.epoch o)) (forwards_from x after 0) (passes x (Resume x.epoch) after))) (gate_says c p s)) tt
-      (stopped_law c p s k x after is refl is.fits.end later refl) (stopped_fits c p s k x after is refl is.fits.end later refl)
+      (stopped_law c p s k x after is refl is.fits.end later refl) (stopped_fits c p s k x after is refl is.fits.end is.fits.side is.fits.task later refl)
 
   -- who has forwarded its registers is late
   late : (is : Is c k (at Forwarded Loads)) (b : Bool) → is_behind (era c).epoch workers.Stopped y.epoch ≡ b → gate.epoch ≡ y.epoch + 1

@@ -1,5 +1,5 @@
 -- A stopped mutator meets the gate of a later epoch, and begins to forward its registers.
-use Rattle.std.proofs.Common.{◌≡◌, ℕ, ◌+◌, ◌*◌, ◌<◌, ◌≤◌, Bool, true, false, cond, slice_index, Option, Some, None, is_some, refl, ap, subst, ◌∙◌, arith, ⊎_elim}
+use Rattle.std.proofs.Common.{◌≡◌, ℕ, ◌+◌, ◌*◌, ◌<◌, ◌≤◌, Bool, true, false, cond, slice_index, Option, Some, None, is_some, refl, ap, subst, ◌∙◌, arith, ⊎_elim, nat_lt}
 use Rattle.std.specs.Prelude.{nat_lt}
 use Rattle.std.proofs.lemmas.Bool.{ltb-true, eq-eqb}
 use Rattle.plain_state.specs.State.{Plain}
@@ -12,7 +12,7 @@ use Rattle.heap_laws.specs.Composites.{AsksAt, AllDone, AsksNext, LeadNowhere, c
 use Rattle.heap_laws.proofs.Steps.Composites.{registers_are_passed}
 use Rattle.gc_worker.specs.declared.after.After.{After}
 use Rattle.gc_worker.specs.declared.stage.Stage.TheVariants.{Forwards}
-use Rattle.gc_worker.specs.Fits.{Fits}
+use Rattle.gc_worker.specs.Fits.{Fits, FitsTaskAfter}
 use Rattle.gc_worker.specs.Goes.{Is}
 use Rattle.gc_worker.specs.Held.{Held, at_stage}
 use Rattle.gc_worker.specs.Knows.{knows, known_at}
@@ -79,15 +79,16 @@ module _ (c : Configuration) (p : Plain) (s : Stands c p) (k : ℕ) (x : Held) (
         let n = is.fits.pages in
         omega (arith, old, below, n, board)
 
-    fits_by : (o : Option Pointed) → Found x.registers 8 0 o → Fits c.pages c.mutators k (at_stage x (forwards_it x after o))
-    fits_by None (Nowhere none) = before_passage c.pages c.mutators k x is.fits Forwarded after unended tt
-    fits_by (Some q) (There r a l u at before) =
-        refit c.pages c.mutators k x is.fits (Forwards (record { register = r; evac = evac.begun x.layout a (x.epoch + 1) x.number; after = after })) unended (record {
+    fits_by : nat_lt x.number x.mutators ≡ true → FitsTaskAfter x after → (o : Option Pointed) → Found x.registers 8 0 o → Fits c.pages c.mutators k (at_stage x (forwards_it x after o))
+    fits_by mutator task None (Nowhere none) = before_passage c.pages c.mutators k x is.fits Forwarded after unended mutator task tt
+    fits_by mutator task (Some q) (There r a l u at before) =
+        refit c.pages c.mutators k x is.fits (Forwards (record { register = r; evac = evac.begun x.layout a (x.epoch + 1) x.number; after = after })) unended mutator task (record {
           register = u;
           copy = record {
             layout = refl;
             of_epoch = refl;
             worker = refl;
+            going = tt;
             sound = record { pages = page_count c.pages c.mutators k x is.fits; worker = rw is.fits.number is.fits.few; addr = short r a u at; fits = tt };
           };
         })
@@ -100,6 +101,6 @@ module _ (c : Configuration) (p : Plain) (s : Stands c p) (k : ℕ) (x : Held) (
   stopped_law true is_later = leads_by (ltb-true x.epoch (era c).epoch is_later) (first_pointer x.registers 8 0) (found x.registers 8 0)
   stopped_law false is_later = nothing c p s k x is (known_at x (passes x (Resume x.epoch) after)) stops
 
-  pub stopped_fits : (b : Bool) → nat_lt x.epoch (era c).epoch ≡ b → Fits c.pages c.mutators k (stopped_at b)
-  stopped_fits true is_later = fits_by (ltb-true x.epoch (era c).epoch is_later) (first_pointer x.registers 8 0) (found x.registers 8 0)
-  stopped_fits false is_later = before_passage c.pages c.mutators k x is.fits (Resume x.epoch) after unended refl
+  pub stopped_fits : nat_lt x.number x.mutators ≡ true → FitsTaskAfter x after → (b : Bool) → nat_lt x.epoch (era c).epoch ≡ b → Fits c.pages c.mutators k (stopped_at b)
+  stopped_fits mutator task true is_later = fits_by (ltb-true x.epoch (era c).epoch is_later) mutator task (first_pointer x.registers 8 0) (found x.registers 8 0)
+  stopped_fits mutator task false is_later = before_passage c.pages c.mutators k x is.fits (Resume x.epoch) after unended mutator task refl
