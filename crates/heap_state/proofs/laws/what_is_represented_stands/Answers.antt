@@ -1,5 +1,8 @@
-use Rattle.heap_state.proofs.Represents.Represented.{represented_stands}
+use Rattle.heap_state.proofs.Represents.Represented.{represented_stands, represented_in_cycle}
 use Rattle.heap_state.proofs.laws.what_is_represented_stands.Goals as goal
 
-pub returns : goal.returns
-returns c = λ c p q stands represents. represented_stands c p q stands represents
+pub returns-clause-stands : goal.returns-clause-stands
+returns-clause-stands c = represented_stands
+
+pub returns-clause-in_cycle : goal.returns-clause-in_cycle
+returns-clause-in_cycle c = represented_in_cycle
