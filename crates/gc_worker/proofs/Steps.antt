@@ -53,6 +53,7 @@ module _ (c : Configuration) (p : Plain) (s : Stands c p) (k : ℕ) (x : Held) w
     wins = wins;
     answered = rw silent tt;
     full = rw silent tt;
+    flip = rw silent tt;
   }
 
   -- the same where the worker becomes this, and wins no page

@@ -1,5 +1,5 @@
 -- The law of a step, from the laws of the kinds.
-use Rattle.std.proofs.Common.{◌≡◌, ◌≢◌, ℕ, ◌<◌, ◌≤◌, length, set, get_or, Option, Some, None, refl, sym, ap, subst, ◌∙◌, arith, ⊎_elim, get_or-set_same, get_or-set_other, length-set}
+use Rattle.std.proofs.Common.{◌≡◌, ◌≢◌, ℕ, ◌+◌, ◌<◌, ◌≤◌, length, set, get_or, Option, Some, None, refl, sym, ap, subst, ◌∙◌, arith, ⊎_elim, get_or-set_same, get_or-set_other, length-set}
 use Rattle.std.proofs.lemmas.Bool.{cases_eq}
 use Rattle.std.proofs.lemmas.List.{map-set, get_or-map, length-map}
 use Rattle.plain_state.specs.State.{Plain}
@@ -23,16 +23,18 @@ use Rattle.heap_laws.specs.Lifting.{StandsWith, stepped, Leaves, Flipped}
 use Rattle.gc_worker.specs.declared.after.After.{After}
 use Rattle.gc_worker.specs.declared.stage.Stage.{Stage}
 use Rattle.gc_worker.specs.declared.stage.Stage.TheVariants.{Looks, Passes, Flips, Forwards, Accesses, Places, Serves, Scans, Evacuates, Opens, Gone}
-use Rattle.gc_worker.specs.declared.task.Task.{Task}
+use Rattle.gc_worker.specs.Answer.{after_told}
 use Rattle.gc_worker.specs.Fits.{Fits}
-use Rattle.gc_worker.specs.Goes.{Is, Leads, Steps, StepsSo, Wins}
+use Rattle.gc_worker.specs.Goes.{Is, Leads, Steps, StepsSo, Wins, FlipIsOwn}
 use Rattle.gc_worker.specs.Held.{Held, at_stage}
 use Rattle.gc_worker.specs.Knows.{knows}
-use Rattle.gc_worker.specs.Law.{Heap, read, nobody, held_at, WorkersStand, moved, at_flip, age, WinsOne, StepKeeps, StepsKeep}
-use Rattle.gc_worker.specs.Turned.{Told, Silent, Answers, Marks, PageWon, turned, told, won}
+use Rattle.gc_worker.specs.Law.{Heap, read, nobody, held_at, WorkersStand, moved, at_flip, epoch_of, age, WinsOne, FlipsOnce, FlipsWhereTold, StepKeeps, StepsKeep}
+use Rattle.gc_worker.specs.Turned.{Told, Silent, Answers, Marks, PageWon, epoch_in, turned, told, won}
 use Rattle.gc_worker.specs.Wanted.{wanted}
 use Rattle.gc_worker.proofs.Gate.Exchanging.{exchanges_gate}
-use Rattle.gc_worker.proofs.Gate.Looking as looking
+use Rattle.gc_worker.proofs.Look.{looks}
+use Rattle.gc_worker.proofs.Access.{accesses}
+use Rattle.gc_worker.proofs.Gate.Words.{gate_says}
 use Rattle.gc_worker.proofs.Gate.Passing.{loads_gate}
 use Rattle.gc_worker.proofs.Flip.Resetting as resetting
 use Rattle.gc_worker.proofs.Flip.Flipping.{flips_gate}
@@ -57,10 +59,6 @@ module _ (c : Configuration) (p : Plain) (s : Stands c p) (k : ℕ) (x : Held) w
   -- the worker at this stage
   abbrev Kind : Stage → Type 0
   Kind stage = Is c k (at_stage x stage) → StepsSo c p s k (at_stage x stage)
-
-  looks : (task : Option Task) → Is c k (record x { task = task; stage = Looks }) → StepsSo c p s k (record x { task = task; stage = Looks })
-  looks None is = looking.steps c p s k x is
-  looks (Some task) is = rests c p s k (record x { task = Some task; stage = Looks }) refl
 
   passes : (g : Passing) (after : After) → (stage : GateStage) → g.stage ≡ stage → Kind (Passes (record g { stage = stage }) after)
   passes g after gate_stage.Loads e is = loads_gate c p s k x g.layout after g.passage is
@@ -87,11 +85,11 @@ module _ (c : Configuration) (p : Plain) (s : Stands c p) (k : ℕ) (x : Held) w
   opens_page o z back (open_stage.Ended result) is = rests c p s k (at_stage x (Opens (record o { stage = open_stage.Ended result }) z back)) refl
 
   by_stage : (stage : Stage) → Kind stage
-  by_stage Looks is = looks x.task is
+  by_stage Looks is = looks c p s k x is
   by_stage (Passes g after) is = passes g after g.stage refl is
   by_stage (Flips f) is = flips f is
   by_stage (Forwards w) is = forwards c p s k x w is
-  by_stage (Accesses a) is = rests c p s k (at_stage x (Accesses a)) refl
+  by_stage (Accesses a) is = accesses c p s k x a is
   by_stage (Places z) is = places c p s k x z is
   by_stage (Serves d back) is = serves c p s k x d back is
   by_stage (Scans z back) is = scans c p s k x z back is
@@ -139,24 +137,29 @@ module _ (h : Heap) (p o : Plain) (k : ℕ) (x : Held) (q : Step) (st : WorkersS
     later = stepped (read h) steps.entry k (knows y)
 
     -- a configuration that stands, and its cycle, are the heap's
-    comes : (h' : Ghost) (o' : Plain) (w : StandsWith later p h') → Cycle (era later) (memory later) (team later) h' o' → WorkersStand (moved h k x q) p o'
-    comes h' o' w cycle =
-        let both : (d : Configuration) → later ≡ d → (s : Stands d p) × Cycle (era d) (memory d) (team d) s.ghost o' =
-        λ d e. subst (λ (d : Configuration). (s : Stands d p) × Cycle (era d) (memory d) (team d) s.ghost o') e
+    comes : (h' : Ghost) (p' o' : Plain) (w : StandsWith later p' h') → Cycle (era later) (memory later) (team later) h' o' → WorkersStand (moved h k x q) p' o'
+    comes h' p' o' w cycle =
+        let both : (d : Configuration) → later ≡ d → (s : Stands d p') × Cycle (era d) (memory d) (team d) s.ghost o' =
+        λ d e. subst (λ (d : Configuration). (s : Stands d p') × Cycle (era d) (memory d) (team d) s.ghost o') e
         (w.stands, subst (λ (g : Ghost). Cycle (era later) (memory later) (team later) g o') (sym w.with_ghost) cycle) in
         let now = both (read (moved h k x q)) after in
         record { stands = now.0; cycle = now.1; fit = all_fit steps.goes.fits }
 
+    -- a step that is no flip leaves it so for this plain state
+    stays : (p' : Plain) (e : Option Entry) → steps.entry ≡ e → (g : Ghost) → Leaves (read h) e k (knows y) p' st.stands.ghost g → WorkersStand (moved h k x q) p' o
+    stays p' e same g leads =
+        let ours : Leaves (read h) steps.entry k (knows y) p' st.stands.ghost g = subst (λ (f : Option Entry). Leaves (read h) f k (knows y) p' st.stands.ghost g) (sym same) leads in
+        comes g p' o ours.standing (ours.cycle o st.cycle)
+
     -- by what it is to the plain machine
     stands_by : (t : Told) (e : Option Entry) → steps.entry ≡ e → (g : Ghost) → Leads (read h) p st.stands.ghost k e y g t
-        → WorkersStand (moved h k x q) p (at_flip p o t)
-    stands_by Silent e same g leads =
-        let ours : Leaves (read h) steps.entry k (knows y) p st.stands.ghost g = subst (λ (f : Option Entry). Leaves (read h) f k (knows y) p st.stands.ghost g) (sym same) leads in
-        comes g o ours.standing (ours.cycle o st.cycle)
+        → WorkersStand (moved h k x q) (after_told p k t) (at_flip p o t)
+    stands_by Silent e same g leads = stays p e same g leads
+    stands_by (Answers task outcome) e same g leads = stays (after_told p k (Answers task outcome)) e same g leads
     stands_by (Marks asked) (Some (GateIs gate)) same g leads =
         let ours : Flipped (read h) gate k (knows y) p g = leads in
         let cfg = ap (λ (f : Option Entry). stepped (read h) f k (knows y)) (sym same) in
-        comes g p (subst (λ (d : Configuration). StandsWith d p g) cfg ours.standing) (subst (λ (d : Configuration). Cycle (era d) (memory d) (team d) g p) cfg ours.begins)
+        comes g p p (subst (λ (d : Configuration). StandsWith d p g) cfg ours.standing) (subst (λ (d : Configuration). Cycle (era d) (memory d) (team d) g p) cfg ours.begins)
     stands_by (Marks asked) None same g leads = absurd leads
     stands_by (Marks asked) (Some (TracedIs word)) same g leads = absurd leads
     stands_by (Marks asked) (Some (AreaIs space area)) same g leads = absurd leads
@@ -164,7 +167,6 @@ module _ (h : Heap) (p o : Plain) (k : ℕ) (x : Held) (q : Step) (st : WorkersS
     stands_by (Marks asked) (Some (CrossIs page at)) same g leads = absurd leads
     stands_by (Marks asked) (Some (WordIs addr word)) same g leads = absurd leads
     stands_by (Marks asked) (Some (AnnounceIs worker at)) same g leads = absurd leads
-    stands_by (Answers task outcome) e same g leads = absurd leads
 
     -- no page word's epoch falls
     ages_by : (t : Told) (e : Option Entry) → steps.entry ≡ e → (g : Ghost) → Leads (read h) p st.stands.ghost k e y g t
@@ -182,7 +184,8 @@ module _ (h : Heap) (p o : Plain) (k : ℕ) (x : Held) (q : Step) (st : WorkersS
     ages_by (Marks asked) (Some (CrossIs place at)) same g leads page = absurd leads
     ages_by (Marks asked) (Some (WordIs addr word)) same g leads page = absurd leads
     ages_by (Marks asked) (Some (AnnounceIs worker at)) same g leads page = absurd leads
-    ages_by (Answers task outcome) e same g leads page = absurd leads
+    ages_by (Answers task outcome) e same g leads page =
+        (subst (λ (f : Option Entry). Leaves (read h) f k (knows y) (after_told p k (Answers task outcome)) st.stands.ghost g) (sym same) leads).ages page
 
     aged : (page : ℕ) → age_of ((table later).page page) ≡ age h.pages (words_after q h.words) page
     aged page = ap (λ (d : Configuration). age_of ((table d).page page)) after ∙ page_age (read (moved h k x q)) page
@@ -194,6 +197,45 @@ module _ (h : Heap) (p o : Plain) (k : ℕ) (x : Held) (q : Step) (st : WorkersS
         let d = aged page in
         omega (arith, a, b, d)
 
+    -- the gate's epoch, which a flip alone raises
+    abbrev now : ℕ
+    now = (table (read h)).gate.epoch
+
+    epoch_is : epoch_of h.pages h.words ≡ now
+    epoch_is = ap (epoch_in 0) (gate_says (read h) p st.stands)
+
+    epoch_after : (p' o' : Plain) → WorkersStand (moved h k x q) p' o' → epoch_of h.pages (words_after q h.words) ≡ (table later).gate.epoch
+    epoch_after p' o' w = ap (epoch_in 0) (gate_says (read (moved h k x q)) p' w.stands) ∙ ap (λ (d : Configuration). (table d).gate.epoch) (sym after)
+
+    same_epoch : (p' o' : Plain) → WorkersStand (moved h k x q) p' o' → (e : Option Entry) → steps.entry ≡ e → (g : Ghost) → Leaves (read h) e k (knows y) p' st.stands.ghost g
+        → epoch_of h.pages (words_after q h.words) ≡ epoch_of h.pages h.words
+    same_epoch p' o' w e same g leads =
+        epoch_after p' o' w ∙ ((subst (λ (f : Option Entry). Leaves (read h) f k (knows y) p' st.stands.ghost g) (sym same) leads).epoch ∙ sym epoch_is)
+
+    next_epoch : (asked : ℕ) (p' o' : Plain) → FlipIsOwn (read h) x (Marks asked) → WorkersStand (moved h k x q) p' o' → (e : Option Entry) → steps.entry ≡ e → (g : Ghost) → Leads (read h) p st.stands.ghost k e y g (Marks asked)
+        → FlipsOnce h.pages h.words (words_after q h.words) x asked
+    next_epoch asked p' o' own w (Some (GateIs gate)) same g leads =
+        let ours : Flipped (read h) gate k (knows y) p g = leads in
+        let cfg = ap (λ (f : Option Entry). (table (stepped (read h) f k (knows y))).gate.epoch) same in
+        record {
+          asked_is = own.0;
+          epoch = epoch_is ∙ own.1;
+          next = epoch_after p' o' w ∙ (cfg ∙ (ours.epoch ∙ ap (λ (e : ℕ). e + 1) own.1));
+        }
+    next_epoch asked p' o' own w None same g leads = absurd leads
+    next_epoch asked p' o' own w (Some (TracedIs word)) same g leads = absurd leads
+    next_epoch asked p' o' own w (Some (AreaIs space area)) same g leads = absurd leads
+    next_epoch asked p' o' own w (Some (PageIs place word)) same g leads = absurd leads
+    next_epoch asked p' o' own w (Some (CrossIs place at)) same g leads = absurd leads
+    next_epoch asked p' o' own w (Some (WordIs addr word)) same g leads = absurd leads
+    next_epoch asked p' o' own w (Some (AnnounceIs worker at)) same g leads = absurd leads
+
+    flips_by : (t : Told) → FlipIsOwn (read h) x t → WorkersStand (moved h k x q) (after_told p k t) (at_flip p o t) → Leads (read h) p st.stands.ghost k steps.entry y steps.goes.ghost_after t
+        → FlipsWhereTold h.pages h.words (words_after q h.words) x t
+    flips_by Silent own w leads = same_epoch p o w steps.entry refl steps.goes.ghost_after leads
+    flips_by (Answers task outcome) own w leads = same_epoch (after_told p k (Answers task outcome)) o w steps.entry refl steps.goes.ghost_after leads
+    flips_by (Marks asked) own w leads = next_epoch asked p p own w steps.entry refl steps.goes.ghost_after leads
+
     wins_by : (w : Option PageWon) → Wins (read h) steps.entry k y w → WinsOne h.pages h.words (words_after q h.words) w
     wins_by None wins = tt
     wins_by (Some w) wins =
@@ -201,14 +243,20 @@ module _ (h : Heap) (p o : Plain) (k : ℕ) (x : Held) (q : Step) (st : WorkersS
         let d = aged w.page in
         ((λ out. omega (arith, out.epoch, wins.before, b)), record { page = wins.page; epoch = omega (arith, wins.after, d) })
 
+    standing : WorkersStand (moved h k x q) (after_told p k (told x r)) (at_flip p o (told x r))
+    standing = stands_by (told x r) steps.entry refl steps.goes.ghost_after steps.goes.leads
+
     keeps : StepKeeps h p o k x q
     keeps = record {
       place = steps.place;
       takes = steps.goes.takes;
       fits = steps.goes.fits;
-      stands = stands_by (told x r) steps.entry refl steps.goes.ghost_after steps.goes.leads;
+      answered = steps.goes.answered;
+      stands = standing;
       kept = λ w out. record { page = out.page; epoch = (let a = ages w.page in omega (arith, out.epoch, a)) };
       wins = wins_by (won x r) steps.goes.wins;
+      full = steps.goes.full;
+      flips = flips_by (told x r) steps.goes.flip standing steps.goes.leads;
     }
 
 pub steps_keep : StepsKeep

@@ -17,7 +17,9 @@ use Rattle.plain_state.specs.declared.value.Value.{Value}
 use Rattle.plain_state.specs.Layout.{word_of}
 use Rattle.plain_state.specs.declared.value.Value.TheVariants.{Number, Reference}
 use Rattle.plain_state.specs.declared.sizes.TheConstants.{BOARD_WORDS}
-use Rattle.plain_heap.specs.Action.{Action, Sets, Jumps, Links, Prints, Makes, Measures, Loads, Stores, Gets, Puts, Swaps, in_record}
+use Rattle.plain_heap.specs.declared.action.Action.{Action}
+use Rattle.plain_heap.specs.declared.action.Action.TheVariants.{Sets, Jumps, Links, Prints, Makes, Measures, Loads, Stores, Gets, Puts, Swaps}
+use Rattle.plain_heap.specs.Action.{in_record}
 use Rattle.plain_heap.specs.Call.{may_hold}
 use Rattle.space_map.specs.declared.spaces.TheConstants.{PAGE_WORDS}
 use Rattle.space_map.specs.Spaces.{Layout, IsPageCount, board_page, first_word, page_of}

@@ -43,7 +43,9 @@ use Rattle.gc_worker.specs.Held.{Held, asked_by, header_for}
 use Rattle.plain_state.specs.declared.sizes.TheConstants.{REGISTERS, MOST_PRINTED}
 use Rattle.mutator_asm.specs.declared.instr.Instr.{Instr}
 use Rattle.mutator_asm.specs.Program.{is_valid}
-use Rattle.plain_heap.specs.Action.{Action, Makes, action}
+use Rattle.plain_heap.specs.declared.action.Action.{Action}
+use Rattle.plain_heap.specs.declared.action.Action.TheVariants.{Makes}
+use Rattle.plain_heap.specs.Action.{action}
 
 -- ---- what each machine is to its worker
 

@@ -13,7 +13,7 @@ use Rattle.heap_laws.specs.Lifting.{words_after as row_after}
 use Rattle.gc_worker.specs.Answer.{IsAnswered, after_told}
 use Rattle.gc_worker.specs.Fits.{Fits, Takes}
 use Rattle.gc_worker.specs.Full.{FullWhereTold}
-use Rattle.gc_worker.specs.Held.{Held}
+use Rattle.gc_worker.specs.Held.{Held, asked_by}
 use Rattle.gc_worker.specs.Knows.{knows}
 use Rattle.gc_worker.specs.Wanted.{wanted}
 use Rattle.gc_worker.specs.Turned.{Told, Silent, Answers, Marks, PageWon, turned, told, won}
@@ -42,6 +42,12 @@ abbrev pub Wins : (c : Configuration) (e : Option Entry) (k : ℕ) → Held → 
 Wins c e k y None = ⊤
 Wins c e k y (Some w) = IsWon c e k y w
 
+-- a flip is for the pages that the flipper's task asks for, and in its own epoch
+abbrev pub FlipIsOwn : Configuration → Held → Told → Type 0
+FlipIsOwn c x Silent = ⊤
+FlipIsOwn c x (Answers task outcome) = ⊤
+FlipIsOwn c x (Marks asked) = (asked ≡ asked_by x) × ((table c).gate.epoch ≡ x.epoch)
+
 -- a row is written, or none, and worker k takes this reply
 pub record Goes (c : Configuration) (p : Plain) (s : Stands c p) (k : ℕ) (e : Option Entry) (x : Held) (reply : Reply) : Type 0 where
   pub takes : Takes x reply
@@ -51,6 +57,7 @@ pub record Goes (c : Configuration) (p : Plain) (s : Stands c p) (k : ℕ) (e : 
   pub wins : Wins c e k (turned x reply) (won x reply)
   pub answered : IsAnswered p k (told x reply)
   pub full : FullWhereTold c.pages c.words x (told x reply)
+  pub flip : FlipIsOwn c x (told x reply)
 
 -- The step is of a word of the table. It writes the word of a row, or none, and goes as above with the reply of these words.
 pub record Steps (c : Configuration) (p : Plain) (s : Stands c p) (k : ℕ) (x : Held) (q : Step) : Type 0 where

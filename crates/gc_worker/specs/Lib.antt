@@ -10,3 +10,4 @@ pub mod Fits
 pub mod Goes
 pub mod Law
 pub mod Between
+pub mod Represented

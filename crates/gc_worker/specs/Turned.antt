@@ -57,7 +57,9 @@ use Rattle.gc_worker.specs.declared.task.Task.TheVariants.{Calls, Stops}
 use Rattle.gc_worker.specs.Access as access
 use Rattle.gc_worker.specs.Held.{Held, at_stage, making_for, header_for, asked_by, run_of}
 use Rattle.gc_worker.specs.Seen.{Making, seen, word_for}
-use Rattle.plain_heap.specs.Action.{Action, Sets, Jumps, Links, Prints, Makes, action}
+use Rattle.plain_heap.specs.declared.action.Action.{Action}
+use Rattle.plain_heap.specs.declared.action.Action.TheVariants.{Sets, Jumps, Links, Prints, Makes}
+use Rattle.plain_heap.specs.Action.{action}
 use Rattle.plain_heap.specs.Action as plain_action
 use Rattle.alloc_end.specs.declared.run.Run.{Run}
 

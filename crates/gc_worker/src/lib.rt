@@ -27,7 +27,9 @@ pub use back::Back;
 pub use board_access::{BoardAccess, BoardSwap, BoardUse};
 pub use field_access::{FieldAccess, FieldUse, Role};
 pub use forwarding_register::ForwardingRegister;
-pub use laws::{flips_are_won, places_fit, registers_lead_back, steps_keep};
+pub use laws::{
+    flips_are_won, places_fit, registers_lead_back, steps_keep, what_is_represented_stands,
+};
 pub use record_access::{RecordAccess, RecordUse};
 pub use stage::Stage;
 pub use task::Task;

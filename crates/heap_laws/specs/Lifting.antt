@@ -1,5 +1,5 @@
 -- From the laws to configurations, once for all: a step writes a row of the table, or none, and one worker becomes another.
-use Rattle.std.specs.Prelude.{◌≡◌, ℕ, ◌<◌, ⊤, List, length, Option, Some, None, slice_set, ◌≤◌}
+use Rattle.std.specs.Prelude.{◌≡◌, ℕ, ◌+◌, ◌<◌, ⊤, List, length, Option, Some, None, slice_set, ◌≤◌}
 use Rattle.plain_state.specs.State.{Plain}
 use Rattle.space_map.specs.Table.{place_of}
 use Rattle.space_map.specs.PageWord.{age_of}
@@ -48,12 +48,13 @@ pub record StandsWith (c : Configuration) (p : Plain) (g : Ghost) : Type 0 where
   pub with_ghost : stands.ghost ≡ g
 
 -- The step of worker k leaves a configuration that stands for the plain state q. The row that it writes is one of the table, what
--- a cycle kept of the earlier configuration it keeps of this, and no page word's epoch fell.
+-- a cycle kept of the earlier configuration it keeps of this, no page word's epoch fell, and the gate's epoch is as it was.
 pub record Leaves (c : Configuration) (e : Option Entry) (k : ℕ) (w : Worker) (q : Plain) (g h : Ghost) : Type 0 where
   pub fits : RowFits c.pages e
   pub standing : StandsWith (stepped c e k w) q h
   pub cycle : (o : Plain) → Cycle (era c) (memory c) (team c) g o → Cycle (era (stepped c e k w)) (memory (stepped c e k w)) (team (stepped c e k w)) h o
   pub ages : (page : ℕ) → age_of ((table c).page page) ≤ age_of ((table (stepped c e k w)).page page)
+  pub epoch : (era (stepped c e k w)).epoch ≡ (era c).epoch
 
 -- what a law says of a step is so of each configuration that stands
 abbrev pub StepsAreLifted : Type 0
@@ -65,13 +66,14 @@ abbrev pub PlainStepsAreLifted : Type 0
 PlainStepsAreLifted = (c : Configuration) (p q : Plain) (s : Stands c p) (e : Option Entry) (k : ℕ) (w : Worker) (h : Ghost) → k < length c.workers
     → StepsTo (era c) (memory c) (team c) s.ghost k e w h q → Leaves c e k w q s.ghost h
 
--- The flip leaves a configuration that stands for the same plain state, of which a cycle begins. The gate's word fits, and no page
--- word changed.
+-- The flip leaves a configuration that stands for the same plain state, of which a cycle begins. The gate's word fits and says
+-- the next epoch, and no page word changed.
 pub record Flipped (c : Configuration) (gate : GateWord) (k : ℕ) (w : Worker) (p : Plain) (h : Ghost) : Type 0 where
   pub fits : GateFits gate
   pub standing : StandsWith (stepped c (Some (GateIs gate)) k w) p h
   pub begins : Cycle (era (stepped c (Some (GateIs gate)) k w)) (memory (stepped c (Some (GateIs gate)) k w)) (team (stepped c (Some (GateIs gate)) k w)) h p
   pub pages : (table (stepped c (Some (GateIs gate)) k w)).page ≡ (table c).page
+  pub epoch : (era (stepped c (Some (GateIs gate)) k w)).epoch ≡ (era c).epoch + 1
 
 abbrev pub FlipsAreLifted : Type 0
 FlipsAreLifted = (c : Configuration) (p : Plain) (s : Stands c p) (k : ℕ) (r : Reset) → k < length c.workers → Flips (era c) (team c) k r

@@ -40,9 +40,8 @@ pub data IsRoot (p : plain.Plain) (i : Identity) : Type 0 where
   OnTheBoard : (x : ℕ) → slice_get p.heap.board x ≡ Some (Reference i) → IsRoot p i
 
 -- Of the plain state at the flip: an old record that has its own header shows it. What a word leads to in the old space is
--- reachable, and so is what has a copy or a kept header. Each copy has the size and kind of its identity there, and is the
--- copy of an old record. Where a field of a copied record referred to another, that one is copied, or the copy's field still
--- leads to it.
+-- reachable, and so is what has a copy or a kept header. Each copy has the size and kind of its identity there, which is
+-- reachable. Where a field of a copied record referred to another, that one is copied, or the copy's field still leads to it.
 pub record Copying (E : Era) (front : ℕ) (size writer copy keeper : ℕ → ℕ) (kind : ℕ → Kind) (identity : ℕ → Identity) (heap : ℕ → ℕ) (p : plain.Plain) : Type 0 where
   pub old : (a : ℕ) → 0 < size a → E.old_start ≤ a → a < E.old_start + E.old_span → (copy a ≡ 0) ⊎ (0 < keeper a)
       → (r : plain.Record) × (plain.record_of p.heap (identity a) ≡ Some r) × Shows (value_of identity) heap a (kind a) (size a) r
@@ -53,7 +52,7 @@ pub record Copying (E : Era) (front : ℕ) (size writer copy keeper : ℕ → �
   pub complete : (b x : ℕ) (r : plain.Record) (i : Identity) → 0 < size b → writer b ≡ 0 → E.start ≤ b → b < front
       → plain.record_of p.heap (identity b) ≡ Some r → is_field (kind b) (word_of (kind b) x) ≡ true → slice_get r.values x ≡ Some (Reference i)
       → IsCopied E front size writer identity i ⊎ StillLeads E identity (heap (b + word_of (kind b) x)) i
-  pub from : (b : ℕ) → 0 < size b → E.start ≤ b → b < front → (a : ℕ) × (0 < size a) × (copy a ≡ b + 1)
+  pub only : (b : ℕ) → 0 < size b → E.start ≤ b → b < front → Reachable p (identity b)
 
 -- each root is copied, or a root's word still leads to it; and what a register leads to in the old space is reachable
 pub record Rooted (E : Era) (front count : ℕ) (size writer : ℕ → ℕ) (identity : ℕ → Identity) (heap : ℕ → ℕ) (worker : ℕ → Worker) (p : plain.Plain) : Type 0 where

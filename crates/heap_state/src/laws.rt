@@ -3,7 +3,7 @@
 ghost use Rattle.std.specs.Prelude.{ℕ};
 ghost use Rattle.heap_state.specs.Theorems.Rows.{ReadsRows, SpellsShared, StoresGate, StoresTraced, StoresArea, StoresPage, StoresCross, StoresHeapWord, StoresAnnounce, StoresEntry, WritesTables, MemoryFollows};
 ghost use Rattle.heap_state.specs.Theorems.Workers.{ChangesAt, SumsByTerms, TeamsByWorkers, FramesOfWorkers};
-ghost use Rattle.heap_state.specs.Theorems.Standing.{StandingIsSound, QuietStandsStill};
+ghost use Rattle.heap_state.specs.Theorems.Standing.{StandingIsSound, RepresentedStands, RepresentedStandsInCycle, QuietStandsStill};
 ghost use Rattle.heap_state.specs.Theorems.Examples.{IsWorkedOut, IsWorkedOutFlipped, TellsBroken};
 
 /// A load of a row's place reads what the decoded table has there.
@@ -43,6 +43,13 @@ pub fn one_place_changes_alone()
 /// state that it shows.
 pub fn what_stands_is_sound()
     ensures { StandingIsSound }
+{}
+
+/// A configuration that keeps the invariant of the proofs, and stands for one plain state, stands for each that it represents:
+/// what is proved of all that it stands for is so of all that it represents. What a cycle keeps it keeps for each of them.
+pub fn what_is_represented_stands()
+    ensures stands { RepresentedStands }
+    ensures in_cycle { RepresentedStandsInCycle }
 {}
 
 /// Where all is quiet only who scans the filling page can copy; where the epoch is traced nobody scans, copies or writes.

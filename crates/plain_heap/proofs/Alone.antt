@@ -8,7 +8,8 @@ use Rattle.plain_state.specs.declared.end.End.{End}
 use Rattle.plain_state.specs.declared.end.End.TheVariants.{TurnsOut}
 use Rattle.plain_state.specs.State.{Mutator, Plain}
 use Rattle.mutator_asm.specs.declared.instr.Instr.{Instr}
-use Rattle.plain_heap.specs.Call.{After, ◌>>=◌, call}
+use Rattle.plain_heap.specs.Action.{◌>>=◌}
+use Rattle.plain_heap.specs.Call.{After, call}
 use Rattle.plain_heap.specs.Step.{fetch, executes, settled, stepped_if, stepped_as, mutator_in, stepped}
 use Rattle.plain_heap.specs.declared.mark.Mark.TheVariants.{Step}
 use Rattle.plain_heap.specs.Order.{fresh, marked, state_after}

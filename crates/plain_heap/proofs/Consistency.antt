@@ -1,7 +1,8 @@
 -- An instruction keeps what each state is like.
-use Rattle.std.proofs.Common.{◌≡◌, ℕ, ◌+◌, ◌/◌, ◌%◌, ◌==◌, ◌<◌, ◌≤◌, ◌⊎◌, inl, inr, Bool, true, false, cond, nat_lt, nat_le, List, [], ◌∷◌, length, Option, Some, None, Result, Ok, Err, slice_get, slice_set, refl, sym, ◌∙◌, subst, arith, length-set, length-append}
+use Rattle.std.proofs.Common.{◌≡◌, ℕ, ◌+◌, ◌/◌, ◌%◌, ◌==◌, ◌<◌, ◌≤◌, ◌⊎◌, inl, inr, Bool, true, false, nat_lt, List, [], ◌∷◌, ◌++◌, length, Option, Some, None, Result, Ok, Err, slice_get, slice_set, refl, sym, ◌∙◌, subst, arith, length-set, length-append}
+use Rattle.std.specs.Bool.{⊤}
 use Rattle.std.specs.List.{All}
-use Rattle.std.specs.Option.{ok_or, option_map_or}
+use Rattle.std.specs.Option.{option_map_or}
 use Rattle.std.specs.Result.{IfOk}
 use Rattle.std.proofs.Math.Nat.{div-le_self, mod-le}
 use Rattle.std.proofs.lemmas.Bool.{cases_eq, and_parts, ltb-true, leb-true}
@@ -9,7 +10,6 @@ use Rattle.std.proofs.lemmas.List.{length-replicate}
 use Rattle.std.proofs.lemmas.List.Elements.{All-nil, All-set, All-push, All-replicate, All-weaker}
 use Rattle.std.proofs.lemmas.Option.{slice_get_within}
 use Rattle.plain_state.specs.declared.end.End.{End}
-use Rattle.plain_state.specs.declared.end.End.TheVariants.{OutOfRange}
 use Rattle.plain_state.specs.declared.kind.Kind.{Kind}
 use Rattle.plain_state.specs.declared.kind.Kind.TheVariants.{Fields, Raw}
 use Rattle.plain_state.specs.declared.operation.Operation.{Operation}
@@ -28,11 +28,14 @@ use Rattle.plain_state.proofs.Lists.{slice_get-replicate, slice_get-set_other, s
 use Rattle.plain_state.proofs.Stored.{stored_made, stored_makers}
 use Rattle.mutator_asm.specs.declared.instr.Instr.{Instr}
 use Rattle.mutator_asm.specs.declared.instr.Instr.TheVariants as instrs
-use Rattle.mutator_asm.specs.declared.operand.Operand.{Operand}
 use Rattle.mutator_asm.specs.Program.{is_valid, is_register, is_number, is_target}
-use Rattle.plain_heap.specs.Call.{After, ◌>>=◌, register, number_in, reference_in, operand, values_of, value_in, board_word, may_hold, store_in, zeros, length_of, next_of, jumped, went_on, set_register, loads, allocated, prints, computes, allocates, call, is_zero, is_reference, are_same}
-use Rattle.plain_heap.proofs.Counting.{if_ok-bind}
-use Rattle.plain_heap.proofs.Owning.{read_all, found_all, found_serial}
+use Rattle.plain_heap.specs.declared.action.Action.{Action}
+use Rattle.plain_heap.specs.declared.action.Action.TheVariants.{Sets, Jumps, Links, Prints, Makes, Measures, Loads, Stores, Gets, Puts, Swaps}
+use Rattle.plain_heap.specs.Action.{◌>>=◌, register, next_of, in_record, action}
+use Rattle.plain_heap.specs.Call.{After, values_of, value_in, board_word, may_hold, store_in, zeros, jumped, went_on, set_register, loads, allocated, performed, call}
+use Rattle.plain_heap.proofs.Named.{Spells, Names, named}
+use Rattle.plain_heap.proofs.Outcomes.{if_ok-bind, if_ok-then}
+use Rattle.plain_heap.proofs.Owning.{read_all, found_serial}
 
 -- ---- a heap with more records
 
@@ -69,15 +72,6 @@ grows-board heap x v i made = record { first = made.first; last = made.last }
 
 -- ---- what is read
 
--- a fact of what the first of two steps answers leads on to the second
-pub if_ok-then : {A B : Type 0} (Q : A → Type 0) (P : B → Type 0) (o : Result A End) (f : A → Result B End) → IfOk o Q → ((a : A) → Q a → IfOk (f a) P) → IfOk (o >>= f) P
-if_ok-then Q P (Ok a) f is next = next a is
-if_ok-then Q P (Err why) f is next = tt
-
-number_in-small : (heap : Heap) (v : Value) → IsValue heap v → IfOk (number_in v) (λ n. n < NUMBERS)
-number_in-small heap (Number n) is = is
-number_in-small heap (Reference i) is = tt
-
 one_if-small : (b : Bool) → one_if b < NUMBERS
 one_if-small true = omega arith
 one_if-small false = omega arith
@@ -96,14 +90,6 @@ applied-small operations.Mul a b small = remainder-small _
 applied-small operations.Div a b small = divided_by-small b (a / b) (b == 0) refl (omega (arith, div-le_self a b, small))
 applied-small operations.Rem a b small = divided_by-small b (a % b) (b == 0) refl (omega (arith, mod-le a b, small))
 applied-small operations.Lt a b small = one_if-small (nat_lt a b)
-
-length_of-short : (n : ℕ) (short : Bool) → nat_le n LONGEST_RECORD ≡ short → IfOk (length_of n) (λ n. n ≤ LONGEST_RECORD)
-length_of-short n true is = rw is (leb-true n LONGEST_RECORD is)
-length_of-short n false is = rw is tt
-
-found_or : {A : Type 0} (P : A → Type 0) (xs : List A) (x : ℕ) (o : Option A) (why : End) → All P xs → slice_get xs x ≡ o → IfOk (ok_or o why) P
-found_or P xs x None why all is = tt
-found_or P xs x (Some v) why all is = found_all P xs x v all is
 
 -- ---- what is written
 
@@ -127,10 +113,11 @@ module _ (heap : Heap) (is_heap : IsHeap heap) where
   values-found i (Some r) is = let found = found-record i r is in (found.values, found.short)
 
   value_in-value : (i : Identity) (x : ℕ) → IfOk (value_in heap i x) (IsValue heap)
-  value_in-value i x = found_or (IsValue heap) (values_of heap i) x (slice_get (values_of heap i) x) OutOfRange (values-found i (record_of heap i) refl).0 refl
+  value_in-value i x =
+      if_ok-bind (IsValue heap) (in_record (length (values_of heap i)) x) _ (λ y. read_all (IsValue heap) (values_of heap i) y (Number 0) (values-found i (record_of heap i) refl).0 zero-value)
 
-  board_word-value : (x : ℕ) → IfOk (board_word heap x) (IsValue heap)
-  board_word-value x = found_or (IsValue heap) heap.board x (slice_get heap.board x) OutOfRange is_heap.board refl
+  board_word-value : (x : ℕ) → IsValue heap (board_word heap x)
+  board_word-value x = read_all (IsValue heap) heap.board x (Number 0) is_heap.board zero-value
 
   board-kept : (x : ℕ) (v : Value) → IsValue heap v → IsHeap (with_board heap x v)
   board-kept x v is = record {
@@ -203,9 +190,6 @@ module _ (m : ℕ) (heap : Heap) (k : Mutator) (is_heap : IsHeap heap) (is_mutat
   register-value : (r : ℕ) → IsValue heap (register k r)
   register-value r = read_all (IsValue heap) k.registers r (Number 0) is_mutator.registers (omega arith)
 
-  number-read : (r : ℕ) → IfOk (number_in (register k r)) (λ n. n < NUMBERS)
-  number-read r = number_in-small heap (register k r) (register-value r)
-
   next_of-small : next_of k < NUMBERS
   next_of-small = remainder-small (k.counter + 1)
 
@@ -238,11 +222,6 @@ module _ (m : ℕ) (heap : Heap) (k : Mutator) (is_heap : IsHeap heap) (is_mutat
   loads-kept : (d : ℕ) (v : Value) → IsValue heap v → Keeps heap (loads heap k d v)
   loads-kept d v is = links-kept d (next_of k) v is next_of-small
 
-  computes-kept : (operation : Operation) (d a b : ℕ) → IfOk (computes operation heap k d a b) (Keeps heap)
-  computes-kept operation d a b =
-      if_ok-then (λ n. n < NUMBERS) (Keeps heap) (number_in (register k a)) _ (number-read a) (λ x small. if_ok-bind (Keeps heap) (number_in (register k b)) _
-      (λ y. if_ok-then (λ n. n < NUMBERS) (Keeps heap) (applied operation x y) _ (applied-small operation x y small) (λ n is. loads-kept d (Number n) is)))
-
   allocated-kept : (kind : Kind) (d n : ℕ) → n ≤ LONGEST_RECORD → Keeps heap (allocated m heap k kind d n)
   allocated-kept kind d n short = record {
     heap = gained-kept heap is_heap m n kind within short;
@@ -251,10 +230,6 @@ module _ (m : ℕ) (heap : Heap) (k : Mutator) (is_heap : IsHeap heap) (is_mutat
     grows = gained_made heap m (zeros kind n) within;
     as_many = gained_makers heap m (zeros kind n) within;
   }
-
-  allocates-kept : (kind : Kind) (d : ℕ) (x : Operand) → IfOk (allocates m heap k kind d x) (Keeps heap)
-  allocates-kept kind d x =
-      if_ok-bind (Keeps heap) (operand k x) _ (λ y. if_ok-then (λ n. n ≤ LONGEST_RECORD) (Keeps heap) (length_of y) _ (length_of-short y (nat_le y LONGEST_RECORD) refl) (λ n short. allocated-kept kind d n short))
 
   stored-kept_in : (i : Identity) (r : Record) (x : ℕ) (o : Result Value End) → record_of heap i ≡ Some r → IfOk o (λ v. IsValue heap v × (is_raw r.kind 0 ≡ true → IsNumber v))
       → IfOk ((o >>= (λ v. Ok (stored heap i r x v))) >>= (λ h. Ok (record { heap = h; mutator = went_on k }))) (Keeps heap)
@@ -266,9 +241,9 @@ module _ (m : ℕ) (heap : Heap) (k : Mutator) (is_heap : IsHeap heap) (is_mutat
   }
   stored-kept_in i r x (Err why) found is = tt
 
-  stores-kept : (i : Identity) (o : Option Record) (x b : ℕ) → record_of heap i ≡ o → IfOk (store_in heap i o x (register k b) >>= (λ h. Ok (record { heap = h; mutator = went_on k }))) (Keeps heap)
-  stores-kept i None x b found = tt
-  stores-kept i (Some r) x b found = stored-kept_in i r x (may_hold r.kind (register k b)) found (held-value heap r.kind (register k b) (register-value b))
+  stores-kept : (i : Identity) (o : Option Record) (x : ℕ) (v : Value) → record_of heap i ≡ o → IsValue heap v → IfOk (store_in heap i o x v >>= (λ h. Ok (record { heap = h; mutator = went_on k }))) (Keeps heap)
+  stores-kept i None x v found is = tt
+  stores-kept i (Some r) x v found is = stored-kept_in i r x (may_hold r.kind v) found (held-value heap r.kind v is)
 
   boards-kept : (x : ℕ) (v : Value) (k' : Mutator) → IsValue heap v → IsMutator heap k' → Keeps heap (record { heap = with_board heap x v; mutator = k' })
   boards-kept x v k' is is' = record {
@@ -278,58 +253,48 @@ module _ (m : ℕ) (heap : Heap) (k : Mutator) (is_heap : IsHeap heap) (is_mutat
     as_many = refl;
   }
 
-  prints-kept : (n : ℕ) (few : Bool) → n < NUMBERS → nat_lt (length k.printed) MOST_PRINTED ≡ few → IfOk (prints heap k n) (Keeps heap)
-  prints-kept n true small is = rw is (record {
+  printed-kept : (n : ℕ) → n < NUMBERS → length k.printed < MOST_PRINTED → Keeps heap (record { heap = heap; mutator = went_on (record k { printed = k.printed ++ n ∷ [] }) })
+  printed-kept n small few = record {
     heap = is_heap;
     mutator = record {
       counter = next_of-small;
       register_count = is_mutator.register_count;
       registers = is_mutator.registers;
-      few_printed = omega (arith, length-append k.printed (n ∷ []), ltb-true (length k.printed) MOST_PRINTED is);
+      few_printed = omega (arith, length-append k.printed (n ∷ []), few);
       printed = All-push (λ n. n < NUMBERS) k.printed n is_mutator.printed small;
     };
     grows = same;
     as_many = refl;
-  })
-  prints-kept n false small is = rw is tt
+  }
 
-  jump_if_zero-small : (b : Bool) (target : ℕ) → target < NUMBERS → cond b target (next_of k) < NUMBERS
-  jump_if_zero-small true target small = small
-  jump_if_zero-small false target small = next_of-small
+  performed-kept : (act : Action) → Names (IsValue heap) ⊤ k act → IfOk (performed m heap k act) (Keeps heap)
+  performed-kept (Sets d v) is = loads-kept d v is
+  performed-kept (Jumps target) is = jumps-kept target is
+  performed-kept (Links d target) is = links-kept d target (Number (next_of k)) next_of-small is
+  performed-kept (Prints n) is = printed-kept n is.0 is.1
+  performed-kept (Makes kind d n) is = allocated-kept kind d n is
+  performed-kept (Measures d i) is = loads-kept d (Number (length (values_of heap i))) (omega (arith, (values-found heap is_heap i (record_of heap i) refl).1))
+  performed-kept (Loads d i x) is = if_ok-then (IsValue heap) (Keeps heap) (value_in heap i x) _ (value_in-value heap is_heap i x) (λ v is_v. loads-kept d v is_v)
+  performed-kept (Stores i x v) is = if_ok-bind (Keeps heap) (value_in heap i x) _ (λ old. stores-kept i (record_of heap i) x v refl is.1)
+  performed-kept (Gets d x) is = loads-kept d (board_word heap x) (board_word-value heap is_heap x)
+  performed-kept (Puts x v) is = boards-kept x v (went_on k) is.2 (jumps-kept (next_of k) next_of-small).mutator
+  performed-kept (Swaps d x v) is =
+      let old = board_word heap x in
+      boards-kept x v (went_on (set_register k d old)) is.2 (loads-kept d old (board_word-value heap is_heap x)).mutator
 
   target-small : (target : ℕ) → is_target target ≡ true → target < NUMBERS
   target-small target valid = omega (arith, leb-true target 65536 valid)
 
+  spells : (i : Instr) → is_valid i ≡ true → Spells (IsValue heap) ⊤ i
+  spells (instrs.Li d n) valid = ltb-true n NUMBERS (and_parts (is_register d) (is_number n) valid).1
+  spells (instrs.Jmp target) valid = target-small target valid
+  spells (instrs.Jz a target) valid = target-small target (and_parts (is_register a) (is_target target) valid).1
+  spells (instrs.Jal d target) valid = target-small target (and_parts (is_register d) (is_target target) valid).1
+  spells _ valid = tt
+
+  action-good : (i : Instr) → is_valid i ≡ true → IfOk (action k i) (Names (IsValue heap) ⊤ k)
+  action-good i valid = named (IsValue heap) ⊤ k register-value next_of-small one_if-small (λ operation a b small is. applied-small operation a b small) i (spells i valid)
+
   pub call-kept : (i : Instr) → is_valid i ≡ true → IfOk (call m heap k i) (Keeps heap)
   unfolding call
-  call-kept (instrs.Li d n) valid = loads-kept d (Number n) (ltb-true n NUMBERS (and_parts (is_register d) (is_number n) valid).1)
-  call-kept (instrs.Mov d a) valid = loads-kept d (register k a) (register-value a)
-  call-kept (instrs.Add d a b) valid = computes-kept operations.Add d a b
-  call-kept (instrs.Sub d a b) valid = computes-kept operations.Sub d a b
-  call-kept (instrs.Mul d a b) valid = computes-kept operations.Mul d a b
-  call-kept (instrs.Div d a b) valid = computes-kept operations.Div d a b
-  call-kept (instrs.Rem d a b) valid = computes-kept operations.Rem d a b
-  call-kept (instrs.Lt d a b) valid = computes-kept operations.Lt d a b
-  call-kept (instrs.Eq d a b) valid = loads-kept d (Number (one_if (are_same (register k a) (register k b)))) (one_if-small (are_same (register k a) (register k b)))
-  call-kept (instrs.Jmp target) valid = jumps-kept target (target-small target valid)
-  call-kept (instrs.Jz a target) valid = jumps-kept _ (jump_if_zero-small (is_zero (register k a)) target (target-small target (and_parts (is_register a) (is_target target) valid).1))
-  call-kept (instrs.Jal d target) valid = links-kept d target (Number (next_of k)) next_of-small (target-small target (and_parts (is_register d) (is_target target) valid).1)
-  call-kept (instrs.Jr a) valid = if_ok-then (λ n. n < NUMBERS) (Keeps heap) (number_in (register k a)) _ (number-read a) (λ n small. jumps-kept n small)
-  call-kept (instrs.New d x) valid = allocates-kept Fields d x
-  call-kept (instrs.Raw d x) valid = allocates-kept Raw d x
-  call-kept (instrs.Ld d a x) valid = if_ok-bind (Keeps heap) (reference_in (register k a)) _ (λ i. if_ok-bind (Keeps heap) (operand k x) _
-      (λ y. if_ok-then (IsValue heap) (Keeps heap) (value_in heap i y) _ (value_in-value heap is_heap i y) (λ v is. loads-kept d v is)))
-  call-kept (instrs.St a x b) valid = if_ok-bind (Keeps heap) (reference_in (register k a)) _ (λ i. if_ok-bind (Keeps heap) (operand k x) _
-      (λ y. if_ok-bind (Keeps heap) (value_in heap i y) _ (λ old. stores-kept i (record_of heap i) y b refl)))
-  call-kept (instrs.Len d a) valid = if_ok-bind (Keeps heap) (reference_in (register k a)) _
-      (λ i. loads-kept d (Number (length (values_of heap i))) (omega (arith, (values-found heap is_heap i (record_of heap i) refl).1)))
-  call-kept (instrs.Isp d a) valid = loads-kept d (Number (one_if (is_reference (register k a)))) (one_if-small (is_reference (register k a)))
-  call-kept (instrs.Get d x) valid = if_ok-bind (Keeps heap) (operand k x) _
-      (λ y. if_ok-then (IsValue heap) (Keeps heap) (board_word heap y) _ (board_word-value heap is_heap y) (λ v is. loads-kept d v is))
-  call-kept (instrs.Put x a) valid = if_ok-bind (Keeps heap) (operand k x) _
-      (λ y. if_ok-bind (Keeps heap) (board_word heap y) _ (λ old. boards-kept y (register k a) (went_on k) (register-value a) (jumps-kept (next_of k) next_of-small).mutator))
-  call-kept (instrs.Swap d x) valid = if_ok-bind (Keeps heap) (operand k x) _
-      (λ y. if_ok-then (IsValue heap) (Keeps heap) (board_word heap y) _ (board_word-value heap is_heap y)
-      (λ old is. boards-kept y (register k d) (went_on (set_register k d old)) (register-value d) (loads-kept d old is).mutator))
-  call-kept (instrs.Out a) valid = if_ok-then (λ n. n < NUMBERS) (Keeps heap) (number_in (register k a)) _ (number-read a) (λ n small. prints-kept n (nat_lt (length k.printed) MOST_PRINTED) small refl)
-  call-kept instrs.Halt valid = tt
+  call-kept i valid = if_ok-then (Names (IsValue heap) ⊤ k) (Keeps heap) (action k i) (performed m heap k) (action-good i valid) performed-kept

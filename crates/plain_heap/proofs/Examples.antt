@@ -6,6 +6,7 @@ use Rattle.plain_state.specs.declared.end.End.TheVariants.{Halt, TurnsOut}
 use Rattle.mutator_asm.specs.declared.instr.Instr.{Instr}
 use Rattle.mutator_asm.specs.declared.instr.Instr.TheVariants as instrs
 use Rattle.mutator_asm.specs.declared.operand.Operand.TheVariants as operands
+use Rattle.plain_heap.specs.Action.{action}
 use Rattle.plain_heap.specs.Call.{call}
 use Rattle.plain_heap.specs.Step.{stepped}
 use Rattle.plain_heap.specs.Order.{marked}
@@ -26,9 +27,9 @@ shown : ℕ → Option (List ℕ × Option End)
 shown m = option_map {U = List ℕ × Option End} (λ k. (k.printed, k.end)) (slice_get (run_alone code 5 m).mutators m)
 
 first-alone : shown 0 ≡ Some ((7 ∷ []), Some Halt)
-unfolding shown marked stepped call
+unfolding shown marked stepped call action
 first-alone = refl
 
 second-alone : shown 1 ≡ Some ((8 ∷ 8 ∷ []), Some TurnsOut)
-unfolding shown marked stepped call
+unfolding shown marked stepped call action
 second-alone = refl

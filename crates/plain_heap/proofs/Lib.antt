@@ -1,6 +1,8 @@
 pub mod Opening
 pub mod Stepping
 pub mod Owning
+pub mod Outcomes
+pub mod Named
 pub mod Alike
 pub mod Counting
 pub mod Alone

@@ -1,20 +1,21 @@
 -- What a mutator holds that shares nothing: numbers, and references to records of its own.
-use Rattle.std.proofs.Common.{◌≡◌, ℕ, zero, suc, ◌-◌, ◌<◌, ◌≤◌, ◌⊎◌, inl, inr, List, [], ◌∷◌, ◌++◌, length, Option, Some, None, Ok, slice_get, slice_set, get_or, refl, subst}
+use Rattle.std.proofs.Common.{◌≡◌, ℕ, zero, suc, ◌-◌, ◌<◌, ◌≤◌, ◌⊎◌, inl, inr, List, [], ◌∷◌, ◌++◌, length, Option, Some, None, Result, Ok, Err, slice_get, slice_set, slice_index_or, get_or, refl, subst}
 use Rattle.std.specs.Bool.{⊤}
-use Rattle.std.specs.Option.{ok_or, option_map_or}
+use Rattle.std.specs.Option.{option_map_or}
 use Rattle.std.specs.List.{All}
 use Rattle.std.proofs.lemmas.Bool.{cases_lt}
 use Rattle.std.proofs.lemmas.List.{get_or_past}
 use Rattle.std.proofs.lemmas.List.Elements.{All-get_or, All-nil, All-set, All-push, All-replicate}
 use Rattle.std.proofs.lemmas.Option.{slice_get_within, get_or_from_slice_get}
-use Rattle.plain_state.specs.declared.end.End.TheVariants.{OutOfRange}
+use Rattle.plain_state.specs.declared.end.End.{End}
 use Rattle.plain_state.specs.declared.kind.Kind.{Kind}
 use Rattle.plain_state.specs.declared.kind.Kind.TheVariants.{Fields, Raw}
 use Rattle.plain_state.specs.declared.value.Value.{Value}
 use Rattle.plain_state.specs.declared.value.Value.TheVariants.{Number, Reference}
-use Rattle.plain_state.specs.State.{Record, Mutator, at_serial}
+use Rattle.plain_state.specs.State.{Record, Heap, Mutator, made_by, at_serial}
 use Rattle.plain_state.specs.Writing.{with_word}
-use Rattle.plain_heap.specs.Call.{register, may_hold, zeros, jumped, set_register}
+use Rattle.plain_heap.specs.Action.{◌>>=◌, register, in_record}
+use Rattle.plain_heap.specs.Call.{values_of, value_in, may_hold, zeros, jumped, set_register}
 
 -- a number, or a reference to a record of mutator m
 abbrev pub IsOf : ℕ → Value → Type 0
@@ -54,19 +55,18 @@ values_as : (m : ℕ) (records : List Record) (n : ℕ) (o : Option Record) → 
 values_as m records n None all is = All-nil (IsOf m)
 values_as m records n (Some r) all is = found_serial (AllOf m) records n r all is
 
-word_as : (m : ℕ) (values : List Value) (x : ℕ) (o : Option Value) (v : Value) → All (IsOf m) values → slice_get values x ≡ o → ok_or o OutOfRange ≡ Ok v → IsOf m v
-word_as m values x None v all found is = cc
-word_as m values x (Some u) v all found is = subst (IsOf m) (same_Ok u v is) (found_all (IsOf m) values x u all found)
-  where
-    same_Ok : (u v : Value) → ok_or (Some u) OutOfRange ≡ Ok v → u ≡ v
-    same_Ok u v is = cc
+ok-same : (o : Result Value End) (u v : Value) → o ≡ Ok u → o ≡ Ok v → u ≡ v
+ok-same o u v is_u is_v = cc
+
+word_as : (m : ℕ) (values : List Value) (o : Result ℕ End) (v : Value) → All (IsOf m) values → (o >>= (λ y. Ok (slice_index_or values y (Number 0)))) ≡ Ok v → IsOf m v
+word_as m values (Ok y) v all is = subst (IsOf m) (ok-same _ (slice_index_or values y (Number 0)) v refl is) (read_all (IsOf m) values y (Number 0) all tt)
+word_as m values (Err why) v all is = cc
 
 -- a word that is read of the record of mutator m with a serial
-pub word-own : (m : ℕ) (records : List Record) (n x : ℕ) (v : Value) → All (AllOf m) records
-    → ok_or (slice_get (option_map_or (λ r. r.values) (at_serial records n) []) x) OutOfRange ≡ Ok v → IsOf m v
-word-own m records n x v all is =
-    let values = option_map_or (λ r. r.values) (at_serial records n) [] in
-    word_as m values x (slice_get values x) v (values_as m records n (at_serial records n) all refl) refl is
+pub word-own : (m : ℕ) (heap : Heap) (n x : ℕ) (v : Value) → All (AllOf m) (made_by heap m) → value_in heap (record { mutator = m; serial = n }) x ≡ Ok v → IsOf m v
+word-own m heap n x v all is =
+    let values = values_of heap (record { mutator = m; serial = n }) in
+    word_as m values (in_record (length values) x) v (values_as m (made_by heap m) n (at_serial (made_by heap m) n) all refl) is
 
 -- ---- what is written
 

@@ -21,7 +21,8 @@ use Rattle.plain_heap.specs.Step.{fetch, executes, ended, settled, stepped_if, s
 use Rattle.plain_heap.specs.declared.mark.Mark.{Mark}
 use Rattle.plain_heap.specs.declared.mark.Mark.TheVariants.{Step, Flip, Full}
 use Rattle.plain_heap.specs.Order.{fresh, opening, is_asked, marked, state_after, plain}
-use Rattle.plain_heap.proofs.Consistency.{Keeps, mutator-grows, if_ok-then, call-kept}
+use Rattle.plain_heap.proofs.Consistency.{Keeps, mutator-grows, call-kept}
+use Rattle.plain_heap.proofs.Outcomes.{if_ok-then}
 use Rattle.plain_heap.proofs.Opening.{opening-replicate}
 use Rattle.plain_heap.proofs.Owning.{found_all}
 

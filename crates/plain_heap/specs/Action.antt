@@ -16,6 +16,8 @@ use Rattle.mutator_asm.specs.declared.instr.Instr.{Instr}
 use Rattle.mutator_asm.specs.declared.instr.Instr.TheVariants as instrs
 use Rattle.mutator_asm.specs.declared.operand.Operand.{Operand}
 use Rattle.mutator_asm.specs.declared.operand.Operand.TheVariants as operands
+use Rattle.plain_heap.specs.declared.action.Action.{Action}
+use Rattle.plain_heap.specs.declared.action.Action.TheVariants.{Sets, Jumps, Links, Prints, Makes, Measures, Loads, Stores, Gets, Puts, Swaps}
 
 -- the first end of two steps is the end of both
 infixl 10 ◌>>=◌
@@ -74,22 +76,6 @@ abbrev pub on_board : ℕ → Result ℕ End
 on_board x = in_record BOARD_WORDS x
 
 -- ---- the actions
-
--- What is left to do once the registers are read. A register d takes a value; the mutator goes on elsewhere, maybe with the number of
--- the next instruction in d; it prints; a new record of this kind with n values gets into d; or d takes the length or value x of a record, or
--- word x of the board, or a value is put there, or d and that word change places.
-pub data Action : Type 0 where
-  Sets : (d : ℕ) → Value → Action
-  Jumps : (target : ℕ) → Action
-  Links : (d target : ℕ) → Action
-  Prints : ℕ → Action
-  Makes : Kind → (d n : ℕ) → Action
-  Measures : (d : ℕ) → Identity → Action
-  Loads : (d : ℕ) → Identity → (x : ℕ) → Action
-  Stores : Identity → (x : ℕ) → Value → Action
-  Gets : (d x : ℕ) → Action
-  Puts : (x : ℕ) → Value → Action
-  Swaps : (d x : ℕ) → Value → Action
 
 -- register d takes what an operation computes of the numbers in registers a and b
 abbrev pub computes : Operation → Mutator → (d a b : ℕ) → Result Action End

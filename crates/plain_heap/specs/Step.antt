@@ -4,15 +4,15 @@ use Rattle.std.specs.Option.{ok_or, option_and_then, option_map}
 use Rattle.std.specs.Result.{result_ok}
 use Rattle.plain_state.specs.declared.end.End.{End}
 use Rattle.plain_state.specs.declared.end.End.TheVariants.{JumpOut, TurnsOut}
-use Rattle.plain_state.specs.declared.kind.Kind.TheVariants.{Fields, Raw}
 use Rattle.plain_state.specs.declared.sizes.TheConstants.{PAGE_WORDS}
 use Rattle.plain_state.specs.Layout.{size_of}
 use Rattle.plain_state.specs.State.{Record, Heap, Mutator, Plain}
 use Rattle.mutator_asm.specs.declared.instr.Instr.{Instr}
-use Rattle.mutator_asm.specs.declared.instr.Instr.TheVariants as instrs
-use Rattle.mutator_asm.specs.declared.operand.Operand.{Operand}
 use Rattle.mutator_asm.specs.Program.{instr_at}
-use Rattle.plain_heap.specs.Call.{After, ◌>>=◌, call, operand, length_of, zeros}
+use Rattle.plain_heap.specs.declared.action.Action.{Action}
+use Rattle.plain_heap.specs.declared.action.Action.TheVariants.{Makes}
+use Rattle.plain_heap.specs.Action.{◌>>=◌, action}
+use Rattle.plain_heap.specs.Call.{After, call, zeros}
 
 -- the instruction that a mutator executes next, or the end that stands in its place
 abbrev pub fetch : List (List Instr) → ℕ → ℕ → Mutator → Result Instr End
@@ -52,17 +52,14 @@ stepped code turns s m = stepped_as code turns s m (mutator_in code s m)
 
 -- ---- the room that the next step asks for
 
--- the length of the record that an operand would give it
-abbrev pub length_named : Mutator → Operand → Option ℕ
-length_named k x = result_ok (do
-  x ← operand k x
-  length_of x)
+-- the record that an action makes
+abbrev pub record_made : Result Action End → Option Record
+record_made (Ok (Makes kind d n)) = Some (zeros kind n)
+record_made _ = None
 
 -- the record that an instruction would allocate
 abbrev pub new_record : Mutator → Instr → Option Record
-new_record k (instrs.New d x) = option_map (zeros Fields) (length_named k x)
-new_record k (instrs.Raw d x) = option_map (zeros Raw) (length_named k x)
-new_record k _ = None
+new_record k instr = record_made (action k instr)
 
 -- the pages that so many words take
 abbrev pub pages_for : (size : ℕ) → ℕ

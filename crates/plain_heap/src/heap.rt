@@ -70,12 +70,14 @@ impl PlainHeap {
         self.record(i).map_or(0, |r| r.len())
     }
 
-    /// A word of the board, else the end for a word that isn't there.
-    pub fn board_word(&self, x: u64) -> Result<Value, End>
+    /// A word of the board, or the number 0 for a word that isn't there.
+    pub fn board_word(&self, x: u64) -> Value
         ensures { result ≡ board_word self.now x }
     {
-        let word = self.board.get(x as usize).copied();
-        word.ok_or(End::OutOfRange)
+        match self.board.get(x as usize) {
+            Some(value) => *value,
+            None => Value::Number(0),
+        }
     }
 
     /// Puts a value into a word of the board. Where there is no such word, nothing changes.

@@ -2,24 +2,25 @@
 //! What the collected heap prints is measured against it.
 #![tactic(auto)]
 
-mod board;
+mod action;
+mod effects;
 mod heap;
 mod instructions;
-mod jumps;
 mod laws;
 mod mark;
 mod mutator;
 mod numbers;
 mod order;
+mod places;
 mod printing;
 mod record;
 mod record_list;
-mod records;
 mod state;
 mod step;
 mod stop;
 mod values;
 
+pub use action::Action;
 pub use laws::{
     alone_mutators_are_independent, reached_states_are_consistent, stories_keep_the_last_flip,
 };

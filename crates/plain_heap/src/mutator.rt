@@ -36,7 +36,8 @@ impl Model for PlainMutator {
 }
 
 impl PlainMutator {
-    ghost use Rattle.plain_heap.specs.Call.{register, number_in, reference_in, operand, next_of, jumped, went_on, set_register};
+    ghost use Rattle.plain_heap.specs.Action.{register, number_in, reference_in, operand, next_of};
+    ghost use Rattle.plain_heap.specs.Call.{jumped, went_on, set_register};
     ghost use Rattle.plain_heap.specs.Order.{fresh};
 
     /// A mutator before its first instruction.

@@ -1,19 +1,19 @@
 //! What a mutator does next.
 
-ghost use Rattle.std.specs.Prelude.{◌≡◌, ◌+◌, ◌<◌, ◌≤◌, length, Ok, Err, IfErr, IfSome, OnOk, OnErr, option_map};
+ghost use Rattle.std.specs.Prelude.{◌≡◌, ◌<◌, ◌≤◌, ◌^◌, length, Ok, Err, IfErr, IfSome, OnOk, OnErr, option_map};
 ghost use Rattle.plain_state.specs.Layout.{size_of};
 ghost use Rattle.plain_heap.specs.declared.stop.Stop.TheVariants.{OutOfMemory};
 ghost use Rattle.plain_heap.specs.Memory.{TurnTakesMemory};
 ghost use Rattle.plain_heap.specs.Outcome.{Leaves, StopsBy};
-ghost use Rattle.plain_heap.specs.Step.{fetch, executes, length_named, new_record, pages_for, asked_if};
+ghost use Rattle.plain_heap.specs.Step.{fetch, executes, new_record, pages_for, asked_if};
 
+use crate::action::Action;
 use crate::heap::PlainHeap;
-use crate::instructions::execute;
+use crate::instructions::{action_of, execute};
 use crate::mutator::PlainMutator;
-use crate::records::length_of;
 use crate::stop::Stop;
-use mutator_asm::{Code, Instr, Operand};
-use plain_state::{End, LONGEST_RECORD, PAGE_WORDS};
+use mutator_asm::{Code, Instr};
+use plain_state::{End, PAGE_WORDS};
 use std::alloc::Global;
 
 /// The instruction that mutator m executes next, or the end that stands in its place.
@@ -48,29 +48,20 @@ pub fn take_turn(
     execute(alloc, heap, mutator, m, instr)
 }
 
-/// The length of the record that an operand would give it.
-fn length_named(mutator: &PlainMutator, x: Operand) -> Option<usize>
-    ensures exact { result ≡ length_named mutator.now x }
-    ensures short { IfSome result (λ len. len ≤ LONGEST_RECORD) }
-{
-    let number = mutator.operand(x).ok()?;
-    length_of(number).ok()
-}
-
 /// The words of the record that an instruction would allocate, with its header.
 fn size_allocated(mutator: &PlainMutator, instr: Instr) -> Option<usize>
     ensures exact { result ≡ option_map size_of (new_record mutator.now instr) }
-    ensures short { IfSome result (λ size. size ≤ LONGEST_RECORD + 1) }
+    ensures short { IfSome result (λ size. size ≤ 2 ^ 16) }
 {
-    match instr {
-        Instr::New(_, x) | Instr::Raw(_, x) => Some(length_named(mutator, x)? + 1),
+    match action_of(mutator, instr) {
+        Ok(Action::Makes(_, _, len)) => Some(usize::from(len) + 1),
         _ => None,
     }
 }
 
 /// The pages that so many words take.
 fn pages_for(size: usize) -> u32
-    requires { size ≤ LONGEST_RECORD + 1 }
+    requires { size ≤ 2 ^ 16 }
     ensures { result ≡ pages_for size }
 {
     size.div_ceil(PAGE_WORDS) as u32

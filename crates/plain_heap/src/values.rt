@@ -1,42 +1,35 @@
-//! Instructions on the values of registers, whatever they are.
+//! What the values of registers tell.
 
-ghost use Rattle.std.specs.Prelude.{ℕ, ◌<◌, ◌+◌, ◌^◌};
-ghost use Rattle.mutator_asm.specs.declared.instr.Instr.TheVariants as instrs;
-ghost use Rattle.plain_state.specs.State.{Heap};
-ghost use Rattle.plain_heap.specs.Call.{call};
-ghost use Rattle.plain_heap.specs.Outcome.{IsExecuted};
+ghost use Rattle.std.specs.Prelude.{◌≡◌, if◌then◌else◌};
+ghost use Rattle.plain_state.specs.declared.value.Value.TheVariants.{Number};
+ghost use Rattle.plain_state.specs.Operation.{one_if};
+ghost use Rattle.plain_heap.specs.Action.{register, is_zero, is_reference, are_same, next_of};
 
 use crate::mutator::PlainMutator;
-use plain_state::{End, Value};
+use plain_state::Value;
 
-/// `mov rd ra`
-#[tactic(auto, unfolding(crate::specs::Call::call))]
-pub fn move_register(mutator: &mut PlainMutator, d: u8, a: u8) -> Result<(), End>
-    requires { mutator.old.executed + 1 < 2 ^ 32 }
-    ensures { (m : ℕ) (heap : Heap) → IsExecuted (call m heap mutator.old (instrs.Mov d a)) result heap mutator.old heap mutator.new }
-{
-    mutator.load(d, mutator.register(a));
-    Ok(())
-}
-
-/// `eq rd ra rb`
-#[tactic(auto, unfolding(crate::specs::Call::call))]
-pub fn compare(mutator: &mut PlainMutator, d: u8, a: u8, b: u8) -> Result<(), End>
-    requires { mutator.old.executed + 1 < 2 ^ 32 }
-    ensures { (m : ℕ) (heap : Heap) → IsExecuted (call m heap mutator.old (instrs.Eq d a b)) result heap mutator.old heap mutator.new }
+/// 1 where two registers hold equal numbers or refer to one record, else 0.
+pub fn are_same(mutator: &PlainMutator, a: u8, b: u8) -> Value
+    ensures { result ≡ Number (one_if (are_same (register mutator.now a) (register mutator.now b))) }
 {
     let same = mutator.register(a) == mutator.register(b);
-    mutator.load(d, Value::Number(u64::from(same)));
-    Ok(())
+    Value::Number(u64::from(same))
 }
 
-/// `isp rd ra`
-#[tactic(auto, unfolding(crate::specs::Call::call))]
-pub fn is_reference(mutator: &mut PlainMutator, d: u8, a: u8) -> Result<(), End>
-    requires { mutator.old.executed + 1 < 2 ^ 32 }
-    ensures { (m : ℕ) (heap : Heap) → IsExecuted (call m heap mutator.old (instrs.Isp d a)) result heap mutator.old heap mutator.new }
+/// 1 where a register holds a reference, else 0.
+pub fn is_reference(mutator: &PlainMutator, a: u8) -> Value
+    ensures { result ≡ Number (one_if (is_reference (register mutator.now a))) }
 {
     let reference = mutator.reference(a).is_ok();
-    mutator.load(d, Value::Number(u64::from(reference)));
-    Ok(())
+    Value::Number(u64::from(reference))
+}
+
+/// The target where a register holds the number 0, else the number of the next instruction.
+pub fn target_if_zero(mutator: &PlainMutator, a: u8, target: u32) -> u64
+    ensures { result ≡ (if is_zero (register mutator.now a) then target else next_of mutator.now) }
+{
+    match mutator.register(a) {
+        Value::Number(0) => u64::from(target),
+        Value::Number(_) | Value::Reference(_) => mutator.next(),
+    }
 }

@@ -61,6 +61,7 @@ module _ (c : Configuration) (p : Plain) (s : Stands c p) (k : ℕ) (y : Held) (
       wins = tt;
       answered = tt;
       full = tt;
+      flip = (is.fits.task.1, sym (now c p s k y asked (Exchanges r) is));
     }
 
     -- while a flip is in progress the gate stands still

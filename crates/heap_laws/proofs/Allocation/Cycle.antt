@@ -17,7 +17,7 @@ use Rattle.heap_laws.proofs.Allocation.Stocks.{Places}
 use Rattle.heap_laws.specs.Steps.{with_word, with_worker}
 use Rattle.heap_laws.proofs.Allocation.FreeWords.{IsFree, word_same, copying_free, rooted_free}
 use Rattle.heap_laws.proofs.Allocation.Header.{placed, new_place, free, zeros}
-use Rattle.heap_laws.proofs.Allocation.Parts.{NewPlace, unused, was, is, same_size, same_writer, old_other, below_other, here_was}
+use Rattle.heap_laws.proofs.Allocation.Parts.{NewPlace, unused, was, same_size, same_writer, old_other, below_other, here_was}
 use Rattle.heap_laws.proofs.Allocation.Values.{field_lands, value_allocated}
 use Rattle.heap_laws.proofs.Frames.Values.{still_leads, zero_clean}
 
@@ -87,7 +87,7 @@ module _ (E : Era) (m : Memory) (team : Team) (g : Ghost) (p : plain.Plain) (k :
         let d = below_other is_new_place b n in
         ⊎_elim (λ t. inl (copied_on i t)) (λ t. inr (still_on (heap (b + word_of (g.kind b) x)) i t))
         (y.complete b x r i (was is_new_place b d st) (rw (same_writer is_new_place g.writer b d) at u) l n (rw (put_other g.identity q.at j b d) at e) (rw (put_other g.kind q.at c b d) at f) a);
-    from = λ b st l u. let t = y.from b (was is_new_place b (below_other is_new_place b u) st) l u in (t.0, is is_new_place t.0 t.1, t.2);
+    only = λ b st l u. let d = below_other is_new_place b u in rw (put_other g.identity q.at j b d) (y.only b (was is_new_place b d st) l u);
   }
 
   rooted : Rooted E m.front team.count g.size g.writer g.identity heap team.worker p → Rooted E m.front team.count g'.size g'.writer g'.identity heap (put team.worker k w) p

@@ -103,7 +103,7 @@ module _ {E : Era} {size : ℕ → ℕ} {x : ℕ} (fr : IsFree E size x) (writer
     reached = c.reached;
     sizes = c.sizes;
     complete = λ b y r i st w l u e f o. ⊎_elim (λ t. inl t) (λ t. inr (rw (word_same b (y + 1) (copied_within c b y r (Reference i) st l u e o)) t)) (c.complete b y r i st w l u e f o);
-    from = c.from;
+    only = c.only;
   }
 
   pub rooted_free : (front count : ℕ) (identity : ℕ → Identity) (worker : ℕ → Worker) (p : plain.Plain) → Rooted E front count size writer identity h worker p → Rooted E front count size writer identity (put h x v) worker p

@@ -201,7 +201,7 @@ module _ (E : Era) (m : Memory) (team : Team) (g : Ghost) (k : ℕ) (q : Quest) 
         (cases_eq b a);
     sizes = cy.sizes;
     complete = cy.complete;
-    from = cy.from;
+    only = cy.only;
   }
 
   preserves : Preserves E m (with_word m (a + 0) v) team (with_worker team k w') g g'

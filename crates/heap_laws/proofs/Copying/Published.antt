@@ -137,7 +137,7 @@ module _ {E : Era} {m : Memory} {team : Team} {g : Ghost} {k : ℕ} {c : Copy} {
           (λ y. inr (rw (inner_same (unread_word publishing) m.heap v b (x + 1) (was_written publishing b w d) (omega arith) (copied_within cy b x r (Reference i) st l u of refers)) y))
           (cy.complete b x r i st (was_written publishing b w d) l u of f refers))
           (cases_eq b c.to);
-      from = cy.from;
+      only = cy.only;
     }
 
     pub rooted : Rooted E m.front team.count g.size g.writer g.identity m.heap team.worker p → Rooted E m.front team.count g'.size g'.writer g'.identity heap' (put team.worker k w') p

@@ -15,7 +15,7 @@ use Rattle.heap_state.specs.Inductive.{Invariant, Knows}
 use Rattle.heap_state.specs.Values.{Shown, ShowsAll, Shows, RegistersShow, value_of}
 use Rattle.heap_state.specs.Worker.{Team, Copy, is_mutator}
 use Rattle.heap_state.proofs.Workers.Frames.{accounts_put, registers_put, rooted_put}
-use Rattle.heap_state.proofs.Puts.{put_at, put_other, put_same}
+use Rattle.heap_state.proofs.Puts.{put_at, put_other}
 use Rattle.heap_laws.specs.Copying.{reserved, copying as in_progress}
 use Rattle.heap_laws.specs.Steps.{with_worker, with_area, Preserves, Ready}
 use Rattle.heap_laws.proofs.Copying.Reservation.{not_new, was, is, was_written, written_on, here_back, old_side, value_reserved}
@@ -137,9 +137,6 @@ module _ {E : Era} {m : Memory} {team : Team} {g : Ghost} {k : ℕ} {c : Copy} (
         let s : Shows (value_of g.identity) m.heap c.from (g.kind c.from) (g.size c.from) (o.0) = o.2 in
         (o.0, o.1, s.size ∙ (mine reserving).old.1, s.kind)
 
-    no_copy : g.copy c.from ≡ 0
-    no_copy = (reservation reserving).uncopied
-
     complete : (b x : ℕ) (r : plain.Record) (i : Identity) → b ≢ c.to → 0 < g.size b → g.writer b ≡ 0 → E.start ≤ b → b < c.to + c.size
         → plain.record_of p.heap (g.identity b) ≡ Some r → is_field (g.kind b) (word_of (g.kind b) x) ≡ true → slice_get r.values x ≡ Some (Reference i)
         → IsCopied E (c.to + c.size) after.size after.writer after.identity i ⊎ StillLeads E after.identity (m.heap (b + word_of (g.kind b) x)) i
@@ -164,10 +161,9 @@ module _ {E : Era} {m : Memory} {team : Team} {g : Ghost} {k : ℕ} {c : Copy} (
       complete = λ b x r i st w s l of f refers.
           let d : b ≢ c.to = (λ e. let z = put_at g.writer c.to (k + 1) b e in omega (arith, z, w)) in
           complete b x r i d (was (reservation reserving) b d st) (was_written (reservation reserving) b w) s l (rw (put_other g.identity c.to (g.identity c.from) b d) at of) (rw (put_other g.kind c.to (g.kind c.from) b d) at f) refers;
-      from = λ b st l n. ⊎_elim
-          (λ (e : b ≡ c.to). (c.from, is (reservation reserving) c.from from_old.0, (let q : after.copy c.from ≡ c.to + 1 = put_same g.copy c.from (c.to + 1) in let z : c.to + 1 ≡ b + 1 = omega (arith, e) in q ∙ z)))
-          (λ (d : b ≢ c.to). let st' = was (reservation reserving) b d st in let o = cy.from b st' l (below_front b d st' l n) in
-          let e : o.0 ≢ c.from = (λ e. let z : g.copy (o.0) ≡ g.copy c.from = ap g.copy e in omega (arith, z, o.2, no_copy)) in (o.0, is (reservation reserving) o.0 o.1, rw (put_other g.copy c.from (c.to + 1) (o.0) e) (o.2)))
+      only = λ b st l n. ⊎_elim
+          (λ (e : b ≡ c.to). rw (put_at g.identity c.to (g.identity c.from) b e) (cy.reached c.from from_old.0 from_old.1 from_old.2 (inr from_old.3)))
+          (λ (d : b ≢ c.to). let st' = was (reservation reserving) b d st in rw (put_other g.identity c.to (g.identity c.from) b d) (cy.only b st' l (below_front b d st' l n)))
           (cases_eq b c.to);
     }
 

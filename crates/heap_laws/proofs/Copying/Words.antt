@@ -47,7 +47,7 @@ module _ (E : Era) (gate : GateWord) (traced front low old_front old_low old_owe
     reached = cy.reached;
     sizes = cy.sizes;
     complete = λ b x r i st w l m e f y. ⊎_elim (λ z. inl z) (λ z. inr (rw (inner_same sp heap v b (x + 1) w (omega arith) (copied_within cy b x r (Reference i) st l m e y)) z)) (cy.complete b x r i st w l m e f y);
-    from = cy.from;
+    only = cy.only;
   }
 
   pub rooted_unread : (count : ℕ) (worker : ℕ → Worker) (p : plain.Plain) → Rooted E front count g.size g.writer g.identity heap worker p → Rooted E front count g.size g.writer g.identity (put heap (a0 + i0) v) worker p

@@ -49,7 +49,7 @@ module _ (E : Era) (m : Memory) (team : Team) (g : Ghost) (p : plain.Plain) (x v
     complete = λ b y r i st w l u e f o. ⊎_elim (λ c. inl c)
         (λ t. leads (b + word_of (g.kind b) y) i (field_here E g.size g.writer g.kind b (word_of (g.kind b) y) (record { stands = st; written = w; field = f; first = omega arith; last = copied_within cy.copying b y r (Reference i) st l u e o }) (l, omega (arith, u, sl.laid.order))) t)
         (cy.copying.complete b y r i st w l u e f o);
-    from = cy.copying.from;
+    only = cy.copying.only;
   }
 
   rooted : Rooted E m.front team.count g.size g.writer g.identity (put m.heap x v) team.worker p

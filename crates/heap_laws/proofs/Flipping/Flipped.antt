@@ -202,7 +202,7 @@ module _ (E : Era) (m : Memory) (team : Team) (g : Ghost) (k : ℕ) (r : Reset) 
       reached = λ a st l n y. absurd (omega (arith, y));
       sizes = λ b st l n. absurd (let f = ready.front in omega (arith, f, l, n));
       complete = λ b x r i st w l n. absurd (let f = ready.front in omega (arith, f, l, n));
-      from = λ b st l n. absurd (let f = ready.front in omega (arith, f, l, n));
+      only = λ b st l n. absurd (let f = ready.front in omega (arith, f, l, n));
     }
 
     -- a mutator without an end whose register denotes a reference is late

@@ -66,6 +66,7 @@ plain_steps_are_lifted c p q s e k w h l step =
       standing = stand c p q e k w h s l row.fits (rw (row.era_stays, row.memory_is) step.makes.invariant) (rw (row.era_stays, row.memory_is) step.makes.shown);
       cycle = λ o cy. rw (y.table_said, y.team_said, row.era_stays, row.memory_is) (step.makes.cycle o cy);
       ages = λ page. rw (y.table_said, ap (λ (m : Memory). m.page page) row.memory_is) (step.makes.ages page);
+      epoch = rw (y.table_said, row.era_stays) refl;
     }
 
 pub steps_are_lifted : StepsAreLifted
@@ -92,4 +93,5 @@ flips_are_lifted c p s k r l flips =
           standing = stand c p p (Some (GateIs (flipped_gate (table c).gate))) k (after_flip ((team c).worker k)) (next_ghost (era c) s.ghost) s l gate (rw (t.era, t.memory) law.invariant) (rw (t.era, t.memory) (law.shown p s.shown));
           begins = rw (y.table_said, y.team_said, t.era, t.memory) (law.begins p s.shown);
           pages = rw y.table_said refl;
+          epoch = rw y.table_said refl;
         }

@@ -199,7 +199,7 @@ module _ (n : ℕ) where
         reached = λ a st. absurd (omega (arith, st));
         sizes = λ b st. absurd (omega (arith, st));
         complete = λ b k r i st. absurd (omega (arith, st));
-        from = λ b st. absurd (omega (arith, st));
+        only = λ b st. absurd (omega (arith, st));
       };
       rooted = record {
         roots = λ i r. absurd (no_root i r);

@@ -1,5 +1,5 @@
 -- At the end of a cycle what was copied is what was reachable at the flip.
-use Rattle.std.proofs.Common.{◌≡◌, ℕ, ◌+◌, ◌<◌, true, Some, sym, ◌∙◌, arith, ⊎_elim, inl}
+use Rattle.std.proofs.Common.{◌≡◌, ℕ, ◌+◌, ◌<◌, true, Some, sym, ◌∙◌, arith, ⊎_elim}
 use Rattle.std.specs.Prelude.{slice_get}
 use Rattle.std.proofs.lemmas.Option.{slice_get_within}
 use Rattle.plain_state.specs.declared.value.Identity.{Identity}
@@ -55,10 +55,8 @@ module _ (E : Era) (m : Memory) (team : Team) (g : Ghost) (p : plain.Plain) (out
 
   copied_reached : (i : Identity) → Copied i → Reachable p i
   copied_reached i c =
-      let a = cy.copying.from c.at c.stands.0 c.below.0 c.below.1 in
-      let t = inv.copied.target a.0 c.at a.1 a.2 in
-      let q : Reachable p (g.identity a.0) = cy.copying.reached a.0 a.1 t.0 t.1 (inl (omega (arith, a.2))) in
-      rw (sym t.5 ∙ c.named) at q
+      let q : Reachable p (g.identity c.at) = cy.copying.only c.at c.stands.0 c.below.0 c.below.1 in
+      rw c.named at q
 
   copied_once : (i : Identity) (a b : Copied i) → a.at ≡ b.at
   copied_once i a b =

@@ -195,8 +195,7 @@ copying = record {
       → (r : plain.Record) × (plain.record_of worked_plain.heap (identity b) ≡ Some r) × (size_of r ≡ size b) × (r.kind ≡ Fields))
       (λ l m. absurd (omega (arith, l))) (λ l m. absurd (omega (arith, l))) (λ l m. (first_record, refl, refl, refl)) (λ l m. (second, refl, refl, refl));
   complete = λ b x r i st w l m e f v. complete b st w l x r e i v;
-  from = each_place (λ b. 256 ≤ b → b < 261 → (a : ℕ) × (0 < size a) × (copy a ≡ b + 1))
-      (λ l m. absurd (omega (arith, l))) (λ l m. absurd (omega (arith, l))) (λ l m. (192, omega arith, refl)) (λ l m. (195, omega arith, refl));
+  only = λ b st l m. all_reached b;
 }
   where
     field : (x : ℕ) (i : Identity) → slice_get first_record.values x ≡ Some (Reference i) → IsCopied worked_era 261 size writer identity i ⊎ StillLeads worked_era identity (heap (256 + word_of Fields x)) i

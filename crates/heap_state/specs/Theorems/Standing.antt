@@ -2,7 +2,8 @@
 use Rattle.std.specs.Prelude.{◌≡◌, ℕ, ◌+◌, ◌<◌, Some}
 use Rattle.space_map.specs.declared.page_word.PageWord.{PageWord}
 use Rattle.plain_state.specs.State.{Plain}
-use Rattle.heap_state.specs.Configuration.{Configuration, Stands}
+use Rattle.heap_state.specs.Configuration.{Configuration, Stands, era, memory, team}
+use Rattle.heap_state.specs.Cycle.{Cycle}
 use Rattle.heap_state.specs.Era.{Era, Memory}
 use Rattle.heap_state.specs.Ghost.{Ghost}
 use Rattle.heap_state.specs.Inductive.{Invariant}
@@ -23,6 +24,18 @@ pub record IsSound (c : Configuration) (p : Plain) : Type 0 where
 
 abbrev pub StandingIsSound : Type 0
 StandingIsSound = (c : Configuration) (p : Plain) → Stands c p → IsSound c p
+
+-- what keeps the invariant of the proofs and shows one plain state shows each that it represents
+abbrev pub RepresentedStands : Type 0
+RepresentedStands = (c : Configuration) (p q : Plain) → Stands c p → Represents c q → Stands c q
+
+-- the same of what also keeps what a cycle keeps, with the plain state o at its flip
+pub record StandsInCycle (c : Configuration) (p o : Plain) : Type 0 where
+  pub stands : Stands c p
+  pub cycle : Cycle (era c) (memory c) (team c) stands.ghost o
+
+abbrev pub RepresentedStandsInCycle : Type 0
+RepresentedStandsInCycle = (c : Configuration) (p q o : Plain) → StandsInCycle c p o → Represents c q → StandsInCycle c q o
 
 -- ---- what stands still
 

@@ -1,0 +1,126 @@
+-- The invariant without the records of the old space, once the epoch is traced: what workers know of it, and the whole.
+use Rattle.std.proofs.Common.{◌≡◌, ℕ, ◌+◌, ◌<◌, true, arith, Some, None}
+use Rattle.heap_state.specs.Configuration.{Configuration, era, memory, team}
+use Rattle.heap_state.specs.Era.{Era, Memory}
+use Rattle.heap_state.specs.Ghost.{Ghost}
+use Rattle.heap_state.specs.Inductive.{Invariant, Knows}
+use Rattle.heap_state.specs.Parts.Copying.{IsOrigin}
+use Rattle.heap_state.specs.Parts.Knowledge.{Clean, Accesses}
+use Rattle.heap_state.specs.Parts.Scanning.{Claims}
+use Rattle.heap_state.specs.Worker.{Worker, Origin, Register, Scanned, Quest, Access, Claim, is_mutator, is_late}
+use Rattle.heap_state.proofs.Holds.Still.{nobody_scans, nobody_copies}
+use Rattle.heap_state.proofs.Represents.Dropping as drop
+use Rattle.heap_state.proofs.Represents.Dropping.{without_old}
+
+module _ (c : Configuration) (g : Ghost) (inv : Invariant (era c) (memory c) (team c) g) (traced : (memory c).traced ≡ (era c).epoch + 1) where
+  abbrev E : Era
+  E = era c
+
+  abbrev m : Memory
+  m = memory c
+
+  abbrev h : Ghost
+  h = without_old E g
+
+  module _ (k : ℕ) (l : k < (team c).count) where
+    abbrev w : Worker
+    w = (team c).worker k
+
+    knew : Knows E m.gate m.traced m.front m.low m.old_front m.old_low m.old_owed g m.page m.cross m.announced m.heap k w
+    knew = inv.workers k l
+
+    not_late : is_late E.epoch w ≡ true → ⊥
+    not_late e = let b = knew.licensed.counted e in let z = (inv.tracing.quiet traced).none in omega (arith, b, z)
+
+    -- nobody asks for a copy
+    asks_not : (q : Quest) → w.quest ≡ Some q → ⊥
+    asks_not q e = by_origin q.origin (knew.origin q e)
+      where
+        by_origin : (o : Origin) → IsOrigin E g.size g.writer g.kind m.heap (is_late E.epoch w) w.done w.registers w.scan q.old o → ⊥
+        by_origin (Register r) y = not_late y.0
+        by_origin (Scanned x) y = nobody_scans E m (team c) g inv traced k y.0.0 l y.0.1
+
+    registers : is_mutator w.post ≡ true → w.account.end ≡ None → Clean E h.size h.writer (is_late E.epoch w) w.done w.registers
+    registers mutator unended = let r = knew.registers mutator unended in record {
+      clean = r.clean;
+      lands = λ j s. drop.lands_on c g inv traced (w.registers j) (r.lands j s) (r.clean j s (λ e. absurd (not_late e)));
+      old = r.old;
+    }
+
+    access : (f : Access) → w.access ≡ Some f → Accesses E h.size h.writer h.kind f
+    access f e = let a = knew.access f e in let z = drop.still c g inv traced f.at a.inside.0 a.inside.1 in let s = a.stands in record {
+      stands = omega (arith, z, s);
+      written = a.written;
+      inside = a.inside;
+      word = (let i = a.word in (i.0, omega (arith, i, z)));
+      role = a.role;
+    }
+
+    claim : (q : Claim) → w.claim ≡ Some q → Claims E m.front m.gate.behind h.size h.writer m.page w.epoch q
+    claim q e = let a = knew.claim q e in record {
+      earlier = a.earlier;
+      full = a.full;
+      clear = λ n i b j st. a.clear n i b j (drop.was c g inv traced b st).0;
+      last = a.last;
+      late = a.late;
+      in_place = a.in_place;
+    }
+
+    knows : Knows E m.gate m.traced m.front m.low m.old_front m.old_low m.old_owed h m.page m.cross m.announced m.heap k w
+    knows = record {
+      timely = knew.timely;
+      ends = knew.ends;
+      outside = knew.outside;
+      stock = knew.stock;
+      registers = registers;
+      active = knew.active;
+      access = access;
+      opened = knew.opened;
+      origin = λ q e. absurd (asks_not q e);
+      quest = λ q e. absurd (asks_not q e);
+      licensed = knew.licensed;
+      copy = λ q e. absurd (nobody_copies E m (team c) g inv traced k q l e);
+      keeps = λ q e. absurd (nobody_copies E m (team c) g inv traced k q l e);
+      present = knew.present;
+      scan = λ s e. absurd (nobody_scans E m (team c) g inv traced k s l e);
+      stepping = λ s e. absurd (nobody_scans E m (team c) g inv traced k s l e);
+      round = knew.round;
+      claim = claim;
+      look = knew.look;
+      last_look = knew.last_look;
+      seen_traced = knew.seen_traced;
+      flips = knew.flips;
+      passage = knew.passage;
+      resets = knew.resets;
+      reset = knew.reset;
+    }
+
+  pub dropped : Invariant E m (team c) h
+  dropped = record {
+    counted = inv.counted;
+    staffed = inv.staffed;
+    laid = drop.laid c g inv traced;
+    headed = drop.headed c g inv traced;
+    copied = drop.copied c g inv traced;
+    once = drop.once c g inv traced;
+    kept = drop.keepers c g inv traced;
+    room = drop.room c g inv traced;
+    raw_words = drop.raw_words c g inv traced;
+    shut = drop.shut c g inv traced;
+    filling = inv.filling;
+    tracing = inv.tracing;
+    aged = inv.aged;
+    scanned = inv.scanned;
+    opened = drop.opened c g inv traced;
+    landing = drop.landing c g inv traced;
+    older = drop.older c g inv traced;
+    new = drop.new c g inv traced;
+    new_written = drop.new_written c g inv traced;
+    old_space = drop.old_space c g inv traced;
+    old_area = inv.old_area;
+    old_pages = inv.old_pages;
+    crossing = drop.crossing c g inv traced;
+    stocks = drop.stocks c g inv traced;
+    numbered = drop.numbered c g inv traced;
+    workers = knows;
+  }

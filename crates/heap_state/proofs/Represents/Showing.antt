@@ -1,0 +1,89 @@
+-- A configuration that keeps the invariant of the proofs shows each plain state that it represents, where all that stands is in reach.
+use Rattle.std.proofs.Common.{◌≡◌, ℕ, ◌+◌, ◌-◌, ◌<◌, true, Some, None, sym, ◌∙◌, arith, ◌⊎◌}
+use Rattle.std.specs.Prelude.{slice_get}
+use Rattle.std.proofs.lemmas.Bool.{lt-ltb}
+use Rattle.std.proofs.lemmas.Option.{slice_get_within}
+use Rattle.plain_state.specs.State as plain
+use Rattle.plain_state.specs.Layout.{word_of}
+use Rattle.heap_state.specs.Configuration.{Configuration, era, memory, team}
+use Rattle.heap_state.specs.Denotes.{denoted}
+use Rattle.heap_state.specs.Dump.{dump_of}
+use Rattle.heap_state.specs.Era.{Era, Memory}
+use Rattle.heap_state.specs.Ghost.{Ghost, IsField, Lands, header_kind}
+use Rattle.heap_state.specs.Inductive.{Invariant}
+use Rattle.heap_state.specs.Represents.{IsOwn, Represents}
+use Rattle.heap_state.specs.Values.{value_of, Shows, BoardShows, RegistersShow, Shown}
+use Rattle.heap_state.specs.Worker.{is_mutator}
+use Rattle.heap_state.proofs.Records.Headers.{said_kind-header_kind}
+use Rattle.heap_state.proofs.Represents.Denoting.{Headers, Own, Forwarded, headers, denotes, field_lands, board_lands}
+use Rattle.heap_state.proofs.Walks.InHeap.{IsInReach, in_heap_complete}
+use Rattle.heap_state.proofs.Walks.Walking.{item}
+
+module _ (c : Configuration) (g : Ghost) (inv : Invariant (era c) (memory c) (team c) g) (in_reach : (a : ℕ) → 0 < g.size a → IsInReach (era c) (memory c).traced a)
+    (q : plain.Plain) (represents : Represents c q) where
+  abbrev E : Era
+  E = era c
+
+  abbrev m : Memory
+  m = memory c
+
+  -- ---- records
+
+  abbrev ShowsIt : ℕ → Type 0
+  ShowsIt a = (r : plain.Record) × (plain.record_of q.heap (g.identity a) ≡ Some r) × Shows (value_of g.identity) m.heap a (g.kind a) (g.size a) r
+
+  record_shows : (a : ℕ) → 0 < g.size a → g.writer a ≡ 0 → (g.copy a ≡ 0) ⊎ (0 < g.keeper a) → ShowsIt a
+  record_shows a st w own = by_headers (headers c g inv a st w)
+    where
+      shows : (r : plain.Record) → Shows (denoted c) m.heap a (g.kind a) (g.size a) r → Shows (value_of g.identity) m.heap a (g.kind a) (g.size a) r
+      shows r s = record {
+        kind = s.kind;
+        size = s.size;
+        fields = λ x l f.
+            let z = s.size in
+            let i : IsField g.size g.writer g.kind a (word_of (g.kind a) x) = record { stands = st; written = w; field = f; first = omega arith; last = omega (arith, l, z) } in
+            sym (denotes c g inv (m.heap (a + word_of (g.kind a) x)) (field_lands c g inv a (word_of (g.kind a) x) i (in_reach a st)).0) ∙ s.fields x l f;
+        numbers = s.numbers;
+      }
+
+      by_headers : Headers c g inv a → ShowsIt a
+      by_headers (Forwarded b e n y f) = absurd (omega (arith, n, y, own))
+      by_headers (Own e n) =
+          let i = in_heap_complete c g inv a st w (in_reach a st) in
+          let is : IsOwn (dump_of c) (item a (g.size a)) (g.kind a) (g.size a - 1) (g.identity a).serial (g.identity a).mutator =
+          record { walked = i; head = header_kind (g.kind a); header = e; said = sym (said_kind-header_kind (g.kind a) (m.heap (a + 1))) } in
+          let s = ((represents.dump.records (item a (g.size a)) i).shows (g.kind a) (g.size a - 1) (g.identity a).serial (g.identity a).mutator is).1 in
+          (s.0, s.1, shows s.0 s.2)
+
+  -- ---- mutators and the board
+
+  registers : (k : ℕ) (p : plain.Mutator) → slice_get q.mutators k ≡ Some p → RegistersShow (value_of g.identity) ((team c).worker k).registers p
+  registers k p e = record {
+    eight = represents.dump.eight k p e;
+    registers_show = λ n j l. sym (denotes c g inv (((team c).worker k).registers j) (lands n j l)) ∙ (represents.dump.registers k j l).shows p e n;
+  }
+    where
+      lands : p.end ≡ None → (j : ℕ) → j < 8 → Lands g.size g.writer (((team c).worker k).registers j)
+      lands n j l =
+          let within = slice_get_within q.mutators k p e in
+          let few : k < c.mutators = omega (arith, within, represents.dump.as_many) in
+          let staffed = inv.staffed.few in
+          let lt : k < (team c).count = omega (arith, few, staffed) in
+          let posted : is_mutator ((team c).worker k).post ≡ true = inv.staffed.posts k lt ∙ lt-ltb k c.mutators few in
+          ((inv.workers k lt).registers posted ((represents.accounts k p e).end ∙ n)).lands j l
+
+  board : BoardShows E (value_of g.identity) m.heap q.heap
+  board = record {
+    sixteen = represents.dump.sixteen;
+    board = λ x l. sym (denotes c g inv (m.heap (E.board + x)) (board_lands c g inv x l).0) ∙ (represents.dump.board x l).shows;
+  }
+
+  pub shown : Shown E m (team c) g q
+  shown = record {
+    objects = record { shows = record_shows };
+    board = board;
+    as_many = represents.dump.as_many.0;
+    makers = represents.dump.as_many.1;
+    accounts = represents.accounts;
+    registers = registers;
+  }

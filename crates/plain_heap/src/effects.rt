@@ -1,0 +1,65 @@
+//! What actions do to the heap and to the mutator.
+
+ghost use Rattle.std.specs.Prelude.{◌≡◌, ◌<◌, ◌+◌, ◌^◌, Ok, Err, length, IsTrue};
+ghost use Rattle.plain_heap.specs.declared.stop.Stop.TheVariants.{OutOfMemory};
+ghost use Rattle.plain_heap.specs.Call.{performed};
+ghost use Rattle.plain_heap.specs.Memory.{takes_memory};
+ghost use Rattle.plain_heap.specs.Outcome.{IsTried};
+
+use crate::action::Action;
+use crate::heap::PlainHeap;
+use crate::mutator::PlainMutator;
+use crate::stop::Stop;
+use plain_state::Value;
+use std::alloc::Global;
+
+/// Mutator m does what an action says. Where it stops, nothing changes.
+pub fn perform(
+    alloc: Global,
+    heap: &mut PlainHeap,
+    mutator: &mut PlainMutator,
+    m: u8,
+    action: Action,
+) -> Result<(), Stop>
+    requires has_records { m < length heap.old.records }
+    requires has_turns { mutator.old.executed + 1 < 2 ^ 32 }
+    ensures tried { IsTried (performed m heap.old mutator.old action) result heap.old mutator.old heap.new mutator.new }
+    ensures takes_memory { result ≡ Err OutOfMemory → IsTrue (takes_memory (Ok action)) }
+    ensures as_many { length heap.new.records ≡ length heap.old.records }
+{
+    match action {
+        Action::Sets(d, value) => mutator.load(d, value),
+        Action::Jumps(target) => mutator.jump(target),
+        Action::Links(d, target) => {
+            mutator.set_register(d, Value::Number(mutator.next()));
+            mutator.jump(target);
+        }
+        Action::Prints(number) => {
+            mutator.print(number)?;
+            mutator.go_on();
+        }
+        Action::Makes(kind, d, len) => {
+            let identity = heap.allocate(alloc, m, kind, usize::from(len))?;
+            mutator.load(d, Value::Reference(identity));
+        }
+        Action::Measures(d, i) => mutator.load(d, Value::Number(heap.len(i) as u64)),
+        Action::Loads(d, i, x) => mutator.load(d, heap.word(i, x)?),
+        Action::Stores(i, x, value) => {
+            // An index past the length comes before a reference that the record may not hold.
+            let _ = heap.word(i, x)?;
+            heap.store(i, x, value)?;
+            mutator.go_on();
+        }
+        Action::Gets(d, x) => mutator.load(d, heap.board_word(x)),
+        Action::Puts(x, value) => {
+            heap.set_board(x, value);
+            mutator.go_on();
+        }
+        Action::Swaps(d, x, value) => {
+            let old = heap.board_word(x);
+            heap.set_board(x, value);
+            mutator.load(d, old);
+        }
+    }
+    Ok(())
+}

@@ -1,0 +1,48 @@
+//! Numbers that have to be lengths, or places in a list.
+
+ghost use Rattle.std.specs.Prelude.{◌≡◌};
+ghost use Rattle.plain_heap.specs.Action.{length_of, allocates, in_record, board_place};
+
+use crate::action::Action;
+use crate::mutator::PlainMutator;
+use mutator_asm::Operand;
+use plain_state::{BOARD_WORDS, End, Kind, LONGEST_RECORD};
+
+/// The number as the length of a record, else the end for one that is too long.
+fn length_of(number: u64) -> Result<u16, End>
+    ensures { result ≡ length_of number }
+{
+    if number <= LONGEST_RECORD {
+        Ok(number as u16)
+    } else {
+        Err(End::OutOfRange)
+    }
+}
+
+/// The number as that of a word among so many, else the end for one past them.
+pub fn in_record(len: usize, x: u64) -> Result<u64, End>
+    ensures { result ≡ in_record len x }
+{
+    if x < len as u64 {
+        Ok(x)
+    } else {
+        Err(End::OutOfRange)
+    }
+}
+
+/// The word of the board that an operand names.
+pub fn board_place(mutator: &PlainMutator, x: Operand) -> Result<u64, End>
+    ensures { result ≡ board_place mutator.now x }
+{
+    let x = mutator.operand(x)?;
+    in_record(BOARD_WORDS, x)
+}
+
+/// `new rd x` and `raw rd x`
+pub fn allocate(mutator: &PlainMutator, kind: Kind, d: u8, x: Operand) -> Result<Action, End>
+    ensures { result ≡ allocates mutator.now kind d x }
+{
+    let number = mutator.operand(x)?;
+    let len = length_of(number)?;
+    Ok(Action::Makes(kind, d, len))
+}
