@@ -7,7 +7,7 @@ use Rattle.plain_state.specs.declared.value.Identity.{Identity}
 use Rattle.plain_state.specs.declared.value.Value.{Value}
 use Rattle.plain_state.specs.declared.value.Value.TheVariants.{Number, Reference}
 use Rattle.plain_state.specs.State as plain
-use Rattle.plain_heap.specs.Call.{is_zero, is_reference, are_same}
+use Rattle.plain_heap.specs.Action.{is_zero, is_reference, are_same}
 use Rattle.gc_core.specs.Configuration.{Space}
 use Rattle.gc_core.specs.Event.{is_pointer}
 use Rattle.gc_core.specs.Represents.{Part, Placement, Denotes}

@@ -10,6 +10,8 @@ use Rattle.plain_state.specs.declared.value.Value.{Value}
 use Rattle.plain_state.specs.declared.value.Value.TheVariants.{Number, Reference}
 use Rattle.plain_state.specs.State as plain
 use Rattle.plain_state.specs.Writing.{with_word, stored, with_board, gained}
+use Rattle.plain_heap.specs.Action as acts
+use Rattle.plain_heap.specs.Action.{◌>>=◌}
 use Rattle.plain_heap.specs.Call as called
 use Rattle.gc_core.specs.Configuration.{Space, Mutator}
 use Rattle.gc_core.specs.Event as event
@@ -49,16 +51,16 @@ module _ (heap : plain.Heap) (p : Placement) (size m : ℕ) (k : Mutator) (l : p
     run_own = r.run_own;
   }
 
-  next_of-same : event.next_of k ≡ called.next_of l
+  next_of-same : event.next_of k ≡ acts.next_of l
   next_of-same = ap (λ n. (n + 1) % 2 ^ 62) r.counter
 
   went_on-same : RepresentsMutator heap p size m (event.went_on k) (called.went_on l)
-  went_on-same = subst (λ n. RepresentsMutator heap p size m (event.jumped k n) (called.went_on l)) (sym next_of-same) (jumped-same (called.next_of l))
+  went_on-same = subst (λ n. RepresentsMutator heap p size m (event.jumped k n) (called.went_on l)) (sym next_of-same) (jumped-same (acts.next_of l))
 
 set_as : (heap : plain.Heap) (p : Placement) (words : List ℕ) (values : List Value) (d word x : ℕ) (v : Value) → d < length words → length words ≡ length values
-    → Denotes heap p.place word v → Denotes heap p.place (slice_index words x) (called.register (record { counter = 0; registers = values; printed = []; executed = 0; end = None }) x)
+    → Denotes heap p.place word v → Denotes heap p.place (slice_index words x) (acts.register (record { counter = 0; registers = values; printed = []; executed = 0; end = None }) x)
     → (x ≡ d) ⊎ (x ≡ d → ⊥)
-    → Denotes heap p.place (slice_index (slice_set words d word) x) (called.register (record { counter = 0; registers = slice_set values d v; printed = []; executed = 0; end = None }) x)
+    → Denotes heap p.place (slice_index (slice_set words d word) x) (acts.register (record { counter = 0; registers = slice_set values d v; printed = []; executed = 0; end = None }) x)
 set_as heap p words values d word x v within same is was (inl e) =
     rw (e, get_or-set_same words d word 0 within, get_or-set_same values d v (Number 0) (omega (arith, within, same))) is
 set_as heap p words values d word x v within same is was (inr other) =
@@ -110,7 +112,7 @@ module _ (p : Placement) (space : Space) (heap : plain.Heap) (m : ℕ) (k : Muta
       done-still (event.jumped (event.set_register k d word) target) (called.jumped (called.set_register l d v) target) running
       (jumped-same heap p (length space.words) m (event.set_register k d word) (called.set_register l d v) (set_register-same heap p (length space.words) m k l d word v within is r) target)
 
-  pub next-same_number : event.next_of k ≡ called.next_of l
+  pub next-same_number : event.next_of k ≡ acts.next_of l
   next-same_number = next_of-same heap p (length space.words) m k l r
 
   printed-same : (n : ℕ) → Done p space heap m (record { space = space; mutator = event.went_on (record k { printed = k.printed ++ n ∷ [] }) }) (record { heap = heap; mutator = called.went_on (record l { printed = l.printed ++ n ∷ [] }) })
@@ -131,11 +133,11 @@ module _ (p : Placement) (space : Space) (heap : plain.Heap) (m : ℕ) (k : Muta
       done-still (event.went_on (record k { printed = k.printed ++ n ∷ [] })) (called.went_on (record l { printed = l.printed ++ n ∷ [] })) running
       (went_on-same heap p (length space.words) m (record k { printed = k.printed ++ n ∷ [] }) (record l { printed = l.printed ++ n ∷ [] }) more)
 
-  prints_as : (F : End → Type 0) (n : ℕ) (b : Bool) → nat_lt (length l.printed) 65536 ≡ b → Parallel (Done p space heap m) F (event.prints space k n) (called.prints heap l n)
+  prints_as : (F : End → Type 0) (n : ℕ) (b : Bool) → nat_lt (length l.printed) 65536 ≡ b → Parallel (Done p space heap m) F (event.prints space k n) (acts.prints l n >>= called.performed m heap l)
   prints_as F n true is = rw (ap length r.printed, is) (printed-same n)
   prints_as F n false is = rw (ap length r.printed, is) (refl, tt)
 
-  pub prints-same : (F : End → Type 0) (n : ℕ) → Parallel (Done p space heap m) F (event.prints space k n) (called.prints heap l n)
+  pub prints-same : (F : End → Type 0) (n : ℕ) → Parallel (Done p space heap m) F (event.prints space k n) (acts.prints l n >>= called.performed m heap l)
   prints-same F n = prints_as F n (nat_lt (length l.printed) 65536) refl
 
   pub done-stores : (i : Identity) (t : plain.Record) (x : ℕ) (old v : Value) (word : ℕ) → plain.IsMade heap i → plain.record_of heap i ≡ Some t → slice_get t.values x ≡ Some old

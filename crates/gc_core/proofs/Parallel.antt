@@ -3,7 +3,7 @@ use Rattle.std.proofs.Common.{◌≡◌, ℕ, ◌*◌, ◌<◌, Option, Some, Re
 use Rattle.std.specs.Bool.{⊤}
 use Rattle.plain_state.specs.declared.end.End.{End}
 use Rattle.plain_state.specs.declared.end.End.TheVariants as ends
-use Rattle.plain_heap.specs.Call.{◌>>=◌}
+use Rattle.plain_heap.specs.Action.{◌>>=◌}
 
 -- an end that the plain machine has by itself
 abbrev pub IsPlain : End → Type 0
@@ -48,6 +48,15 @@ parallel-bind R S F f g (Ok a) (Ok b) same next = next a b refl refl same
 parallel-bind R S F f g (Ok a) (Err why) same next = absurd same
 parallel-bind R S F f g (Err why) (Ok b) same next = absurd same
 parallel-bind R S F f g (Err why) (Err plain_why) same next = same
+
+-- the second takes one more step after two
+pub parallel-acts : {A B C D E : Type 0} (R : A → B → Type 0) (S : C → E → Type 0) (F : End → Type 0) (f : A → Result C End) (g : B → Result D End) (h : D → Result E End)
+    → (o : Result A End) (p : Result B End) → Same R o p
+    → ((a : A) (b : B) → o ≡ Ok a → p ≡ Ok b → R a b → Parallel S F (f a) (g b >>= h)) → Parallel S F (o >>= f) ((p >>= g) >>= h)
+parallel-acts R S F f g h (Ok a) (Ok b) same next = next a b refl refl same
+parallel-acts R S F f g h (Ok a) (Err why) same next = absurd same
+parallel-acts R S F f g h (Err why) (Ok b) same next = absurd same
+parallel-acts R S F f g h (Err why) (Err plain_why) same next = same
 
 -- what holds of both holds of less, too
 pub same-weak : {A B : Type 0} (R S : A → B → Type 0) (o : Result A End) (p : Result B End) → ((a : A) (b : B) → R a b → S a b) → Same R o p → Same S o p

@@ -3,7 +3,7 @@ use Rattle.std.proofs.Common.{◌≡◌, ℕ, ◌+◌, ◌-◌, ◌*◌, ◌%◌
 use Rattle.std.specs.Option.{option_map_or}
 use Rattle.std.proofs.lemmas.Bool.{cases_lt, lt-ltb, le-ltb}
 use Rattle.std.proofs.lemmas.List.{get_or_past}
-use Rattle.std.proofs.lemmas.Option.{slice_get-get_or, slice_get_past}
+use Rattle.std.proofs.lemmas.Option.{slice_get-get_or}
 use Rattle.heap_words.specs.Word.{number_word, pointer_word, header_word}
 use Rattle.heap_words.specs.declared.kind.Kind as words
 use Rattle.heap_words.specs.declared.kind.Kind.TheVariants as kinds
@@ -18,6 +18,7 @@ use Rattle.plain_state.specs.declared.value.Value.TheVariants.{Number, Reference
 use Rattle.plain_state.specs.State as plain
 use Rattle.mutator_asm.specs.declared.operand.Operand.{Operand}
 use Rattle.mutator_asm.specs.declared.operand.Operand.TheVariants as operands
+use Rattle.plain_heap.specs.Action as acts
 use Rattle.plain_heap.specs.Call as called
 use Rattle.gc_core.specs.Configuration.{Space, Mutator}
 use Rattle.gc_core.specs.Event.{register, number_of, address_of, operand, length_told, kind_told, place_of, board_place, as_read, as_held}
@@ -65,21 +66,21 @@ pub record IsWordAt (p : Placement) (heap : plain.Heap) (i : Identity) (x place 
   pub place_is : place ≡ p.place i + 1 + x
 
 -- word x of the board stands at a place, and denotes its value
-pub record IsOnBoard (p : Placement) (space : Space) (heap : plain.Heap) (x place : ℕ) (v : Value) : Type 0 where
+pub record IsOnBoard (p : Placement) (space : Space) (heap : plain.Heap) (place x : ℕ) : Type 0 where
   pub inside : x < 16
   pub place_is : place ≡ length space.words - 16 + x
-  pub denotes : Denotes heap p.place (slice_index space.words place) v
+  pub denotes : Denotes heap p.place (slice_index space.words place) (called.board_word heap x)
 
 module _ (p : Placement) (space : Space) (heap : plain.Heap) (h : RepresentsHeap p space heap) (size : length space.words ≤ 64 * 2048 + 16) (counted : (m : ℕ) → plain.serial_of heap m < 2 ^ 40) where
   -- two numbers are one, and it is a number of the language
   abbrev IsNumber : ℕ → ℕ → Type 0
   IsNumber a b = (a ≡ b) × (b < 2 ^ 62)
 
-  number-same : (word : ℕ) (v : Value) → Denotes heap p.place word v → Same IsNumber (number_of word) (called.number_in v)
+  number-same : (word : ℕ) (v : Value) → Denotes heap p.place word v → Same IsNumber (number_of word) (acts.number_in v)
   number-same word (Number n) d = rw (d.word_is, number_of-number n) (refl, d.value)
   number-same word (Reference i) d = rw (d.word_is, number_of-pointer (p.place i) (address_fits p space heap h size i d.value)) (refl, tt)
 
-  address-same : (word : ℕ) (v : Value) → Denotes heap p.place word v → Same (IsPlaced p heap) (address_of word) (called.reference_in v)
+  address-same : (word : ℕ) (v : Value) → Denotes heap p.place word v → Same (IsPlaced p heap) (address_of word) (acts.reference_in v)
   address-same word (Number n) d = rw (d.word_is, address_of-number n) (refl, tt)
   address-same word (Reference i) d = rw (d.word_is, address_of-pointer (p.place i) (address_fits p space heap h size i d.value)) (record { made = d.value; place = refl })
 
@@ -87,9 +88,9 @@ module _ (p : Placement) (space : Space) (heap : plain.Heap) (h : RepresentsHeap
       → (x < length r.values) ⊎ (length r.values ≤ x) → Same (IsWordAt p heap i x) (place_of space (p.place i) x) (called.value_in heap i x)
   place-same_as i x r is_record told (inl short) =
       let is_word = slice_get-get_or r.values x (Number 0) short in
-      rw (told, lt-ltb x (length r.values) short, is_record, is_word) (record { of = r; is_record = is_record; is_word = is_word; place_is = refl })
+      rw (told, lt-ltb x (length r.values) short, is_record, lt-ltb x (length r.values) short) (record { of = r; is_record = is_record; is_word = is_word; place_is = refl })
   place-same_as i x r is_record told (inr past) =
-      rw (told, le-ltb x (length r.values) past, is_record, slice_get_past r.values x past) (refl, tt)
+      rw (told, le-ltb x (length r.values) past, is_record, le-ltb x (length r.values) past) (refl, tt)
 
   -- what the header of a record tells
   header-told : (i : Identity) (r : plain.Record) → plain.IsMade heap i → plain.record_of heap i ≡ Some r
@@ -137,19 +138,19 @@ module _ (p : Placement) (space : Space) (heap : plain.Heap) (h : RepresentsHeap
 
   -- ---- the board
 
-  board_as : (x : ℕ) → (x < 16) ⊎ (16 ≤ x) → Same (IsOnBoard p space heap x) (board_place space x) (called.board_word heap x)
+  board_as : (x : ℕ) → (x < 16) ⊎ (16 ≤ x) → Same (IsOnBoard p space heap) (board_place space x) (acts.on_board x)
   board_as x (inl inside) =
       let is_value = slice_get-get_or heap.board x (Number 0) (omega (arith, h.board.sixteen)) in
-      rw (lt-ltb x 16 inside, is_value) (record { inside = inside; place_is = refl; denotes = h.board.values x _ is_value })
-  board_as x (inr past) = rw (le-ltb x 16 past, slice_get_past heap.board x (omega (arith, h.board.sixteen))) (refl, tt)
+      rw (lt-ltb x 16 inside) (record { inside = inside; place_is = refl; denotes = h.board.values x _ is_value })
+  board_as x (inr past) = rw (le-ltb x 16 past) (refl, tt)
 
-  pub board_read : (x y : ℕ) → x ≡ y → Same (IsOnBoard p space heap y) (board_place space x) (called.board_word heap y)
+  pub board_read : (x y : ℕ) → x ≡ y → Same (IsOnBoard p space heap) (board_place space x) (acts.on_board y)
   board_read x y e = rw e (board_as y (cases_lt y 16))
 
   -- ---- registers
 
   module _ (m : ℕ) (k : Mutator) (l : plain.Mutator) (r : RepresentsMutator heap p (length space.words) m k l) (running : l.end ≡ None) where
-    register_as : (x : ℕ) → (x < 8) ⊎ (8 ≤ x) → Denotes heap p.place (register k x) (called.register l x)
+    register_as : (x : ℕ) → (x < 8) ⊎ (8 ≤ x) → Denotes heap p.place (register k x) (acts.register l x)
     unfolding number_word
     register_as x (inl within) = r.registers running x within
     register_as x (inr past) =
@@ -157,17 +158,17 @@ module _ (p : Placement) (space : Space) (heap : plain.Heap) (h : RepresentsHeap
         (record { word_is = refl; value = omega arith })
 
     -- also past the eighth, where there is the number 0
-    pub register-denotes : (x : ℕ) → Denotes heap p.place (register k x) (called.register l x)
+    pub register-denotes : (x : ℕ) → Denotes heap p.place (register k x) (acts.register l x)
     register-denotes x = register_as x (cases_lt x 8)
 
-    pub number_read : (x : ℕ) → Same IsNumber (number_of (register k x)) (called.number_in (called.register l x))
-    number_read x = number-same (register k x) (called.register l x) (register-denotes x)
+    pub number_read : (x : ℕ) → Same IsNumber (number_of (register k x)) (acts.number_in (acts.register l x))
+    number_read x = number-same (register k x) (acts.register l x) (register-denotes x)
 
-    pub address_read : (x : ℕ) → Same (IsPlaced p heap) (address_of (register k x)) (called.reference_in (called.register l x))
-    address_read x = address-same (register k x) (called.register l x) (register-denotes x)
+    pub address_read : (x : ℕ) → Same (IsPlaced p heap) (address_of (register k x)) (acts.reference_in (acts.register l x))
+    address_read x = address-same (register k x) (acts.register l x) (register-denotes x)
 
-    pub operand_read : (x : Operand) → Same (λ a b. a ≡ b) (operand k x) (called.operand l x)
-    operand_read (operands.Reg x) = same-weak IsNumber (λ a b. a ≡ b) (number_of (register k x)) (called.number_in (called.register l x)) (λ a b is. is.0) (number_read x)
+    pub operand_read : (x : Operand) → Same (λ a b. a ≡ b) (operand k x) (acts.operand l x)
+    operand_read (operands.Reg x) = same-weak IsNumber (λ a b. a ≡ b) (number_of (register k x)) (acts.number_in (acts.register l x)) (λ a b is. is.0) (number_read x)
     operand_read (operands.Number n) = refl
 
     pub place_read : (a : ℕ) (i : Identity) (x y : ℕ) → IsPlaced p heap a i → x ≡ y → Same (IsWordAt p heap i y) (place_of space a x) (called.value_in heap i y)

@@ -5,7 +5,7 @@ use Rattle.plain_state.specs.declared.end.End.TheVariants as ends
 use Rattle.plain_state.specs.declared.kind.Kind.{Kind}
 use Rattle.plain_state.specs.State as plain
 use Rattle.plain_heap.specs.Call as called
-use Rattle.plain_heap.specs.Call.{◌>>=◌}
+use Rattle.plain_heap.specs.Action.{◌>>=◌}
 use Rattle.plain_heap.specs.Step.{pages_for}
 use Rattle.gc_core.specs.declared.run.Run.{Run}
 use Rattle.gc_core.specs.Configuration.{Space, Mutator}

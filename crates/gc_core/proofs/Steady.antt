@@ -14,7 +14,7 @@ use Rattle.mutator_asm.specs.declared.instr.Instr.{Instr}
 use Rattle.mutator_asm.specs.declared.instr.Instr.TheVariants as instrs
 use Rattle.mutator_asm.specs.declared.operand.Operand.{Operand}
 use Rattle.mutator_asm.specs.Program.{instr_at}
-use Rattle.plain_heap.specs.Call.{◌>>=◌, length_of}
+use Rattle.plain_heap.specs.Action.{◌>>=◌, length_of}
 use Rattle.gc_core.specs.Configuration.{Space, Mutator, Configuration, fresh}
 use Rattle.gc_core.specs.Event.{After, Claim, call, fetch, executes, event, settled, left_by, register, number_of, address_of, operand, place_of, board_place, kind_told, as_held, room_for, prints, loads, jumped, allocated, computes, allocates, with_word, went_on}
 use Rattle.gc_core.specs.Steady.{IsCounted, IsSteady}

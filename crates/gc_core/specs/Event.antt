@@ -18,7 +18,7 @@ use Rattle.mutator_asm.specs.declared.instr.Instr.TheVariants as instrs
 use Rattle.mutator_asm.specs.declared.operand.Operand.{Operand}
 use Rattle.mutator_asm.specs.declared.operand.Operand.TheVariants as operands
 use Rattle.mutator_asm.specs.Program.{instr_at}
-use Rattle.plain_heap.specs.Call.{◌>>=◌, length_of}
+use Rattle.plain_heap.specs.Action.{◌>>=◌, length_of}
 use Rattle.plain_heap.specs.Step.{pages_for}
 use Rattle.gc_core.specs.declared.run.Run.{Run}
 use Rattle.gc_core.specs.declared.stepped.Stepped.{Stepped}

@@ -10,7 +10,7 @@ use Rattle.plain_state.specs.declared.value.Identity.{Identity}
 use Rattle.plain_state.specs.declared.value.Value.{Value}
 use Rattle.plain_state.specs.declared.value.Value.TheVariants.{Number, Reference}
 use Rattle.plain_state.specs.State as plain
-use Rattle.plain_heap.specs.Call.{register}
+use Rattle.plain_heap.specs.Action.{register}
 use Rattle.gc_core.specs.Configuration.{Mutator, Configuration}
 
 -- To what a word of the heap belongs: to nothing, to the run of a mutator, or to a record, of

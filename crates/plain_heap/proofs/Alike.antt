@@ -14,7 +14,9 @@ use Rattle.plain_state.specs.State.{Record, Heap, Mutator, made_by, record_of, s
 use Rattle.plain_state.specs.Writing.{with_word, with_records, stored}
 use Rattle.mutator_asm.specs.declared.instr.Instr.{Instr}
 use Rattle.mutator_asm.specs.declared.instr.Instr.TheVariants as instrs
-use Rattle.plain_heap.specs.Action.{Action, Sets, Jumps, Links, Prints, Makes, Measures, Loads, Stores, Gets, Puts, Swaps, ◌>>=◌, next_of, action}
+use Rattle.plain_heap.specs.declared.action.Action.{Action}
+use Rattle.plain_heap.specs.declared.action.Action.TheVariants.{Sets, Jumps, Links, Prints, Makes, Measures, Loads, Stores, Gets, Puts, Swaps}
+use Rattle.plain_heap.specs.Action.{◌>>=◌, next_of, action}
 use Rattle.plain_heap.specs.Call.{After, value_in, values_of, may_hold, store_in, zeros, jumped, went_on, set_register, loads, allocated, performed, call}
 use Rattle.plain_heap.specs.Alone.{leaves_board}
 use Rattle.plain_heap.proofs.Named.{Spells, Names, named}

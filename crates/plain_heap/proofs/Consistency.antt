@@ -29,7 +29,9 @@ use Rattle.plain_state.proofs.Stored.{stored_made, stored_makers}
 use Rattle.mutator_asm.specs.declared.instr.Instr.{Instr}
 use Rattle.mutator_asm.specs.declared.instr.Instr.TheVariants as instrs
 use Rattle.mutator_asm.specs.Program.{is_valid, is_register, is_number, is_target}
-use Rattle.plain_heap.specs.Action.{Action, Sets, Jumps, Links, Prints, Makes, Measures, Loads, Stores, Gets, Puts, Swaps, ◌>>=◌, register, next_of, in_record, action}
+use Rattle.plain_heap.specs.declared.action.Action.{Action}
+use Rattle.plain_heap.specs.declared.action.Action.TheVariants.{Sets, Jumps, Links, Prints, Makes, Measures, Loads, Stores, Gets, Puts, Swaps}
+use Rattle.plain_heap.specs.Action.{◌>>=◌, register, next_of, in_record, action}
 use Rattle.plain_heap.specs.Call.{After, values_of, value_in, board_word, may_hold, store_in, zeros, jumped, went_on, set_register, loads, allocated, performed, call}
 use Rattle.plain_heap.proofs.Named.{Spells, Names, named}
 use Rattle.plain_heap.proofs.Outcomes.{if_ok-bind, if_ok-then}

@@ -17,7 +17,9 @@ use Rattle.plain_state.specs.State.{Mutator}
 use Rattle.mutator_asm.specs.declared.instr.Instr.{Instr}
 use Rattle.mutator_asm.specs.declared.instr.Instr.TheVariants as instrs
 use Rattle.mutator_asm.specs.declared.operand.Operand.{Operand}
-use Rattle.plain_heap.specs.Action.{Action, Sets, Jumps, Links, Prints, Makes, Measures, Loads, Stores, Gets, Puts, Swaps, ◌>>=◌, register, number_in, reference_in, is_zero, is_reference, are_same, operand, next_of, length_of, in_record, on_board, board_place, computes, allocates, prints, action}
+use Rattle.plain_heap.specs.declared.action.Action.{Action}
+use Rattle.plain_heap.specs.declared.action.Action.TheVariants.{Sets, Jumps, Links, Prints, Makes, Measures, Loads, Stores, Gets, Puts, Swaps}
+use Rattle.plain_heap.specs.Action.{◌>>=◌, register, number_in, reference_in, is_zero, is_reference, are_same, operand, next_of, length_of, in_record, on_board, board_place, computes, allocates, prints, action}
 use Rattle.plain_heap.proofs.Outcomes.{if_ok-bind, if_ok-then}
 
 -- P holds of the numbers that an instruction spells, and B where it names the board

@@ -12,7 +12,9 @@ use Rattle.plain_state.specs.State.{Record, Heap, Mutator, record_of, serial_of}
 pub use Rattle.plain_state.specs.Writing.{zeros}
 use Rattle.plain_state.specs.Writing.{stored, with_board, gained}
 use Rattle.mutator_asm.specs.declared.instr.Instr.{Instr}
-use Rattle.plain_heap.specs.Action.{Action, Sets, Jumps, Links, Prints, Makes, Measures, Loads, Stores, Gets, Puts, Swaps, ◌>>=◌, action, next_of, in_record}
+use Rattle.plain_heap.specs.declared.action.Action.{Action}
+use Rattle.plain_heap.specs.declared.action.Action.TheVariants.{Sets, Jumps, Links, Prints, Makes, Measures, Loads, Stores, Gets, Puts, Swaps}
+use Rattle.plain_heap.specs.Action.{◌>>=◌, action, next_of, in_record}
 
 -- what an instruction leaves: the heap, and the mutator that executed it
 pub record After : Type 0 where

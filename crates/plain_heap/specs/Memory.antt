@@ -3,7 +3,9 @@ use Rattle.std.specs.Prelude.{◌≡◌, ℕ, Bool, true, false, List, Some, Non
 use Rattle.plain_state.specs.declared.end.End.{End}
 use Rattle.plain_state.specs.State.{Heap, Mutator, Plain}
 use Rattle.mutator_asm.specs.declared.instr.Instr.{Instr}
-use Rattle.plain_heap.specs.Action.{Action, Prints, Makes, action}
+use Rattle.plain_heap.specs.declared.action.Action.{Action}
+use Rattle.plain_heap.specs.declared.action.Action.TheVariants.{Prints, Makes}
+use Rattle.plain_heap.specs.Action.{action}
 use Rattle.plain_heap.specs.Call.{call}
 use Rattle.plain_heap.specs.Step.{fetch}
 

@@ -9,7 +9,9 @@ use Rattle.plain_state.specs.Layout.{size_of}
 use Rattle.plain_state.specs.State.{Record, Heap, Mutator, Plain}
 use Rattle.mutator_asm.specs.declared.instr.Instr.{Instr}
 use Rattle.mutator_asm.specs.Program.{instr_at}
-use Rattle.plain_heap.specs.Action.{Action, Makes, ◌>>=◌, action}
+use Rattle.plain_heap.specs.declared.action.Action.{Action}
+use Rattle.plain_heap.specs.declared.action.Action.TheVariants.{Makes}
+use Rattle.plain_heap.specs.Action.{◌>>=◌, action}
 use Rattle.plain_heap.specs.Call.{After, call, zeros}
 
 -- the instruction that a mutator executes next, or the end that stands in its place

@@ -20,6 +20,7 @@ mod step;
 mod stop;
 mod values;
 
+pub use action::Action;
 pub use laws::{
     alone_mutators_are_independent, reached_states_are_consistent, stories_keep_the_last_flip,
 };
