@@ -1,5 +1,5 @@
 -- A whole run: one event after another by a schedule, and the order of what happened.
-use Rattle.std.specs.Prelude.{ℕ, ◌+◌, ◌%◌, Bool, List, [], ◌++◌, take, ⊤, Option, Some, None, if◌then◌else◌, zero, suc}
+use Rattle.std.specs.Prelude.{ℕ, ◌+◌, ◌%◌, Bool, true, false, List, [], ◌++◌, take, ⊤, Option, Some, None, if◌then◌else◌, zero, suc}
 use Rattle.std.specs.Option.{is_some, option_to_list}
 use Rattle.std.specs.List.{list_all}
 use Rattle.plain_state.specs.declared.end.End.{End}
@@ -57,7 +57,11 @@ run_from schedule at (suc n) s =
 abbrev pub in_turn : ℕ → ℕ → ℕ
 in_turn workers at = at % workers
 
+abbrev pub Unless : Bool → Type 0 → Type 0
+Unless true rest = ⊤
+Unless false rest = rest
+
 -- each event of that run is so, by the core before it and the worker
 unfoldable pub EachEvent : (CoreState → ℕ → Type 0) → (ℕ → ℕ) → ℕ → ℕ → CoreState → Type 0
 EachEvent IsSo schedule at zero s = ⊤
-EachEvent IsSo schedule at (suc n) s = if all_ended s then ⊤ else (IsSo s (schedule at) × EachEvent IsSo schedule (at + 1) n (core_after s (schedule at)))
+EachEvent IsSo schedule at (suc n) s = Unless (all_ended s) (IsSo s (schedule at) × EachEvent IsSo schedule (at + 1) n (core_after s (schedule at)))
