@@ -1,3 +1,4 @@
+pub mod Hex
 pub mod Causes
 pub mod Growing
 pub mod Rounds

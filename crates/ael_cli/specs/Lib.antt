@@ -3,6 +3,7 @@ pub mod Asm
 pub mod Call
 pub mod Coming
 pub mod CommandLine
+pub mod Dump
 pub mod Emits
 pub mod Ends
 pub mod Headline

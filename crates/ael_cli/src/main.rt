@@ -5,6 +5,7 @@ mod answer;
 mod answering;
 mod asm;
 mod command_line;
+mod dump;
 mod job;
 mod memory;
 mod options;
