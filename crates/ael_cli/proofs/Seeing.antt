@@ -1,49 +1,73 @@
--- What is seen of the mutators, one after another.
-use Rattle.std.proofs.Common.{◌≡◌, ℕ, ◌+◌, ◌<◌, ◌≤◌, zero, suc, true, false, List, [], ◌∷◌, ◌++◌, length, get_or, drop, refl, sym, ◌∙◌, add-one, append_assoc, append-nil, arith}
-use Rattle.std.specs.Prelude.{map}
-use Rattle.std.specs.List.{list_all}
-use Rattle.plain_heap.specs.Print.{lines_of}
-use Rattle.gc_core.specs.Configuration.{Mutator, Configuration, fresh}
-use Rattle.gc_core.specs.Whole.{seen_of}
+-- What is told of the elements of a list, one after another.
+use Rattle.std.proofs.Common.{◌≡◌, ℕ, ◌+◌, ◌<◌, ◌≤◌, zero, suc, true, false, List, [], ◌∷◌, ◌++◌, length, Option, Some, None, drop, slice_get, refl, ap, sym, ◌∙◌, add-one, append_assoc, append-nil, arith}
+use Rattle.std.specs.List.{flat_map, list_all}
+use Rattle.std.specs.Option.{option_map}
+use Rattle.std.proofs.lemmas.Option.{same_Some}
+use Rattle.plain_state.specs.declared.end.End.{End}
+use Rattle.plain_heap.specs.Print.{Seen, lines_of, lines_seen}
 use Rattle.ael_cli.specs.Seen.{is_halt, has_halted}
-use Rattle.plain_heap.specs.Print.{Seen, lines_seen}
 
-abbrev pub see : Mutator → Seen
-see k = record { printed = k.printed; end = k.end }
-
--- mutator m is the first of those from m on
-pub seen-next : (ks : List Mutator) (m : ℕ) → m < length ks → drop m (map see ks) ≡ see (get_or ks m fresh) ∷ drop (m + 1) (map see ks)
-seen-next [] m h = absurd (omega (arith, h))
-seen-next (k ∷ ks) zero h = refl
-seen-next (k ∷ ks) (suc m) h = let less : m < length ks = omega (arith, h) in rw add-one (seen-next ks m less ∙ (rw add-one refl))
+-- the element at m is the first of those from m on
+pub found-next : {A : Type 0} (xs : List A) (m : ℕ) (x : A) → slice_get xs m ≡ Some x → drop m xs ≡ x ∷ drop (m + 1) xs
+found-next [] m x is = cc
+found-next (y ∷ xs) zero x is = ap (λ z. z ∷ xs) (same_Some y x is)
+found-next (y ∷ xs) (suc m) x is = rw add-one (found-next xs m x is ∙ (rw add-one refl))
 
 -- past the last there is none
-pub seen-end : (ks : List Mutator) (m : ℕ) → length ks ≤ m → drop m (map see ks) ≡ []
-seen-end [] zero h = refl
-seen-end [] (suc m) h = refl
-seen-end (k ∷ ks) zero h = absurd (omega (arith, h))
-seen-end (k ∷ ks) (suc m) h = seen-end ks m (omega (arith, h))
+pub found-end : {A : Type 0} (xs : List A) (m : ℕ) → length xs ≤ m → drop m xs ≡ []
+found-end [] zero h = refl
+found-end [] (suc m) h = refl
+found-end (x ∷ xs) zero h = absurd (omega (arith, h))
+found-end (x ∷ xs) (suc m) h = found-end xs m (omega (arith, h))
+
+-- ---- a text for each
+
+-- the texts told so far and those still to come are all
+pub record Told {A : Type 0} (text : A → List ℕ) (told : List ℕ) (m : ℕ) (xs : List A) (all : List ℕ) : Type 0 where
+  pub rest : told ++ flat_map text (drop m xs) ≡ all
+
+pub told_more : {A : Type 0} (text : A → List ℕ) (told all : List ℕ) (m : ℕ) (xs : List A) (x : A) → slice_get xs m ≡ Some x → Told text told m xs all → Told text (told ++ text x) (m + 1) xs all
+told_more text told all m xs x is h = record { rest = rw append_assoc (rw (found-next xs m x is) at h.rest) }
+
+pub told_all : {A : Type 0} (text : A → List ℕ) (told all : List ℕ) (m : ℕ) (xs : List A) → length xs ≤ m → Told text told m xs all → told ≡ all
+told_all text told all m xs past h = sym (append-nil told) ∙ (rw (found-end xs m past) at h.rest)
+
+-- ---- mutators
+
+-- what is seen of a mutator, by its numbers and its end
+pub seen_is : (o : Option Seen) (printed : List ℕ) (end : Option End) → option_map (λ k. k.printed) o ≡ Some printed → option_map (λ k. k.end) o ≡ Some end → o ≡ Some (record { printed = printed; end = end })
+seen_is None printed end is_printed is_end = cc
+seen_is (Some k) printed end is_printed is_end = rw (← same_Some k.printed printed is_printed, ← same_Some k.end end is_end) refl
 
 -- the lines told so far and those still to come are all
-pub record Tells (told : List ℕ) (m : ℕ) (c : Configuration) (all : List ℕ) : Type 0 where
-  pub rest : told ++ lines_seen m (drop m (seen_of c)) ≡ all
+pub record Tells (told : List ℕ) (m : ℕ) (ks : List Seen) (all : List ℕ) : Type 0 where
+  pub rest : told ++ lines_seen m (drop m ks) ≡ all
 
-pub tells_more : (told all : List ℕ) (m : ℕ) (c : Configuration) → m < length c.mutators → Tells told m c all
-    → Tells (told ++ lines_of m (get_or c.mutators m fresh).printed (get_or c.mutators m fresh).end) (m + 1) c all
-tells_more told all m c within h = record { rest = rw append_assoc (rw (seen-next c.mutators m within) at h.rest) }
+pub tells_more : (told all : List ℕ) (m : ℕ) (ks : List Seen) (printed : List ℕ) (end : Option End) → option_map (λ k. k.printed) (slice_get ks m) ≡ Some printed
+    → option_map (λ k. k.end) (slice_get ks m) ≡ Some end → Tells told m ks all → Tells (told ++ lines_of m printed end) (m + 1) ks all
+tells_more told all m ks printed end is_printed is_end h =
+    record { rest = rw append_assoc (rw (found-next ks m (record { printed = printed; end = end }) (seen_is (slice_get ks m) printed end is_printed is_end)) at h.rest) }
 
-pub tells_all : (told all : List ℕ) (m : ℕ) (c : Configuration) → length c.mutators ≤ m → Tells told m c all → told ≡ all
-tells_all told all m c past h = sym (append-nil told) ∙ (rw (seen-end c.mutators m past) at h.rest)
+pub tells_all : (told all : List ℕ) (m : ℕ) (ks : List Seen) → length ks ≤ m → Tells told m ks all → told ≡ all
+tells_all told all m ks past h = sym (append-nil told) ∙ (rw (found-end ks m past) at h.rest)
+
+end_is : (o : Option Seen) (end : Option End) → option_map (λ k. k.end) o ≡ Some end → (k : Seen) × (o ≡ Some k) × (k.end ≡ end)
+end_is None end is = cc
+end_is (Some k) end is = (k, refl, same_Some k.end end is)
 
 -- the mutators before m made `halt`
-pub record HaltsBelow (m : ℕ) (c : Configuration) : Type 0 where
-  pub rest : list_all has_halted (drop m (seen_of c)) ≡ list_all has_halted (seen_of c)
+pub record HaltsBelow (m : ℕ) (ks : List Seen) : Type 0 where
+  pub rest : list_all has_halted (drop m ks) ≡ list_all has_halted ks
 
-pub halts_more : (m : ℕ) (c : Configuration) → m < length c.mutators → is_halt (get_or c.mutators m fresh).end ≡ true → HaltsBelow m c → HaltsBelow (m + 1) c
-halts_more m c within halts h = record { rest = rw halts at (rw (seen-next c.mutators m within) at h.rest) }
+pub halts_more : (m : ℕ) (ks : List Seen) (end : Option End) → option_map (λ k. k.end) (slice_get ks m) ≡ Some end → is_halt end ≡ true → HaltsBelow m ks → HaltsBelow (m + 1) ks
+halts_more m ks end is halts h =
+    let at_m = end_is (slice_get ks m) end is in
+    record { rest = rw (at_m.2, halts) at (rw (found-next ks m at_m.0 at_m.1) at h.rest) }
 
-pub halts_not : (m : ℕ) (c : Configuration) → m < length c.mutators → is_halt (get_or c.mutators m fresh).end ≡ false → HaltsBelow m c → list_all has_halted (seen_of c) ≡ false
-halts_not m c within goes h = sym (rw goes at (rw (seen-next c.mutators m within) at h.rest))
+pub halts_not : (m : ℕ) (ks : List Seen) (end : Option End) → option_map (λ k. k.end) (slice_get ks m) ≡ Some end → is_halt end ≡ false → HaltsBelow m ks → list_all has_halted ks ≡ false
+halts_not m ks end is goes h =
+    let at_m = end_is (slice_get ks m) end is in
+    sym (rw (at_m.2, goes) at (rw (found-next ks m at_m.0 at_m.1) at h.rest))
 
-pub halts_all : (m : ℕ) (c : Configuration) → length c.mutators ≤ m → HaltsBelow m c → list_all has_halted (seen_of c) ≡ true
-halts_all m c past h = sym (rw (seen-end c.mutators m past) at h.rest)
+pub halts_all : (m : ℕ) (ks : List Seen) → length ks ≤ m → HaltsBelow m ks → list_all has_halted ks ≡ true
+halts_all m ks past h = sym (rw (found-end ks m past) at h.rest)

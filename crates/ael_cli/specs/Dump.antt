@@ -1,7 +1,22 @@
--- The text of a dump.
-use Rattle.std.specs.Prelude.{ℕ, ◌-◌, false, List, [], ◌∷◌, ◌++◌, length, codes, decimal, replicate}
+-- What the flags `--cycles` and `--dump` print of a core.
+use Rattle.std.specs.Prelude.{ℕ, ◌-◌, false, List, [], ◌∷◌, ◌++◌, length, Option, Some, None, codes, decimal, replicate}
 use Rattle.std.specs.Fmt.{digits}
 use Rattle.std.specs.List.{flat_map}
+use Rattle.heap_state.specs.Kept.{Kept}
+use Rattle.collected_core.specs.Core.{CoreState}
+use Rattle.collected_core.specs.Readers.{registers_in, kept_in, cycles_of, live_of}
+
+-- ---- cycles
+
+abbrev pub live_text : Option ℕ → List ℕ
+live_text None = codes "-"
+live_text (Some words) = decimal words
+
+-- how often the spaces were exchanged, and the words that were copied since, where all are
+abbrev pub cycles_line : CoreState → List ℕ
+cycles_line s = codes "cycles " ++ decimal (cycles_of s) ++ codes " live " ++ live_text (live_of s) ++ codes "\n"
+
+-- ---- the dump
 
 -- a word by its 16 hexadecimal digits
 abbrev pub word_text : ℕ → List ℕ
@@ -19,3 +34,13 @@ dump_head pages mutators workers = codes "dump " ++ decimal pages ++ codes " " +
 -- the words of the table, a line each
 abbrev pub table_lines : List ℕ → List ℕ
 table_lines words = flat_map (λ word. word_text word ++ codes "\n") words
+
+-- what a worker keeps: a header, and a place
+abbrev pub kept_line : Kept → List ℕ
+kept_line k = words_line (k.header ∷ k.place ∷ [])
+
+-- the registers of each mutator, what each worker keeps, and the table
+abbrev pub dump_text : CoreState → List ℕ
+dump_text s =
+    dump_head s.heap.pages (length (registers_in s)) (length (kept_in s)) ++ flat_map words_line (registers_in s) ++ flat_map kept_line (kept_in s)
+    ++ table_lines s.heap.words

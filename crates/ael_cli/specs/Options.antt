@@ -1,7 +1,7 @@
 -- The options of a simulation, by the rows of what was given.
 use Rattle.std.specs.Prelude.{◌≤◌, IsTrue, List, [], ◌∷◌, codes}
 use Rattle.clap.specs.Walk.{Row, Text}
-use Rattle.gc_core.specs.Configuration.{is_size}
+use Rattle.collected_core.specs.Core.{is_size}
 use Rattle.simple_commands.specs.Options.{number_given}
 use Rattle.simple_commands.specs.Readers.{number_of, was_given}
 use Rattle.simple_commands.specs.declared.options.Numbers.{Numbers}
@@ -31,6 +31,14 @@ seed_option = codes "seed"
 abbrev pub order_flag : Text
 order_flag = codes "order"
 
+-- `--cycles`
+abbrev pub cycles_flag : Text
+cycles_flag = codes "cycles"
+
+-- `--dump`
+abbrev pub dump_flag : Text
+dump_flag = codes "dump"
+
 -- the tables of `sim`
 abbrev pub sim_numbers : List (Text × Numbers)
 sim_numbers = pages_option ∷ scanners_option ∷ turns_option ∷ steps_option ∷ []
@@ -39,7 +47,7 @@ abbrev pub sim_wide : List Text
 sim_wide = seed_option ∷ []
 
 abbrev pub sim_flags : List Text
-sim_flags = order_flag ∷ []
+sim_flags = order_flag ∷ cycles_flag ∷ dump_flag ∷ []
 
 abbrev pub options_of : List Row → SimOptions
 options_of rows = record {
@@ -49,6 +57,8 @@ options_of rows = record {
   steps = number_given steps_option rows;
   seed = number_of seed_option rows;
   order = was_given order_flag rows;
+  cycles = was_given cycles_flag rows;
+  dump = was_given dump_flag rows;
 }
 
 -- a space may have so many pages, there may be so many scanners, and a mutator may execute so many instructions

@@ -6,12 +6,13 @@ use Rattle.mutator_asm.specs.declared.item.Item.{Item}
 use Rattle.plain_heap.specs.declared.mark.Mark.{Mark}
 use Rattle.plain_heap.specs.Order.{opening, plain}
 use Rattle.plain_heap.specs.Print.{print_of, order_line, plain_seen}
-use Rattle.gc_core.specs.declared.config.Config.{Config}
-use Rattle.gc_core.specs.Configuration.{opening_core, workers_of}
-use Rattle.gc_core.specs.Run.{Ran, run_from}
-use Rattle.gc_core.specs.Whole.{EachActs}
+use Rattle.collected_core.specs.declared.config.Config.{Config}
+use Rattle.collected_core.specs.Core.{opening_core, workers_of}
+use Rattle.collected_core.specs.Run.{Ran, run_from}
+use Rattle.collected_core.specs.Whole.{EachActs}
 use Rattle.ael_cli.specs.declared.options.SimOptions.{SimOptions}
 use Rattle.ael_cli.specs.declared.status.Status.{Status}
+use Rattle.ael_cli.specs.Dump.{cycles_line, dump_text}
 use Rattle.ael_cli.specs.ProgramTask.{program_task}
 use Rattle.ael_cli.specs.Schedule.{schedule_of}
 use Rattle.ael_cli.specs.Seen.{status_seen}
@@ -37,7 +38,8 @@ plain_of options program items = plain program options.turns (order_of options p
 
 -- the lines of the flags, by what the run came to
 abbrev pub flag_lines : SimOptions → Ran → List ℕ
-flag_lines options ran = if options.order then order_line ran.order else []
+flag_lines options ran =
+    (if options.order then order_line ran.order else []) ++ (if options.cycles then cycles_line ran.last else []) ++ (if options.dump then dump_text ran.last else [])
 
 -- all that is printed: the lines of the plain machine, and then those of the flags
 abbrev pub output_of : SimOptions → List (List Instr) → List Item → List ℕ

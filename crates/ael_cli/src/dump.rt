@@ -1,13 +1,16 @@
 //! The text of a dump.
 
 ghost use Rattle.std.specs.Prelude.{◌≡◌, ◌++◌, OnOk, string_bytes};
-ghost use Rattle.ael_cli.specs.Dump.{dump_head, table_lines, word_text, words_line};
+ghost use Rattle.std.specs.List.{flat_map};
+ghost use Rattle.collected_core.specs.Readers.{kept_in, registers_in};
+ghost use Rattle.ael_cli.specs.Dump.{dump_head, dump_text, kept_line, table_lines, word_text, words_line};
 
+use collected_core::Core;
 use plain_heap::NoMemory;
 
 /// Adds the first line: how many pages a space has, how many mutators there are, and how many
 /// workers.
-pub fn push_head(
+fn push_head(
     out: &mut String,
     pages: u32,
     mutators: usize,
@@ -29,7 +32,7 @@ fn push_word(out: &mut String, word: u64) -> Result<(), NoMemory>
 }
 
 /// Adds a line of words.
-pub fn push_words(out: &mut String, words: &[u64]) -> Result<(), NoMemory>
+fn push_words(out: &mut String, words: &[u64]) -> Result<(), NoMemory>
     ensures { OnOk result (string_bytes out.new ≡ string_bytes out.old ++ words_line words.now) }
 {
     if let Some((first, rest)) = words.split_first() {
@@ -44,7 +47,7 @@ pub fn push_words(out: &mut String, words: &[u64]) -> Result<(), NoMemory>
 }
 
 /// Adds the words of the table, a line each.
-pub fn push_table(out: &mut String, words: &[u64]) -> Result<(), NoMemory>
+fn push_table(out: &mut String, words: &[u64]) -> Result<(), NoMemory>
     ensures { OnOk result (string_bytes out.new ≡ string_bytes out.old ++ table_lines words.now) }
 {
     for word in words {
@@ -52,4 +55,35 @@ pub fn push_table(out: &mut String, words: &[u64]) -> Result<(), NoMemory>
         out.push('\n')?;
     }
     Ok(())
+}
+
+/// Adds the registers of each mutator.
+fn push_registers(out: &mut String, core: &Core) -> Result<(), NoMemory>
+    ensures { OnOk result (string_bytes out.new ≡ string_bytes out.old ++ flat_map words_line (registers_in core.now)) }
+{
+    for m in 0..core.mutators() as u8 {
+        push_words(out, &core.regs(m))?;
+    }
+    Ok(())
+}
+
+/// Adds what each worker keeps.
+fn push_kept(out: &mut String, core: &Core) -> Result<(), NoMemory>
+    ensures { OnOk result (string_bytes out.new ≡ string_bytes out.old ++ flat_map kept_line (kept_in core.now)) }
+{
+    for w in 0..core.workers() {
+        let (header, place) = core.kept(w);
+        push_words(out, &[header, place])?;
+    }
+    Ok(())
+}
+
+/// Adds the dump of a core.
+pub fn push_dump(out: &mut String, core: &Core) -> Result<(), NoMemory>
+    ensures { OnOk result (string_bytes out.new ≡ string_bytes out.old ++ dump_text core.now) }
+{
+    push_head(out, core.pages(), core.mutators(), core.workers())?;
+    push_registers(out, core)?;
+    push_kept(out, core)?;
+    push_table(out, core.words())
 }

@@ -6,6 +6,7 @@ mod answering;
 mod asm;
 mod command_line;
 mod dump;
+mod flags;
 mod job;
 mod memory;
 mod options;

@@ -49,6 +49,12 @@ pub const SEED: &str = "seed";
 /// Whether the order of the run is printed.
 pub const ORDER: &str = "order";
 
+/// Whether it is printed how often the spaces were exchanged, and what the last exchange copied.
+pub const CYCLES: &str = "cycles";
+
+/// Whether the last configuration is printed.
+pub const DUMP: &str = "dump";
+
 /// The options of `sim` with a number of 32 bits.
 pub const SIM_NUMBERS: [(&str, Numbers); 4] = [PAGES, SCANNERS, TURNS, STEPS];
 
@@ -56,7 +62,7 @@ pub const SIM_NUMBERS: [(&str, Numbers); 4] = [PAGES, SCANNERS, TURNS, STEPS];
 pub const SIM_WIDE: [&str; 1] = [SEED];
 
 /// The flags of `sim`.
-pub const SIM_FLAGS: [&str; 1] = [ORDER];
+pub const SIM_FLAGS: [&str; 3] = [ORDER, CYCLES, DUMP];
 
 /// How a program is run, and what is printed besides: the values of the table's rows.
 #[derive(Clone, Copy, Debug, PartialEq, Eq)]
@@ -67,6 +73,8 @@ pub struct SimOptions {
     pub steps: u32,
     pub seed: Option<u64>,
     pub order: bool,
+    pub cycles: bool,
+    pub dump: bool,
 }
 
 impl SimOptions {
@@ -89,6 +97,8 @@ impl SimOptions {
             steps: number_of(matches, STEPS),
             seed: wide_number(matches, SEED),
             order: is_given(matches, ORDER),
+            cycles: is_given(matches, CYCLES),
+            dump: is_given(matches, DUMP),
         }
     }
 }

@@ -1,27 +1,29 @@
 //! The command `sim`: a program run by a schedule.
 
-ghost use Rattle.std.specs.Prelude.{◌≡◌, ◌++◌, IfOk, OnOk, map, string_bytes};
+ghost use Rattle.std.specs.Prelude.{◌≡◌, ◌<◌, ◌++◌, IfOk, OnOk, map, string_bytes};
 ghost use Rattle.std.specs.List.{list_all};
-ghost use Rattle.gc_core.specs.Configuration.{CoreState, opening_core};
-ghost use Rattle.gc_core.specs.Whole.{seen_of};
+ghost use Rattle.collected_core.specs.Core.{opening_core, workers_of};
+ghost use Rattle.collected_core.specs.Readers.{seen_of};
 ghost use Rattle.ael_cli.specs.Options.{AreInRange};
 ghost use Rattle.plain_heap.specs.Print.{lines_seen};
 ghost use Rattle.ael_cli.specs.Seen.{is_halt, has_halted, status_seen};
-ghost use Rattle.ael_cli.specs.Simulation.{config, flag_lines, IsSimulated};
+ghost use Rattle.ael_cli.specs.Simulation.{config, IsSimulated};
 
 use crate::answer::Answer;
+use crate::flags::push_flags;
 use crate::options::SimOptions;
 use crate::run::run;
 use crate::status::Status;
-use gc_core::{Config, Core, OpenError, runs_follow};
+use collected_core::{Config, Core, OpenError, runs_follow};
 use mutator_asm::Program;
-use plain_heap::{End, Mark, NoMemory, push_lines, push_order};
+use plain_heap::{End, NoMemory, push_lines};
 use std::alloc::Global;
 
 /// The core of a run.
 fn open<'p>(alloc: Global, program: &'p Program, options: SimOptions) -> Result<Core<'p>, NoMemory>
     requires { AreInRange options }
-    ensures { IfOk result (λ core. core ≡ opening_core program.now.code (config options)) }
+    ensures opened { IfOk result (λ core. core ≡ opening_core program.now.code (config options)) }
+    ensures some { IfOk result (λ core. 0 < workers_of core) }
 {
     let config = Config {
         pages: options.pages,
@@ -37,7 +39,7 @@ fn open<'p>(alloc: Global, program: &'p Program, options: SimOptions) -> Result<
 
 /// Adds the lines of all mutators.
 fn push_mutators(output: &mut String, core: &Core) -> Result<(), NoMemory>
-    ensures { OnOk result (string_bytes output.new ≡ string_bytes output.old ++ lines_seen 0 (seen_of core.now.configuration)) }
+    ensures { OnOk result (string_bytes output.new ≡ string_bytes output.old ++ lines_seen 0 (seen_of core.now)) }
 {
     for m in 0..core.mutators() as u8 {
         push_lines(output, m as usize, core.outputs(m), core.ended(m))?;
@@ -57,7 +59,7 @@ fn is_halt(end: Option<End>) -> bool
 
 /// Whether every mutator made `halt`.
 fn all_halted(core: &Core) -> bool
-    ensures { result ≡ list_all has_halted (seen_of core.now.configuration) }
+    ensures { result ≡ list_all has_halted (seen_of core.now) }
 {
     for m in 0..core.mutators() as u8 {
         if !is_halt(core.ended(m)) {
@@ -67,19 +69,9 @@ fn all_halted(core: &Core) -> bool
     true
 }
 
-/// Adds the lines of the flags, by the order of the run: they tell nothing of its last configuration.
-fn push_flags(output: &mut String, options: SimOptions, order: &[Mark]) -> Result<(), NoMemory>
-    ensures { OnOk result ((last : CoreState) → string_bytes output.new ≡ string_bytes output.old ++ flag_lines options (record { last = last; order = order.now })) }
-{
-    if options.order {
-        push_order(output, order)?;
-    }
-    Ok(())
-}
-
 /// How a run went, by the ends of its mutators.
 fn verdict(core: &Core) -> Status
-    ensures { result ≡ status_seen (seen_of core.now.configuration) }
+    ensures { result ≡ status_seen (seen_of core.now) }
 {
     if !core.all_ended() {
         Status::StepsOut
@@ -100,6 +92,6 @@ pub fn sim(alloc: Global, program: &Program, options: SimOptions) -> Result<Answ
     let order = run(alloc, &mut core, program.schedule.as_slice(), options)?;
     let mut output = String::new(alloc);
     push_mutators(&mut output, &core)?;
-    push_flags(&mut output, options, &order)?;
+    push_flags(&mut output, options, &order, &core)?;
     Answer::new(alloc, output.into_bytes(), verdict(&core))
 }

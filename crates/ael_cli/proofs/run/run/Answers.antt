@@ -1,13 +1,13 @@
 use Rattle.std.proofs.Common.{◌≡◌, ◌+◌, sym, ap, ◌∙◌, arith}
-use Rattle.gc_core.specs.Configuration.{workers_of}
+use Rattle.collected_core.specs.Core.{workers_of}
 use Rattle.ael_cli.specs.Schedule.{schedule_of}
-use Rattle.gc_core.proofs.Runs.{comes_on, comes_on_order, came_over, came_out, came_over_order, came_out_order, comes_all, comes_all_order}
+use Rattle.collected_core.proofs.Runs.{comes_on, comes_on_order, came_over, came_out, came_over_order, came_out_order, comes_all, comes_all_order}
 use Rattle.ael_cli.proofs.run.run.Goals as goal
 use Rattle.ael_cli.proofs.run.run.Goals.{else-loop-test, then-loop-test+then-all_ended}
 
 pub loop-init : goal.loop-init
 loop-init c = record {
-  names = λ at. let e : 0 + at ≡ at = omega arith in rw (e, ← c.workers.ensures) (c.new-scheduler.ensures at);
+  names = λ at. let e : 0 + at ≡ at = omega arith in rw (e, ← c.workers.ensures.exact) (c.new-scheduler.ensures at);
   core = comes_all _ _ _;
   order = λ keep. rw c.new-order.ensures.items (comes_all_order _ _ _);
 }

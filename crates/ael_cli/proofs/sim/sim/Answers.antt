@@ -1,7 +1,7 @@
 use Rattle.std.proofs.Common.{◌∙◌, ap, ℕ}
 use Rattle.std.specs.Global.{Vec}
 use Rattle.std.proofs.lemmas.Result.{IfOk-weaker}
-use Rattle.gc_core.specs.Configuration.{opening_core, workers_of}
+use Rattle.collected_core.specs.Core.{opening_core, workers_of}
 use Rattle.ael_cli.specs.Schedule.{schedule_of}
 use Rattle.ael_cli.specs.Simulation.{config, run_of}
 use Rattle.ael_cli.proofs.Simulating.{simulated}
@@ -16,8 +16,8 @@ returns c =
     let ran = run_of options program items in
     IfOk-weaker c.new.result _ _ (λ answer new. simulated options program items _ c.in_ok-order.order.items _ _
     (c.runs_follow.ensures program items (config options) schedule options.steps c.args.program.now.well_formed c.requires.pages c.requires.turns.1)
-    (rw (c.in_ok-core.ensures, c.as_slice.ensures) at c.in_ok-order.ensures.core)
-    (rw (c.in_ok-core.ensures, c.as_slice.ensures) at c.in_ok-order.ensures.order)
+    (rw (c.in_ok-core.ensures.opened, c.as_slice.ensures) at c.in_ok-order.ensures.core)
+    (rw (c.in_ok-core.ensures.opened, c.as_slice.ensures) at c.in_ok-order.ensures.order)
     (new.0 ∙ ap (λ (v : Vec ℕ). v.items) c.into_bytes.ensures.value
-    ∙ rw (c.in_ok-push_flags.ensures ran.last, c.in_ok-push_mutators.ensures, c.new-output.ensures.bytes, c.deref.ensures.value))
+    ∙ rw (c.in_ok-push_flags.ensures, c.in_ok-push_mutators.ensures, c.new-output.ensures.bytes, c.deref.ensures.value))
     (new.1 ∙ c.verdict.ensures)) c.new.ensures.whole

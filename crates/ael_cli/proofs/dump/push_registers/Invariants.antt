@@ -1,0 +1,10 @@
+use Rattle.std.proofs.Common.{◌++◌}
+use Rattle.std.specs.List.{flat_map}
+use Rattle.std.specs.String.{string_bytes}
+use Rattle.collected_core.specs.Readers.{registers_in}
+use Rattle.ael_cli.specs.Dump.{words_line}
+use Rattle.ael_cli.proofs.Seeing.{Told}
+use Rattle.ael_cli.proofs.dump.push_registers.Given as goal
+
+abbrev pub invariant-loop-m : goal.invariant-loop-m
+invariant-loop-m l = Told words_line (string_bytes l.out) l.m (registers_in l.core) (string_bytes l.fn.out ++ flat_map words_line (registers_in l.core))
