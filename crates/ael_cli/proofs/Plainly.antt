@@ -118,7 +118,7 @@ module _ (one : MeansOneProgram) (no_fault : HasNoFault) (call : Call) (a : IsAn
   pub prints_plainly : PrintsPlainly call
   prints_plainly options program items s =
       let d = simulated options program items s in
-      record { prints = subst (λ output. Grows call.out.held output call.out.holds) d.1.prints d.0.printed; acts = d.1.acts }
+      record { prints = subst (λ output. Grows call.out.held output call.out.holds) d.1.prints d.0.printed; acts = d.1.acts; full = d.1.full }
 
   pub prints_listing : MeansWellFormed → ListsText → PrintsListing call
   prints_listing well_formed lists program items s =

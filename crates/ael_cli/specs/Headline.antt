@@ -18,7 +18,7 @@ use Rattle.ael_cli.specs.Answer.{IsAnswer, IsDrawnFor}
 use Rattle.ael_cli.specs.Call.{Call}
 use Rattle.ael_cli.specs.Emits.{Emits}
 use Rattle.ael_cli.specs.Jobs.{task_of}
-use Rattle.ael_cli.specs.Simulation.{flag_lines, order_of, run_of}
+use Rattle.ael_cli.specs.Simulation.{flag_lines, order_of, run_of, IsFullWithoutRoom}
 use Rattle.ael_cli.specs.Status.{code_of}
 use Rattle.ael_cli.specs.Stream.{Grows}
 use Rattle.ael_cli.specs.Success.{GoesWell, Succeeds}
@@ -49,10 +49,11 @@ abbrev pub IsComplete : Call → Type 0
 IsComplete call = (job : Job) (bytes : List ℕ) → GoesWell call job bytes → IsDone call job bytes ⊎ (call.code ≡ 7)
 
 -- The bytes held grow by what the plain machine prints that executes the order of the run, and then
--- by the lines of the flags. Each mark of the order acts.
+-- by the lines of the flags. Each mark of the order acts, and heap full comes only without room.
 pub record IsPlainlyPrinted (call : Call) (options : SimOptions) (program : List (List Instr)) (items : List Item) : Type 0 where
   pub prints : Grows call.out.held (print_of (plain program options.turns (order_of options program items)) ++ flag_lines options (run_of options program items)) call.out.holds
   pub acts : EachActs program options.turns (opening program) (order_of options program items)
+  pub full : IsFullWithoutRoom options program items
 
 -- the headline in one sentence: where `sim` succeeds, it prints what the plain machine prints
 abbrev pub PrintsPlainly : Call → Type 0

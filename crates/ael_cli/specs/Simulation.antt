@@ -7,9 +7,9 @@ use Rattle.plain_heap.specs.declared.mark.Mark.{Mark}
 use Rattle.plain_heap.specs.Order.{opening, plain}
 use Rattle.plain_heap.specs.Print.{print_of, order_line, plain_seen}
 use Rattle.collected_core.specs.declared.config.Config.{Config}
-use Rattle.collected_core.specs.Core.{opening_core, workers_of}
-use Rattle.collected_core.specs.Run.{Ran, run_from}
-use Rattle.collected_core.specs.Whole.{EachActs}
+use Rattle.collected_core.specs.Core.{CoreState, opening_core, workers_of}
+use Rattle.collected_core.specs.Run.{Ran, run_from, EachEvent}
+use Rattle.collected_core.specs.Whole.{EachActs, IsFull}
 use Rattle.ael_cli.specs.declared.options.SimOptions.{SimOptions}
 use Rattle.ael_cli.specs.declared.status.Status.{Status}
 use Rattle.ael_cli.specs.Dump.{cycles_line, dump_text}
@@ -22,11 +22,22 @@ use Rattle.ael_cli.specs.Task.{Task}
 abbrev pub config : SimOptions → Config
 config options = record { pages = options.pages; scanners = options.scanners; turns = options.turns }
 
+-- the core in which the run of a program begins
+abbrev pub core_of : SimOptions → List (List Instr) → CoreState
+core_of options program = opening_core program (config options)
+
+-- the worker that makes each of its steps
+abbrev pub scheduled : SimOptions → List (List Instr) → List Item → ℕ → ℕ
+scheduled options program items = schedule_of options.seed items (workers_of (core_of options program))
+
 -- the run of a program: by its schedule, up to the last end or so many steps
 abbrev pub run_of : SimOptions → List (List Instr) → List Item → Ran
-run_of options program items =
-    let core = opening_core program (config options) in
-    run_from (schedule_of options.seed items (workers_of core)) 0 options.steps core
+run_of options program items = run_from (scheduled options program items) 0 options.steps (core_of options program)
+
+-- Each end for want of room comes where copying is done and too few words are free, and no flip could help: one came since the
+-- instruction was begun, or there can be no more.
+abbrev pub IsFullWithoutRoom : SimOptions → List (List Instr) → List Item → Type 0
+IsFullWithoutRoom options program items = EachEvent IsFull (scheduled options program items) 0 options.steps (core_of options program)
 
 -- the order of the run
 abbrev pub order_of : SimOptions → List (List Instr) → List Item → List Mark
@@ -55,6 +66,7 @@ pub record IsSimulated (options : SimOptions) (program : List (List Instr)) (ite
   pub prints : output ≡ output_of options program items
   pub went : status ≡ status_of options program items
   pub acts : EachActs program options.turns (opening program) (order_of options program items)
+  pub full : IsFullWithoutRoom options program items
 
 abbrev pub sim_task : SimOptions → Task
 sim_task options = program_task (IsSimulated options)

@@ -1,9 +1,7 @@
 use Rattle.std.proofs.Common.{◌∙◌, ap, ℕ}
 use Rattle.std.specs.Global.{Vec}
 use Rattle.std.proofs.lemmas.Result.{IfOk-weaker}
-use Rattle.collected_core.specs.Core.{opening_core, workers_of}
-use Rattle.ael_cli.specs.Schedule.{schedule_of}
-use Rattle.ael_cli.specs.Simulation.{config, run_of}
+use Rattle.ael_cli.specs.Simulation.{config, scheduled}
 use Rattle.ael_cli.proofs.Simulating.{simulated}
 use Rattle.ael_cli.proofs.sim.sim.Goals as goal
 
@@ -12,10 +10,8 @@ returns c =
     let options = c.args.options in
     let program = c.args.program.now.code in
     let items = c.args.program.now.schedule in
-    let schedule = schedule_of options.seed items (workers_of (opening_core program (config options))) in
-    let ran = run_of options program items in
     IfOk-weaker c.new.result _ _ (λ answer new. simulated options program items _ c.in_ok-order.order.items _ _
-    (c.runs_follow.ensures program items (config options) schedule options.steps c.args.program.now.well_formed c.requires.pages c.requires.turns.1)
+    (c.runs_follow.ensures program items (config options) (scheduled options program items) options.steps c.args.program.now.well_formed c.requires.pages c.requires.turns.1 c.requires.scanners)
     (rw (c.in_ok-core.ensures.opened, c.as_slice.ensures) at c.in_ok-order.ensures.core)
     (rw (c.in_ok-core.ensures.opened, c.as_slice.ensures) at c.in_ok-order.ensures.order)
     (new.0 ∙ ap (λ (v : Vec ℕ). v.items) c.into_bytes.ensures.value
