@@ -10,12 +10,7 @@ use plain_heap::NoMemory;
 
 /// Adds the first line: how many pages a space has, how many mutators there are, and how many
 /// workers.
-fn push_head(
-    out: &mut String,
-    pages: u32,
-    mutators: usize,
-    workers: u8,
-) -> Result<(), NoMemory>
+fn push_head(out: &mut String, pages: u32, mutators: usize, workers: u8) -> Result<(), NoMemory>
     ensures { OnOk result (string_bytes out.new ≡ string_bytes out.old ++ dump_head pages mutators workers) }
 {
     writeln!(out, "dump {pages} {mutators} {workers}")?;

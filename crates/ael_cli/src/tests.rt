@@ -1,5 +1,7 @@
 //! The program's answers, over sources and sinks in memory and over a file.
 
+mod collecting;
+mod dumps;
 mod files;
 mod instructions;
 mod listings;
@@ -94,15 +96,13 @@ no instruction|sim|.mutator/|0: jump out/||3
 a line of no form|sim|.mutator/foo/||ael: line 2: error 1: unknown instruction/|1
 no words||.mutator/li r1 7/new r0 2/st r0 1 r1/ld r2 r0 1/out r2/halt/||usage: ael asm, sim, run, concord or bench/|2
 fewer pages than a space may have|sim --pages 3|.mutator/li r1 7/new r0 2/st r0 1 r1/ld r2 r0 1/out r2/halt/||usage: ael asm, sim, run, concord or bench/|2
-the fewest pages|sim --pages 4 --order|.mutator/new r0 4095/|0: heap full asked 64 room 256 live 0/order X0,64,256,0/||3
-room for 63 pages where 64 are asked|sim --order|.mutator/new r0 0/new r0 4095/new r0 4095/new r0 4095/new r0 4095/|0: heap full asked 64 room 4032 live 0/order 0 0 0 0 X0,64,4032,0/||3
-no room at all|sim|.mutator/new r0 4095/new r0 4095/new r0 4095/new r0 4095/new r0 4095/|0: heap full asked 64 room 0 live 0/||3
 an empty input|sim|||ael: line 1: error 5: no mutator/|1";
 
 #[test]
 fn calls_give_what_they_should(rt: HostRuntime) -> Result<(), Fail> {
     let tables = [
         ROWS,
+        collecting::ROWS,
         instructions::ROWS,
         schedules::ROWS,
         texts::ROWS,

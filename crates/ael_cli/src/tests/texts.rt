@@ -13,11 +13,11 @@ a subroutine|sim|.mutator/jal r7 f/out r7/halt/f: jr r7/|0: 1/0: halt/||0
 a jump past the last instruction|sim|.mutator/jmp e/e:/|0: jump out/||3
 turns out comes before jump out|sim --turns 1|.mutator/jmp e/e:/|0: turns out/||3
 line ends of CR LF, blanks and comments|sim|\r/ ; a text\r/.mutator;\r/\tout r0 ; 0\r/ halt|0: 0/0: halt/||0
-a listed schedule|sim --order --scanners 0|.schedule 1 0*2/.mutator/out r0/halt/.mutator/out r0/halt/|0: 0/0: halt/1: 0/1: halt/order 1 0 0 1/||0
+a listed schedule|sim --order --scanners 0|.schedule 1*3 0*4/.mutator/out r0/halt/.mutator/out r0/halt/|0: 0/0: halt/1: 0/1: halt/order 1 0 0 1/||0
 a schedule between sections and after the last|sim --order --scanners 0|.mutator/halt/.schedule 1/.mutator/halt/.schedule 0/|0: halt/1: halt/order 1 0/||0
 counts are not unrolled|sim --steps 3 --scanners 0|.schedule 0*1000000 1*1000000/.schedule 0*1000000/.mutator/l: jmp l/.mutator/halt/|0: stopped/1: stopped/|ael: steps out/|4
-a worker that isn't there|sim --steps 4 --order|.schedule 23 0/.mutator/out r0/out r0/halt/|0: 0/0: 0/0: stopped/order 0 0/|ael: steps out/|4
-one mutator ended, one stopped|sim --steps 4 --scanners 0|.mutator/halt/.mutator/l: jmp l/|0: halt/1: stopped/|ael: steps out/|4
+a worker that isn't there|sim --steps 8 --order|.schedule 23 0/.mutator/out r0/out r0/halt/|0: 0/0: 0/0: stopped/order 0 0/|ael: steps out/|4
+one mutator ended, one stopped|sim --steps 6 --scanners 0|.mutator/halt/.mutator/l: jmp l/|0: halt/1: stopped/|ael: steps out/|4
 labels of one name in two sections|sim|.mutator/jmp l/l: halt/.mutator/out r0/l: halt/|0: halt/1: 0/1: halt/||0
 two mutators meet on the board|sim --scanners 0|.mutator/li r0 5/put 0 r0/w: get r1 1/jz r1 w/out r1/halt/.mutator/w: get r0 0/jz r0 w/add r0 r0 r0/put 1 r0/halt/|0: 10/0: halt/1: halt/||0";
 
@@ -66,5 +66,6 @@ fn seeds_change_nothing_alone(rt: HostRuntime) -> Result<(), Fail> {
 /// Two mutators that each add 1 to a word of the board by a load and a store, and print it: the seed
 /// decides who comes first.
 pub const ADDERS: &str = "\
-seed 2|sim --seed 2|.mutator/li r1 1/get r0 0/add r0 r0 r1/put 0 r0/get r0 0/out r0/halt/.mutator/li r1 1/get r0 0/add r0 r0 r1/put 0 r0/get r0 0/out r0/halt/|0: 1/0: halt/1: 1/1: halt/||0
-seed 3|sim --seed 3|.mutator/li r1 1/get r0 0/add r0 r0 r1/put 0 r0/get r0 0/out r0/halt/.mutator/li r1 1/get r0 0/add r0 r0 r1/put 0 r0/get r0 0/out r0/halt/|0: 1/0: halt/1: 2/1: halt/||0";
+seed 0|sim --seed 0|.mutator/li r1 1/get r0 0/add r0 r0 r1/put 0 r0/get r0 0/out r0/halt/.mutator/li r1 1/get r0 0/add r0 r0 r1/put 0 r0/get r0 0/out r0/halt/|0: 1/0: halt/1: 1/1: halt/||0
+seed 1|sim --seed 1|.mutator/li r1 1/get r0 0/add r0 r0 r1/put 0 r0/get r0 0/out r0/halt/.mutator/li r1 1/get r0 0/add r0 r0 r1/put 0 r0/get r0 0/out r0/halt/|0: 1/0: halt/1: 2/1: halt/||0
+seed 4|sim --seed 4|.mutator/li r1 1/get r0 0/add r0 r0 r1/put 0 r0/get r0 0/out r0/halt/.mutator/li r1 1/get r0 0/add r0 r0 r1/put 0 r0/get r0 0/out r0/halt/|0: 2/0: halt/1: 1/1: halt/||0";

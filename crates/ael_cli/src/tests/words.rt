@@ -8,7 +8,8 @@ use simple_commands::WordsError;
 use std::alloc::Global;
 use std::test::Fail;
 
-/// Words and their job, which is a simulation's pages, scanners, turns, steps, seed and order.
+/// Words and their job, which is a simulation's pages, scanners, turns, steps, seed and order, and
+/// the flags besides that were given.
 const ROWS: &str = "\
 sim|256 1 1000000 10000000 None false
 sim --|256 1 1000000 10000000 None false
@@ -34,6 +35,9 @@ sim --seed +5|256 1 1000000 10000000 Some(5) false
 sim --seed 18446744073709551615|256 1 1000000 10000000 Some(18446744073709551615) false
 sim --turns 3 --steps 5|256 1 3 5 None false
 sim --order --seed 1 --steps 6 --turns 5 --scanners 0 --pages 8|8 0 5 6 Some(1) true
+sim --cycles|256 1 1000000 10000000 None false cycles
+sim --dump --order|256 1 1000000 10000000 None true dump
+sim --dump --cycles|256 1 1000000 10000000 None false cycles dump
 asm|asm
 asm --|asm
 |refused
@@ -67,7 +71,8 @@ sim --order --order|refused
 sim --order=x|refused
 sim --order=|refused
 sim --page 8|refused
-sim --cycles|refused
+sim --cycles --cycles|refused
+sim --dump=1|refused
 sim x|refused
 sim -- x|refused
 sim -- --order|refused
@@ -86,6 +91,7 @@ asm asm|refused
 asm sim|refused
 sim asm|refused
 asm --order|refused
+asm --dump|refused
 asm --pages 8|refused
 asm ''|refused
 asm -- x|refused
@@ -105,8 +111,12 @@ fn options_text(alloc: Global, options: SimOptions) -> Result<String, Fail> {
         steps,
         seed,
         order,
+        cycles,
+        dump,
     } = options;
-    Ok(format!(in alloc; "{pages} {scanners} {turns} {steps} {seed:?} {order}")?)
+    let cycles = if cycles { " cycles" } else { "" };
+    let dump = if dump { " dump" } else { "" };
+    Ok(format!(in alloc; "{pages} {scanners} {turns} {steps} {seed:?} {order}{cycles}{dump}")?)
 }
 
 /// The text of what words were read to.
