@@ -4,7 +4,6 @@ ghost use Rattle.atom_store.specs.Step.{place_in};
 ghost use Rattle.heap_words.specs.Decoded.{decode};
 ghost use Rattle.heap_words.specs.Word.{busy_word, forward_word};
 ghost use Rattle.space_map.specs.AreaWord.{AreaFits, decode_area};
-ghost use Rattle.space_map.specs.Spaces.{IsInSpace, to_space};
 ghost use Rattle.space_map.specs.Table.{table_length};
 ghost use Rattle.forwarding.specs.Evacuation.{IsGoing, area_past, begun, front_of, size_of, wanted};
 ghost use Rattle.forwarding.specs.Keeping.{address_reserved, header_kept, kept_word, reserved_word};
@@ -24,7 +23,7 @@ use space_map::{AreaWord, PAGE_WORDS, Spaces};
 use std::marker::Model;
 
 /// The copy of the record at an address of the old space of an epoch, by one worker.
-#[derive(Debug, Drop)]
+#[derive(Clone, Copy, Debug)]
 pub struct Evac {
     spaces: Spaces,
     addr: u32,
@@ -42,12 +41,14 @@ impl Model for Evac {
     ghost view = { λ v. record { layout = v.spaces; addr = v.addr; epoch = v.epoch; worker = v.worker; stage = v.stage } };
 
     ghost invariant = { λ v. IsSound (record { layout = v.spaces; addr = v.addr; epoch = v.epoch; worker = v.worker; stage = v.stage }) };
+
+    ghost inverse = { λ v. record { spaces = v.layout; addr = v.addr; epoch = v.epoch; worker = v.worker; stage = v.stage } };
 }
 
 impl Evac {
-    /// The copy of the record at an address of the space that isn't the epoch's.
+    /// The copy of the record at an address, which is to lie in the space that isn't the epoch's.
     pub fn new(spaces: Spaces, addr: u32, epoch: u32, worker: u8) -> Evac
-        requires old { IsInSpace spaces.pages addr (to_space (epoch + 1)) }
+        requires addr { addr < 128 * spaces.pages }
         requires worker { worker ≤ 23 }
         ensures { result ≡ begun spaces addr epoch worker }
     {

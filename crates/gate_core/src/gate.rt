@@ -95,6 +95,13 @@ impl Gate {
         }
     }
 
+    /// Which passage it is.
+    pub fn passage(&self) -> Passage
+        ensures { result ≡ self.now.passage }
+    {
+        self.passage
+    }
+
     /// The next step.
     pub fn want(&self) -> Step
         requires { IsPassingGoing self.now.stage }

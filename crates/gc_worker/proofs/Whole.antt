@@ -33,7 +33,7 @@ use Rattle.gc_worker.specs.Turned.{Told, Silent, Answers, Marks, PageWon, epoch_
 use Rattle.gc_worker.specs.Wanted.{wanted}
 use Rattle.gc_worker.proofs.Gate.Exchanging.{exchanges_gate}
 use Rattle.gc_worker.proofs.Look.{looks}
-use Rattle.gc_worker.proofs.Access.{accesses}
+use Rattle.gc_worker.proofs.Accessing.Stages.{accesses}
 use Rattle.gc_worker.proofs.Gate.Words.{gate_says}
 use Rattle.gc_worker.proofs.Gate.Passing.{loads_gate}
 use Rattle.gc_worker.proofs.Flip.Resetting as resetting

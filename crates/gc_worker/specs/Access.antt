@@ -226,11 +226,14 @@ left_at (SwapsBoard s old) = 1
 abbrev pub left : Access → ℕ
 left a = left_at a.stage
 
--- a page's word was read, or a header, or an exchange was won
+-- the reply takes it on to a later stage, if it comes to nothing yet
 abbrev pub advances_at : AccessStage → Reply → Bool
-advances_at (SwapsBoard s old) (replies.Lost word) = false
+advances_at (LooksAtRecord r) (replies.Value word) = true
 advances_at (LoadsHeader r) (replies.Value word) = is_header (decode word)
-advances_at stage reply = true
+advances_at (LooksAtField f usage) (replies.Value word) = true
+advances_at (LooksAtBoard b) (replies.Value word) = true
+advances_at (LoadsForSwap s) (replies.Value word) = true
+advances_at stage reply = false
 
 -- ---- what it keeps of itself
 

@@ -229,7 +229,7 @@ FitsTaskBack x ToScanner = x.task ≡ None
 abbrev pub FitsTaskBefore : Held → Passage → After → Type 0
 FitsTaskBefore x passages.Leave after = x.task ≡ None
 FitsTaskBefore x passages.Request after = IsMaking x.account x.registers x.task × (after ≡ afters.Places)
-FitsTaskBefore x passages.Attach after = FitsTaskAfter x after
+FitsTaskBefore x passages.Attach after = MayBegin x.account x.registers x.task
 FitsTaskBefore x passages.Park after = FitsTaskAfter x after
 FitsTaskBefore x (passages.Resume epoch) after = FitsTaskAfter x after
 FitsTaskBefore x passages.Forwarded after = FitsTaskAfter x after

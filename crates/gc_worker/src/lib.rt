@@ -7,6 +7,7 @@
 
 mod access;
 mod access_stage;
+mod access_words;
 mod accessed;
 mod after;
 mod back;

@@ -27,7 +27,7 @@ use std::marker::Model;
 const BOARD_WORDS: u32 = 16;
 
 /// The scan of a page in an epoch, by the worker that has claimed it.
-#[derive(Debug, Drop)]
+#[derive(Clone, Copy, Debug)]
 pub struct Scan {
     spaces: Spaces,
     page: u32,
@@ -45,6 +45,8 @@ impl Model for Scan {
     ghost view = { λ v. record { layout = v.spaces; page = v.page; epoch = v.epoch; in_place = v.in_place; stage = v.stage } };
 
     ghost invariant = { λ v. IsSound (record { layout = v.spaces; page = v.page; epoch = v.epoch; in_place = v.in_place; stage = v.stage }) };
+
+    ghost inverse = { λ v. record { spaces = v.layout; page = v.page; epoch = v.epoch; in_place = v.in_place; stage = v.stage } };
 }
 
 impl Scan {
@@ -66,6 +68,13 @@ impl Scan {
             in_place,
             stage,
         }
+    }
+
+    /// The page.
+    pub fn page(&self) -> u32
+        ensures { result ≡ self.now.page }
+    {
+        self.page
     }
 
     /// The next step.
