@@ -1,5 +1,6 @@
 pub mod Claiming
 pub mod Readying
+pub mod Header
 pub mod Opened
 pub mod Areas
 pub mod Traced
