@@ -1,0 +1,3 @@
+pub mod Readying
+pub mod Beginning
+pub mod Wanting
