@@ -1,11 +1,7 @@
 //! What holds of a worker's steps. Each function here does nothing: its contract is what is proved.
 
 ghost use Rattle.gc_worker.specs.Law.{StepsKeep, FlipsAreWon, PlacesFit, RegistersLeadBack};
-<<<<<<< HEAD
-ghost use Rattle.gc_worker.specs.Between.{WhatStandsIsSo};
-=======
 ghost use Rattle.gc_worker.specs.Between.{HeapsOpen, ReadyingStands, TasksMayBegin, WorkersGoOn, WorkersWant, WhatStandsIsSo, AnswersLeaveTheOthers};
->>>>>>> 413cf02e10e3a5889a76efb24d6d1441fe479f74
 ghost use Rattle.gc_worker.specs.Represented.{RepresentedWorkersStand};
 
 /// A step of a worker is of a word of the table, and the worker may take the reply. What stood for a plain state before stands for it
@@ -34,12 +30,6 @@ pub fn what_is_represented_stands()
     ensures { RepresentedWorkersStand }
 {}
 
-<<<<<<< HEAD
-/// Of a heap that stands for a plain state the table has all its words, each worker is sound, and each mutator is as its plain one.
-pub fn what_stands_is_so()
-    ensures { WhatStandsIsSo }
-{}
-=======
 /// A new heap, with its workers before their first steps, stands for the plain state in which nothing was made yet.
 pub fn heaps_open()
     ensures { HeapsOpen }
@@ -75,4 +65,3 @@ pub fn what_stands_is_so()
 pub fn answers_leave_the_others()
     ensures { AnswersLeaveTheOthers }
 {}
->>>>>>> 413cf02e10e3a5889a76efb24d6d1441fe479f74
