@@ -1,8 +1,7 @@
 -- What is so between any two steps, how a heap begins, and what a worker may become without a step.
-use Rattle.std.specs.Prelude.{◌≡◌, ℕ, ◌+◌, ◌<◌, ◌≤◌, ◌↔◌, ⊤, List, [], length, true, Option, Some, None, nat_lt, replicate, slice_get, slice_index, slice_set, if◌then◌else◌, zero, suc, ◌∷◌}
+use Rattle.std.specs.Prelude.{◌≡◌, ℕ, ◌+◌, ◌<◌, ◌≤◌, ◌↔◌, ⊤, List, [], length, true, Some, None, nat_lt, replicate, slice_get, slice_index, slice_set, if◌then◌else◌, zero, suc, ◌∷◌}
 use Rattle.heap_words.specs.declared.kind.Kind.{Kind}
 use Rattle.heap_words.specs.Decoded.{NumberWord, PointerWord, HeaderWord, decode}
-use Rattle.plain_state.specs.declared.end.End.{End}
 use Rattle.plain_state.specs.declared.value.Identity.{Identity}
 use Rattle.plain_state.specs.declared.value.Value.TheVariants.{Number, Reference}
 use Rattle.plain_state.specs.declared.sizes.TheConstants.{REGISTERS}
@@ -10,7 +9,6 @@ use Rattle.plain_state.specs.State.{Mutator, Plain}
 use Rattle.space_map.specs.Spaces.{IsInSpace, IsPageCount, to_space}
 use Rattle.space_map.specs.Table.{HeapWord, table_length}
 use Rattle.atom_store.specs.declared.reply.Reply.{Reply}
-use Rattle.atom_store.specs.declared.step.Step.{Step}
 use Rattle.fault_duty.specs.declared.caller.Caller.TheVariants as callers
 use Rattle.fault_duty.specs.Duty as duty
 use Rattle.gate_core.specs.declared.passage.Passage.TheVariants.{Attach}
@@ -153,7 +151,7 @@ pub record IsAsPlain (h : Heap) (p : Plain) (k : ℕ) (x : Held) (q : Mutator) :
 
 -- the table has all its words, each worker is sound, and each mutator is as its plain one, of which there are as many
 pub record IsSo (h : Heap) (p : Plain) : Type 0 where
-  pub whole : length h.words ≡ table_length h.pages
+  pub whole : table_length h.pages ≤ length h.words
   pub fit : (k : ℕ) → k < length h.workers → Fits h.pages h.mutators k (held_at h k)
   pub as_many : length p.mutators ≡ h.mutators
   pub enough : h.mutators ≤ length h.workers

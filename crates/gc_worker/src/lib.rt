@@ -29,6 +29,7 @@ pub use field_access::{FieldAccess, FieldUse, Role};
 pub use forwarding_register::ForwardingRegister;
 pub use laws::{
     flips_are_won, places_fit, registers_lead_back, steps_keep, what_is_represented_stands,
+    what_stands_is_so,
 };
 pub use record_access::{RecordAccess, RecordUse};
 pub use stage::Stage;
