@@ -1,3 +1,4 @@
 pub mod Readying
 pub mod Beginning
 pub mod Wanting
+pub mod Opening
