@@ -2,3 +2,4 @@ pub mod Readying
 pub mod Beginning
 pub mod Wanting
 pub mod Opening
+pub mod Standing
