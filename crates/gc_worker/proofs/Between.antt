@@ -3,3 +3,5 @@ pub mod Beginning
 pub mod Wanting
 pub mod Opening
 pub mod Standing
+pub mod GoingOn
+pub mod Others
