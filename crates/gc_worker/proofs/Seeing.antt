@@ -24,8 +24,9 @@ use Rattle.mutator_asm.specs.Program.{is_valid, is_register, is_number}
 use Rattle.plain_heap.specs.Action.{register, are_same, action}
 use Rattle.plain_heap.proofs.Named.{Spells, Names, named}
 use Rattle.heap_state.specs.Configuration.{Configuration, Stands, era, memory, team}
-use Rattle.heap_state.specs.Values.{value_of}
+use Rattle.heap_state.specs.Values.{value_of, value_said}
 use Rattle.heap_state.specs.Worker.{is_running}
+use Rattle.heap_state.proofs.Puts.{none≢some}
 use Rattle.heap_laws.specs.Fields.Effects.{RegisterHolds}
 use Rattle.heap_laws.specs.Fields.Held.{HoldsValue}
 use Rattle.heap_laws.proofs.Fields.SameWords.{same_words}
@@ -51,6 +52,19 @@ word_seen w is = by_word (decode w) refl is
     by_word (ForwardWord len a) e is = absurd is
     by_word (BusyWord len j) e is = absurd is
     by_word Malformed e is = absurd is
+
+-- a word that denotes a value is a number's or a pointer's
+pub is_value : (identity : ℕ → Identity) (w : ℕ) (y : Value) → value_of identity w ≡ Some y → IsValueWord w
+unfolding value_of
+is_value identity w y e = by_word (decode w) e
+  where
+    by_word : (d : Decoded) → value_said identity d ≡ Some y → IsValueAs d
+    by_word (NumberWord n) e = tt
+    by_word (PointerWord a) e = tt
+    by_word (HeaderWord kind len serial mutator) e = none≢some e
+    by_word (ForwardWord len a) e = none≢some e
+    by_word (BusyWord len j) e = none≢some e
+    by_word Malformed e = none≢some e
 
 -- ---- values
 
