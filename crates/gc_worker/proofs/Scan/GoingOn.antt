@@ -57,7 +57,7 @@ module _ (x : Held) (v : Scanning) (back : Back) where
   at_scan stage = record v { stage = stage }
 
   module _ (n mutators k : ℕ) (f : Fits n mutators k x) (unended : is_some x.account.end ≡ false) (fits : FitsScan x v) (own : FitsBack x back)
-        (side : IsOnSideBack back (nat_lt x.number x.mutators)) (task : FitsTaskBack x back) where
+      (side : IsOnSideBack back (nat_lt x.number x.mutators)) (task : FitsTaskBack x back) where
     -- it fits where the scan's stage is sound
     sound_at : (next : Stage) (stage : ScanStage) → scan_sound.FitsStage v.layout.pages v.page stage → FitsScan (at_stage x next) (at_scan stage)
     sound_at next stage sound = record { layout = fits.layout; epoch = fits.epoch; sound = record { pages = fits.sound.pages; page = fits.sound.page; fits = sound } }

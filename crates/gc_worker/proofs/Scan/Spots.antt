@@ -68,7 +68,7 @@ module _ (y : Held) (v : Scanning) (back : Back) where
   passes_sound (InRecord r a) few on = let f = on.0.fields in goes_on_sound y v back r (a + 1) on.0 on.1 (omega (arith, on)) (omega (arith, on)) (omega (arith, on, f))
 
   module _ (n mutators k : ℕ) (f : Fits n mutators k x) (unended : is_some x.account.end ≡ false) (fits : FitsScan x v) (own : FitsBack x back)
-        (side : IsOnSideBack back (nat_lt x.number x.mutators)) (task : FitsTaskBack x back) where
+      (side : IsOnSideBack back (nat_lt x.number x.mutators)) (task : FitsTaskBack x back) where
     board_fits : (a : ℕ) (b : Bool) → scan_sound.FitsStage v.layout.pages v.page (board_by a b) → Fits n mutators k (scans_to x v back (board_by a b))
     board_fits a true sound = going_fits x v back n mutators k f unended fits own side task (scan_stage.LoadsWord (OnBoard (a + 1))) tt sound
     board_fits a false sound = ended_fits x v back n mutators k f unended fits own side task (record { cursor = a + 1; at_front = false }) sound

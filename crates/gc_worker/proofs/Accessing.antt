@@ -1,0 +1,6 @@
+pub mod Going
+pub mod Looking
+pub mod Acting
+pub mod Outcomes
+pub mod Headers
+pub mod Fields
