@@ -1,1 +1,4 @@
 pub mod Standing
+pub mod Readying
+pub mod Beginning
+pub mod Wanting
