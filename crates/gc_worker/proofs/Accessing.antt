@@ -1,2 +1,5 @@
 pub mod Going
 pub mod Looking
+pub mod Acting
+pub mod Outcomes
+pub mod Headers
