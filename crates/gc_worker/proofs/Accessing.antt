@@ -3,3 +3,4 @@ pub mod Looking
 pub mod Acting
 pub mod Outcomes
 pub mod Headers
+pub mod Board
