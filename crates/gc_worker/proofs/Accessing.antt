@@ -4,3 +4,4 @@ pub mod Acting
 pub mod Outcomes
 pub mod Headers
 pub mod Board
+pub mod Fields

@@ -152,7 +152,7 @@ module _ (c : Configuration) (p : Plain) (s : Stands c p) (k : ℕ) (x : Held) (
       denotes = rw (decode-number_word n) refl;
     }
 
-    small_number : (n : ℕ) → Holds (Number n) → n < NUMBERS
+    pub small_number : (n : ℕ) → Holds (Number n) → n < NUMBERS
     small_number n holds = ?
 
     held_word : (r : ℕ) (small : r < REGISTERS) → Holds (value_seen (word r))

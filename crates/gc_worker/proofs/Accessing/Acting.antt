@@ -28,7 +28,8 @@ use Rattle.gc_worker.specs.Fits.{Executes}
 use Rattle.gc_worker.specs.Goes.{Is}
 use Rattle.gc_worker.specs.Held.{Held}
 use Rattle.gc_worker.specs.Seen.{seen}
-use Rattle.gc_worker.proofs.Alike.{plain_action, plain_outcome, alike, held, Holds}
+use Rattle.gc_worker.proofs.Alike.{plain_action, plain_outcome}
+use Rattle.gc_worker.proofs.Seeing.{alike, held, Holds}
 use Rattle.gc_worker.proofs.Answering.{IsIts, its_mutator}
 use Rattle.gc_worker.proofs.Accessing.Going.{at, no_end, ready}
 
