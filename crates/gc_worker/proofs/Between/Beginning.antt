@@ -1,5 +1,6 @@
 -- A mutator without a task and without an end stands at a look, or on the way to one, and may be given a task.
-use Rattle.std.proofs.Common.{◌≡◌, ℕ, ◌<◌, ⊤, Bool, true, false, is_some, nat_lt, Option, Some, None, refl, sym, ap, ◌∙◌, lt-ltb}
+use Rattle.std.proofs.Common.{◌≡◌, ℕ, ◌<◌, Bool, true, false, is_some, nat_lt, Option, Some, None, refl, sym, ap, ◌∙◌, lt-ltb}
+use Rattle.std.specs.Bool.{⊤}
 use Rattle.gate_core.specs.declared.gate_stage.GateStage.{GateStage}
 use Rattle.gate_core.specs.declared.gate_stage.GateStage.TheVariants as gate_stage
 use Rattle.gate_core.specs.declared.passage.Passage.{Passage}
@@ -22,19 +23,19 @@ use Rattle.gc_worker.specs.Knows.{known_at, passage_in, step_from, gate_step_at}
 
 -- ---- where it stands
 
--- a passage after which a mutator goes on
-abbrev IsOnTheWay : Passage → Type 0
-IsOnTheWay Attach = ⊤
-IsOnTheWay Park = ⊤
-IsOnTheWay (Resume epoch) = ⊤
-IsOnTheWay Forwarded = ⊤
-IsOnTheWay Look = ⊥
-IsOnTheWay Request = ⊥
-IsOnTheWay Leave = ⊥
+-- a passage after which a mutator looks
+abbrev IsOnTheWay : Passage → After → Type 0
+IsOnTheWay Attach after = ⊤
+IsOnTheWay Park after = after ≡ afters.Looks
+IsOnTheWay (Resume epoch) after = after ≡ afters.Looks
+IsOnTheWay Forwarded after = after ≡ afters.Looks
+IsOnTheWay Look after = ⊥
+IsOnTheWay Request after = ⊥
+IsOnTheWay Leave after = ⊥
 
 abbrev Waits : Stage → Type 0
 Waits Looks = ⊤
-Waits (Passes g after) = IsOnTheWay g.passage × (after ≡ afters.Looks)
+Waits (Passes g after) = IsOnTheWay g.passage after
 Waits (Forwards w) = w.after ≡ afters.Looks
 Waits stage = ⊥
 
@@ -55,11 +56,11 @@ module _ (x : Held) (idle : IsIdle x) where
   looks_after afters.Looks task = refl
   looks_after afters.Places task = absurd (makes_none task)
 
-  by_passage : (passage : Passage) (after : After) → IsEndBefore passage (is_some x.account.end) → FitsTaskBefore x passage after → IsOnTheWay passage × (after ≡ afters.Looks)
-  by_passage Attach after end task = (tt, looks_after after task)
-  by_passage Park after end task = (tt, looks_after after task)
-  by_passage (Resume epoch) after end task = (tt, looks_after after task)
-  by_passage Forwarded after end task = (tt, looks_after after task)
+  by_passage : (passage : Passage) (after : After) → IsEndBefore passage (is_some x.account.end) → FitsTaskBefore x passage after → IsOnTheWay passage after
+  by_passage Attach after end task = tt
+  by_passage Park after end task = looks_after after task
+  by_passage (Resume epoch) after end task = looks_after after task
+  by_passage Forwarded after end task = looks_after after task
   by_passage Look after end task = absurd task
   by_passage Request after end task = absurd (makes_none task.0)
   by_passage Leave after end task = absurd (unended end)
@@ -93,23 +94,23 @@ module _ (x : Held) (task : Task) where
   y = with_task x task
 
   -- no passage but a request says for what it is made
-  same_passage : (passage : Passage) → IsOnTheWay passage → passage_in (asked_by y) passage ≡ passage_in (asked_by x) passage
-  same_passage Attach on = refl
-  same_passage Park on = refl
-  same_passage (Resume epoch) on = refl
-  same_passage Forwarded on = refl
-  same_passage Look on = refl
-  same_passage Request on = absurd on
-  same_passage Leave on = refl
+  same_passage : (passage : Passage) (after : After) → IsOnTheWay passage after → passage_in (asked_by y) passage ≡ passage_in (asked_by x) passage
+  same_passage Attach after on = refl
+  same_passage Park after on = refl
+  same_passage (Resume epoch) after on = refl
+  same_passage Forwarded after on = refl
+  same_passage Look after on = refl
+  same_passage Request after on = absurd on
+  same_passage Leave after on = refl
 
-  same_step : (passage : Passage) (stage : GateStage) → IsOnTheWay passage → gate_step_at (asked_by y) passage stage ≡ gate_step_at (asked_by x) passage stage
-  same_step passage (gate_stage.Exchanges gate) on = ap (step_from gate) (same_passage passage on)
-  same_step passage gate_stage.Loads on = refl
-  same_step passage (gate_stage.Ended result) on = refl
+  same_step : (passage : Passage) (after : After) (stage : GateStage) → IsOnTheWay passage after → gate_step_at (asked_by y) passage stage ≡ gate_step_at (asked_by x) passage stage
+  same_step passage after (gate_stage.Exchanges gate) on = ap (step_from gate) (same_passage passage after on)
+  same_step passage after gate_stage.Loads on = refl
+  same_step passage after (gate_stage.Ended result) on = refl
 
   known : (stage : Stage) → Waits stage → known_at y stage ≡ known_at x stage
   known Looks w = refl
-  known (Passes g after) w = λ i. record (known_at x (Passes g after)) { gate_step = same_step g.passage g.stage w.0 i }
+  known (Passes g after) w = λ i. record (known_at x (Passes g after)) { gate_step = same_step g.passage after g.stage w i }
   known (Forwards w) e = refl
   known (Flips f) w = absurd w
   known (Accesses a) w = absurd w
@@ -143,18 +144,18 @@ module _ (x : Held) (task : Task) where
     task_after afters.Looks e = may
     task_after afters.Places e = absurd (cc)
 
-    task_before : (passage : Passage) (after : After) → IsOnTheWay passage → after ≡ afters.Looks → FitsTaskBefore y passage after
-    task_before Attach after on e = task_after after e
-    task_before Park after on e = task_after after e
-    task_before (Resume epoch) after on e = task_after after e
-    task_before Forwarded after on e = task_after after e
-    task_before Look after on e = absurd on
-    task_before Request after on e = absurd on
-    task_before Leave after on e = absurd on
+    task_before : (passage : Passage) (after : After) → IsOnTheWay passage after → FitsTaskBefore y passage after
+    task_before Attach after on = may
+    task_before Park after e = task_after after e
+    task_before (Resume epoch) after e = task_after after e
+    task_before Forwarded after e = task_after after e
+    task_before Look after on = absurd on
+    task_before Request after on = absurd on
+    task_before Leave after on = absurd on
 
     fits_task : (stage : Stage) → Waits stage → FitsTask y stage
     fits_task Looks w = may
-    fits_task (Passes g after) w = task_before g.passage after w.0 w.1
+    fits_task (Passes g after) w = task_before g.passage after w
     fits_task (Forwards w) e = task_after w.after e
     fits_task (Flips f) w = absurd w
     fits_task (Accesses a) w = absurd w
