@@ -3,4 +3,5 @@ pub mod Looking
 pub mod Acting
 pub mod Outcomes
 pub mod Headers
+pub mod Board
 pub mod Fields
