@@ -1,5 +1,5 @@
 -- A mutator that has answered its task: it is sound with its new account, registers and run.
-use Rattle.std.proofs.Common.{◌≡◌, ℕ, ◌<◌, ◌≤◌, true, false, List, length, slice_index, Option, None, is_some, nat_lt, refl, subst, sym, ◌∙◌, ⊎_elim, get_or-set_same, get_or-set_other, length-set}
+use Rattle.std.proofs.Common.{◌≡◌, ℕ, ◌<◌, ◌≤◌, true, false, List, length, slice_index, Option, None, is_some, nat_lt, refl, subst, sym, ⊎_elim, get_or-set_same, get_or-set_other}
 use Rattle.std.specs.Prelude.{slice_set}
 use Rattle.std.proofs.lemmas.Bool.{cases_eq}
 use Rattle.plain_state.specs.declared.sizes.TheConstants.{REGISTERS, MOST_PRINTED}

@@ -91,7 +91,7 @@ module _ (k j : Mutator) (same : (x : Operand) → operand k x ≡ operand j x) 
   no_record : (i : Instr) (never : MakesNone i) → making_in (action k i) ≡ making_in (action j i)
   no_record i never = makes_none k i never ∙ sym (makes_none j i never)
 
-  makes_same : (i : Instr) → making_in (action k i) ≡ making_in (action j i)
+  pub makes_same : (i : Instr) → making_in (action k i) ≡ making_in (action j i)
   unfolding action
   makes_same (instrs.New d x) = allocates_same k j Fields d x (same x)
   makes_same (instrs.Raw d x) = allocates_same k j Raw d x (same x)
@@ -152,7 +152,7 @@ module _ (account : Account) (registers : List ℕ) (r a b : ℕ) (new : ℕ) (i
   begins_still : (task : Option Task) → MayBegin account registers task → MayBegin account (slice_set registers r new) task
   begins_still None may = tt
   begins_still (Some (Calls i)) may = call_stays i may
-  begins_still (Some (Stops end)) may = tt
+  begins_still (Some (Stops end)) may = may
 
   -- what is made is Ok of that action
   made : (o : Result Action End) (m : Making) → making_in o ≡ Some m → o ≡ Ok (Makes m.kind m.into m.len)

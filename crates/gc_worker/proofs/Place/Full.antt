@@ -1,9 +1,8 @@
 -- A mutator that allocates finds the heap full: in a traced epoch too few words are left, and no flip can help.
-use Rattle.std.proofs.Common.{◌≡◌, ℕ, ◌+◌, ◌-◌, ◌*◌, ◌<◌, ◌≤◌, ◌^◌, ◌==◌, Bool, true, false, cond, Some, None, Option, Ok, refl, ap, sym, subst, ◌∙◌, arith, ⊎_elim, inl, inr, nat_lt}
+use Rattle.std.proofs.Common.{◌≡◌, ℕ, ◌+◌, ◌-◌, ◌<◌, ◌≤◌, ◌^◌, ◌==◌, Bool, true, false, cond, None, Option, Ok, refl, ap, sym, subst, ◌∙◌, arith, ⊎_elim, inl, inr, nat_lt}
 use Rattle.std.specs.Prelude.{◌⊎◌}
 use Rattle.std.proofs.lemmas.Bool.{leb-false, ltb-true, eqb-true, or_cases}
 use Rattle.plain_state.specs.declared.end.End.{End}
-use Rattle.plain_state.specs.declared.end.End.TheVariants.{HeapFull}
 use Rattle.plain_state.specs.State.{Mutator, Plain}
 use Rattle.mutator_asm.specs.declared.instr.Instr.{Instr}
 use Rattle.plain_heap.specs.declared.action.Action.TheVariants.{Makes}
@@ -21,7 +20,6 @@ use Rattle.alloc_end.specs.Place.{size_of, pages_for, words_for, looked_at_area,
 use Rattle.alloc_end.specs.Soundness.{FitsPlaceStage}
 use Rattle.heap_state.specs.Configuration.{Configuration, Stands, era, memory, table, team}
 use Rattle.heap_state.specs.Worker.{Worker}
-use Rattle.heap_laws.specs.Composing.{unaware}
 use Rattle.heap_laws.specs.Fields.Stores.{EndsFull, with_end}
 use Rattle.heap_laws.specs.Steps.{IsAreaNow}
 use Rattle.heap_laws.proofs.Fields.Laws.{mutators_find_no_room}
@@ -33,12 +31,12 @@ use Rattle.gc_worker.specs.declared.after.After.TheVariants as afters
 use Rattle.gc_worker.specs.declared.task.Task.{Task}
 use Rattle.gc_worker.specs.declared.task.Task.TheVariants.{Calls}
 use Rattle.gc_worker.specs.Answer.{after_outcome}
-use Rattle.gc_worker.specs.Fits.{Fits, IsMaking}
+use Rattle.gc_worker.specs.Fits.{IsMaking}
 use Rattle.gc_worker.specs.Full.{FindsNoRoom}
 use Rattle.gc_worker.specs.Goes.{Is, Goes}
 use Rattle.gc_worker.specs.Held.{Held, at_stage}
 use Rattle.gc_worker.specs.Knows.{knows}
-use Rattle.gc_worker.specs.Turned.{Told, Silent, Ends, Answers, is_full, passes, ended, end_of, told_end, turned_place, told_place}
+use Rattle.gc_worker.specs.Turned.{Silent, Ends, Answers, is_full, passes, ended, end_of, told_end, turned_place, told_place}
 use Rattle.gc_worker.specs.Turned as turning
 use Rattle.gc_worker.proofs.Answering.{LawTo, IsIts, answers}
 use Rattle.gc_worker.proofs.Areas.{area_now, area_says, is_space}

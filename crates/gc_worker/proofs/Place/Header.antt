@@ -1,8 +1,7 @@
 -- A new record's header is stored: the record stands, and the register that the instruction names leads to it.
-use Rattle.std.proofs.Common.{◌≡◌, ℕ, ◌+◌, ◌-◌, ◌*◌, ◌<◌, ◌≤◌, ◌^◌, List, length, slice_index, Some, None, Option, Result, Ok, Err, refl, ap, sym, subst, ◌∙◌, arith, length-set}
+use Rattle.std.proofs.Common.{◌≡◌, ℕ, ◌+◌, ◌-◌, ◌<◌, ◌≤◌, length, slice_index, Some, None, Result, Ok, refl, ap, sym, subst, ◌∙◌, arith, length-set}
 use Rattle.std.specs.Prelude.{slice_set, IsOk}
 use Rattle.std.specs.Result.{IfOk}
-use Rattle.std.proofs.lemmas.Option.{same_Some}
 use Rattle.heap_words.specs.Decoded.{PointerWord, HeaderWord, decode, encode}
 use Rattle.heap_words.specs.Word.{pointer_word}
 use Rattle.heap_words.proofs.Decoding.{decode-pointer_word, decode-header_word}
@@ -34,20 +33,20 @@ use Rattle.heap_laws.specs.Fields.Held.{going_on}
 use Rattle.heap_laws.specs.Fields.Stores.{with_record}
 use Rattle.heap_laws.proofs.Allocation.Placed.{mutators_place}
 use Rattle.heap_laws.proofs.Allocation.Shown.{zeros_show}
-use Rattle.gc_worker.specs.declared.stage.Stage.TheVariants.{Places}
 use Rattle.gc_worker.specs.declared.task.Task.TheVariants.{Calls}
 use Rattle.gc_worker.specs.Answer.{after_outcome}
 use Rattle.gc_worker.specs.Fits.{Fits, IsMaking}
 use Rattle.gc_worker.specs.Goes.{Is, Goes, StepsSo}
 use Rattle.gc_worker.specs.Held.{Held}
 use Rattle.gc_worker.specs.Knows.{knows, stock_of}
-use Rattle.gc_worker.specs.Seen.{Making, IsValueAs, IsValueWord, seen}
+use Rattle.gc_worker.specs.Seen.{Making, IsValueAs, seen}
 use Rattle.gc_worker.specs.Turned.{Effect, Answers, turned, told, told_effect}
 use Rattle.gc_worker.specs.Turned as turning
 use Rattle.gc_worker.proofs.Answering.{LawTo, IsIts, answers, its_mutator, may_hold, going, next_as, row_fits_to}
 use Rattle.gc_worker.proofs.Gate.Resuming.{end_none}
 use Rattle.gc_worker.proofs.Gate.Words.{wants}
-use Rattle.gc_worker.proofs.Making.{made, made_is, header_made, header_is}
+use Rattle.gc_worker.proofs.Making.{made, made_is, header_made}
+use Rattle.gc_worker.proofs.Place.Acts.{makes_alike}
 use Rattle.gc_worker.proofs.Place.Claiming.{placing, at}
 use Rattle.gc_worker.proofs.Settling.{registers_put, values_set, settled_as, settled_fits}
 use Rattle.gc_worker.proofs.Steps.{stores, prepared}
@@ -181,7 +180,13 @@ module _ (c : Configuration) (p : Plain) (s : Stands c p) (k : ℕ) (y : Held) (
           answers c p s k x (Some entry) Done after ghost_after q (Calls instr) Effect comes answer refl is.below its.is its.no_end
           (subst (λ (o : Result After End). IsOk o) (sym calls) refl) law tt takes fits
 
-      steps : StepsSo c p s k x
-      steps =
+      stores_for : StepsSo c p s k x
+      stores_for =
           wants c p s k x (Store (place_of c.pages (HeapWord run.at)) word) (ap (λ n. Some (Store (place_of n (HeapWord run.at)) word)) is.fits.pages)
           (stores c p s k x entry (row_fits_to c p s k x entry (knows after) ghost_after (after_outcome p k q (Calls instr) Effect) is.below law) goes)
+
+    pub stores_header : StepsSo c p s k x
+    stores_header =
+        let unended = end_none y.account.end is.fits.end in
+        let its = its_mutator c p s k x is refl unended in
+        stores_for its.0 its.1 (makes_alike c p s k x is refl unended its.0 its.1 making)
