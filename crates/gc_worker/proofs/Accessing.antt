@@ -3,5 +3,6 @@ pub mod Looking
 pub mod Acting
 pub mod Outcomes
 pub mod Headers
-pub mod Board
 pub mod Fields
+pub mod Board
+pub mod Stages
