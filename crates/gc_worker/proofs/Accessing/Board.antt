@@ -2,7 +2,6 @@
 use Rattle.std.proofs.Common.{◌≡◌, ℕ, ◌+◌, ◌*◌, ◌<◌, ◌≤◌, Some, None, refl, ap, sym, subst, ◌∙◌, arith}
 use Rattle.std.specs.Prelude.{slice_set}
 use Rattle.std.proofs.lemmas.Option.{get_or_from_slice_get, same_Some}
-use Rattle.plain_state.specs.declared.value.Identity.{Identity}
 use Rattle.plain_state.specs.declared.value.Value.{Value}
 use Rattle.plain_state.specs.declared.value.Value.TheVariants.{Number}
 use Rattle.plain_state.specs.State.{Mutator, Plain}
@@ -13,14 +12,12 @@ use Rattle.plain_heap.specs.Call as plain
 use Rattle.plain_heap.specs.Call.{board_word}
 use Rattle.atom_store.specs.declared.step.Step.TheVariants.{Load, Store, Exchange}
 use Rattle.atom_store.specs.declared.reply.Reply.TheVariants as replies
-use Rattle.heap_words.specs.Decoded.{Decoded, NumberWord, PointerWord, HeaderWord, ForwardWord, BusyWord, Malformed, decode}
 use Rattle.space_map.specs.declared.page_word.PageWord.TheVariants.{Open}
 use Rattle.space_map.specs.Spaces.{board_page, page_of}
 use Rattle.space_map.specs.Table.{HeapWord, place_of}
 use Rattle.heap_state.specs.Configuration.{Configuration, Stands, era, memory, team}
 use Rattle.heap_state.specs.Entries.{WordIs}
 use Rattle.heap_state.specs.Table.{word_in}
-use Rattle.heap_state.specs.Values.{value_of, value_said}
 use Rattle.heap_state.specs.Worker as workers
 use Rattle.heap_laws.specs.Fields.Held.{GoesOn, HoldsValue}
 use Rattle.heap_laws.specs.Fields.Stores.{IsAs}
@@ -36,7 +33,7 @@ use Rattle.gc_worker.specs.Fits.{Executes}
 use Rattle.gc_worker.specs.Goes.{Is, Goes, StepsSo}
 use Rattle.gc_worker.specs.Held.{Held}
 use Rattle.gc_worker.specs.Knows.{knows, opened_at}
-use Rattle.gc_worker.specs.Seen.{IsValueAs, IsValueWord, word_for}
+use Rattle.gc_worker.specs.Seen.{IsValueWord, word_for}
 use Rattle.gc_worker.specs.Turned.{loads, went_on}
 use Rattle.gc_worker.proofs.Alike.{plain_value}
 use Rattle.gc_worker.proofs.Answering.{LawTo, IsIts}
@@ -47,6 +44,7 @@ use Rattle.gc_worker.proofs.Scan.Headers.{heap_word}
 use Rattle.gc_worker.proofs.Steps as steps
 use Rattle.gc_worker.proofs.Steps.{nothing}
 use Rattle.gc_worker.proofs.Accessing.Acting.{q, its, names}
+use Rattle.gc_worker.proofs.Accessing.Fields.{holds_word}
 use Rattle.gc_worker.proofs.Accessing.Going.{at, ready, running, no_end, knew_opened, goes_to}
 use Rattle.gc_worker.proofs.Accessing.Outcomes.{goes_bringing, goes_loading, goes_storing}
 
@@ -114,19 +112,6 @@ swaps (Stores i x v) s is = absurd (cc)
 swaps (Gets d x) s is = absurd (let e = same_use (record { word = x; usage = board_uses.Loads d }) (record { word = s.word; usage = board_uses.Swaps s.into s.new }) is in cc)
 swaps (Puts x v) s is = absurd (let e = same_use (record { word = x; usage = board_uses.Stores (word_for v) }) (record { word = s.word; usage = board_uses.Swaps s.into s.new }) is in cc)
 
--- a word that denotes a value is a value's
-said_value : (identity : ℕ → Identity) (d : Decoded) (v : Value) → value_said identity d ≡ Some v → IsValueAs d
-said_value identity (NumberWord n) v is = tt
-said_value identity (PointerWord a) v is = tt
-said_value identity (HeaderWord kind len serial mutator) v is = absurd (cc)
-said_value identity (ForwardWord len a) v is = absurd (cc)
-said_value identity (BusyWord len worker) v is = absurd (cc)
-said_value identity Malformed v is = absurd (cc)
-
-pub value_word : (identity : ℕ → Identity) (w : ℕ) (v : Value) → value_of identity w ≡ Some v → IsValueWord w
-unfolding value_of
-value_word identity w v is = said_value identity (decode w) v is
-
 -- ---- a word of the board
 
 module _ (c : Configuration) (p : Plain) (s : Stands c p) (k : ℕ) (y : Held) (stage : AccessStage) (is : Is c k (at c p s k y stage)) where
@@ -171,7 +156,7 @@ module _ (c : Configuration) (p : Plain) (s : Stands c p) (k : ℕ) (y : Held) (
         (subst (λ (w : ℕ). HoldsValue (era c) s.ghost w b.0) same b.2)
 
     found_value : IsValueWord found
-    found_value = value_word s.ghost.identity found (board_word p.heap word) there.denotes
+    found_value = holds_word (era c) s.ghost found (board_word p.heap word) there
 
     -- a word is stored there
     stored : (next : workers.Worker) (now : Mutator) (new : ℕ) (v : Value) → HoldsValue (era c) s.ghost new v → GoesOn (era c) (memory c) s.ghost ((team c).worker k) next → IsAs s.ghost p.heap k next now
@@ -259,7 +244,7 @@ module _ (c : Configuration) (p : Plain) (s : Stands c p) (k : ℕ) (y : Held) w
         (loaded_as c p s k here is refl (no_end c p s k y stage is) mine (its c p s k y stage is) b.into old before fits.1 old_held) in
         goes_bringing c p s k y stage is (Swaps b.into b.word v) executes (Some (WordIs place b.new)) replies.Won b.into old
         (record { heap = with_board p.heap b.word (plain_value s.ghost.identity v); mutator = now }) refl fits.1
-        (value_word s.ghost.identity old before old_held.denotes) refl law tt
+        (holds_word (era c) s.ghost old before old_held) refl law tt
 
     lost : Goes c p s k None here (replies.Lost (found c p s k y stage is b.word is.fits.stage.sound.stage.0 refl))
     lost =
