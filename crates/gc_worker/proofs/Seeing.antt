@@ -1,5 +1,5 @@
 -- What a running mutator sees of its registers is what the plain machine's registers have, with identities in place of addresses.
-use Rattle.std.proofs.Common.{◌≡◌, ℕ, ◌+◌, ◌-◌, ◌*◌, ◌/◌, ◌%◌, ◌<◌, ◌≤◌, ◌==◌, Bool, true, false, nat_lt, nat_le, List, length, map, get_or, slice_get, slice_index, Option, Some, None, Result, Ok, Err, refl, ap, sym, subst, ◌∙◌, ◌⊎◌, inl, inr, arith}
+use Rattle.std.proofs.Common.{◌≡◌, ℕ, ◌+◌, ◌-◌, ◌*◌, ◌/◌, ◌%◌, ◌<◌, ◌≤◌, ◌==◌, Bool, true, false, nat_lt, nat_le, List, length, map, slice_get, slice_index, Some, None, refl, ap, sym, subst, ◌∙◌, ◌⊎◌, inl, inr, arith}
 use Rattle.std.specs.Prelude.{⊤, IsTrue}
 use Rattle.std.specs.Result.{IfOk}
 use Rattle.std.proofs.lemmas.Bool.{ltb-true, leb-true, and_parts, and_from, eqb-true, eq-eqb, cases_lt}
@@ -7,9 +7,10 @@ use Rattle.std.proofs.lemmas.List.{get_or-map, get_or_past, length-map}
 use Rattle.std.proofs.lemmas.Option.{get_or_from_slice_get}
 use Rattle.std.proofs.Math.Nat.{div-le_self, mod-le}
 use Rattle.heap_words.specs.Decoded.{Decoded, NumberWord, PointerWord, HeaderWord, ForwardWord, BusyWord, Malformed, decode}
-use Rattle.heap_words.specs.Word.{number_word}
+use Rattle.heap_words.specs.Word.{number_word, pointer_word}
 use Rattle.heap_words.proofs.Decoding.{decode-number_word}
-use Rattle.heap_words.proofs.Spelling.{number_word-decode, pointer_word-decode}
+use Rattle.heap_words.proofs.Ranges.{number_bounds}
+use Rattle.heap_words.proofs.Spelling.{pointer_word-decode}
 use Rattle.plain_state.specs.declared.operation.Operation.{Operation}
 use Rattle.plain_state.specs.declared.operation.Operation.TheVariants as operations
 use Rattle.plain_state.specs.declared.sizes.TheConstants.{NUMBERS, REGISTERS}
@@ -24,8 +25,9 @@ use Rattle.mutator_asm.specs.Program.{is_valid, is_register, is_number}
 use Rattle.plain_heap.specs.Action.{register, are_same, action}
 use Rattle.plain_heap.proofs.Named.{Spells, Names, named}
 use Rattle.heap_state.specs.Configuration.{Configuration, Stands, era, memory, team}
-use Rattle.heap_state.specs.Values.{value_of}
+use Rattle.heap_state.specs.Values.{value_of, value_said}
 use Rattle.heap_state.specs.Worker.{is_running}
+use Rattle.heap_state.proofs.Puts.{none≢some}
 use Rattle.heap_laws.specs.Fields.Effects.{RegisterHolds}
 use Rattle.heap_laws.specs.Fields.Held.{HoldsValue}
 use Rattle.heap_laws.proofs.Fields.SameWords.{same_words}
@@ -36,21 +38,49 @@ use Rattle.gc_worker.specs.Knows.{post_in}
 use Rattle.gc_worker.specs.Seen.{IsValueWord, IsValueAs, seen, seen_as, value_seen, word_for}
 use Rattle.gc_worker.proofs.Alike.{plain_value, plain_outcome, AreAlike, acts_alike}
 use Rattle.gc_worker.proofs.Answering.{IsIts, holds}
+use Rattle.gc_worker.proofs.Reading.{word_of_value_seen}
 use Rattle.gc_worker.proofs.Steps.{prepared}
 
 -- ---- words
 
--- a value's word is seen, and spelled again
-pub word_seen : (w : ℕ) → IsValueWord w → word_for (value_seen w) ≡ w
-word_seen w is = by_word (decode w) refl is
+-- a word that denotes a value is a number's or a pointer's
+pub is_value : (identity : ℕ → Identity) (w : ℕ) (y : Value) → value_of identity w ≡ Some y → IsValueWord w
+unfolding value_of
+is_value identity w y e = by_word (decode w) e
   where
-    by_word : (d : Decoded) → decode w ≡ d → IsValueAs d → word_for (seen_as d) ≡ w
-    by_word (NumberWord n) e is = sym (number_word-decode w n e)
-    by_word (PointerWord a) e is = sym (pointer_word-decode w a e)
-    by_word (HeaderWord kind len serial mutator) e is = absurd is
-    by_word (ForwardWord len a) e is = absurd is
-    by_word (BusyWord len j) e is = absurd is
-    by_word Malformed e is = absurd is
+    by_word : (d : Decoded) → value_said identity d ≡ Some y → IsValueAs d
+    by_word (NumberWord n) e = tt
+    by_word (PointerWord a) e = tt
+    by_word (HeaderWord kind len serial mutator) e = none≢some e
+    by_word (ForwardWord len a) e = none≢some e
+    by_word (BusyWord len j) e = none≢some e
+    by_word Malformed e = none≢some e
+
+-- a number's word that denotes it is one of a number of the language
+counts : (identity : ℕ → Identity) (n : ℕ) → value_of identity (number_word n) ≡ Some (Number n) → n < NUMBERS
+unfolding value_of
+counts identity n e = by_word (decode (number_word n)) refl e
+  where
+    by_word : (d : Decoded) → decode (number_word n) ≡ d → value_said identity d ≡ Some (Number n) → n < NUMBERS
+    by_word (NumberWord m) is e = let l = number_bounds (number_word n) m is in let same : m ≡ n = cc in omega (arith, l, same)
+    by_word (PointerWord a) is e = absurd (let e = e in cc)
+    by_word (HeaderWord kind len serial mutator) is e = none≢some e
+    by_word (ForwardWord len a) is e = none≢some e
+    by_word (BusyWord len j) is e = none≢some e
+    by_word Malformed is e = none≢some e
+
+-- a pointer's word that denotes a reference is one
+pub points : (identity : ℕ → Identity) (a : ℕ) (i : Identity) → value_of identity (pointer_word a) ≡ Some (Reference i) → decode (pointer_word a) ≡ PointerWord a
+unfolding value_of pointer_word
+points identity a i e = by_word (decode (pointer_word a)) refl e
+  where
+    by_word : (d : Decoded) → decode (pointer_word a) ≡ d → value_said identity d ≡ Some (Reference i) → decode (pointer_word a) ≡ PointerWord a
+    by_word (NumberWord n) is e = absurd (let e = e in cc)
+    by_word (PointerWord b) is e = let same = pointer_word-decode (pointer_word a) b is in is ∙ ap PointerWord (let z : b ≡ a = omega (arith, same) in z)
+    by_word (HeaderWord kind len serial mutator) is e = none≢some e
+    by_word (ForwardWord len b) is e = none≢some e
+    by_word (BusyWord len j) is e = none≢some e
+    by_word Malformed is e = none≢some e
 
 -- ---- values
 
@@ -148,16 +178,16 @@ module _ (c : Configuration) (p : Plain) (s : Stands c p) (k : ℕ) (x : Held) (
     pub holds_number : (n : ℕ) → n < NUMBERS → Holds (Number n)
     unfolding value_of
     holds_number n small = record {
-      held = numbers_are_held (era c) s.ghost.size s.ghost.writer (number_word n) n (decode-number_word n);
-      denotes = rw (decode-number_word n) refl;
+      held = numbers_are_held (era c) s.ghost.size s.ghost.writer (number_word n) n (decode-number_word n small);
+      denotes = rw (decode-number_word n small) refl;
     }
 
-    small_number : (n : ℕ) → Holds (Number n) → n < NUMBERS
-    small_number n holds = ?
+    pub small_number : (n : ℕ) → Holds (Number n) → n < NUMBERS
+    small_number n holds = counts identity n holds.denotes
 
     held_word : (r : ℕ) (small : r < REGISTERS) → Holds (value_seen (word r))
     held_word r small =
-        subst (λ (w : ℕ). HoldsValue (era c) s.ghost w (plain_value identity (value_seen (word r)))) (sym (word_seen (word r) (is.fits.registers r small)))
+        subst (λ (w : ℕ). HoldsValue (era c) s.ghost w (plain_value identity (value_seen (word r)))) (sym (word_of_value_seen (word r) (is.fits.registers r small)))
         (subst (HoldsValue (era c) s.ghost (word r)) (value_as r small) (held_by r small).2.holds)
 
     held_register : (r : ℕ) → (r < REGISTERS) ⊎ (REGISTERS ≤ r) → Holds (register sight r)

@@ -31,7 +31,7 @@ use Rattle.gc_worker.specs.Law.{Heap, read, nobody, held_at, WorkersStand, moved
 use Rattle.gc_worker.specs.Turned.{Told, Silent, Answers, Marks, PageWon, epoch_in, turned, told, won}
 use Rattle.gc_worker.specs.Wanted.{wanted}
 use Rattle.gc_worker.proofs.Gate.Exchanging.{exchanges_gate}
-use Rattle.gc_worker.proofs.Look.{looks}
+use Rattle.gc_worker.proofs.Look.Looking.{looks}
 use Rattle.gc_worker.proofs.Accessing.Stages.{accesses}
 use Rattle.gc_worker.proofs.Gate.Words.{gate_says}
 use Rattle.gc_worker.proofs.Gate.Passing.{loads_gate}
