@@ -36,7 +36,7 @@ use Rattle.gc_worker.proofs.Accessing.Going.{at, no_end, ready}
 -- ---- numbers
 
 pub decode_number : (n : ℕ) → n < NUMBERS → decode (number_word n) ≡ NumberWord n
-decode_number n small = decode-number_word n
+decode_number n small = decode-number_word n small
 
 -- a number's word holds it
 number_value : (identity : ℕ → Identity) (n : ℕ) → n < NUMBERS → value_of identity (number_word n) ≡ Some (Number n)
