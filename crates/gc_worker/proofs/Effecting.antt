@@ -32,7 +32,7 @@ use Rattle.gc_worker.specs.Knows.{knows, post_in}
 use Rattle.gc_worker.specs.Seen.{IsValueWord}
 use Rattle.gc_worker.specs.Turned.{Effect, Ends, turned, told, won, told_effect, told_end, next_of, loads, went_on, ended}
 use Rattle.gc_worker.proofs.Answering.{LawTo, IsIts, answers, may_hold, going, next_as}
-use Rattle.gc_worker.proofs.Fitting.{page_count}
+use Rattle.gc_worker.proofs.Settling.{an_end_fits}
 use Rattle.gc_worker.proofs.Steps.{prepared}
 
 module _ (c : Configuration) (p : Plain) (s : Stands c p) (k : ℕ) (x : Held) (is : Is c k x) (running : is_running (post_in x x.stage) ≡ true) (unended : x.account.end ≡ None) where
@@ -142,19 +142,4 @@ module _ (c : Configuration) (p : Plain) (s : Stands c p) (k : ℕ) (x : Held) (
         (cases_eq r into))
 
     pub ended_fits : (why : End) → Fits c.pages c.mutators k (ended x why)
-    ended_fits why = record {
-      number = is.fits.number;
-      few = is.fits.few;
-      pages = is.fits.pages;
-      counted = is.fits.counted;
-      beside = is.fits.beside;
-      epoch = is.fits.epoch;
-      eight = is.fits.eight;
-      registers = is.fits.registers;
-      few_printed = is.fits.few_printed;
-      run = is.fits.run;
-      end = refl;
-      side = mutator;
-      task = refl;
-      stage = record { layout = refl; passage = tt; going = tt; sound = record { pages = page_count c.pages c.mutators k x is.fits; stage = tt } };
-    }
+    ended_fits why = an_end_fits c.pages c.mutators k x is.fits mutator why

@@ -10,4 +10,5 @@ pub mod Fits
 pub mod Goes
 pub mod Law
 pub mod Between
+pub mod Copied
 pub mod Represented

@@ -42,7 +42,7 @@ use Rattle.gc_worker.proofs.Look.Begun.{begun_fits}
 use Rattle.gc_worker.proofs.Look.Effects as effect
 use Rattle.gc_worker.proofs.Look.Ends.{its_end}
 use Rattle.gc_worker.proofs.Seeing.{alike}
-use Rattle.gc_worker.proofs.Settling.{ended_fits}
+use Rattle.gc_worker.proofs.Settling.{an_end_fits}
 use Rattle.gc_worker.proofs.Steps.{becomes, loads, nothing, prepared}
 
 -- ---- ends that are not that the heap is full
@@ -97,7 +97,7 @@ module _ (c : Configuration) (p : Plain) (s : Stands c p) (k : ℕ) (y : Held) w
     ends task end may comes so =
         answers c p s k x None reply (ended (begins x) end) s.ghost q task (Ends end) so.turns so.tells refl is.below mutator.1.is mutator.1.no_end comes
         (subst (λ (r : Plain). LawTo c p s k x None (knows (ended (begins x) end)) s.ghost r) (sym (after_end p k q task end)) law)
-        (full_by c.pages c.words x end may) tt (ended_fits c.pages c.mutators k (begins x) (begun_fits c.pages c.mutators k y is.fits) is.fits.side end)
+        (full_by c.pages c.words x end may) tt (an_end_fits c.pages c.mutators k (begins x) (begun_fits c.pages c.mutators k y is.fits) is.fits.side end)
       where
         law : LawTo c p s k x None (knows (ended (begins x) end)) s.ghost (plain_ended p k q end)
         law = subst (λ (w : Worker). LawTo c p s k x None (stores.with_end w end) s.ghost (with_mutator p k (record q { end = Some end }))) is.as_known
