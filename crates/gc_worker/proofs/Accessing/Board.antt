@@ -43,8 +43,7 @@ use Rattle.gc_worker.proofs.Gate.Words.{wants}
 use Rattle.gc_worker.proofs.Scan.Headers.{heap_word}
 use Rattle.gc_worker.proofs.Steps as steps
 use Rattle.gc_worker.proofs.Steps.{nothing}
-use Rattle.gc_worker.proofs.Accessing.Acting.{q, its, names}
-use Rattle.gc_worker.proofs.Accessing.Fields.{holds_word}
+use Rattle.gc_worker.proofs.Accessing.Acting.{q, its, names, value_word}
 use Rattle.gc_worker.proofs.Accessing.Going.{at, ready, running, no_end, knew_opened, goes_to}
 use Rattle.gc_worker.proofs.Accessing.Outcomes.{goes_bringing, goes_loading, goes_storing}
 
@@ -156,7 +155,7 @@ module _ (c : Configuration) (p : Plain) (s : Stands c p) (k : ℕ) (y : Held) (
         (subst (λ (w : ℕ). HoldsValue (era c) s.ghost w b.0) same b.2)
 
     found_value : IsValueWord found
-    found_value = holds_word (era c) s.ghost found (board_word p.heap word) there
+    found_value = value_word s.ghost.identity found (board_word p.heap word) there.denotes
 
     -- a word is stored there
     stored : (next : workers.Worker) (now : Mutator) (new : ℕ) (v : Value) → HoldsValue (era c) s.ghost new v → GoesOn (era c) (memory c) s.ghost ((team c).worker k) next → IsAs s.ghost p.heap k next now
@@ -244,7 +243,7 @@ module _ (c : Configuration) (p : Plain) (s : Stands c p) (k : ℕ) (y : Held) w
         (loaded_as c p s k here is refl (no_end c p s k y stage is) mine (its c p s k y stage is) b.into old before fits.1 old_held) in
         goes_bringing c p s k y stage is (Swaps b.into b.word v) executes (Some (WordIs place b.new)) replies.Won b.into old
         (record { heap = with_board p.heap b.word (plain_value s.ghost.identity v); mutator = now }) refl fits.1
-        (holds_word (era c) s.ghost old before old_held) refl law tt
+        (value_word s.ghost.identity old before old_held.denotes) refl law tt
 
     lost : Goes c p s k None here (replies.Lost (found c p s k y stage is b.word is.fits.stage.sound.stage.0 refl))
     lost =
