@@ -18,7 +18,7 @@ use Rattle.gc_worker.specs.Fits.{Fits}
 use Rattle.gc_worker.specs.Full.{FindsNoRoom}
 use Rattle.gc_worker.specs.FullTold.{FullIsTold, TellsFull, found_traced}
 use Rattle.gc_worker.specs.Held.{Held, at_stage, asked_by, pages_asked}
-use Rattle.gc_worker.specs.Turned.{Silent, Ends, Answers, is_full, end_of, told_end, told_place, told}
+use Rattle.gc_worker.specs.Turned.{Silent, Ends, Answers, is_full, end_of, told_end, told_place}
 
 module _ (n mutators k : ℕ) (words : List ℕ) (x : Held) (z : Placing) (room live : ℕ) (f : Fits n mutators k (at_stage x (found_traced z))) (finds : FindsNoRoom n words x (asked_by x) room live) where
   abbrev word : ℕ
