@@ -12,3 +12,4 @@ pub mod Law
 pub mod Between
 pub mod Copied
 pub mod Represented
+pub mod FullTold
