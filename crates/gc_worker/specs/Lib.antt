@@ -11,4 +11,5 @@ pub mod Goes
 pub mod Law
 pub mod Between
 pub mod Copied
+pub mod Claims
 pub mod Represented

@@ -2,6 +2,7 @@
 
 ghost use Rattle.gc_worker.specs.Law.{StepsKeep, FlipsAreWon, PlacesFit, RegistersLeadBack};
 ghost use Rattle.gc_worker.specs.Between.{HeapsOpen, ReadyingStands, TasksMayBegin, WorkersGoOn, WorkersWant, WhatStandsIsSo, AnswersLeaveTheOthers};
+ghost use Rattle.gc_worker.specs.Claims.{TracedPagesAreOpen, FlipsAreOfTraced};
 ghost use Rattle.gc_worker.specs.Copied.{CopiedWasLive, FullTellsLive};
 ghost use Rattle.gc_worker.specs.Represented.{RepresentedWorkersStand};
 
@@ -71,4 +72,10 @@ pub fn answers_leave_the_others()
 pub fn what_was_copied_was_live()
     ensures copied { CopiedWasLive }
     ensures full { FullTellsLive }
+{}
+
+/// Once an epoch is traced, the board and all pages into which records were copied are open in it; and no step flips before that.
+pub fn traced_pages_are_open()
+    ensures opened { TracedPagesAreOpen }
+    ensures flips { FlipsAreOfTraced }
 {}
