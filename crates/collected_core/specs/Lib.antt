@@ -1,5 +1,6 @@
 pub mod OpenError
 pub mod Core
+pub mod Readers
 pub mod Event
 pub mod Run
 pub mod Law

@@ -11,5 +11,6 @@ pub mod Goes
 pub mod Law
 pub mod Between
 pub mod Copied
+pub mod Claims
 pub mod Represented
 pub mod FullTold

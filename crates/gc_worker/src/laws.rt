@@ -2,6 +2,7 @@
 
 ghost use Rattle.gc_worker.specs.Law.{StepsKeep, FlipsAreWon, PlacesFit, RegistersLeadBack};
 ghost use Rattle.gc_worker.specs.Between.{HeapsOpen, ReadyingStands, TasksMayBegin, WorkersGoOn, WorkersWant, WhatStandsIsSo, AnswersLeaveTheOthers};
+ghost use Rattle.gc_worker.specs.Claims.{TracedPagesAreOpen, FlipsAreOfTraced};
 ghost use Rattle.gc_worker.specs.Copied.{CopiedWasLive, FullTellsLive};
 ghost use Rattle.gc_worker.specs.FullTold.{FullIsTold};
 ghost use Rattle.gc_worker.specs.Represented.{RepresentedWorkersStand};
@@ -77,4 +78,10 @@ pub fn what_was_copied_was_live()
 /// A mutator that found its epoch traced tells that the heap is full where the words have no room for the pages that its task asks for.
 pub fn full_is_told()
     ensures { FullIsTold }
+{}
+
+/// Once an epoch is traced, the board and all pages into which records were copied are open in it; and no step flips before that.
+pub fn traced_pages_are_open()
+    ensures opened { TracedPagesAreOpen }
+    ensures flips { FlipsAreOfTraced }
 {}
