@@ -9,14 +9,22 @@ mod access;
 mod access_stage;
 mod access_words;
 mod accessed;
+mod acting;
 mod after;
+mod allocating;
 mod back;
 mod board_access;
+mod due;
 mod field_access;
 mod forwarding_register;
 mod laws;
+mod instructions;
 mod record_access;
+mod passing;
+mod seen_value;
 mod stage;
+mod state;
+mod stepped;
 mod task;
 
 pub use access::Access;
@@ -32,4 +40,5 @@ pub use laws::{
 };
 pub use record_access::{RecordAccess, RecordUse};
 pub use stage::Stage;
+pub use stepped::Stepped;
 pub use task::Task;
