@@ -8,6 +8,8 @@ use Rattle.plain_state.specs.State.{Mutator}
 use Rattle.plain_heap.specs.declared.action.Action.{Action}
 use Rattle.plain_heap.specs.declared.action.Action.TheVariants.{Sets, Jumps, Links, Prints, Makes, Measures, Loads, Stores, Gets, Puts, Swaps}
 use Rattle.mutator_asm.specs.declared.instr.Instr.{Instr}
+use Rattle.gc_worker.specs.declared.stage.Stage.{Stage}
+use Rattle.gc_worker.specs.declared.stage.Stage.TheVariants.{Passes, Flips, Forwards, Accesses, Places, Serves, Scans, Evacuates, Opens}
 use Rattle.gc_worker.specs.declared.due.Due.{Due}
 use Rattle.gc_worker.specs.declared.due.Due.TheVariants as due
 use Rattle.gc_worker.specs.declared.stepped.Stepped.{Stepped}
@@ -69,3 +71,45 @@ FitsAction c (Stores i x v) = FitsValue (Reference i) × FitsValue v
 FitsAction c (Gets d x) = x < BOARD_WORDS
 FitsAction c (Puts x v) = (x < BOARD_WORDS) × FitsValue v
 FitsAction c (Swaps d x v) = (x < BOARD_WORDS) × FitsValue v
+
+-- ---- which machine is at work
+
+abbrev pub IsAtGate : Stage → Type 0
+IsAtGate (Passes g after) = ⊤
+IsAtGate _ = ⊥
+
+abbrev pub IsFlipping : Stage → Type 0
+IsFlipping (Flips f) = ⊤
+IsFlipping _ = ⊥
+
+abbrev pub IsForwarding : Stage → Type 0
+IsForwarding (Forwards w) = ⊤
+IsForwarding _ = ⊥
+
+abbrev pub IsAtAccess : Stage → Type 0
+IsAtAccess (Accesses a) = ⊤
+IsAtAccess _ = ⊥
+
+abbrev pub IsPlacing : Stage → Type 0
+IsPlacing (Places p) = ⊤
+IsPlacing _ = ⊥
+
+abbrev pub IsServing : Stage → Type 0
+IsServing (Serves d back) = ⊤
+IsServing _ = ⊥
+
+abbrev pub IsScanning : Stage → Type 0
+IsScanning (Scans s back) = ⊤
+IsScanning _ = ⊥
+
+abbrev pub IsEvacuating : Stage → Type 0
+IsEvacuating (Evacuates v s back) = ⊤
+IsEvacuating _ = ⊥
+
+abbrev pub IsOpening : Stage → Type 0
+IsOpening (Opens o s back) = ⊤
+IsOpening _ = ⊥
+
+-- a register and where it leads
+abbrev pub pointed : ℕ × ℕ → turned.Pointed
+pointed p = record { register = p.0; addr = p.1 }

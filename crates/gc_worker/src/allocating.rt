@@ -5,16 +5,23 @@ ghost use Rattle.std.specs.Option.{option_and_then};
 ghost use Rattle.heap_words.specs.Decoded.{HeaderWord};
 ghost use Rattle.record_layout.specs.Layout.{header_in};
 ghost use Rattle.heap_state.specs.Ghost.{header_kind};
-ghost use Rattle.gc_worker.specs.Fits.{FitsStage};
+ghost use Rattle.gc_worker.specs.Fits.{FitsStage, IsMaking, Takes};
 ghost use Rattle.gc_worker.specs.Held.{asked_by, header_for, header_of};
 ghost use Rattle.gc_worker.specs.Seen.{making_in};
-ghost use Rattle.gc_worker.specs.Turned.{places};
+ghost use Rattle.gc_worker.specs.Stepped.{IsPlacing, IsSound, stepped_by, uncounted};
+ghost use Rattle.gc_worker.specs.Turned.{allocated_by, full_by, places, told, told_full, turned};
 
+use crate::after::After;
+use crate::back::Back;
 use crate::due::Due;
 use crate::stage::Stage;
 use crate::state::State;
-use alloc_end::{Place, Run};
-use heap_words::Kind as HeaderKind;
+use crate::stepped::Stepped;
+use alloc_end::{Allocated, Place, Run, Shortage};
+use atom_store::{Reply, Turn};
+use fault_duty::Duty;
+use gate_core::Gate;
+use heap_words::{Kind as HeaderKind, Word};
 use plain_heap::Action;
 use plain_state::{End, Kind, LONGEST_RECORD};
 use record_layout::Header;
@@ -73,6 +80,65 @@ impl State {
             }
             None => Stage::Looks,
         }
+    }
+
+    /// A step of the allocation.
+    pub fn place(&mut self, reply: Reply) -> Stepped
+        requires at { IsPlacing self.old.stage }
+        requires fits { IsSound self.old }
+        requires takes { Takes self.old reply }
+        requires after { IsSound (turned self.old reply) }
+        ensures state { self.new ≡ uncounted (turned self.old reply) }
+        ensures tells { result ≡ stepped_by self.old.number (told self.old reply) }
+    {
+        let Stage::Places(mut place) = self.stage else {
+            unreachable!()
+        };
+        match place.take(reply) {
+            Turn::More => {
+                self.stage = Stage::Places(place);
+                Stepped::Moved
+            }
+            Turn::Finished(Allocated::Placed(at)) => self.has_placed(place, at),
+            Turn::Finished(Allocated::Full(shortage)) => self.has_no_room(shortage),
+        }
+    }
+
+    /// The record stands, and the register that the task names leads to it.
+    fn has_placed(&mut self, place: Place, at: u32) -> Stepped
+        requires { IsMaking self.old.account self.old.registers self.old.task }
+        ensures state { self.new ≡ uncounted (allocated_by self.old place (Allocated.Placed at)) }
+        ensures tells { result ≡ Stepped.Effect self.old.number }
+    {
+        self.run = Some(place.run());
+        match self.action(self.instr) {
+            Ok(Action::Makes(_, into, _)) => {
+                self.serial += 1;
+                self.load(into, Word::pointer(at).0)
+            }
+            _ => unreachable!(),
+        }
+    }
+
+    /// The heap is full where the epoch is traced, and no flip can help.
+    fn has_no_room(&mut self, s: Shortage) -> Stepped
+        requires { FitsStage (full_by self.old s s.traced) (full_by self.old s s.traced).stage }
+        ensures state { self.new ≡ full_by self.old s s.traced }
+        ensures tells { result ≡ stepped_by self.old.number (told_full self.old s s.traced) }
+    {
+        if !s.traced {
+            let duty = Duty::new(self.spaces, None, self.epoch, self.number);
+            self.stage = Stage::Serves(duty, Back::ToPlace);
+            return Stepped::Moved;
+        }
+        if self.begun < self.epoch || self.epoch == u32::MAX {
+            let Shortage {
+                asked, room, live, ..
+            } = s;
+            return self.end_with(End::HeapFull { asked, room, live });
+        }
+        self.stage = Stage::Passes(Gate::request(self.spaces), After::Places);
+        Stepped::Moved
     }
 }
 

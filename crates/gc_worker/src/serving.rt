@@ -1,0 +1,175 @@
+//! Accesses, and the duty: rounds, scans, copies and openings of pages.
+
+ghost use Rattle.std.specs.Prelude.{◌≡◌, ◌≤◌};
+ghost use Rattle.space_map.specs.Spaces.{board_page};
+ghost use Rattle.gc_worker.specs.Fits.{FitsStage, Takes};
+ghost use Rattle.gc_worker.specs.Stepped.{IsAtAccess, IsEvacuating, IsOpening, IsScanning, IsServing, IsSound, stepped_by, uncounted};
+ghost use Rattle.gc_worker.specs.Turned.{back_from, goes_back, of_round, scans, served_by, told, turned};
+
+use crate::accessed::Accessed;
+use crate::back::Back;
+use crate::stage::Stage;
+use crate::state::State;
+use crate::stepped::Stepped;
+use atom_store::{Reply, Turn};
+use fault_duty::{Duty, RoundEnd};
+use forwarding::Evac;
+use page_scan::{Scan, Scanned};
+use page_slots::Open;
+
+impl State {
+    /// A step of an access.
+    pub fn access(&mut self, reply: Reply) -> Stepped
+        requires at { IsAtAccess self.old.stage }
+        requires fits { IsSound self.old }
+        requires takes { Takes self.old reply }
+        requires after { IsSound (turned self.old reply) }
+        ensures state { self.new ≡ uncounted (turned self.old reply) }
+        ensures tells { result ≡ stepped_by self.old.number (told self.old reply) }
+    {
+        let Stage::Accesses(mut access) = self.stage else {
+            unreachable!()
+        };
+        match access.take(reply) {
+            Turn::More => {
+                self.stage = Stage::Accesses(access);
+                Stepped::Moved
+            }
+            Turn::Finished(Accessed::Faults(page)) => {
+                let duty = Duty::new(self.spaces, Some(page), self.epoch, self.number);
+                self.stage = Stage::Serves(duty, Back::ToAccess(access));
+                Stepped::Moved
+            }
+            Turn::Finished(Accessed::Brings(into, word)) => self.load(into, word),
+            Turn::Finished(Accessed::Stored) => self.go_on(),
+            Turn::Finished(Accessed::Fails(why)) => self.end_with(why),
+        }
+    }
+
+    /// A step of a round.
+    pub fn serve(&mut self, reply: Reply) -> Stepped
+        requires at { IsServing self.old.stage }
+        requires fits { IsSound self.old }
+        requires takes { Takes self.old reply }
+        requires after { IsSound (turned self.old reply) }
+        ensures state { self.new ≡ uncounted (turned self.old reply) }
+        ensures tells { result ≡ stepped_by self.old.number (told self.old reply) }
+    {
+        let Stage::Serves(mut duty, back) = self.stage else {
+            unreachable!()
+        };
+        match duty.take(reply) {
+            Turn::More => self.stage = Stage::Serves(duty, back),
+            Turn::Finished(end) => self.has_served(duty, back, end),
+        }
+        Stepped::Moved
+    }
+
+    /// What a round comes to.
+    fn has_served(&mut self, duty: Duty, back: Back, end: RoundEnd)
+        requires { FitsStage (served_by self.old duty back end) (served_by self.old duty back end).stage }
+        ensures { self.new ≡ served_by self.old duty back end }
+    {
+        match end {
+            RoundEnd::ScanPage(page) => self.scan_page(duty, page, false, back),
+            RoundEnd::ScanInPlace(page) => self.scan_page(duty, page, true, back),
+            RoundEnd::Marked | RoundEnd::NothingNow(_) => {
+                self.epoch = duty.epoch();
+                self.go_back(back);
+            }
+            RoundEnd::AllLeft(_) => self.stage = Stage::Gone,
+        }
+    }
+
+    /// A page was claimed: its scan begins, in the epoch of the round.
+    fn scan_page(&mut self, duty: Duty, page: u32, in_place: bool, back: Back)
+        requires { page ≤ board_page self.old.layout.pages }
+        ensures { self.new ≡ scans (of_round self.old duty) page in_place back }
+    {
+        self.epoch = duty.epoch();
+        let scan = Scan::new(self.spaces, page, self.epoch, in_place);
+        self.stage = Stage::Scans(scan, back);
+    }
+
+    /// The worker goes on where it was before the round.
+    fn go_back(&mut self, back: Back)
+        requires { FitsStage self.old (goes_back self.old back) }
+        ensures { self.new ≡ back_from self.old back }
+    {
+        self.stage = match back {
+            Back::ToAccess(access) => Stage::Accesses(access),
+            Back::ToPlace => self.placing(),
+            Back::ToScanner => {
+                let duty = Duty::scanner(self.spaces, self.number, self.mutators);
+                Stage::Serves(duty, Back::ToScanner)
+            }
+        };
+    }
+
+    /// A step of a scan.
+    pub fn scan(&mut self, reply: Reply) -> Stepped
+        requires at { IsScanning self.old.stage }
+        requires fits { IsSound self.old }
+        requires takes { Takes self.old reply }
+        requires after { IsSound (turned self.old reply) }
+        ensures state { self.new ≡ uncounted (turned self.old reply) }
+        ensures tells { result ≡ stepped_by self.old.number (told self.old reply) }
+    {
+        let Stage::Scans(mut scan, back) = self.stage else {
+            unreachable!()
+        };
+        self.stage = match scan.take(reply) {
+            Turn::More => Stage::Scans(scan, back),
+            Turn::Finished(Scanned::Ask(old)) => {
+                let evac = Evac::new(self.spaces, old, self.epoch, self.number);
+                Stage::Evacuates(evac, scan, back)
+            }
+            Turn::Finished(Scanned::Ended { .. }) => {
+                let open = Open::new(self.spaces, scan.page(), self.epoch);
+                Stage::Opens(open, scan, back)
+            }
+        };
+        Stepped::Moved
+    }
+
+    /// A step of a copy for a scan.
+    pub fn evacuate(&mut self, reply: Reply) -> Stepped
+        requires at { IsEvacuating self.old.stage }
+        requires fits { IsSound self.old }
+        requires takes { Takes self.old reply }
+        requires after { IsSound (turned self.old reply) }
+        ensures state { self.new ≡ uncounted (turned self.old reply) }
+        ensures tells { result ≡ stepped_by self.old.number (told self.old reply) }
+    {
+        let Stage::Evacuates(mut evac, mut scan, back) = self.stage else {
+            unreachable!()
+        };
+        match evac.take(reply) {
+            Turn::More => self.stage = Stage::Evacuates(evac, scan, back),
+            Turn::Finished(to) => {
+                scan.answer(to.0);
+                self.stage = Stage::Scans(scan, back);
+            }
+        }
+        Stepped::Moved
+    }
+
+    /// A step of the opening of a page that was scanned.
+    pub fn open(&mut self, reply: Reply) -> Stepped
+        requires at { IsOpening self.old.stage }
+        requires fits { IsSound self.old }
+        requires takes { Takes self.old reply }
+        requires after { IsSound (turned self.old reply) }
+        ensures state { self.new ≡ uncounted (turned self.old reply) }
+        ensures tells { result ≡ stepped_by self.old.number (told self.old reply) }
+    {
+        let Stage::Opens(mut open, scan, back) = self.stage else {
+            unreachable!()
+        };
+        match open.take(reply) {
+            Turn::More => self.stage = Stage::Opens(open, scan, back),
+            Turn::Finished(_) => self.go_back(back),
+        }
+        Stepped::Moved
+    }
+}
