@@ -1,5 +1,5 @@
 -- What the code reads in a word is what the definitions make of it.
-use Rattle.std.proofs.Common.{◌≡◌, ℕ, ◌^◌, ◌<◌, ◌≤◌, arith, zero, suc, List, [], ◌∷◌, map, Some, None, refl, sym, ap, ◌∙◌, slice_get, slice_index_or}
+use Rattle.std.proofs.Common.{◌≡◌, ℕ, ◌+◌, ◌-◌, ◌^◌, ◌<◌, ◌≤◌, arith, Option, zero, suc, List, [], ◌∷◌, map, Some, None, refl, sym, ap, ◌∙◌, slice_get, slice_index, slice_index_or}
 use Rattle.heap_words.specs.Decoded.{Decoded, NumberWord, PointerWord, HeaderWord, ForwardWord, BusyWord, Malformed, decode, encode, number_in, pointer_in}
 use Rattle.heap_words.proofs.Decoding.{decode-header_word}
 use Rattle.heap_words.proofs.Spelling.{number_word-decode, pointer_word-decode}
@@ -11,9 +11,12 @@ use Rattle.record_layout.proofs.Rereading.{header_in-said, header_in-header_says
 use Rattle.gc_worker.specs.declared.access_stage.AccessStage.TheVariants.{LoadsHeader}
 use Rattle.gc_worker.specs.declared.record_access.RecordAccess.{RecordAccess}
 use Rattle.gc_worker.specs.Access.{GoesTo, read_header, role_in, used_by}
-use Rattle.gc_worker.specs.Seen.{IsValueAs, IsValueWord, by_address, seen, seen_as, value_seen, word_for}
+use Rattle.gc_worker.specs.Seen.{IsValueAs, IsValueWord, by_address, making_in, seen, seen_as, value_seen, word_for}
 use Rattle.heap_state.specs.Worker.{Account}
 use Rattle.plain_heap.specs.Action.{register}
+use Rattle.gc_worker.specs.Fits.{IsMaking}
+use Rattle.gc_worker.specs.Turned.{Pointed, first_pointer}
+use Rattle.gc_worker.specs.declared.task.Task.{Task}
 use Rattle.plain_state.specs.declared.value.Value.TheVariants.{Number, Reference}
 
 -- ---- values
@@ -122,3 +125,31 @@ no_header_long kind len serial mutator long = sym (too_long kind len serial muta
 pub no_header_late : (kind : Kind) (len serial mutator : ℕ) → 2 ^ 40 ≤ serial → None ≡ header_in (HeaderWord kind len serial mutator)
 unfolding header_in
 no_header_late kind len serial mutator late = sym (too_late kind len serial mutator late (dec_le len 4095) (dec_lt serial (2 ^ 40)))
+
+-- ---- the first pointer among registers
+
+pub pointer_found : (rs : List ℕ) (i w a : ℕ) → i < 8 → w ≡ slice_index rs i → Some a ≡ pointer_in (decode w)
+    → Some (record { register = i; addr = a }) ≡ first_pointer rs (8 - i) i
+unfolding first_pointer
+pointer_found rs i w a below word is =
+    let n : 8 - i ≡ suc (8 - (i + 1)) = omega arith in
+    let d : pointer_in (decode (slice_index rs i)) ≡ Some a = ap (λ (v : ℕ). pointer_in (decode v)) (sym word) ∙ sym is in
+    rw (n, d)
+
+pub pointer_not_there : (rs : List ℕ) (i w : ℕ) → i < 8 → w ≡ slice_index rs i → None ≡ pointer_in (decode w)
+    → first_pointer rs (8 - i) i ≡ first_pointer rs (8 - (i + 1)) (i + 1)
+unfolding first_pointer
+pointer_not_there rs i w below word is =
+    let n : 8 - i ≡ suc (8 - (i + 1)) = omega arith in
+    let d : pointer_in (decode (slice_index rs i)) ≡ None = ap (λ (v : ℕ). pointer_in (decode v)) (sym word) ∙ sym is in
+    rw (n, d)
+
+pub no_pointer_left : (rs : List ℕ) (i : ℕ) → 8 ≤ i → first_pointer rs (8 - i) i ≡ None
+unfolding first_pointer
+no_pointer_left rs i past = let n : 8 - i ≡ 0 = omega arith in rw n
+
+-- ---- who makes a record
+
+-- the serial of the record fits a header
+pub serial_fits : (account : Account) (registers : List ℕ) (task : Option Task) → IsMaking account registers task → account.serial + 1 < 2 ^ 40
+serial_fits account registers task m = m.executes.call.serial m.making (ap making_in m.executes.acts)

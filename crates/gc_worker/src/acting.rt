@@ -74,7 +74,7 @@ impl State {
 
     /// The mutator has its end, and leaves.
     pub fn end_with(&mut self, end: End) -> Stepped
-        ensures state { self.new ≡ ended self.old end }
+        ensures state { self.new ≡ uncounted (ended self.old end) }
         ensures tells { result ≡ Stepped.Ended self.old.number end }
     {
         self.end = Some(end);
@@ -118,7 +118,12 @@ impl State {
                 self.stage = self.placing();
                 Stepped::Moved
             }
-            _ => self.begin_access(first_stage(action)),
+            Action::Measures(..)
+            | Action::Loads(..)
+            | Action::Stores(..)
+            | Action::Gets(..)
+            | Action::Puts(..)
+            | Action::Swaps(..) => self.begin_access(first_stage(action)),
         }
     }
 }

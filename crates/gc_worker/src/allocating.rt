@@ -6,10 +6,10 @@ ghost use Rattle.heap_words.specs.Decoded.{HeaderWord};
 ghost use Rattle.record_layout.specs.Layout.{header_in};
 ghost use Rattle.heap_state.specs.Ghost.{header_kind};
 ghost use Rattle.gc_worker.specs.Fits.{FitsStage, IsMaking, Takes};
-ghost use Rattle.gc_worker.specs.Held.{asked_by, header_for, header_of};
+ghost use Rattle.gc_worker.specs.Held.{asked_by, header_for, header_of, making_for};
 ghost use Rattle.gc_worker.specs.Seen.{making_in};
 ghost use Rattle.gc_worker.specs.Stepped.{IsPlacing, IsSound, stepped_by, uncounted};
-ghost use Rattle.gc_worker.specs.Turned.{allocated_by, full_by, places, told, told_full, turned};
+ghost use Rattle.gc_worker.specs.Turned.{full_by, places, told, told_effect, told_full, turned, with_record};
 
 use crate::after::After;
 use crate::back::Back;
@@ -91,26 +91,29 @@ impl State {
         ensures state { self.new ≡ uncounted (turned self.old reply) }
         ensures tells { result ≡ stepped_by self.old.number (told self.old reply) }
     {
-        let Stage::Places(mut place) = self.stage else {
+        let Stage::Places(place) = &mut self.stage else {
             unreachable!()
         };
-        match place.take(reply) {
-            Turn::More => {
-                self.stage = Stage::Places(place);
-                Stepped::Moved
-            }
-            Turn::Finished(Allocated::Placed(at)) => self.has_placed(place, at),
-            Turn::Finished(Allocated::Full(shortage)) => self.has_no_room(shortage),
+        let before = *place;
+        let Turn::Finished(allocated) = place.take(reply) else {
+            return Stepped::Moved;
+        };
+        let run = place.run();
+        self.stage = Stage::Places(before);
+        match allocated {
+            Allocated::Placed(at) => self.has_placed(run, at),
+            Allocated::Full(shortage) => self.has_no_room(shortage),
         }
     }
 
     /// The record stands, and the register that the task names leads to it.
-    fn has_placed(&mut self, place: Place, at: u32) -> Stepped
+    #[tactic(auto, using(crate::proofs::Reading::serial_fits))]
+    fn has_placed(&mut self, run: Run, at: u32) -> Stepped
         requires { IsMaking self.old.account self.old.registers self.old.task }
-        ensures state { self.new ≡ uncounted (allocated_by self.old place (Allocated.Placed at)) }
-        ensures tells { result ≡ Stepped.Effect self.old.number }
+        ensures state { self.new ≡ uncounted (with_record self.old run at (making_for self.old self.old.task)) }
+        ensures tells { result ≡ stepped_by self.old.number (told_effect self.old.task) }
     {
-        self.run = Some(place.run());
+        self.run = Some(run);
         match self.action(self.instr) {
             Ok(Action::Makes(_, into, _)) => {
                 self.serial += 1;
@@ -122,8 +125,9 @@ impl State {
 
     /// The heap is full where the epoch is traced, and no flip can help.
     fn has_no_room(&mut self, s: Shortage) -> Stepped
-        requires { FitsStage (full_by self.old s s.traced) (full_by self.old s s.traced).stage }
-        ensures state { self.new ≡ full_by self.old s s.traced }
+        requires making { IsMaking self.old.account self.old.registers self.old.task }
+        requires after { FitsStage (full_by self.old s s.traced) (full_by self.old s s.traced).stage }
+        ensures state { self.new ≡ uncounted (full_by self.old s s.traced) }
         ensures tells { result ≡ stepped_by self.old.number (told_full self.old s s.traced) }
     {
         if !s.traced {

@@ -28,12 +28,13 @@ impl State {
         ensures state { self.new ≡ uncounted (turned self.old reply) }
         ensures tells { result ≡ stepped_by self.old.number (told self.old reply) }
     {
-        let Stage::Passes(mut gate, after) = self.stage else {
+        let Stage::Passes(gate, after) = &mut self.stage else {
             unreachable!()
         };
-        match gate.take(reply) {
-            Turn::More => self.stage = Stage::Passes(gate, after),
-            Turn::Finished(passed) => self.has_passed(after, gate.passage(), passed),
+        let (before, after) = (*gate, *after);
+        if let Turn::Finished(passed) = gate.take(reply) {
+            self.stage = Stage::Passes(before, after);
+            self.has_passed(after, before.passage(), passed);
         }
         Stepped::Moved
     }
@@ -110,6 +111,7 @@ impl State {
 
     /// The copy of the record to which the first register leads that holds a pointer, from this one on; else all are forwarded.
     fn forwarding(&self, after: After, from: u8) -> Stage
+        requires from { from ≤ 8 }
         requires next { self.now.epoch + 1 < 2 ^ 32 }
         requires after { FitsStage self.now (forwards_from self.now after from) }
         ensures { result ≡ forwards_from self.now after from }
@@ -125,6 +127,7 @@ impl State {
     }
 
     /// The first register from this one on that holds a pointer, and where that leads.
+    #[tactic(auto, using(crate::proofs::Reading::pointer_found, crate::proofs::Reading::pointer_not_there, crate::proofs::Reading::no_pointer_left))]
     fn first_pointer(&self, from: u8) -> Option<(u8, u32)>
         requires { from ≤ 8 }
         ensures { option_map pointed result ≡ first_pointer self.now.registers (8 - from) from }
@@ -146,14 +149,11 @@ impl State {
         ensures state { self.new ≡ uncounted (turned self.old reply) }
         ensures tells { result ≡ stepped_by self.old.number (told self.old reply) }
     {
-        let Stage::Flips(mut flip) = self.stage else {
+        let Stage::Flips(flip) = &mut self.stage else {
             unreachable!()
         };
         match flip.take(reply) {
-            Turn::More => {
-                self.stage = Stage::Flips(flip);
-                Stepped::Moved
-            }
+            Turn::More => Stepped::Moved,
             Turn::Finished(Flipped::Went(asked)) => {
                 self.stage = Stage::Passes(
                     Gate::resume(self.spaces, self.epoch),
@@ -162,7 +162,8 @@ impl State {
                 Stepped::Flipped(asked)
             }
             Turn::Finished(Flipped::NotYet(_)) => {
-                self.stage = Stage::Flips(Flip::new(self.spaces, self.epoch, flip.asked()));
+                let asked = flip.asked();
+                self.stage = Stage::Flips(Flip::new(self.spaces, self.epoch, asked));
                 Stepped::Moved
             }
         }
@@ -177,15 +178,13 @@ impl State {
         ensures state { self.new ≡ uncounted (turned self.old reply) }
         ensures tells { result ≡ stepped_by self.old.number (told self.old reply) }
     {
-        let Stage::Forwards(mut w) = self.stage else {
+        let Stage::Forwards(w) = &mut self.stage else {
             unreachable!()
         };
-        match w.evac.take(reply) {
-            Turn::More => self.stage = Stage::Forwards(w),
-            Turn::Finished(to) => {
-                self.set(w.register, Word::pointer(to.0).0);
-                self.stage = self.forwarding(w.after, w.register + 1);
-            }
+        if let Turn::Finished(to) = w.evac.take(reply) {
+            let (register, after) = (w.register, w.after);
+            self.set(register, Word::pointer(to.0).0);
+            self.stage = self.forwarding(after, register + 1);
         }
         Stepped::Moved
     }

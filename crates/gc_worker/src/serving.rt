@@ -27,15 +27,13 @@ impl State {
         ensures state { self.new ≡ uncounted (turned self.old reply) }
         ensures tells { result ≡ stepped_by self.old.number (told self.old reply) }
     {
-        let Stage::Accesses(mut access) = self.stage else {
+        let Stage::Accesses(access) = &mut self.stage else {
             unreachable!()
         };
         match access.take(reply) {
-            Turn::More => {
-                self.stage = Stage::Accesses(access);
-                Stepped::Moved
-            }
+            Turn::More => Stepped::Moved,
             Turn::Finished(Accessed::Faults(page)) => {
+                let access = *access;
                 let duty = Duty::new(self.spaces, Some(page), self.epoch, self.number);
                 self.stage = Stage::Serves(duty, Back::ToAccess(access));
                 Stepped::Moved
@@ -55,12 +53,12 @@ impl State {
         ensures state { self.new ≡ uncounted (turned self.old reply) }
         ensures tells { result ≡ stepped_by self.old.number (told self.old reply) }
     {
-        let Stage::Serves(mut duty, back) = self.stage else {
+        let Stage::Serves(duty, back) = &mut self.stage else {
             unreachable!()
         };
-        match duty.take(reply) {
-            Turn::More => self.stage = Stage::Serves(duty, back),
-            Turn::Finished(end) => self.has_served(duty, back, end),
+        if let Turn::Finished(end) = duty.take(reply) {
+            let (duty, back) = (*duty, *back);
+            self.has_served(duty, back, end);
         }
         Stepped::Moved
     }
@@ -115,20 +113,22 @@ impl State {
         ensures state { self.new ≡ uncounted (turned self.old reply) }
         ensures tells { result ≡ stepped_by self.old.number (told self.old reply) }
     {
-        let Stage::Scans(mut scan, back) = self.stage else {
+        let Stage::Scans(scan, back) = &mut self.stage else {
             unreachable!()
         };
-        self.stage = match scan.take(reply) {
-            Turn::More => Stage::Scans(scan, back),
+        match scan.take(reply) {
+            Turn::More => {}
             Turn::Finished(Scanned::Ask(old)) => {
+                let (scan, back) = (*scan, *back);
                 let evac = Evac::new(self.spaces, old, self.epoch, self.number);
-                Stage::Evacuates(evac, scan, back)
+                self.stage = Stage::Evacuates(evac, scan, back);
             }
             Turn::Finished(Scanned::Ended { .. }) => {
+                let (scan, back) = (*scan, *back);
                 let open = Open::new(self.spaces, scan.page(), self.epoch);
-                Stage::Opens(open, scan, back)
+                self.stage = Stage::Opens(open, scan, back);
             }
-        };
+        }
         Stepped::Moved
     }
 
@@ -141,15 +141,12 @@ impl State {
         ensures state { self.new ≡ uncounted (turned self.old reply) }
         ensures tells { result ≡ stepped_by self.old.number (told self.old reply) }
     {
-        let Stage::Evacuates(mut evac, mut scan, back) = self.stage else {
+        let Stage::Evacuates(evac, scan, back) = &mut self.stage else {
             unreachable!()
         };
-        match evac.take(reply) {
-            Turn::More => self.stage = Stage::Evacuates(evac, scan, back),
-            Turn::Finished(to) => {
-                scan.answer(to.0);
-                self.stage = Stage::Scans(scan, back);
-            }
+        if let Turn::Finished(to) = evac.take(reply) {
+            scan.answer(to.0);
+            self.stage = Stage::Scans(*scan, *back);
         }
         Stepped::Moved
     }
@@ -163,12 +160,12 @@ impl State {
         ensures state { self.new ≡ uncounted (turned self.old reply) }
         ensures tells { result ≡ stepped_by self.old.number (told self.old reply) }
     {
-        let Stage::Opens(mut open, scan, back) = self.stage else {
+        let Stage::Opens(open, _, back) = &mut self.stage else {
             unreachable!()
         };
-        match open.take(reply) {
-            Turn::More => self.stage = Stage::Opens(open, scan, back),
-            Turn::Finished(_) => self.go_back(back),
+        if let Turn::Finished(_) = open.take(reply) {
+            let back = *back;
+            self.go_back(back);
         }
         Stepped::Moved
     }
