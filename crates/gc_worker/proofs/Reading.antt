@@ -14,8 +14,10 @@ use Rattle.gc_worker.specs.Access.{GoesTo, read_header, role_in, used_by}
 use Rattle.gc_worker.specs.Seen.{IsValueAs, IsValueWord, by_address, making_in, seen, seen_as, value_seen, word_for}
 use Rattle.heap_state.specs.Worker.{Account}
 use Rattle.plain_heap.specs.Action.{register}
-use Rattle.gc_worker.specs.Fits.{IsMaking}
-use Rattle.gc_worker.specs.Turned.{Pointed, first_pointer}
+use Rattle.gc_worker.specs.Fits.{FitsStage, IsMaking}
+use Rattle.gc_worker.specs.Held.{Held, at_stage}
+use Rattle.gc_worker.specs.declared.stage.Stage.{Stage}
+use Rattle.gc_worker.specs.Turned.{Pointed, first_pointer, places}
 use Rattle.gc_worker.specs.declared.task.Task.{Task}
 use Rattle.plain_state.specs.declared.value.Value.TheVariants.{Number, Reference}
 
@@ -153,3 +155,10 @@ no_pointer_left rs i past = let n : 8 - i ≡ 0 = omega arith in rw n
 -- the serial of the record fits a header
 pub serial_fits : (account : Account) (registers : List ℕ) (task : Option Task) → IsMaking account registers task → account.serial + 1 < 2 ^ 40
 serial_fits account registers task m = m.executes.call.serial m.making (ap making_in m.executes.acts)
+
+-- ---- allocations
+
+-- an allocation fits a worker whatever its stage was before
+pub placing_fits : (x : Held) (was : Stage) (header : Option Header) → FitsStage (at_stage x was) (places x header) → FitsStage x (places x header)
+placing_fits x was (Some header) fits = record { layout = fits.layout; epoch = fits.epoch; going = fits.going; sound = fits.sound }
+placing_fits x was None fits = fits

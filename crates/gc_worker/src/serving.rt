@@ -56,8 +56,10 @@ impl State {
         let Stage::Serves(duty, back) = &mut self.stage else {
             unreachable!()
         };
+        let before = *duty;
         if let Turn::Finished(end) = duty.take(reply) {
             let (duty, back) = (*duty, *back);
+            self.stage = Stage::Serves(before, back);
             self.has_served(duty, back, end);
         }
         Stepped::Moved
@@ -71,10 +73,7 @@ impl State {
         match end {
             RoundEnd::ScanPage(page) => self.scan_page(duty, page, false, back),
             RoundEnd::ScanInPlace(page) => self.scan_page(duty, page, true, back),
-            RoundEnd::Marked | RoundEnd::NothingNow(_) => {
-                self.epoch = duty.epoch();
-                self.go_back(back);
-            }
+            RoundEnd::Marked | RoundEnd::NothingNow(_) => self.go_back(duty.epoch(), back),
             RoundEnd::AllLeft(_) => self.stage = Stage::Gone,
         }
     }
@@ -89,19 +88,21 @@ impl State {
         self.stage = Stage::Scans(scan, back);
     }
 
-    /// The worker goes on where it was before the round.
-    fn go_back(&mut self, back: Back)
-        requires { FitsStage self.old (goes_back self.old back) }
-        ensures { self.new ≡ back_from self.old back }
+    /// The worker goes on where it was before the round, in this epoch.
+    #[tactic(auto, using(crate::proofs::Reading::placing_fits))]
+    fn go_back(&mut self, epoch: u32, back: Back)
+        requires { FitsStage (back_from (record self.old { epoch = epoch }) back) (goes_back (record self.old { epoch = epoch }) back) }
+        ensures { self.new ≡ back_from (record self.old { epoch = epoch }) back }
     {
-        self.stage = match back {
-            Back::ToAccess(access) => Stage::Accesses(access),
-            Back::ToPlace => self.placing(),
+        self.epoch = epoch;
+        match back {
+            Back::ToAccess(access) => self.stage = Stage::Accesses(access),
+            Back::ToPlace => self.stage = self.placing(),
             Back::ToScanner => {
                 let duty = Duty::scanner(self.spaces, self.number, self.mutators);
-                Stage::Serves(duty, Back::ToScanner)
+                self.stage = Stage::Serves(duty, Back::ToScanner);
             }
-        };
+        }
     }
 
     /// A step of a scan.
@@ -160,12 +161,14 @@ impl State {
         ensures state { self.new ≡ uncounted (turned self.old reply) }
         ensures tells { result ≡ stepped_by self.old.number (told self.old reply) }
     {
+        let before = self.stage;
         let Stage::Opens(open, _, back) = &mut self.stage else {
             unreachable!()
         };
         if let Turn::Finished(_) = open.take(reply) {
             let back = *back;
-            self.go_back(back);
+            self.stage = before;
+            self.go_back(self.epoch, back);
         }
         Stepped::Moved
     }
