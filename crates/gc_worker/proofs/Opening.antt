@@ -77,7 +77,7 @@ module _ (c : Configuration) (p : Plain) (s : Stands c p) (k : ℕ) (y : Held) (
         let sound = is.fits.stage.0.sound in
         quiet c p s k x (Some entry) Done s.ghost is.below (rw (knows_back back) law) refl
         (record { pages = sound.pages; page = sound.page; epoch = sound.epoch })
-        (back_fits c.pages c.mutators k x is.fits is.fits.end back is.fits.stage.3) tt
+        (back_fits c.pages c.mutators k x is.fits is.fits.end back is.fits.stage.3 is.fits.side is.fits.task) tt
 
     pub opens : StepsSo c p s k x
     opens =

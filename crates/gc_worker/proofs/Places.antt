@@ -1,9 +1,9 @@
 -- The place of a worker's step is one of the table, by its own soundness alone.
-use Rattle.std.proofs.Common.{◌≡◌, ℕ, ◌+◌, ◌*◌, ◌<◌, ◌≤◌, Bool, true, false, cond, Option, Some, None, refl, sym, ap, subst, ◌∙◌, arith}
+use Rattle.std.proofs.Common.{◌≡◌, ℕ, ◌+◌, ◌*◌, ◌<◌, ◌≤◌, Option, Some, None, refl, sym, ap, subst, ◌∙◌, arith}
 use Rattle.std.proofs.lemmas.Option.{same_Some}
 use Rattle.atom_store.specs.declared.step.Step.{Step}
 use Rattle.atom_store.specs.Step.{place_in}
-use Rattle.space_map.specs.Spaces.{Layout, page_of, to_space}
+use Rattle.space_map.specs.Spaces.{Layout, board_page, page_of, to_space}
 use Rattle.space_map.specs.Table.{Row, Gate, Traced, Area, Page, Cross, HeapWord, Announce, IsRow, place_of, table_length}
 use Rattle.space_map.proofs.Rows.{place_of-lt}
 use Rattle.alloc_end.specs.declared.place_stage.PlaceStage.{PlaceStage}
@@ -37,14 +37,15 @@ use Rattle.page_slots.specs.declared.open_stage.OpenStage.TheVariants as open_st
 use Rattle.page_slots.specs.Claim as claim
 use Rattle.page_slots.specs.Open as open_page
 use Rattle.page_slots.specs.Soundness as slots_sound
+use Rattle.gc_worker.specs.Access as access
+use Rattle.gc_worker.specs.declared.access_stage.AccessStage.{AccessStage}
+use Rattle.gc_worker.specs.declared.access_stage.AccessStage.TheVariants as access_stage
 use Rattle.gc_worker.specs.declared.stage.Stage.{Stage}
 use Rattle.gc_worker.specs.declared.stage.Stage.TheVariants.{Looks, Passes, Flips, Forwards, Accesses, Places, Serves, Scans, Evacuates, Opens, Gone}
-use Rattle.gc_worker.specs.declared.task.Task.{Task}
 use Rattle.gc_worker.specs.Fits.{Fits, FitsStage}
 use Rattle.gc_worker.specs.Held.{Held}
 use Rattle.gc_worker.specs.Law.{PlacesFit}
-use Rattle.gc_worker.specs.Turned.{is_full}
-use Rattle.gc_worker.specs.Wanted.{wanted_at, wanted_look, wanted_place}
+use Rattle.gc_worker.specs.Wanted.{wanted_at}
 use Rattle.gc_worker.proofs.Rounds.Choosing.{to_start-le}
 
 -- the step, if there is one, is of a word of the table
@@ -138,10 +139,19 @@ round_place d (duty_stage.EndAreaAgain look filling) fits caller = at_row d.layo
 round_place d (duty_stage.Traces traced) fits caller = at_row d.layout.pages Traced _ refl tt
 round_place d (duty_stage.Ended result) fits caller = nowhere d.layout.pages
 
--- ---- the worker
+access_place : (l : Layout) (stage : AccessStage) → access.FitsStage l.pages stage → InTable l.pages (Some (access.wanted_at l stage))
+access_place l (access_stage.LooksAtRecord r) fits = let a = fits.0 in at_row l.pages (Page (page_of r.at)) _ refl (omega (arith, a))
+access_place l (access_stage.LoadsHeader r) fits = let a = fits.0 in at_row l.pages (HeapWord r.at) _ refl (omega (arith, a))
+access_place l (access_stage.LooksAtField f usage) fits = let a = fits.0 in at_row l.pages (Page (page_of (access.field_at f))) _ refl (omega (arith, a))
+access_place l (access_stage.LoadsField f into) fits = let a = fits.0 in at_row l.pages (HeapWord (access.field_at f)) _ refl (omega (arith, a))
+access_place l (access_stage.StoresField f new) fits = at_row l.pages (HeapWord (access.field_at f)) _ refl (omega (arith, fits))
+access_place l (access_stage.LooksAtBoard b) fits = at_row l.pages (Page (board_page l.pages)) _ refl (omega arith)
+access_place l (access_stage.LoadsBoard word into) fits = let a = fits.0 in at_row l.pages (HeapWord (access.board_at l word)) _ refl (omega (arith, a))
+access_place l (access_stage.StoresBoard word new) fits = at_row l.pages (HeapWord (access.board_at l word)) _ refl (omega (arith, fits))
+access_place l (access_stage.LoadsForSwap s) fits = let a = fits.0 in at_row l.pages (HeapWord (access.board_at l s.word)) _ refl (omega (arith, a))
+access_place l (access_stage.SwapsBoard s old) fits = let a = fits.0 in at_row l.pages (HeapWord (access.board_at l s.word)) _ refl (omega (arith, a))
 
-none_wanted : (n : ℕ) (o : Option Step) → o ≡ None → InTable n o
-none_wanted n o none q asked = absurd (let e = sym none ∙ asked in cc)
+-- ---- the worker
 
 module _ (n mutators k : ℕ) (x : Held) (f : Fits n mutators k x) where
   -- in the worker's own layout
@@ -151,33 +161,15 @@ module _ (n mutators k : ℕ) (x : Held) (f : Fits n mutators k x) where
   few_of : (j : ℕ) → j ≡ x.number → j ≤ 23
   few_of j same = let a = f.number in let b = f.few in omega (arith, same, a, b)
 
-  look_place : (task : Option Task) → InTable n (wanted_look x task)
-  look_place None = own x.layout refl _ (at_row x.layout.pages Gate _ refl tt)
-  look_place (Some task) = nowhere n
-
-  full_place : (z : place.Placing) (b : Bool) → InTable n (place.wanted z) → InTable n (cond b None (place.wanted z))
-  full_place z true there = nowhere n
-  full_place z false there = there
-
-  part_place : (z : place.Placing) (stage : PlaceStage) → z.stage ≡ stage → InTable n (place.wanted z) → InTable n (wanted_place x z stage)
-  part_place z place_stage.LoadsTraced same there = there
-  part_place z (place_stage.LoadsArea false) same there = there
-  part_place z (place_stage.LoadsArea true) same there = full_place z (is_full x) there
-  part_place z (place_stage.ExchangesArea q) same there = there
-  part_place z (place_stage.StoresZero new) same there = there
-  part_place z (place_stage.OpensPage new) same there = there
-  part_place z place_stage.StoresHeader same there = nowhere n
-  part_place z (place_stage.Ended result) same there = nowhere n
-
   by_stage : (stage : Stage) → FitsStage x stage → InTable n (wanted_at x stage)
-  by_stage Looks fits = look_place x.task
+  by_stage Looks fits = own x.layout refl _ (at_row x.layout.pages Gate _ refl tt)
   by_stage (Passes g after) fits = own g.layout fits.layout _ (gate_place g g.stage)
   by_stage (Flips z) fits = own z.layout fits.layout _ (flip_place z z.stage)
   by_stage (Forwards w) fits =
       let v = fits.copy in
       own w.evac.layout v.layout _ (copy_place w.evac.layout w.evac.addr w.evac.epoch w.evac.worker (few_of w.evac.worker v.worker) v.sound.addr w.evac.stage v.sound.fits)
-  by_stage (Accesses a) fits = nowhere n
-  by_stage (Places z) fits = part_place z z.stage refl (own z.layout fits.layout _ (allocation_place z z.stage fits.sound.stage fits.sound.run))
+  by_stage (Accesses a) fits = own a.spaces fits.layout _ (access_place a.spaces a.stage fits.sound.stage)
+  by_stage (Places z) fits = own z.layout fits.layout _ (allocation_place z z.stage fits.sound.stage fits.sound.run)
   by_stage (Serves d back) fits = own d.layout fits.0.layout _ (round_place d d.stage fits.0.sound.stage fits.0.sound.caller)
   by_stage (Scans z back) fits = own z.layout fits.0.layout _ (scan_place z.layout z.page z.epoch z.stage fits.0.sound.fits)
   by_stage (Evacuates v z back) fits =

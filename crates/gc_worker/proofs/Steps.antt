@@ -28,7 +28,7 @@ use Rattle.gc_worker.specs.Knows.{knows}
 use Rattle.gc_worker.specs.Turned.{Silent, PageWon, turned, told, won}
 
 -- what the entry fits is a row of the table
-row_is : (n : ℕ) (e : Entry) → EntryFits n e → IsRow n (row_of e)
+pub row_is : (n : ℕ) (e : Entry) → EntryFits n e → IsRow n (row_of e)
 row_is n (GateIs gate) fits = tt
 row_is n (TracedIs word) fits = tt
 row_is n (AreaIs space area) fits = fits.0

@@ -1,6 +1,7 @@
 //! What holds of a worker's steps. Each function here does nothing: its contract is what is proved.
 
 ghost use Rattle.gc_worker.specs.Law.{StepsKeep, FlipsAreWon, PlacesFit, RegistersLeadBack};
+ghost use Rattle.gc_worker.specs.Between.{HeapsOpen, ReadyingStands, TasksMayBegin, WorkersGoOn, WorkersWant, WhatStandsIsSo, AnswersLeaveTheOthers};
 ghost use Rattle.gc_worker.specs.Represented.{RepresentedWorkersStand};
 
 /// A step of a worker is of a word of the table, and the worker may take the reply. What stood for a plain state before stands for it
@@ -27,4 +28,40 @@ pub fn registers_lead_back()
 /// A heap with its workers that stands for one plain state stands for each that it represents, with what a cycle keeps.
 pub fn what_is_represented_stands()
     ensures { RepresentedWorkersStand }
+{}
+
+/// A new heap, with its workers before their first steps, stands for the plain state in which nothing was made yet.
+pub fn heaps_open()
+    ensures { HeapsOpen }
+{}
+
+/// A worker may become another without a step, where it is the same to the proofs of the heap and still sound.
+pub fn readying_stands()
+    ensures { ReadyingStands }
+{}
+
+/// A mutator that has no end, and no task that it has not answered, may be given a task.
+pub fn tasks_may_begin()
+    ensures { TasksMayBegin }
+{}
+
+/// A step answers the task that was begun, or keeps it; once it is answered there is none.
+pub fn workers_go_on()
+    ensures { WorkersGoOn }
+{}
+
+/// A worker wants a step until it is gone.
+pub fn workers_want()
+    ensures { WorkersWant }
+{}
+
+/// What is so of a heap with its workers between any two steps: its words represent the plain state, each mutator is as its plain one,
+/// and its registers show that one's.
+pub fn what_stands_is_so()
+    ensures { WhatStandsIsSo }
+{}
+
+/// A step that answers a task leaves the other mutators of the plain state as they were.
+pub fn answers_leave_the_others()
+    ensures { AnswersLeaveTheOthers }
 {}

@@ -38,7 +38,9 @@ pub use board_access::{BoardAccess, BoardSwap, BoardUse};
 pub use field_access::{FieldAccess, FieldUse, Role};
 pub use forwarding_register::ForwardingRegister;
 pub use laws::{
-    flips_are_won, places_fit, registers_lead_back, steps_keep, what_is_represented_stands,
+    answers_leave_the_others, flips_are_won, heaps_open, places_fit, readying_stands,
+    registers_lead_back, steps_keep, tasks_may_begin, what_is_represented_stands,
+    what_stands_is_so, workers_go_on, workers_want,
 };
 pub use record_access::{RecordAccess, RecordUse};
 pub use stage::Stage;

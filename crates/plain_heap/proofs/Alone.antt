@@ -1,5 +1,5 @@
 -- A mutator that is run alone.
-use Rattle.std.proofs.Common.{◌≡◌, ℕ, zero, suc, ◌+◌, ◌<◌, ◌≤◌, Bool, true, false, List, length, replicate, Option, Some, None, Result, Ok, Err, is_some, nat_le, get_or, refl, ap, sym, ◌∙◌, subst, arith, length-set}
+use Rattle.std.proofs.Common.{◌≡◌, ℕ, zero, suc, ◌+◌, ◌<◌, ◌≤◌, Bool, true, false, List, length, replicate, Option, Some, None, Result, Ok, Err, is_some, nat_le, get_or, refl, ap, sym, ◌∙◌, subst, arith}
 use Rattle.std.specs.Result.{IfOk}
 use Rattle.std.proofs.lemmas.Bool.{lt-ltb, leb-false}
 use Rattle.std.proofs.lemmas.List.{get_or-set_same}
@@ -13,6 +13,7 @@ use Rattle.plain_heap.specs.Call.{After, call}
 use Rattle.plain_heap.specs.Step.{fetch, executes, settled, stepped_if, stepped_as, mutator_in, stepped}
 use Rattle.plain_heap.specs.declared.mark.Mark.TheVariants.{Step}
 use Rattle.plain_heap.specs.Order.{fresh, marked, state_after}
+use Rattle.plain_heap.proofs.Calls.{settled-count}
 use Rattle.plain_heap.proofs.Counting.{Grown, grown-refl, grown-trans, Went, call-went}
 
 -- what mutator m is
@@ -57,13 +58,9 @@ module _ (code : List (List Instr)) (turns : ℕ) (s : Plain) (m : ℕ) (has : m
   pub stepped-goes : is_some (mutator_of s m).end ≡ false → stepped code turns s m ≡ settled s m (mutator_of s m) (executes code turns m s.heap (mutator_of s m))
   stepped-goes is = stepped-is ∙ goes_as (mutator_of s m) (mutator_of s m).end is
 
-  settled-counted_as : (o : Result After End) → length (settled s m (mutator_of s m) o).mutators ≡ length s.mutators
-  settled-counted_as (Ok after) = length-set s.mutators m after.mutator
-  settled-counted_as (Err why) = length-set s.mutators m (record (mutator_of s m) { end = Some why })
-
   counted_as : (end : Bool) → is_some (mutator_of s m).end ≡ end → length (stepped code turns s m).mutators ≡ length s.mutators
   counted_as true is = ap (λ t. length t.mutators) (stepped-rests is)
-  counted_as false is = ap (λ t. length t.mutators) (stepped-goes is) ∙ settled-counted_as (executes code turns m s.heap (mutator_of s m))
+  counted_as false is = ap (λ t. length t.mutators) (stepped-goes is) ∙ settled-count s m (mutator_of s m) (executes code turns m s.heap (mutator_of s m))
 
   -- no mutator comes or goes
   pub stepped-counted : length (stepped code turns s m).mutators ≡ length s.mutators

@@ -2,6 +2,7 @@ pub mod Opening
 pub mod Stepping
 pub mod Owning
 pub mod Outcomes
+pub mod Calls
 pub mod Named
 pub mod Alike
 pub mod Counting

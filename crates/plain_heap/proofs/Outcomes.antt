@@ -1,5 +1,5 @@
 -- What holds of the outcome of two steps.
-use Rattle.std.proofs.Common.{Result, Ok, Err}
+use Rattle.std.proofs.Common.{◌≡◌, Result, Ok, Err, refl, subst}
 use Rattle.std.specs.Result.{IfOk}
 use Rattle.plain_state.specs.declared.end.End.{End}
 use Rattle.plain_heap.specs.Action.{◌>>=◌}
@@ -13,3 +13,12 @@ if_ok-bind P (Err why) f next = tt
 pub if_ok-then : {A B : Type 0} (Q : A → Type 0) (P : B → Type 0) (o : Result A End) (f : A → Result B End) → IfOk o Q → ((a : A) → Q a → IfOk (f a) P) → IfOk (o >>= f) P
 if_ok-then Q P (Ok a) f is next = next a is
 if_ok-then Q P (Err why) f is next = tt
+
+-- a result has one value
+pub ok_same : {A : Type 0} (o : Result A End) (a b : A) → o ≡ Ok a → o ≡ Ok b → a ≡ b
+ok_same o a b is_a is_b = cc
+
+-- what holds of a value holds of the one that there is
+pub if_ok-is : {A : Type 0} (P : A → Type 0) (o : Result A End) (a : A) → IfOk o P → o ≡ Ok a → P a
+if_ok-is P (Ok b) a holds is = subst P (ok_same _ b a refl is) holds
+if_ok-is P (Err why) a holds is = cc

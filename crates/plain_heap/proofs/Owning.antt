@@ -16,6 +16,7 @@ use Rattle.plain_state.specs.State.{Record, Heap, Mutator, made_by, at_serial}
 use Rattle.plain_state.specs.Writing.{with_word}
 use Rattle.plain_heap.specs.Action.{◌>>=◌, register, in_record}
 use Rattle.plain_heap.specs.Call.{values_of, value_in, may_hold, zeros, jumped, set_register}
+use Rattle.plain_heap.proofs.Outcomes.{ok_same}
 
 -- a number, or a reference to a record of mutator m
 abbrev pub IsOf : ℕ → Value → Type 0
@@ -55,11 +56,8 @@ values_as : (m : ℕ) (records : List Record) (n : ℕ) (o : Option Record) → 
 values_as m records n None all is = All-nil (IsOf m)
 values_as m records n (Some r) all is = found_serial (AllOf m) records n r all is
 
-ok-same : (o : Result Value End) (u v : Value) → o ≡ Ok u → o ≡ Ok v → u ≡ v
-ok-same o u v is_u is_v = cc
-
 word_as : (m : ℕ) (values : List Value) (o : Result ℕ End) (v : Value) → All (IsOf m) values → (o >>= (λ y. Ok (slice_index_or values y (Number 0)))) ≡ Ok v → IsOf m v
-word_as m values (Ok y) v all is = subst (IsOf m) (ok-same _ (slice_index_or values y (Number 0)) v refl is) (read_all (IsOf m) values y (Number 0) all tt)
+word_as m values (Ok y) v all is = subst (IsOf m) (ok_same _ (slice_index_or values y (Number 0)) v refl is) (read_all (IsOf m) values y (Number 0) all tt)
 word_as m values (Err why) v all is = cc
 
 -- a word that is read of the record of mutator m with a serial

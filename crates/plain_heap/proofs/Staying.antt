@@ -1,5 +1,5 @@
 -- No mutator of the plain machine comes or goes.
-use Rattle.std.proofs.Common.{◌≡◌, ℕ, Bool, true, false, List, [], ◌∷◌, length, Option, Some, None, Result, Ok, Err, refl, ◌∙◌, cond}
+use Rattle.std.proofs.Common.{◌≡◌, ℕ, Bool, true, false, List, [], ◌∷◌, length, Option, Some, None, refl, ◌∙◌, cond}
 use Rattle.std.specs.Prelude.{slice_get}
 use Rattle.std.specs.Option.{option_map_or}
 use Rattle.std.proofs.lemmas.List.{length-map, length-set}
@@ -7,20 +7,16 @@ use Rattle.plain_state.specs.declared.end.End.{End}
 use Rattle.plain_state.specs.declared.end.End.TheVariants.{HeapFull}
 use Rattle.plain_state.specs.State.{Mutator, Plain}
 use Rattle.mutator_asm.specs.declared.instr.Instr.{Instr}
-use Rattle.plain_heap.specs.Call.{After}
 use Rattle.plain_heap.specs.declared.mark.Mark.{Mark}
 use Rattle.plain_heap.specs.declared.mark.Mark.TheVariants.{Step, Flip, Full}
 use Rattle.plain_heap.specs.Order.{opening, marked, state_after, plain, is_asked}
-use Rattle.plain_heap.specs.Step.{asked_by, ended, executes, mutator_in, settled, stepped, stepped_as, stepped_if}
+use Rattle.plain_heap.specs.Step.{asked_by, ended, executes, mutator_in, stepped, stepped_as, stepped_if}
+use Rattle.plain_heap.proofs.Calls.{settled-count}
 
 module _ (code : List (List Instr)) (turns : ℕ) where
-  settled_stay : (s : Plain) (m : ℕ) (k : Mutator) (o : Result After End) → length (settled s m k o).mutators ≡ length s.mutators
-  settled_stay s m k (Ok after) = length-set s.mutators m after.mutator
-  settled_stay s m k (Err why) = length-set s.mutators m (record k { end = Some why })
-
   stepped_if_stay : (s : Plain) (m : ℕ) (k : Mutator) (end : Option End) → length (stepped_if code turns s m k end).mutators ≡ length s.mutators
   stepped_if_stay s m k (Some why) = refl
-  stepped_if_stay s m k None = settled_stay s m k (executes code turns m s.heap k)
+  stepped_if_stay s m k None = settled-count s m k (executes code turns m s.heap k)
 
   stepped_as_stay : (s : Plain) (m : ℕ) (o : Option Mutator) → length (stepped_as code turns s m o).mutators ≡ length s.mutators
   stepped_as_stay s m None = refl

@@ -2,6 +2,7 @@ pub mod Action
 pub mod Call
 pub mod Outcome
 pub mod Step
+pub mod Calls
 pub mod Memory
 pub mod Order
 pub mod Print

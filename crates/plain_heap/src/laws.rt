@@ -1,5 +1,6 @@
 //! What holds of all runs. Each function here does nothing: its contract is what is proved.
 
+ghost use Rattle.plain_heap.specs.Calls.{CallLeavesOthers, CallKeepsCount, CallMakesNewRecord, NewRecordIsMade, ElseNoneIsMade, AsksForNewRecord};
 ghost use Rattle.plain_heap.specs.Consistent.{OpensConsistent, MarksKeepConsistent, RunsStayConsistent};
 ghost use Rattle.plain_heap.specs.Order.{StoryIsPlain, StoryHasOpening, StoryHasLastFlip};
 ghost use Rattle.plain_heap.specs.Alone.{AlwaysTheSame, EndsAlone};
@@ -26,4 +27,20 @@ pub fn reached_states_are_consistent()
     ensures opening { OpensConsistent }
     ensures marks { MarksKeepConsistent }
     ensures runs { RunsStayConsistent }
+{}
+
+/// An instruction of one mutator leaves every other as it was, and no mutator comes or goes.
+pub fn call_leaves_the_others()
+    ensures others { CallLeavesOthers }
+    ensures count { CallKeepsCount }
+{}
+
+/// Where the action of an instruction is to make a record, that record is allocated, and room is
+/// counted for it and for no other. Where none is counted, each mutator has as many records as
+/// before.
+pub fn call_makes_the_new_record()
+    ensures made { CallMakesNewRecord }
+    ensures no_other { NewRecordIsMade }
+    ensures else_none { ElseNoneIsMade }
+    ensures asked { AsksForNewRecord }
 {}

@@ -71,7 +71,7 @@ module _ (y : Held) (v : Evacuation) (scan : Scanning) (back : Back) where
   answer_fits : (n mutators k : ℕ) (z : EvacStage) (q : ScanStage) (to : ℕ) → Fits n mutators k (asking z q) → HasAsked (record v { stage = z }) q → Fits n mutators k (going_on q to)
   answer_fits n mutators k z (Asks asked) to f has =
       let g = f.stage.1 in
-      refit n mutators k (asking z (Asks asked)) f (Scans (answered (record scan { stage = Asks asked }) to) back) f.end
+      refit n mutators k (asking z (Asks asked)) f (Scans (answered (record scan { stage = Asks asked }) to) back) f.end f.side f.task
       (record { layout = g.layout; epoch = g.epoch; sound = record { pages = g.sound.pages; page = g.sound.page; fits = g.sound.fits } }, tt, back_fits (Asks asked) z to back f.stage.3)
   answer_fits n mutators k z LoadsCross to f has = absurd has
   answer_fits n mutators k z (LoadsFirst a) to f has = absurd has

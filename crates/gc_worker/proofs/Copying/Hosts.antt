@@ -3,6 +3,7 @@ use Rattle.std.proofs.Common.{◌≡◌, ℕ, Option, Some, None, refl, sym, ap,
 use Rattle.atom_store.specs.declared.reply.Reply.{Reply}
 use Rattle.atom_store.specs.declared.turn.Turn.TheVariants.{More}
 use Rattle.forwarding.specs.declared.evac_stage.EvacStage.{EvacStage}
+use Rattle.forwarding.specs.declared.evac_stage.EvacStage.TheVariants.{LoadsHeader, TakesHeader, LoadsArea, Announces, Reserves, StoresHeader, LoadsWord, StoresWord, StoresCross, StoresForward, Clears, Ended}
 use Rattle.forwarding.specs.Evacuation as evac
 use Rattle.forwarding.specs.Soundness as sound
 use Rattle.forwarding.specs.Taken as taken
@@ -41,6 +42,21 @@ module _ (y : Held) (o : Host) (w : evac.Evacuation) where
   at z = record y { stage = stage_of o (machine_at z) }
 
 -- ---- what holds whatever the copy is for
+
+-- a copy that has more to do goes on
+going_on : (z : EvacStage) → taken.told z ≡ More → evac.IsGoing z
+going_on LoadsHeader more = tt
+going_on (TakesHeader kept) more = tt
+going_on (LoadsArea kept) more = tt
+going_on (Announces kept area) more = tt
+going_on (Reserves kept area) more = tt
+going_on (StoresHeader r) more = tt
+going_on (LoadsWord r i) more = tt
+going_on (StoresWord r word) more = tt
+going_on (StoresCross r page) more = tt
+going_on (StoresForward r) more = tt
+going_on (Clears to) more = tt
+going_on (Ended to) more = absurd (cc)
 
 module _ (y : Held) (w : evac.Evacuation) where
   pub wants_its : (o : Host) (z : EvacStage) → wanted (at y o w z) ≡ evac.wanted (machine_at y o w z)
@@ -92,20 +108,20 @@ module _ (y : Held) (w : evac.Evacuation) where
     same_back o z q ToPlace f = f
     same_back o z q ToScanner f = f
 
-    pub refits : (o : Host) (z q : EvacStage) → Fits n mutators k (at y o w z) → sound.FitsStage w.layout.pages w.addr q → Fits n mutators k (at y o w q)
-    refits (ForScan s back) z q f fits =
+    pub refits : (o : Host) (z q : EvacStage) → Fits n mutators k (at y o w z) → taken.told q ≡ More → sound.FitsStage w.layout.pages w.addr q → Fits n mutators k (at y o w q)
+    refits (ForScan s back) z q f more fits =
         let a = f.stage.0 in
-        refit n mutators k (at y (ForScan s back) w z) f (Evacuates (machine_at y (ForScan s back) w q) s back) f.end (
-          record { layout = a.layout; of_epoch = a.of_epoch; worker = a.worker; sound = with_sound z q a.sound fits },
+        refit n mutators k (at y (ForScan s back) w z) f (Evacuates (machine_at y (ForScan s back) w q) s back) f.end f.side f.task (
+          record { layout = a.layout; of_epoch = a.of_epoch; worker = a.worker; going = going_on q more; sound = with_sound z q a.sound fits },
           record { layout = f.stage.1.layout; epoch = f.stage.1.epoch; sound = f.stage.1.sound },
           f.stage.2,
           same_back (ForScan s back) z q back f.stage.3,
         )
-    refits (ForRegister r after) z q f fits =
+    refits (ForRegister r after) z q f more fits =
         let a = f.stage.copy in
         refit n mutators k (at y (ForRegister r after) w z) f
-        (Forwards (record { register = r; evac = machine_at y (ForRegister r after) w q; after = after })) f.end
-        (record { register = f.stage.register; copy = record { layout = a.layout; of_epoch = a.of_epoch; worker = a.worker; sound = with_sound z q a.sound fits } })
+        (Forwards (record { register = r; evac = machine_at y (ForRegister r after) w q; after = after })) f.end f.side f.task
+        (record { register = f.stage.register; copy = record { layout = a.layout; of_epoch = a.of_epoch; worker = a.worker; going = going_on q more; sound = with_sound z q a.sound fits } })
 
   -- ---- what the proofs of the heap know of it
 

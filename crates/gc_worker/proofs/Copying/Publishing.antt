@@ -46,7 +46,7 @@ module _ (c : Configuration) (p : Plain) (s : Stands c p) (k : ℕ) (y : Held) (
       (ap (λ (u : Worker). record u { copy = copy; quest = Some (quest_with y v o found) }) is.as_known ∙ becomes_known y v o z q copy found copy_after found_after) law)
       (tells_nothing y v o z reply) (wins_nothing y v o z reply)
       (takes y v o z reply (subst (λ n. IsSound (record v { stage = n })) (sym next) (with_sound y v c.pages c.mutators k z q sound fits)))
-      (refits y v c.pages c.mutators k o z q is.fits fits)
+      (refits y v c.pages c.mutators k o z q is.fits more fits)
 
   -- nothing is written, and what the worker knows stays
   pub stays : (z q : EvacStage) (reply : Reply) → Is c k (here z) → stage_after v.layout v.epoch z reply ≡ q → told q ≡ More
@@ -58,7 +58,7 @@ module _ (c : Configuration) (p : Plain) (s : Stands c p) (k : ℕ) (y : Held) (
       ∙ becomes_known y v o z q (copy_at v.layout v.addr v.epoch z) (found_in z) copy found))
       (tells_nothing y v o z reply) (wins_nothing y v o z reply)
       (takes y v o z reply (subst (λ n. IsSound (record v { stage = n })) (sym next) (with_sound y v c.pages c.mutators k z q sound fits)))
-      (refits y v c.pages c.mutators k o z q is.fits fits)
+      (refits y v c.pages c.mutators k o z q is.fits more fits)
 
   -- ---- the forward
 

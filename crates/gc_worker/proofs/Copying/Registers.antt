@@ -1,5 +1,5 @@
 -- The copy that a register asked for is found: the register gets its address, and the next one that holds a pointer asks.
-use Rattle.std.proofs.Common.{◌≡◌, ℕ, ◌+◌, ◌-◌, ◌*◌, ◌<◌, ◌≤◌, ◌^◌, true, List, length, slice_index, Option, Some, None, is_some, refl, sym, ap, subst, ◌∙◌, arith, get_or-set_same, get_or-set_other, length-set}
+use Rattle.std.proofs.Common.{◌≡◌, ℕ, ◌+◌, ◌-◌, ◌*◌, ◌<◌, ◌≤◌, ◌^◌, true, List, length, slice_index, Option, Some, None, is_some, refl, sym, ap, subst, ◌∙◌, arith, get_or-set_same, get_or-set_other, length-set, ◌≢◌, nat_lt, ⊎_elim}
 use Rattle.std.specs.Prelude.{slice_set}
 use Rattle.plain_state.specs.State.{Plain}
 use Rattle.atom_store.specs.declared.reply.Reply.{Reply}
@@ -27,10 +27,14 @@ use Rattle.heap_state.proofs.Puts.{put_is}
 use Rattle.heap_laws.specs.Composites.{AsksAt, AllDone, AsksNext, LeadNowhere, forwarded_to}
 use Rattle.heap_laws.proofs.Copying.Laws.{announces_are_cleared}
 use Rattle.heap_laws.proofs.Steps.Composites.{registers_find_forwards, registers_are_settled}
+use Rattle.std.proofs.lemmas.Bool.{cases_eq}
+use Rattle.plain_state.specs.declared.sizes.TheConstants.{REGISTERS}
+use Rattle.gc_worker.proofs.Tasks.{task_stays}
+use Rattle.gc_worker.specs.Seen.{IsValueWord, IsValueAs}
 use Rattle.gc_worker.specs.declared.after.After.{After}
 use Rattle.gc_worker.specs.declared.stage.Stage.{Stage}
 use Rattle.gc_worker.specs.declared.stage.Stage.TheVariants.{Forwards}
-use Rattle.gc_worker.specs.Fits.{Fits, FitsEnd, FitsStage}
+use Rattle.gc_worker.specs.Fits.{Fits, FitsEnd, FitsStage, FitsTask, FitsTaskAfter, IsOnSide}
 use Rattle.gc_worker.specs.Goes.{Is, Goes, StepsSo}
 use Rattle.gc_worker.specs.Held.{Held, at_stage}
 use Rattle.gc_worker.specs.Knows.{knows, found_in}
@@ -127,8 +131,19 @@ module _ (c : Configuration) (p : Plain) (s : Stands c p) (k : ℕ) (y : Held) (
           let pages = is.fits.pages in
           omega (arith, old, below, pages, board)
 
-      refits_it : (stage : Stage) → FitsEnd stage (is_some y.account.end) → FitsStage (at_stage (with_it to) stage) stage → Fits c.pages c.mutators k (at_stage (with_it to) stage)
-      refits_it stage end fits = record {
+      -- the task is what it was, and each register still holds a value's word
+      task_after : FitsTaskAfter (with_it to) after
+      task_after = task_stays y.account y.registers r v.addr to (pointer_word to) inside (ap decode (sym (ap (λ (u : Worker). u.registers r) is.as_known)) ∙ origin.3) (decode-pointer_word to short) after y.task is.fits.task
+
+      value_words : (i : ℕ) → i < REGISTERS → IsValueWord (slice_index (with_it to).registers i)
+      value_words i l = ⊎_elim
+          (λ (same : i ≡ r). subst IsValueWord (sym (ap (slice_index (with_it to).registers) same ∙ get_or-set_same y.registers r (pointer_word to) 0 inside)) (subst IsValueAs (sym (decode-pointer_word to short)) tt))
+          (λ (other : i ≢ r). subst IsValueWord (sym (get_or-set_other y.registers r i (pointer_word to) 0 other)) (is.fits.registers i l))
+          (cases_eq i r)
+
+      refits_it : (stage : Stage) → FitsEnd stage (is_some y.account.end) → IsOnSide stage (nat_lt y.number y.mutators) (is_some y.account.end)
+          → FitsTask (at_stage (with_it to) stage) stage → FitsStage (at_stage (with_it to) stage) stage → Fits c.pages c.mutators k (at_stage (with_it to) stage)
+      refits_it stage end side task fits = record {
         number = is.fits.number;
         few = is.fits.few;
         pages = is.fits.pages;
@@ -136,23 +151,28 @@ module _ (c : Configuration) (p : Plain) (s : Stands c p) (k : ℕ) (y : Held) (
         beside = is.fits.beside;
         epoch = is.fits.epoch;
         eight = length-set y.registers r (pointer_word to) ∙ is.fits.eight;
+        registers = value_words;
+        few_printed = is.fits.few_printed;
         run = is.fits.run;
         end = end;
+        side = side;
+        task = task;
         stage = fits;
       }
 
       fits_next : (o : Option Pointed) → Found (with_it to).registers (8 - (r + 1)) (r + 1) o → Fits c.pages c.mutators k (next_at to o)
       fits_next None (Nowhere none) =
-          refits_it (passes (with_it to) Forwarded after) is.fits.end
-          (record { layout = refl; passage = tt; sound = record { pages = page_count c.pages c.mutators k (here z) is.fits; stage = tt } })
+          refits_it (passes (with_it to) Forwarded after) is.fits.end is.fits.side task_after
+          (record { layout = refl; passage = tt; going = tt; sound = record { pages = page_count c.pages c.mutators k (here z) is.fits; stage = tt } })
       fits_next (Some q) (There j a l u at before) =
           let n = origin.2 in
-          refits_it (Forwards (record { register = j; evac = evac.begun y.layout a (y.epoch + 1) y.number; after = after })) is.fits.end (record {
+          refits_it (Forwards (record { register = j; evac = evac.begun y.layout a (y.epoch + 1) y.number; after = after })) is.fits.end is.fits.side task_after (record {
             register = omega (arith, u, n);
             copy = record {
               layout = refl;
               of_epoch = refl;
               worker = refl;
+              going = tt;
               sound = record {
                 pages = page_count c.pages c.mutators k (here z) is.fits;
                 worker = rw is.fits.number is.fits.few;

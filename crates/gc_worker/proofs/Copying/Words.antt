@@ -101,7 +101,7 @@ module _ (c : Configuration) (p : Plain) (s : Stands c p) (k : ℕ) (y : Held) (
       ∙ becomes_known y v o z q (Some copy) None copy_after found) law)
       (tells_nothing y v o z reply) (wins_nothing y v o z reply)
       (takes y v o z reply (subst (λ n. Rattle.forwarding.specs.Soundness.IsSound (record v { stage = n })) (sym next) (with_sound y v c.pages c.mutators k z q sound fits)))
-      (refits y v c.pages c.mutators k o z q is.fits fits)
+      (refits y v c.pages c.mutators k o z q is.fits more fits)
 
   -- what the proofs know of the copy
   abbrev knows_copy : (z : EvacStage) → Is c k (here z) → ((team c).worker k).copy ≡ copy_at v.layout v.addr v.epoch z

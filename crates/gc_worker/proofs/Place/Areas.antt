@@ -75,10 +75,10 @@ module _ (c : Configuration) (p : Plain) (s : Stands c p) (k : ℕ) (y : Held) (
   stage_fits false test = tt
 
   worker_fits : (b : Bool) → fits false (words_for header) area ≡ b → Fits c.pages c.mutators k (then b)
-  worker_fits true test = replace c p s k y run header (LoadsArea false) (ExchangesArea (record { traced = false; area = area })) is (stage_fits true test)
+  worker_fits true test = replace c p s k y run header (LoadsArea false) (ExchangesArea (record { traced = false; area = area })) is tt (stage_fits true test)
   worker_fits false test =
-      refit c.pages c.mutators k x is.fits (Serves (duty.begun x.layout callers.Allocates x.epoch x.number) ToPlace) is.fits.end
-      (record { layout = refl; worker = refl; caller = tt; epoch = refl; sound = record { pages = page_count c.pages c.mutators k x is.fits; caller = tt; epoch = is.fits.epoch; worker = rw is.fits.number is.fits.few; stage = tt } }, tt)
+      refit c.pages c.mutators k x is.fits (Serves (duty.begun x.layout callers.Allocates x.epoch x.number) ToPlace) is.fits.end is.fits.side is.fits.task.0
+      (record { layout = refl; worker = refl; caller = tt; epoch = refl; going = tt; sound = record { pages = page_count c.pages c.mutators k x is.fits; caller = tt; epoch = is.fits.epoch; worker = rw is.fits.number is.fits.few; stage = tt } }, tt)
 
   reads : (b : Bool) → fits false (words_for header) area ≡ b → looked_at_area (placing c p s k y run header (LoadsArea false)) false (decode_area (area_now c space)) ≡ next b
   reads b test = ap (looked_at_area (placing c p s k y run header (LoadsArea false)) false) (area_says c p s space (is_space y.epoch)) ∙ ap next test

@@ -15,7 +15,7 @@ use Rattle.alloc_end.specs.declared.place_stage.PlaceStage.{PlaceStage}
 use Rattle.alloc_end.specs.declared.place_stage.PlaceStage.TheVariants.{LoadsTraced, LoadsArea, ExchangesArea, StoresZero}
 use Rattle.alloc_end.specs.declared.run.Run.{Run}
 use Rattle.alloc_end.specs.Place.{Placing, size_of, pages_for, words_for, kept_room, area_after, first_claimed}
-use Rattle.alloc_end.specs.Soundness.{FitsPlaceStage, HasRoom}
+use Rattle.alloc_end.specs.Soundness.{FitsPlaceStage, HasRoom, IsPlacingGoing}
 use Rattle.heap_state.specs.Configuration.{Configuration, Stands, table, era, memory, team}
 use Rattle.heap_state.specs.Entries.{AreaIs}
 use Rattle.heap_state.specs.Worker.{Worker, Stock}
@@ -48,10 +48,10 @@ module _ (c : Configuration) (p : Plain) (s : Stands c p) (k : ℕ) (y : Held) (
   at stage = at_stage y (Places (placing stage))
 
   -- a mutator that allocates at another stage
-  pub replace : (before stage : PlaceStage) → Is c k (at before) → FitsPlaceStage y.layout.pages (pages_for (size_of header)) run header stage → Fits c.pages c.mutators k (at stage)
-  replace before stage is fits =
-      refit c.pages c.mutators k (at before) is.fits (Places (placing stage)) is.fits.end
-      (record { layout = refl; epoch = refl; sound = record { pages = is.fits.stage.sound.pages; run = is.fits.stage.sound.run; epoch = is.fits.stage.sound.epoch; stage = fits } })
+  pub replace : (before stage : PlaceStage) → Is c k (at before) → IsPlacingGoing stage → FitsPlaceStage y.layout.pages (pages_for (size_of header)) run header stage → Fits c.pages c.mutators k (at stage)
+  replace before stage is going fits =
+      refit c.pages c.mutators k (at before) is.fits (Places (placing stage)) is.fits.end is.fits.side is.fits.task
+      (record { layout = refl; epoch = refl; going = going; sound = record { pages = is.fits.stage.sound.pages; run = is.fits.stage.sound.run; epoch = is.fits.stage.sound.epoch; stage = fits } })
 
   -- its epoch is the current one
   pub now : (before : PlaceStage) → Is c k (at before) → y.epoch ≡ (era c).epoch
@@ -66,7 +66,7 @@ module _ (c : Configuration) (p : Plain) (s : Stands c p) (k : ℕ) (y : Held) (
     goes b test =
         becomes c p s k (at LoadsTraced) None (Value (traced_now c)) (at (LoadsArea b)) s.ghost (ap (λ (t : Bool). at (LoadsArea t)) test) is.below (learnt b test) refl refl
         (record { pages = is.fits.stage.sound.pages; run = is.fits.stage.sound.run; epoch = is.fits.stage.sound.epoch; stage = tt })
-        (replace LoadsTraced (LoadsArea b) is tt)
+        (replace LoadsTraced (LoadsArea b) is tt tt)
       where
         learnt : (b : Bool) → (traced_now c == y.epoch + 1) ≡ b → Law c p s k (at LoadsTraced) None (knows (at (LoadsArea b))) s.ghost
         learnt false test = nothing c p s k (at LoadsTraced) is (knows (at (LoadsArea false))) refl
@@ -167,14 +167,14 @@ module _ (c : Configuration) (p : Plain) (s : Stands c p) (k : ℕ) (y : Held) (
           let fits : FitsPlaceStage y.layout.pages asked run header (StoresZero new_pages) = (lies, omega arith, omega (arith, some)) in
           becomes c p s k x (Some (AreaIs space (area_after (words_for header) f))) Won (at (StoresZero new_pages)) s.ghost refl is.below stocks refl refl
           (record { pages = is.fits.stage.sound.pages; run = is.fits.stage.sound.run; epoch = is.fits.stage.sound.epoch; stage = fits })
-          (replace (ExchangesArea f) (StoresZero new_pages) is fits)
+          (replace (ExchangesArea f) (StoresZero new_pages) is tt fits)
 
     loses : Goes c p s k None x (Lost (area_now c space))
     loses =
         becomes c p s k x None (Lost (area_now c space)) (at LoadsTraced) s.ghost refl is.below
         (less c p s k x is (knows (at LoadsTraced)) (traced_is_forgotten (knows x) refl refl)) refl refl
         (record { pages = is.fits.stage.sound.pages; run = is.fits.stage.sound.run; epoch = is.fits.stage.sound.epoch; stage = tt })
-        (replace (ExchangesArea f) LoadsTraced is tt)
+        (replace (ExchangesArea f) LoadsTraced is tt tt)
 
     pub exchanges_area : StepsSo c p s k x
     exchanges_area =

@@ -100,8 +100,8 @@ module _ (c : Configuration) (p : Plain) (s : Stands c p) (k : ℕ) (y : Held) (
         record { pages = is.fits.stage.sound.pages; run = (omega arith, f.0); epoch = is.fits.stage.sound.epoch; stage = omega arith }
 
     fits : (b : Bool) → test_of ≡ b → Fits c.pages c.mutators k (then b)
-    fits true test = refit c.pages c.mutators k x is.fits (Places (pick true)) is.fits.end (record { layout = refl; epoch = refl; sound = sound true test })
-    fits false test = refit c.pages c.mutators k x is.fits (Places (pick false)) is.fits.end (record { layout = refl; epoch = refl; sound = sound false test })
+    fits true test = refit c.pages c.mutators k x is.fits (Places (pick true)) is.fits.end is.fits.side is.fits.task (record { layout = refl; epoch = refl; going = tt; sound = sound true test })
+    fits false test = refit c.pages c.mutators k x is.fits (Places (pick false)) is.fits.end is.fits.side is.fits.task (record { layout = refl; epoch = refl; going = tt; sound = sound false test })
 
     stock_then : (b : Bool) → test_of ≡ b → stocked (knows x) (opened_further stock) ≡ knows (then b)
     stock_then true test =

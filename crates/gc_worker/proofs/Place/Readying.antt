@@ -13,7 +13,7 @@ use Rattle.alloc_end.specs.declared.place_stage.PlaceStage.{PlaceStage}
 use Rattle.alloc_end.specs.declared.place_stage.PlaceStage.TheVariants.{StoresZero, OpensPage}
 use Rattle.alloc_end.specs.declared.run.Run.{Run}
 use Rattle.alloc_end.specs.Place.{size_of, pages_for, words_for, told}
-use Rattle.alloc_end.specs.Soundness.{FitsPlaceStage}
+use Rattle.alloc_end.specs.Soundness.{FitsPlaceStage, IsPlacingGoing}
 use Rattle.heap_state.specs.Configuration.{Configuration, Stands, era, memory, team}
 use Rattle.heap_state.specs.Entries.{WordIs}
 use Rattle.heap_state.specs.Worker.{Worker, Stock}
@@ -82,6 +82,10 @@ module _ (c : Configuration) (p : Plain) (s : Stands c p) (k : ℕ) (y : Held) (
     comes true = refl
     comes false = refl
 
+    going : (b : Bool) → IsPlacingGoing (next b)
+    going true = tt
+    going false = tt
+
     silent : (b : Bool) → tells (next b) ≡ Silent
     silent true = refl
     silent false = refl
@@ -91,7 +95,7 @@ module _ (c : Configuration) (p : Plain) (s : Stands c p) (k : ℕ) (y : Held) (
         becomes c p s k x (Some (WordIs new.next 0)) Done (here (next b)) s.ghost (ap (λ (t : Bool). by (next t)) test ∙ comes b) is.below
         (subst (λ (v : Worker). Law c p s k x (Some (WordIs new.next 0)) v s.ghost) (stock_then b test) law) (ap (λ (t : Bool). tells (next t)) test ∙ silent b) refl
         (record { pages = is.fits.stage.sound.pages; run = is.fits.stage.sound.run; epoch = is.fits.stage.sound.epoch; stage = subst (FitsPlaceStage y.layout.pages asked run header) (ap next (sym test)) (fits b test) })
-        (replace c p s k y run header (StoresZero new) (next b) is (fits b test))
+        (replace c p s k y run header (StoresZero new) (next b) is (going b) (fits b test))
 
     pub stores_zero : StepsSo c p s k x
     stores_zero =

@@ -102,7 +102,7 @@ module _ (c : Configuration) (p : Plain) (s : Stands c p) (k : ℕ) (y : Held) w
         (ap (λ (r : Round). turned_round scanner r ToScanner (duty.told r)) taken) is.below
         (nothing c p s k scanner is (knows (at_stage scanner Gone)) (λ i. record (knows scanner) { post = ap post_gone (sym no_mutator) i })) refl refl
         (subst IsSoundRound (sym taken) (sound_at c p s k y d ToScanner LoadsGate is (Ended (AllLeft (gate_now c))) tt))
-        (refit c.pages c.mutators k scanner is.fits Gone tt tt)
+        (refit c.pages c.mutators k scanner is.fits Gone tt (rw is.fits.side tt) is.fits.task tt)
 
     -- it takes the epoch
     knows_taking : gate_laws.into_epoch (knows scanner) gate.epoch ≡ knows taking
@@ -119,8 +119,8 @@ module _ (c : Configuration) (p : Plain) (s : Stands c p) (k : ℕ) (y : Held) w
         (subst (λ (w : Worker). Law c p s k scanner None w s.ghost) (ap (λ (w : Worker). gate_laws.into_epoch w gate.epoch) is.as_known ∙ knows_taking)
         (takes_epoch_of_gate (era c) (memory c) (team c) s.ghost k (prepared c p s k scanner is) (ap (λ (w : Worker). w.post) is.as_known) (ap (λ (w : Worker). w.scan) is.as_known)))
         refl refl (subst IsSoundRound (sym taken) sound_taking)
-        (refit c.pages c.mutators k scanner is.fits (Serves with_gate ToScanner) is.fits.end
-        (record { layout = is.fits.stage.0.layout; worker = is.fits.stage.0.worker; caller = is.fits.stage.0.caller; epoch = tt; sound = sound_taking }, no_run))
+        (refit c.pages c.mutators k scanner is.fits (Serves with_gate ToScanner) is.fits.end is.fits.side is.fits.task
+        (record { layout = is.fits.stage.0.layout; worker = is.fits.stage.0.worker; caller = is.fits.stage.0.caller; epoch = tt; going = tt; sound = sound_taking }, no_run))
 
     scanner_by : (b : Bool) → duty.taken_at (round c p s k y d ToScanner LoadsGate) LoadsGate (Value (gate_now c))
         ≡ cond b (round c p s k y d ToScanner (Ended (AllLeft (gate_now c)))) with_gate → Goes c p s k None scanner (Value (gate_now c))

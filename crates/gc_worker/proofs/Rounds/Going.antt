@@ -6,12 +6,12 @@ use Rattle.atom_store.specs.declared.turn.Turn.TheVariants.{More, Finished}
 use Rattle.fault_duty.specs.declared.caller.Caller.{Caller}
 use Rattle.fault_duty.specs.declared.caller.Caller.TheVariants as callers
 use Rattle.fault_duty.specs.declared.duty_stage.DutyStage.{DutyStage}
-use Rattle.fault_duty.specs.declared.duty_stage.DutyStage.TheVariants.{Ended}
+use Rattle.fault_duty.specs.declared.duty_stage.DutyStage.TheVariants.{LoadsGate, LoadsTraced, LoadsWanted, LoadsFrontFor, LoadsFront, LoadsPage, Claims, EndGate, EndArea, EndPage, EndFilling, EndAreaAgain, Traces, Ended}
 use Rattle.fault_duty.specs.declared.round_end.RoundEnd.{RoundEnd}
 use Rattle.fault_duty.specs.declared.round_end.RoundEnd.TheVariants.{NothingNow}
 use Rattle.fault_duty.specs.Duty as duty
 use Rattle.fault_duty.specs.Duty.{Round}
-use Rattle.fault_duty.specs.Soundness.{IsSoundRound, FitsDutyStage}
+use Rattle.fault_duty.specs.Soundness.{IsRoundGoing, IsSoundRound, FitsDutyStage}
 use Rattle.heap_state.specs.Configuration.{Configuration, Stands, era, memory, team}
 use Rattle.heap_state.specs.Entries.{Entry}
 use Rattle.heap_state.specs.Ghost.{Ghost}
@@ -37,6 +37,23 @@ use Rattle.gc_worker.proofs.GoingBack.{back_fits}
 use Rattle.gc_worker.proofs.Steps.{Law, becomes, loads, prepared}
 use Rattle.gc_worker.proofs.Gate.Words.{wants}
 
+-- a round that has more to do goes on
+going_on : (stage : DutyStage) → duty.told_at stage ≡ More → IsRoundGoing stage
+going_on LoadsGate more = tt
+going_on (LoadsTraced hindrance) more = tt
+going_on (LoadsWanted found page) more = tt
+going_on (LoadsFrontFor found wanted) more = tt
+going_on (LoadsFront found) more = tt
+going_on (LoadsPage choice page) more = tt
+going_on (Claims claim) more = tt
+going_on (EndGate traced) more = tt
+going_on (EndArea traced) more = tt
+going_on (EndPage look page) more = tt
+going_on (EndFilling look) more = tt
+going_on (EndAreaAgain look filling) more = tt
+going_on (Traces traced) more = tt
+going_on (Ended result) more = absurd (cc)
+
 module _ (c : Configuration) (p : Plain) (s : Stands c p) (k : ℕ) (y : Held) (d : Round) (back : Back) where
   -- the round at a stage, and the worker that makes it
   abbrev pub round : DutyStage → Round
@@ -47,7 +64,7 @@ module _ (c : Configuration) (p : Plain) (s : Stands c p) (k : ℕ) (y : Held) (
 
   -- the worker whose round has ended
   abbrev pub done : Held
-  done = record (at (Ended (NothingNow 0))) { epoch = d.epoch }
+  done = record (at LoadsGate) { epoch = d.epoch }
 
   module _ (stage : DutyStage) (is : Is c k (at stage)) where
     abbrev x : Held
@@ -58,18 +75,18 @@ module _ (c : Configuration) (p : Plain) (s : Stands c p) (k : ℕ) (y : Held) (
     sound_at next fits =
         let own = is.fits.stage.0.sound in record { pages = own.pages; caller = own.caller; epoch = own.epoch; worker = own.worker; stage = fits }
 
-    pub fits_at : (next : DutyStage) → FitsDutyStage (round next) next → Fits c.pages c.mutators k (at next)
-    fits_at next fits =
+    pub fits_at : (next : DutyStage) → IsRoundGoing next → FitsDutyStage (round next) next → Fits c.pages c.mutators k (at next)
+    fits_at next going fits =
         let own = is.fits.stage.0 in
-        refit c.pages c.mutators k x is.fits (Serves (round next) back) is.fits.end
-        (record { layout = own.layout; worker = own.worker; caller = own.caller; epoch = own.epoch; sound = sound_at next fits }, is.fits.stage.1)
+        refit c.pages c.mutators k x is.fits (Serves (round next) back) is.fits.end is.fits.side is.fits.task
+        (record { layout = own.layout; worker = own.worker; caller = own.caller; epoch = own.epoch; going = going; sound = sound_at next fits }, is.fits.stage.1)
 
     -- it goes on at the next stage, and writes a row or none
     pub goes_on : (e : Option Entry) (reply : Reply) (next : DutyStage) (h : Ghost) → duty.taken_at (round stage) stage reply ≡ round next → duty.told_at next ≡ More
         → won_in stage reply ≡ None → FitsDutyStage (round next) next → Law c p s k x e (knows (at next)) h → Goes c p s k e x reply
     goes_on e reply next h taken more none fits law = becomes c p s k x e reply (at next) h
         (ap (λ (r : Round). turned_round x r back (duty.told r)) taken ∙ ap (turned_round x (round next) back) more)
-        is.below law refl none (subst IsSoundRound (sym taken) (sound_at next fits)) (fits_at next fits)
+        is.below law refl none (subst IsSoundRound (sym taken) (sound_at next fits)) (fits_at next (going_on next more) fits)
 
     -- a round of a mutator is of its own epoch, and a scanner has no run
     abbrev SameStock : Type 0
@@ -93,7 +110,7 @@ module _ (c : Configuration) (p : Plain) (s : Stands c p) (k : ℕ) (y : Held) (
       same_worker b = λ i. record (knew b) { epoch = sym own i; stock = same i }
 
       abbrev done_with : Back → Held
-      done_with b = record y { epoch = d.epoch; stage = Serves (round (Ended (NothingNow 0))) b }
+      done_with b = record y { epoch = d.epoch; stage = Serves (round LoadsGate) b }
 
       knows_back : (b : Back) → knows (back_from (done_with b) b) ≡ with_epoch b
       knows_back (ToAccess a) = refl
@@ -133,22 +150,27 @@ module _ (c : Configuration) (p : Plain) (s : Stands c p) (k : ℕ) (y : Held) (
           beside = f.beside;
           epoch = own.sound.epoch;
           eight = f.eight;
+          registers = f.registers;
+          few_printed = f.few_printed;
           run = f.run;
           end = f.end;
+          side = f.side;
+          task = f.task;
           stage = (
             record {
               layout = own.layout;
               worker = own.worker;
               caller = caller_done back d.caller d.epoch own.epoch own.caller;
               epoch = epoch_done back d.epoch;
-              sound = sound_at (Ended (NothingNow 0)) tt;
+              going = tt;
+              sound = sound_at LoadsGate tt;
             },
             back_done back d.epoch own.epoch f.stage.1,
           );
         }
 
     ended_fits : Fits c.pages c.mutators k (back_from done back)
-    ended_fits = back_fits c.pages c.mutators k done fits_done is.fits.end back (back_done back d.epoch is.fits.stage.0.epoch is.fits.stage.1)
+    ended_fits = back_fits c.pages c.mutators k done fits_done is.fits.end back (back_done back d.epoch is.fits.stage.0.epoch is.fits.stage.1) is.fits.side is.fits.task
 
     pub own_stock_same : SameStock
     own_stock_same = same_stock back is.fits.stage.0.epoch is.fits.stage.1

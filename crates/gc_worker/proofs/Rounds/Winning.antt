@@ -146,7 +146,7 @@ module _ (c : Configuration) (p : Plain) (s : Stands c p) (k : ℕ) (y : Held) (
       let f = fits_done c p s k y d back (Claims (record q { stage = Exchanges })) is in
       let low : q.page ≤ board_page y.layout.pages = subst (λ (l : Layout). q.page ≤ board_page l.pages) same_layout own.sound.page in
       let first = first_fits (nat_eq q.page (board_page y.layout.pages)) refl low in
-      refit c.pages c.mutators k (done c p s k y d back) f (Scans begun back) f.end (
+      refit c.pages c.mutators k (done c p s k y d back) f (Scans begun back) f.end f.side f.task (
         record { layout = refl; epoch = refl; sound = record { pages = subst (λ (l : Layout). IsPageCount l.pages) is.fits.stage.0.layout is.fits.stage.0.sound.pages; page = low; fits = first.0 } },
         first.1,
         still_back (done c p s k y d back) (Scans begun back) back f.stage.1,

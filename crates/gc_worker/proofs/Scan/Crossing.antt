@@ -64,7 +64,7 @@ module _ (c : Configuration) (p : Plain) (s : Stands c p) (k : ℕ) (y : Held) (
         let first : (v.page < 2 * v.layout.pages) × (word < 128 * v.layout.pages) = (own.0.sound.fits, rw (own.0.layout, is.fits.pages) below) in
         quiet c p s k x None (Value word) s.ghost is.below law refl
         (record { pages = own.0.sound.pages; page = own.0.sound.page; fits = first })
-        (going_fits x at_cross back c.pages c.mutators k is.fits is.fits.end own.0 own.2 (scan_stage.LoadsFirst word) tt first) tt
+        (going_fits x at_cross back c.pages c.mutators k is.fits is.fits.end own.0 own.2 is.fits.side is.fits.task (scan_stage.LoadsFirst word) tt first) tt
 
     pub crosses : StepsSo c p s k x
     crosses =

@@ -91,8 +91,8 @@ module _ (c : Configuration) (p : Plain) (s : Stands c p) (k : ℕ) (y : Held) (
     sound_by false = is.fits.stage.0.sound.fits
 
     fits_by : (b : Bool) → Fits c.pages c.mutators k (scans_to x at_end back (stage_by b))
-    fits_by true = ended_fits x at_end back c.pages c.mutators k is.fits is.fits.end is.fits.stage.0 is.fits.stage.2 (record { cursor = r.next; at_front = true }) (sound_by true)
-    fits_by false = going_fits x at_end back c.pages c.mutators k is.fits is.fits.end is.fits.stage.0 is.fits.stage.2 (scan_stage.LoadsNext r) tt (sound_by false)
+    fits_by true = ended_fits x at_end back c.pages c.mutators k is.fits is.fits.end is.fits.stage.0 is.fits.stage.2 is.fits.side is.fits.task (record { cursor = r.next; at_front = true }) (sound_by true)
+    fits_by false = going_fits x at_end back c.pages c.mutators k is.fits is.fits.end is.fits.stage.0 is.fits.stage.2 is.fits.side is.fits.task (scan_stage.LoadsNext r) tt (sound_by false)
 
     -- what the area makes of it
     comes_to : (b : Bool) → (r.next == (memory c).front) ≡ b → by_area v.layout v.epoch r (decode_area word) ≡ stage_by b

@@ -98,7 +98,7 @@ module _ (c : Configuration) (p : Plain) (s : Stands c p) (k : ℕ) (y : Held) (
             (knows (scans_to x v back (goes_on v.page v.in_place r z))) s.ghost law (goes_on_less y v back r z (era c) (not_board space))
 
         fits_after : Fits c.pages c.mutators k (scans_to x v back (goes_on v.page v.in_place r z))
-        fits_after = goes_on_fits y v back r z whole space_of (omega arith) behind (omega (arith, reaches)) c.pages c.mutators k is.fits is.fits.end is.fits.stage.0 is.fits.stage.2
+        fits_after = goes_on_fits y v back r z whole space_of (omega arith) behind (omega (arith, reaches)) c.pages c.mutators k is.fits is.fits.end is.fits.stage.0 is.fits.stage.2 is.fits.side is.fits.task
 
 -- ---- the record over the page's first word
 

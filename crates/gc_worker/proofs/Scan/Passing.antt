@@ -17,7 +17,7 @@ use Rattle.heap_laws.specs.Composing.{IsAtMost}
 use Rattle.heap_laws.specs.Scanning.Words.{scanning, is_past}
 use Rattle.gc_worker.specs.declared.back.Back.{Back}
 use Rattle.gc_worker.specs.declared.stage.Stage.TheVariants.{Scans}
-use Rattle.gc_worker.specs.Fits.{Fits, FitsScan, FitsBack}
+use Rattle.gc_worker.specs.Fits.{Fits, FitsScan, FitsBack, FitsTaskBack, IsOnSideBack}
 use Rattle.gc_worker.specs.Held.{Held}
 use Rattle.gc_worker.specs.Knows.{knows, scan_of, seen_of}
 use Rattle.gc_worker.proofs.Scan.GoingOn.{of_scan, scans_to, going_fits, ended_fits}
@@ -79,13 +79,14 @@ module _ (y : Held) (v : Scanning) (back : Back) (r : ScannedRecord) (z : ℕ) w
     pub goes_on_sound : scan_sound.FitsStage v.layout.pages v.page (goes_on v.page v.in_place r z)
     goes_on_sound = sound_by (nat_lt z r.fields_end) (nat_lt z (first_word (v.page + 1))) (nat_lt r.next (first_word (v.page + 1))) v.in_place refl refl refl
 
-    module _ (n mutators k : ℕ) (f : Fits n mutators k x) (unended : is_some x.account.end ≡ false) (fits : FitsScan x v) (own : FitsBack x back) where
+    module _ (n mutators k : ℕ) (f : Fits n mutators k x) (unended : is_some x.account.end ≡ false) (fits : FitsScan x v) (own : FitsBack x back)
+        (side : IsOnSideBack back (nat_lt x.number x.mutators)) (task : FitsTaskBack x back) where
       fits_by : (b1 b2 b3 in_place : Bool) → scan_sound.FitsStage v.layout.pages v.page (stage_by b1 b2 b3 in_place) → Fits n mutators k (scans_to x v back (stage_by b1 b2 b3 in_place))
-      fits_by true true b3 ip sound = going_fits x v back n mutators k f unended fits own (scan_stage.LoadsWord (InRecord r z)) tt sound
-      fits_by true false b3 ip sound = ended_fits x v back n mutators k f unended fits own (record { cursor = z; at_front = false }) sound
-      fits_by false b2 true true sound = going_fits x v back n mutators k f unended fits own (scan_stage.LoadsFront r) tt sound
-      fits_by false b2 true false sound = going_fits x v back n mutators k f unended fits own (scan_stage.LoadsNext r) tt sound
-      fits_by false b2 false ip sound = ended_fits x v back n mutators k f unended fits own (record { cursor = r.next; at_front = false }) sound
+      fits_by true true b3 ip sound = going_fits x v back n mutators k f unended fits own side task (scan_stage.LoadsWord (InRecord r z)) tt sound
+      fits_by true false b3 ip sound = ended_fits x v back n mutators k f unended fits own side task (record { cursor = z; at_front = false }) sound
+      fits_by false b2 true true sound = going_fits x v back n mutators k f unended fits own side task (scan_stage.LoadsFront r) tt sound
+      fits_by false b2 true false sound = going_fits x v back n mutators k f unended fits own side task (scan_stage.LoadsNext r) tt sound
+      fits_by false b2 false ip sound = ended_fits x v back n mutators k f unended fits own side task (record { cursor = r.next; at_front = false }) sound
 
       pub goes_on_fits : Fits n mutators k (scans_to x v back (goes_on v.page v.in_place r z))
       goes_on_fits = fits_by (nat_lt z r.fields_end) (nat_lt z (first_word (v.page + 1))) (nat_lt r.next (first_word (v.page + 1))) v.in_place goes_on_sound

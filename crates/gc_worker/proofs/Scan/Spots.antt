@@ -15,7 +15,7 @@ use Rattle.heap_laws.specs.Composing.{IsAtMost}
 use Rattle.heap_laws.specs.Scanning.Words.{scanning, is_past, past_word, AtField}
 use Rattle.gc_worker.specs.declared.back.Back.{Back}
 use Rattle.gc_worker.specs.declared.stage.Stage.TheVariants.{Scans}
-use Rattle.gc_worker.specs.Fits.{Fits, FitsScan, FitsBack}
+use Rattle.gc_worker.specs.Fits.{Fits, FitsScan, FitsBack, FitsTaskBack, IsOnSideBack}
 use Rattle.gc_worker.specs.Held.{Held}
 use Rattle.gc_worker.specs.Knows.{knows, scan_of, seen_of, scan_at}
 use Rattle.gc_worker.proofs.Scan.GoingOn.{of_scan, scans_to, going_fits, ended_fits}
@@ -67,11 +67,12 @@ module _ (y : Held) (v : Scanning) (back : Back) where
   passes_sound (OnBoard a) few on = board_sound a (nat_lt (a + 1) (first_word v.page + board_words)) few on refl
   passes_sound (InRecord r a) few on = let f = on.0.fields in goes_on_sound y v back r (a + 1) on.0 on.1 (omega (arith, on)) (omega (arith, on)) (omega (arith, on, f))
 
-  module _ (n mutators k : ℕ) (f : Fits n mutators k x) (unended : is_some x.account.end ≡ false) (fits : FitsScan x v) (own : FitsBack x back) where
+  module _ (n mutators k : ℕ) (f : Fits n mutators k x) (unended : is_some x.account.end ≡ false) (fits : FitsScan x v) (own : FitsBack x back)
+      (side : IsOnSideBack back (nat_lt x.number x.mutators)) (task : FitsTaskBack x back) where
     board_fits : (a : ℕ) (b : Bool) → scan_sound.FitsStage v.layout.pages v.page (board_by a b) → Fits n mutators k (scans_to x v back (board_by a b))
-    board_fits a true sound = going_fits x v back n mutators k f unended fits own (scan_stage.LoadsWord (OnBoard (a + 1))) tt sound
-    board_fits a false sound = ended_fits x v back n mutators k f unended fits own (record { cursor = a + 1; at_front = false }) sound
+    board_fits a true sound = going_fits x v back n mutators k f unended fits own side task (scan_stage.LoadsWord (OnBoard (a + 1))) tt sound
+    board_fits a false sound = ended_fits x v back n mutators k f unended fits own side task (record { cursor = a + 1; at_front = false }) sound
 
     pub passes_fits : (spot : Spot) → scan_sound.IsOnPage v.layout.pages v.page spot → Fits n mutators k (scans_to x v back (passes v.page v.in_place spot))
     passes_fits (OnBoard a) on = board_fits a (nat_lt (a + 1) (first_word v.page + board_words)) (passes_sound (OnBoard a) fits.sound.pages on)
-    passes_fits (InRecord r a) on = let e = on.0.fields in goes_on_fits y v back r (a + 1) on.0 on.1 (omega (arith, on)) (omega (arith, on)) (omega (arith, on, e)) n mutators k f unended fits own
+    passes_fits (InRecord r a) on = let e = on.0.fields in goes_on_fits y v back r (a + 1) on.0 on.1 (omega (arith, on)) (omega (arith, on)) (omega (arith, on, e)) n mutators k f unended fits own side task

@@ -76,7 +76,7 @@ module _ (c : Configuration) (p : Plain) (s : Stands c p) (k : ℕ) (y : Held) (
     goes : Goes c p s k (Some entry) x Done
     goes = quiet c p s k x (Some entry) Done s.ghost is.below law refl
         (record { pages = is.fits.stage.0.sound.pages; page = is.fits.stage.0.sound.page; fits = passes_sound y v back asked.spot is.fits.stage.0.sound.pages is.fits.stage.0.sound.fits })
-        (passes_fits y v back c.pages c.mutators k is.fits is.fits.end is.fits.stage.0 is.fits.stage.2 asked.spot is.fits.stage.0.sound.fits) tt
+        (passes_fits y v back c.pages c.mutators k is.fits is.fits.end is.fits.stage.0 is.fits.stage.2 is.fits.side is.fits.task asked.spot is.fits.stage.0.sound.fits) tt
 
     pub stores_copy : StepsSo c p s k x
     stores_copy =

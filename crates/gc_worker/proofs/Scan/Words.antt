@@ -104,7 +104,7 @@ module _ (c : Configuration) (p : Plain) (s : Stands c p) (k : ℕ) (y : Held) (
         (passes_less y v back (era c) c.pages (board_at c) spot on) in
         quiet c p s k x None (Value word) s.ghost is.below (rw same known) refl
         (record { pages = is.fits.stage.0.sound.pages; page = is.fits.stage.0.sound.page; fits = rw same (passes_sound y v back spot is.fits.stage.0.sound.pages is.fits.stage.0.sound.fits) })
-        (rw same (passes_fits y v back c.pages c.mutators k is.fits is.fits.end is.fits.stage.0 is.fits.stage.2 spot is.fits.stage.0.sound.fits)) tt
+        (rw same (passes_fits y v back c.pages c.mutators k is.fits is.fits.end is.fits.stage.0 is.fits.stage.2 is.fits.side is.fits.task spot is.fits.stage.0.sound.fits)) tt
 
     -- its copy is asked for
     abbrev asked : ℕ → Stage
@@ -118,8 +118,8 @@ module _ (c : Configuration) (p : Plain) (s : Stands c p) (k : ℕ) (y : Held) (
         let inside : a < 128 * x.layout.pages = let w = old_space_below c in rw is.fits.pages (omega (arith, w, high)) in
         quiet c p s k x None (Value word) s.ghost is.below (rw same l) refl
         (record { pages = is.fits.stage.0.sound.pages; page = is.fits.stage.0.sound.page; fits = rw same is.fits.stage.0.sound.fits })
-        (rw same (refit c.pages c.mutators k x is.fits (asked a) is.fits.end (
-          record { layout = refl; of_epoch = refl; worker = refl; sound = record { pages = page_count c.pages c.mutators k x is.fits; worker = let q = is.fits.few in let r = is.fits.number in omega (arith, q, r); addr = inside; fits = tt } },
+        (rw same (refit c.pages c.mutators k x is.fits (asked a) is.fits.end is.fits.side is.fits.task (
+          record { layout = refl; of_epoch = refl; worker = refl; going = tt; sound = record { pages = page_count c.pages c.mutators k x is.fits; worker = let q = is.fits.few in let r = is.fits.number in omega (arith, q, r); addr = inside; fits = tt } },
           record { layout = is.fits.stage.0.layout; epoch = is.fits.stage.0.epoch; sound = record { pages = is.fits.stage.0.sound.pages; page = is.fits.stage.0.sound.page; fits = is.fits.stage.0.sound.fits } },
           refl,
           still_back x (asked a) back is.fits.stage.2,

@@ -1,0 +1,72 @@
+-- The event of a worker: its next atomic step.
+use Rattle.std.specs.Prelude.{ℕ, List, Option, Some, None, Result, Ok, Err}
+use Rattle.plain_state.specs.declared.end.End.{End}
+use Rattle.mutator_asm.specs.declared.instr.Instr.{Instr}
+use Rattle.plain_heap.specs.Step.{fetch}
+use Rattle.atom_store.specs.declared.step.Step.{Step}
+use Rattle.atom_store.specs.Step.{reply_of}
+use Rattle.gc_worker.specs.declared.stage.Stage.{Stage}
+use Rattle.gc_worker.specs.declared.stage.Stage.TheVariants.{Looks}
+use Rattle.gc_worker.specs.declared.task.Task.{Task}
+use Rattle.gc_worker.specs.declared.task.Task.TheVariants.{Calls, Stops}
+use Rattle.gc_worker.specs.Between.{with_task}
+use Rattle.gc_worker.specs.Held.{Held}
+use Rattle.gc_worker.specs.Law.{Heap, held_at, moved}
+use Rattle.gc_worker.specs.Seen.{seen}
+use Rattle.gc_worker.specs.Turned.{Outcome, Effect, Ends, Told, Silent, Answers, Marks, told}
+use Rattle.gc_worker.specs.Wanted.{wanted}
+use Rattle.collected_core.specs.Core.{CoreState}
+use Rattle.collected_core.specs.declared.stepped.Stepped.{Stepped}
+use Rattle.collected_core.specs.declared.stepped.Stepped.TheVariants as tells
+
+-- ---- the next task
+
+abbrev pub task_of : Result Instr End → Task
+task_of (Ok instr) = Calls instr
+task_of (Err why) = Stops why
+
+-- the instruction that mutator m executes next, or the end that stands in its place
+abbrev pub next_task : List (List Instr) → (turns m : ℕ) → Held → Task
+next_task code turns m x = task_of (fetch code turns m (seen x.account x.registers))
+
+abbrev pub given : List (List Instr) → (turns m : ℕ) → Held → Stage → Option Task → Held
+given code turns m x Looks None = with_task x (next_task code turns m x)
+given code turns m x stage task = x
+
+-- a mutator that looks at the gate and has answered its task is given the next one
+abbrev pub readied : List (List Instr) → (turns m : ℕ) → Held → Held
+readied code turns m x = given code turns m x x.stage x.task
+
+-- ---- the event
+
+-- what is told of it, and the heap after it
+pub record Event : Type 0 where
+  pub told : Stepped
+  pub after : Heap
+
+abbrev pub told_outcome : ℕ → Outcome → Stepped
+told_outcome m Effect = tells.Effect m
+told_outcome m (Ends why) = tells.Ended m why
+
+-- what a step of worker m is
+abbrev pub stepped_of : ℕ → Told → Stepped
+stepped_of m Silent = tells.Moved
+stepped_of m (Answers task outcome) = told_outcome m outcome
+stepped_of m (Marks asked) = tells.Flipped asked
+
+-- worker w, which holds x, wants this step, or none
+abbrev pub event_by : Heap → ℕ → Held → Option Step → Event
+event_by h w x None = record { told = tells.Idle; after = h }
+event_by h w x (Some q) = record { told = stepped_of w (told x (reply_of q h.words)); after = moved h w x q }
+
+-- what worker w holds as it makes its next step
+abbrev pub ready : CoreState → ℕ → Held
+ready s w = readied s.code s.turns w (held_at s.heap w)
+
+-- the event of worker w
+unfoldable pub event_of : CoreState → ℕ → Event
+event_of s w = event_by s.heap w (ready s w) (wanted (ready s w))
+
+-- the core after it
+abbrev pub core_after : CoreState → ℕ → CoreState
+core_after s w = record s { heap = (event_of s w).after }

@@ -1,0 +1,67 @@
+-- A whole run: one event after another by a schedule, and the order of what happened.
+use Rattle.std.specs.Prelude.{ℕ, ◌+◌, ◌%◌, Bool, true, false, List, [], ◌++◌, take, ⊤, Option, Some, None, if◌then◌else◌, zero, suc}
+use Rattle.std.specs.Option.{is_some, option_to_list}
+use Rattle.std.specs.List.{list_all}
+use Rattle.plain_state.specs.declared.end.End.{End}
+use Rattle.plain_state.specs.declared.end.End.TheVariants as ends
+use Rattle.plain_heap.specs.declared.mark.Mark.{Mark}
+use Rattle.plain_heap.specs.declared.mark.Mark.TheVariants as marks
+use Rattle.collected_core.specs.declared.stepped.Stepped.{Stepped}
+use Rattle.collected_core.specs.declared.stepped.Stepped.TheVariants.{Idle, Moved, Effect, Flipped, Ended}
+use Rattle.collected_core.specs.Core.{CoreState}
+use Rattle.collected_core.specs.Event.{event_of, core_after}
+
+-- the mark of an end that mutator m got
+abbrev pub end_mark : ℕ → End → Mark
+end_mark m ends.Halt = marks.Step m
+end_mark m ends.NotPointer = marks.Step m
+end_mark m ends.NotNumber = marks.Step m
+end_mark m ends.OutOfRange = marks.Step m
+end_mark m ends.IntoRaw = marks.Step m
+end_mark m ends.ZeroDivisor = marks.Step m
+end_mark m ends.JumpOut = marks.Step m
+end_mark m ends.TurnsOut = marks.Step m
+end_mark m ends.OutputFull = marks.Step m
+end_mark m (ends.HeapFull asked room live) = marks.Full m asked room live
+
+-- the mark of an event, where the plain machine sees it
+abbrev pub mark_of : Stepped → Option Mark
+mark_of Idle = None
+mark_of Moved = None
+mark_of (Effect m) = Some (marks.Step m)
+mark_of (Flipped asked) = Some (marks.Flip asked)
+mark_of (Ended m why) = Some (end_mark m why)
+
+-- whether every mutator has its end
+abbrev pub all_ended : CoreState → Bool
+all_ended s = list_all (λ x. is_some x.account.end) (take s.heap.mutators s.heap.workers)
+
+-- what a run comes to: the core in the end, and the marks of its events in order
+pub record Ran : Type 0 where
+  pub last : CoreState
+  pub order : List Mark
+
+-- a run that began with an event
+abbrev pub after_event : Option Mark → Ran → Ran
+after_event mark r = record { last = r.last; order = option_to_list mark ++ r.order }
+
+-- The run from a position of the schedule on, which names a worker for each position: up to the
+-- last end, or so many steps.
+unfoldable pub run_from : (ℕ → ℕ) → ℕ → ℕ → CoreState → Ran
+run_from schedule at zero s = record { last = s; order = [] }
+run_from schedule at (suc n) s =
+    if all_ended s then record { last = s; order = [] }
+    else after_event (mark_of (event_of s (schedule at)).told) (run_from schedule (at + 1) n (core_after s (schedule at)))
+
+-- the workers in turn
+abbrev pub in_turn : ℕ → ℕ → ℕ
+in_turn workers at = at % workers
+
+abbrev pub Unless : Bool → Type 0 → Type 0
+Unless true rest = ⊤
+Unless false rest = rest
+
+-- each event of that run is so, by the core before it and the worker
+unfoldable pub EachEvent : (CoreState → ℕ → Type 0) → (ℕ → ℕ) → ℕ → ℕ → CoreState → Type 0
+EachEvent IsSo schedule at zero s = ⊤
+EachEvent IsSo schedule at (suc n) s = Unless (all_ended s) (IsSo s (schedule at) × EachEvent IsSo schedule (at + 1) n (core_after s (schedule at)))

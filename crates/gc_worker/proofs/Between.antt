@@ -1,0 +1,7 @@
+pub mod Standing
+pub mod Readying
+pub mod Beginning
+pub mod Wanting
+pub mod Opening
+pub mod GoingOn
+pub mod Others

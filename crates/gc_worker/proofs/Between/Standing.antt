@@ -1,0 +1,189 @@
+-- What is so of a heap that stands, between any two steps.
+use Rattle.std.proofs.Common.{◌≡◌, ℕ, ◌-◌, ◌<◌, ◌≤◌, true, false, length, slice_get, slice_index, Some, None, refl, sym, ap, subst, ◌∙◌, arith}
+use Rattle.std.proofs.lemmas.Bool.{lt-ltb}
+use Rattle.std.proofs.lemmas.List.{length-map}
+use Rattle.std.proofs.lemmas.Option.{slice_get_within, same_Some}
+use Rattle.heap_words.specs.Decoded.{PointerWord, decode}
+use Rattle.plain_state.specs.declared.sizes.TheConstants.{REGISTERS}
+use Rattle.plain_state.specs.declared.value.Value.{Value}
+use Rattle.plain_state.specs.State.{Mutator, Plain}
+use Rattle.space_map.specs.Spaces.{space_start, to_space}
+use Rattle.fault_duty.specs.declared.duty_stage.DutyStage.{DutyStage}
+use Rattle.fault_duty.specs.declared.duty_stage.DutyStage.TheVariants as duty_stage
+use Rattle.fault_duty.specs.Duty.{Round}
+use Rattle.heap_state.specs.Configuration.{Configuration, era, memory, team}
+use Rattle.heap_state.specs.Ghost.{Ghost, header_kind}
+use Rattle.heap_state.specs.Values.{Accounts, value_of}
+use Rattle.heap_state.specs.Worker.{Worker, Account, is_mutator, is_running, is_late}
+use Rattle.heap_state.proofs.Holds.Keeping.{holds}
+use Rattle.heap_state.proofs.Represents.Representing.{represents}
+use Rattle.heap_laws.specs.Fields.Effects.{IsMutator, RegisterHolds}
+use Rattle.heap_laws.specs.Fields.Words.{IsLedTo}
+use Rattle.heap_laws.specs.Steps.{Ready}
+use Rattle.heap_laws.proofs.Fields.Effects.{registers_hold}
+use Rattle.heap_laws.proofs.Fields.GoingOn.{timely}
+use Rattle.heap_laws.proofs.Fields.SameWords.{same_words}
+use Rattle.heap_laws.proofs.Fields.Shown.{headers_are_read, registers_are_held}
+use Rattle.heap_laws.proofs.Frames.Values.{value_from_pointer}
+use Rattle.heap_laws.proofs.Lifting.Configurations.{ready}
+use Rattle.gc_worker.specs.declared.back.Back.TheVariants.{ToAccess, ToPlace, ToScanner}
+use Rattle.gc_worker.specs.declared.stage.Stage.{Stage}
+use Rattle.gc_worker.specs.declared.stage.Stage.TheVariants.{Looks, Passes, Flips, Forwards, Accesses, Places, Serves, Scans, Evacuates, Opens, Gone}
+use Rattle.gc_worker.specs.Between.{Shows, Lands, AreAlike, IsAsPlain, WhatStandsIsSo}
+use Rattle.gc_worker.specs.Fits.{FitsStage}
+use Rattle.gc_worker.specs.Goes.{Is}
+use Rattle.gc_worker.specs.Held.{Held}
+use Rattle.gc_worker.specs.Knows.{knows, post_in, epoch_at, epoch_in}
+use Rattle.gc_worker.specs.Law.{Heap, read, held_at, WorkersStand, epoch_of}
+use Rattle.gc_worker.specs.Turned.{epoch_in as epoch_in_gate}
+use Rattle.gc_worker.proofs.Copying.Words.{heap_word}
+use Rattle.gc_worker.proofs.Eras.{start_is, span_is}
+use Rattle.gc_worker.proofs.Gate.Words.{gate_says}
+use Rattle.gc_worker.proofs.Members.{member}
+
+-- who runs and makes a round makes it in its own epoch
+round_epoch : (own : ℕ) (d : Round) (stage : DutyStage) → d.epoch ≡ own → epoch_at own d stage ≡ own
+round_epoch own d duty_stage.LoadsGate e = refl
+round_epoch own d (duty_stage.LoadsTraced hindrance) e = e
+round_epoch own d (duty_stage.LoadsWanted seen page) e = e
+round_epoch own d (duty_stage.LoadsFrontFor seen wanted) e = e
+round_epoch own d (duty_stage.LoadsFront seen) e = e
+round_epoch own d (duty_stage.LoadsPage choice page) e = e
+round_epoch own d (duty_stage.Claims claim) e = e
+round_epoch own d (duty_stage.EndGate traced) e = e
+round_epoch own d (duty_stage.EndArea traced) e = e
+round_epoch own d (duty_stage.EndPage look page) e = e
+round_epoch own d (duty_stage.EndFilling look) e = e
+round_epoch own d (duty_stage.EndAreaAgain look filling) e = e
+round_epoch own d (duty_stage.Traces traced) e = e
+round_epoch own d (duty_stage.Ended result) e = e
+
+own_epoch : (x : Held) (stage : Stage) → FitsStage x stage → is_running (post_in x stage) ≡ true → epoch_in x.epoch stage ≡ x.epoch
+own_epoch x (Serves d (ToAccess a)) fits runs = round_epoch x.epoch d d.stage fits.0.epoch
+own_epoch x (Serves d ToPlace) fits runs = round_epoch x.epoch d d.stage fits.0.epoch
+own_epoch x (Serves d ToScanner) fits runs = absurd (cc)
+own_epoch x Looks fits runs = refl
+own_epoch x (Passes g after) fits runs = refl
+own_epoch x (Flips f) fits runs = refl
+own_epoch x (Forwards w) fits runs = refl
+own_epoch x (Accesses a) fits runs = refl
+own_epoch x (Places z) fits runs = refl
+own_epoch x (Scans z back) fits runs = refl
+own_epoch x (Evacuates v z back) fits runs = refl
+own_epoch x (Opens o z back) fits runs = refl
+own_epoch x Gone fits runs = refl
+
+-- the mutators come first
+enough : (h : Heap) (p o : Plain) → WorkersStand h p o → h.mutators ≤ length h.workers
+enough h p o st = let f = st.stands.invariant.staffed.few in let n = length-map h.workers knows in omega (arith, f, n)
+
+module _ (h : Heap) (p o : Plain) (st : WorkersStand h p o) (k : ℕ) (q : Mutator) (here : slice_get p.mutators k ≡ Some q) where
+  abbrev c : Configuration
+  c = read h
+
+  abbrev g : Ghost
+  g = st.stands.ghost
+
+  abbrev x : Held
+  x = held_at h k
+
+  abbrev w : Worker
+  w = (team c).worker k
+
+  is_one : k < h.mutators
+  is_one = let l = slice_get_within p.mutators k q here in let n = st.stands.shown.as_many in omega (arith, l, n)
+
+  there : Is c k x
+  there = let m = is_one in let e = enough h p o st in member h p o k x st (omega (arith, m, e)) refl
+
+  prepared : Ready (era c) (memory c) (team c) g k
+  prepared = ready c p st.stands k there.below
+
+  is_mutator_there : is_mutator w.post ≡ true
+  is_mutator_there = st.stands.invariant.staffed.posts k there.below ∙ lt-ltb k h.mutators is_one
+
+  as_plain : IsMutator (era c) (memory c) (team c) g p k q
+  as_plain = record { is = here; same = record { account = st.stands.shown.accounts k q here; registers = st.stands.shown.registers k q here } }
+
+  account : Accounts p.heap k x.account q
+  account = subst (λ (a : Account). Accounts p.heap k a q) (ap (λ (v : Worker). v.account) there.as_known) (st.stands.shown.accounts k q here)
+
+  register : (j : ℕ) → w.registers j ≡ slice_index x.registers j
+  register j = ap (λ (v : Worker). v.registers j) there.as_known
+
+  -- ---- where it runs
+
+  module _ (runs : is_running (post_in x x.stage) ≡ true) where
+    running : is_running w.post ≡ true
+    running = ap (λ (v : Worker). is_running v.post) there.as_known ∙ runs
+
+    -- its epoch is the current one
+    of_now : x.epoch ≡ (era c).epoch
+    of_now =
+        sym (own_epoch x x.stage there.fits.stage runs) ∙ (ap (λ (v : Worker). v.epoch) (sym there.as_known)
+        ∙ (st.stands.invariant.workers k there.below).timely.running running)
+
+    epoch_is : epoch_of h.pages h.words ≡ x.epoch
+    epoch_is = ap (epoch_in_gate 0) (gate_says c p st.stands) ∙ sym of_now
+
+    not_late : is_late (era c).epoch w ≡ false
+    not_late = timely (era c) w running (st.stands.invariant.workers k there.below).timely.running
+
+  -- ---- where it has no end
+
+  module _ (no_end : q.end ≡ None) where
+    shows : Shows x.registers q
+    unfolding value_of
+    shows = record {
+      numbers = λ j n small e. sym (as_plain.same.registers.registers_show no_end j small) ∙ rw (register j, e) refl;
+      pointers = λ j a small e. (g.identity a, sym (as_plain.same.registers.registers_show no_end j small) ∙ value_from_pointer g.identity (w.registers j) a (ap decode (register j) ∙ e));
+    }
+
+    -- ---- and runs
+
+    module _ (runs : is_running (post_in x x.stage) ≡ true) where
+      unended : w.account.end ≡ None
+      unended = as_plain.same.account.end ∙ no_end
+
+      led : (j a : ℕ) → j < REGISTERS → decode (slice_index x.registers j) ≡ PointerWord a → IsLedTo (era c) (memory c) g p a
+      led j a small e =
+          headers_are_read (era c) (memory c) (team c) g p k (w.registers j) a prepared st.stands.shown
+          (registers_are_held (era c) (memory c) (team c) g k j prepared is_mutator_there (not_late runs) unended small) (ap decode (register j) ∙ e)
+
+      start : (era c).start ≡ space_start h.pages (to_space x.epoch)
+      start = start_is c ∙ ap (λ e. space_start h.pages (to_space e)) (sym (of_now runs))
+
+      lands : Lands h.pages h.words x
+      lands = record {
+        in_space = λ j a small e. let l = (led j a small e).inside in let b = start in let n = span_is c in (omega arith, omega (arith, l, b), omega (arith, l, b, n));
+        header = λ j a small e.
+            (header_kind (g.kind a), g.size a - 1, (g.identity a).serial, (g.identity a).mutator, ap decode (sym (heap_word c a)) ∙ (led j a small e).header);
+      }
+
+      held : (j : ℕ) → j < REGISTERS → (y : Value) × (slice_get q.registers j ≡ Some y) × RegisterHolds (era c) g (w.registers j) y
+      held j small = registers_hold (era c) (memory c) (team c) g p k q j prepared as_plain is_mutator_there (not_late runs) unended small
+
+      alike : AreAlike x.registers q
+      alike j i small_j small_i =
+          let one = held j small_j in
+          let other = held i small_i in
+          let words = same_words (era c) (memory c) (team c) g k (w.registers j) (w.registers i) one.0 other.0 prepared one.2.holds other.2.holds in (
+            (λ e. one.1 ∙ (ap Some (words.0 (register j ∙ (e ∙ sym (register i)))) ∙ sym other.1)),
+            (λ e. sym (register j) ∙ (words.1 (same_Some one.0 other.0 (sym one.1 ∙ (e ∙ other.1))) ∙ register i)),
+          )
+
+  is_as_plain : IsAsPlain h p k x q
+  is_as_plain = record { account = account; shows = shows; epoch = epoch_is; lands = lands; alike = alike }
+
+pub what_stands_is_so : WhatStandsIsSo
+what_stands_is_so h p o st = record {
+  whole = st.stands.formed.whole;
+  sound = record {
+    holds = holds (read h) st.stands.ghost st.stands.invariant;
+    represents = represents (read h) st.stands.ghost st.stands.invariant p st.stands.shown;
+  };
+  fit = st.fit;
+  as_many = st.stands.shown.as_many;
+  enough = enough h p o st;
+  mutators = λ k q here. is_as_plain h p o st k q here;
+}

@@ -1,0 +1,52 @@
+-- Laws of one instruction: it leaves the other mutators as they were, and makes the record whose room is counted.
+use Rattle.std.specs.Prelude.{◌≡◌, ◌≢◌, ℕ, List, length, Some, None, Result, Ok, slice_get}
+use Rattle.std.specs.Option.{option_map}
+use Rattle.plain_state.specs.declared.end.End.{End}
+use Rattle.plain_state.specs.declared.kind.Kind.{Kind}
+use Rattle.plain_state.specs.State.{Record, Heap, Mutator, Plain, serial_of}
+use Rattle.mutator_asm.specs.declared.instr.Instr.{Instr}
+use Rattle.plain_heap.specs.declared.action.Action.{Action}
+use Rattle.plain_heap.specs.declared.action.Action.TheVariants.{Makes}
+use Rattle.plain_heap.specs.Action.{action}
+use Rattle.plain_heap.specs.Call.{After, allocated, zeros, call}
+use Rattle.plain_heap.specs.Step.{fetch, settled, new_record, pages_of, asked_if}
+
+-- ---- the other mutators
+
+-- an instruction of mutator m leaves every other mutator as it was
+abbrev pub CallLeavesOthers : Type 0
+CallLeavesOthers = (s : Plain) (m j : ℕ) (k : Mutator) (instr : Instr) → j ≢ m
+    → slice_get (settled s m k (call m s.heap k instr)).mutators j ≡ slice_get s.mutators j
+
+-- no mutator comes or goes
+abbrev pub CallKeepsCount : Type 0
+CallKeepsCount = (s : Plain) (m : ℕ) (k : Mutator) (instr : Instr) → length (settled s m k (call m s.heap k instr)).mutators ≡ length s.mutators
+
+-- ---- new records
+
+-- where the action of an instruction is to make a record, that record is allocated, and room is counted for it
+abbrev pub CallMakesNewRecord : Type 0
+CallMakesNewRecord = (m : ℕ) (heap : Heap) (k : Mutator) (instr : Instr) (kind : Kind) (d n : ℕ) → action k instr ≡ Ok (Makes kind d n)
+    → (call m heap k instr ≡ Ok (allocated m heap k kind d n)) × (new_record k instr ≡ Some (zeros kind n))
+
+-- the action is to make this record
+pub record IsMadeBy (act : Result Action End) (r : Record) : Type 0 where
+  pub kind : Kind
+  pub register : ℕ
+  pub len : ℕ
+  pub makes : act ≡ Ok (Makes kind register len)
+  pub is : r ≡ zeros kind len
+
+-- room is counted for no other
+abbrev pub NewRecordIsMade : Type 0
+NewRecordIsMade = (k : Mutator) (instr : Instr) (r : Record) → new_record k instr ≡ Some r → IsMadeBy (action k instr) r
+
+-- where room is counted for none, each mutator has as many records as before
+abbrev pub ElseNoneIsMade : Type 0
+ElseNoneIsMade = (m j : ℕ) (heap : Heap) (k : Mutator) (instr : Instr) (after : After) → new_record k instr ≡ None → call m heap k instr ≡ Ok after
+    → serial_of after.heap j ≡ serial_of heap j
+
+-- the pages that a mutator without an end asks for are those of the record that its next instruction would make
+abbrev pub AsksForNewRecord : Type 0
+AsksForNewRecord = (code : List (List Instr)) (turns m : ℕ) (k : Mutator) (instr : Instr) → fetch code turns m k ≡ Ok instr
+    → asked_if code turns m k None ≡ option_map pages_of (new_record k instr)
