@@ -4,3 +4,5 @@ pub mod Acting
 pub mod Outcomes
 pub mod Headers
 pub mod Fields
+pub mod Board
+pub mod Stages

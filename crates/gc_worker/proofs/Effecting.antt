@@ -1,6 +1,6 @@
 -- What an instruction's effect, or its end, makes of a running mutator: to the plain machine, to the proofs of the heap, and to its own
 -- soundness.
-use Rattle.std.proofs.Common.{◌≡◌, ◌≢◌, ℕ, ◌+◌, ◌%◌, ◌<◌, true, false, List, length, nat_lt, slice_index, slice_set, slice_get, is_some, Option, None, Some, Ok, refl, ap, sym, subst, ◌∙◌, ⊎_elim, get_or-set_same, get_or-set_other, length-set, arith}
+use Rattle.std.proofs.Common.{◌≡◌, ◌≢◌, ℕ, ◌+◌, ◌%◌, ◌<◌, true, List, length, nat_lt, slice_index, slice_set, slice_get, is_some, Option, None, Some, Ok, refl, ap, sym, subst, ◌∙◌, ⊎_elim, get_or-set_same, get_or-set_other, length-set, arith}
 use Rattle.std.specs.Prelude.{IsOk, Result}
 use Rattle.std.proofs.lemmas.Bool.{cases_eq}
 use Rattle.plain_state.specs.declared.end.End.{End}
@@ -13,7 +13,6 @@ use Rattle.plain_heap.specs.Call as plain
 use Rattle.plain_heap.specs.Call.{call}
 use Rattle.plain_heap.specs.Step.{settled}
 use Rattle.atom_store.specs.declared.reply.Reply.{Reply}
-use Rattle.gate_core.specs.declared.passage.Passage.TheVariants.{Leave}
 use Rattle.heap_state.specs.Configuration.{Configuration, Stands, era, memory, team}
 use Rattle.heap_state.specs.Entries.{Entry}
 use Rattle.heap_state.specs.Values.{value_of}
@@ -22,7 +21,6 @@ use Rattle.heap_laws.specs.Fields.Held.{GoesOn, MayHold, HoldsValue, going_on, w
 use Rattle.heap_laws.specs.Fields.Stores.{IsAs}
 use Rattle.heap_laws.specs.Fields.Stores as stores
 use Rattle.heap_laws.proofs.Fields.Laws.{mutators_end}
-use Rattle.gc_worker.specs.declared.after.After.TheVariants as afters
 use Rattle.gc_worker.specs.declared.stage.Stage.TheVariants.{Looks}
 use Rattle.gc_worker.specs.declared.task.Task.TheVariants.{Calls}
 use Rattle.gc_worker.specs.Answer.{MayEnd}
@@ -32,7 +30,7 @@ use Rattle.gc_worker.specs.Goes.{Is, Goes}
 use Rattle.gc_worker.specs.Held.{Held, at_stage}
 use Rattle.gc_worker.specs.Knows.{knows, post_in}
 use Rattle.gc_worker.specs.Seen.{IsValueWord}
-use Rattle.gc_worker.specs.Turned.{Effect, Ends, Answers, turned, told, won, told_effect, told_end, next_of, loads, went_on, ended, passes}
+use Rattle.gc_worker.specs.Turned.{Effect, Ends, turned, told, won, told_effect, told_end, next_of, loads, went_on, ended}
 use Rattle.gc_worker.proofs.Answering.{LawTo, IsIts, answers, may_hold, going, next_as}
 use Rattle.gc_worker.proofs.Fitting.{page_count}
 use Rattle.gc_worker.proofs.Steps.{prepared}

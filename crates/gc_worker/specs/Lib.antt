@@ -11,3 +11,4 @@ pub mod Goes
 pub mod Law
 pub mod Between
 pub mod Represented
+pub mod Stepped

@@ -1,9 +1,9 @@
 -- The load and the store of a value of a record, whose page was found open: the instruction's effect.
-use Rattle.std.proofs.Common.{◌≡◌, ℕ, ◌+◌, ◌*◌, ◌<◌, ◌≤◌, true, false, List, [], length, Option, None, Some, Ok, Err, slice_get, get_or, refl, ap, sym, subst, ◌∙◌, arith}
-use Rattle.std.specs.Prelude.{Result, nat_lt, slice_index_or}
+use Rattle.std.proofs.Common.{◌≡◌, ℕ, ◌+◌, ◌*◌, ◌<◌, ◌≤◌, true, [], length, Option, None, Some, Ok, slice_get, refl, ap, sym, subst, ◌∙◌, arith}
+use Rattle.std.specs.Prelude.{Result, nat_lt}
 use Rattle.std.specs.Option.{option_map_or}
 use Rattle.std.proofs.lemmas.Bool.{lt-ltb}
-use Rattle.std.proofs.lemmas.Option.{slice_get_within, get_or_from_slice_get, same_Some}
+use Rattle.std.proofs.lemmas.Option.{slice_get_within, get_or_from_slice_get}
 use Rattle.plain_state.specs.declared.end.End.{End}
 use Rattle.plain_state.specs.declared.kind.Kind as kinds
 use Rattle.plain_state.specs.declared.kind.Kind.TheVariants as kind
@@ -11,21 +11,19 @@ use Rattle.plain_state.specs.declared.sizes.TheConstants.{NUMBERS}
 use Rattle.plain_state.specs.declared.value.Identity.{Identity}
 use Rattle.plain_state.specs.declared.value.Value.{Value}
 use Rattle.plain_state.specs.declared.value.Value.TheVariants.{Number, Reference}
-use Rattle.plain_state.specs.Layout.{word_of}
-use Rattle.plain_state.specs.State.{Heap, Mutator, Plain, Record, record_of}
+use Rattle.plain_state.specs.State.{Heap, Plain, Record, record_of}
 use Rattle.plain_state.specs.Writing.{stored}
 use Rattle.plain_heap.specs.declared.action.Action.{Action}
 use Rattle.plain_heap.specs.declared.action.Action.TheVariants.{Sets, Jumps, Links, Prints, Makes, Measures, Loads, Stores, Gets, Puts, Swaps}
-use Rattle.plain_heap.specs.Action.{◌>>=◌, in_record}
+use Rattle.plain_heap.specs.Action.{◌>>=◌}
 use Rattle.plain_heap.specs.Call as plain
 use Rattle.plain_heap.specs.Call.{After, performed, values_of, value_in, store_in, may_hold, went_on}
 use Rattle.atom_store.specs.declared.step.Step.TheVariants.{Load, Store}
 use Rattle.atom_store.specs.declared.reply.Reply.TheVariants as replies
 use Rattle.heap_words.specs.Decoded.{Decoded, NumberWord, PointerWord, HeaderWord, ForwardWord, BusyWord, Malformed, decode, number_in}
-use Rattle.heap_words.proofs.Decoding.{decode-number_word}
 use Rattle.space_map.specs.Spaces.{page_of}
 use Rattle.space_map.specs.Table.{HeapWord, place_of}
-use Rattle.heap_state.specs.Configuration.{Configuration, Stands, table, era, memory, team}
+use Rattle.heap_state.specs.Configuration.{Configuration, Stands, era, memory, team}
 use Rattle.heap_state.specs.Entries.{Entry, WordIs}
 use Rattle.heap_state.specs.Era.{Era}
 use Rattle.heap_state.specs.Ghost.{Ghost}
@@ -33,7 +31,6 @@ use Rattle.heap_state.specs.Parts.Knowledge as parts
 use Rattle.heap_state.specs.Table.{word_in}
 use Rattle.heap_state.specs.Values.{value_of, value_said}
 use Rattle.heap_state.specs.Worker.{Worker}
-use Rattle.heap_state.proofs.Records.Layouts.{raw_is_no_field}
 use Rattle.heap_laws.specs.Fields.Effects.{IsValueOf, FitsRole, word_held, word_stored}
 use Rattle.heap_laws.specs.Fields.Held.{HoldsValue}
 use Rattle.heap_laws.specs.Fields.Words.{MayStore, StandsFor}
@@ -43,12 +40,10 @@ use Rattle.heap_laws.proofs.Fields.Stored.{words_are_loaded}
 use Rattle.gc_worker.specs.declared.access_stage.AccessStage.{AccessStage}
 use Rattle.gc_worker.specs.declared.access_stage.AccessStage.TheVariants.{LoadsField, StoresField}
 use Rattle.gc_worker.specs.declared.field_access.FieldAccess.{FieldAccess}
-use Rattle.gc_worker.specs.declared.field_access.FieldUse.{FieldUse}
 use Rattle.gc_worker.specs.declared.field_access.FieldUse.TheVariants as field_uses
 use Rattle.gc_worker.specs.declared.field_access.Role.{Role}
 use Rattle.gc_worker.specs.declared.field_access.Role.TheVariants as roles
 use Rattle.gc_worker.specs.Access.{IsFieldOf, IsInHeap, field_at, field_of, kind_of, role_of, word_as}
-use Rattle.gc_worker.specs.Access as access
 use Rattle.gc_worker.specs.Fits.{Executes}
 use Rattle.gc_worker.specs.Goes.{Is, Goes, StepsSo}
 use Rattle.gc_worker.specs.Held.{Held}
@@ -59,9 +54,8 @@ use Rattle.gc_worker.proofs.Effecting.{moved, moved_goes, moved_as}
 use Rattle.gc_worker.proofs.Gate.Words.{wants}
 use Rattle.gc_worker.proofs.Scan.Headers.{heap_word}
 use Rattle.gc_worker.proofs.Steps.{loads, stores}
-use Rattle.gc_worker.proofs.Seeing.{small_number}
-use Rattle.gc_worker.proofs.Accessing.Acting.{q, its, names, Held_value}
-use Rattle.gc_worker.proofs.Accessing.Going.{own, at, ready, running, no_end}
+use Rattle.gc_worker.proofs.Accessing.Acting.{q, its, names, is_small, Held_value, IsSmall, decode_number}
+use Rattle.gc_worker.proofs.Accessing.Going.{at, ready, running, no_end}
 use Rattle.gc_worker.proofs.Accessing.Outcomes.{goes_loading, goes_storing}
 
 -- ---- words and roles
@@ -86,15 +80,20 @@ kind_by roles.Number kind.Fields word has = absurd (cc)
 kind_by roles.Number kind.Raw word has = refl
 
 -- what is stored for a value that may be held
-stored_as : (o : Role) (v : Value) → may_hold (kind_of o) v ≡ Ok v → word_stored (role_of o) (word_for v) ≡ Some (word_as o v)
-stored_as roles.Field v may = refl
-stored_as roles.Number (Number n) may = ap number_in (decode-number_word n)
-stored_as roles.Number (Reference i) may = absurd (cc)
+stored_as : (o : Role) (v : Value) → IsSmall v → may_hold (kind_of o) v ≡ Ok v → word_stored (role_of o) (word_for v) ≡ Some (word_as o v)
+stored_as roles.Field v small may = refl
+stored_as roles.Number (Number n) small may = ap number_in (decode_number n small)
+stored_as roles.Number (Reference i) small may = absurd (cc)
 
 may_plain : (identity : ℕ → Identity) (o : Role) (v : Value) → may_hold (kind_of o) v ≡ Ok v → may_hold (kind_of o) (plain_value identity v) ≡ Ok (plain_value identity v)
 may_plain identity roles.Field v may = refl
 may_plain identity roles.Number (Number n) may = refl
 may_plain identity roles.Number (Reference i) may = absurd (cc)
+
+fits_as : (o : Role) (v : Value) → IsSmall v → may_hold (kind_of o) v ≡ Ok v → FitsRole (role_of o) (word_as o v)
+fits_as roles.Field v small may = tt
+fits_as roles.Number (Number n) small may = small
+fits_as roles.Number (Reference i) small may = absurd (cc)
 
 -- ---- the plain heap
 
@@ -170,13 +169,11 @@ module _ (c : Configuration) (p : Plain) (s : Stands c p) (k : ℕ) (y : Held) w
       holds_both : Held_value c p s k y stage is (Reference j) × Held_value c p s k y stage is v
       holds_both = names c p s k y stage is (Stores j x v) executes
 
-      small : (o : Role) (u : Value) → may_hold (kind_of o) u ≡ Ok u → Held_value c p s k y stage is u → FitsRole (role_of o) (word_as o u)
-      small roles.Field u may held = tt
-      small roles.Number (Number n) may held = small_number c p s k own_x is refl (no_end c p s k y stage is) (q c p s k y stage is) (its c p s k y stage is) n held
-      small roles.Number (Reference i) may held = absurd (cc)
+      small : IsSmall v
+      small = is_small c p s k y stage is v holds_both.1
 
       may_store : MayStore (era c) s.ghost.size s.ghost.writer (s.ghost.kind j.serial) x (word_as role v) × StandsFor s.ghost (s.ghost.kind j.serial) x (word_as role v) new
-      may_store = there.stored (word_for v) (word_as role v) new holds_both.1 (stored_as role v holding) (small role v holding holds_both.1)
+      may_store = there.stored (word_for v) (word_as role v) new holds_both.1 (stored_as role v small holding) (fits_as role v small holding)
 
       abbrev entry : Entry
       entry = WordIs (field_at f) (word_as role v)

@@ -1,5 +1,5 @@
 -- A mutator that makes an access: what is so of it, and how it goes on to the next stage, or to a round for a page that isn't open.
-use Rattle.std.proofs.Common.{◌≡◌, ℕ, ◌+◌, ◌<◌, ◌≤◌, true, false, Bool, slice_index, Option, Some, None, is_some, nat_lt, refl, sym, ap, subst, ◌∙◌}
+use Rattle.std.proofs.Common.{◌≡◌, ℕ, ◌<◌, ◌≤◌, true, false, slice_index, Option, Some, None, is_some, refl, sym, ap, subst, ◌∙◌}
 use Rattle.plain_state.specs.State.{Plain}
 use Rattle.atom_store.specs.declared.reply.Reply.{Reply}
 use Rattle.space_map.specs.declared.page_word.PageWord.TheVariants.{Open}
@@ -10,7 +10,7 @@ use Rattle.plain_state.specs.declared.end.End.{End}
 use Rattle.heap_state.specs.Configuration.{Configuration, Stands, table, era, memory, team}
 use Rattle.heap_state.specs.Inductive as inductive
 use Rattle.heap_state.specs.Parts.Knowledge as parts
-use Rattle.heap_state.specs.Worker.{Worker, is_running, is_mutator, is_late}
+use Rattle.heap_state.specs.Worker.{Worker, is_running}
 use Rattle.heap_state.specs.Worker as workers
 use Rattle.heap_laws.specs.Fields.Held.{MayHold, GoesOn}
 use Rattle.heap_laws.specs.Steps.{Ready}

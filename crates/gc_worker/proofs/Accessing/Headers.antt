@@ -1,29 +1,28 @@
 -- The load of a record's header: its kind and its length decide what the access comes to, or where it goes on.
-use Rattle.std.proofs.Common.{◌≡◌, ℕ, ◌+◌, ◌-◌, ◌*◌, ◌^◌, ◌<◌, ◌≤◌, ◌==◌, ◌⊎◌, inl, inr, Bool, true, false, cond, List, [], length, nat_lt, Option, None, Some, Ok, Err, slice_get, refl, ap, sym, subst, ◌∙◌, arith}
-use Rattle.std.specs.Prelude.{Result}
+use Rattle.std.proofs.Common.{◌≡◌, ℕ, ◌+◌, ◌-◌, ◌*◌, ◌^◌, ◌<◌, ◌==◌, ◌⊎◌, inl, inr, Bool, true, false, cond, [], length, nat_lt, Option, None, Some, Ok, Err, refl, ap, sym, subst, ◌∙◌, arith}
 use Rattle.std.specs.Option.{option_map_or}
 use Rattle.std.proofs.lemmas.Bool.{eqb-true, ltb-true}
 use Rattle.std.proofs.lemmas.Option.{same_Some}
 use Rattle.plain_state.specs.declared.end.End.{End}
 use Rattle.plain_state.specs.declared.end.End.TheVariants.{OutOfRange, IntoRaw}
+use Rattle.plain_state.specs.declared.sizes.TheConstants.{NUMBERS}
 use Rattle.plain_state.specs.declared.value.Identity.{Identity}
 use Rattle.plain_state.specs.declared.value.Value.{Value}
 use Rattle.plain_state.specs.declared.value.Value.TheVariants.{Number, Reference}
-use Rattle.plain_state.specs.Layout.{word_of}
-use Rattle.plain_state.specs.State.{Plain, Record, record_of}
+use Rattle.plain_state.specs.State.{Plain, Record}
 use Rattle.plain_heap.specs.declared.action.Action.{Action}
 use Rattle.plain_heap.specs.declared.action.Action.TheVariants.{Sets, Jumps, Links, Prints, Makes, Measures, Loads, Stores, Gets, Puts, Swaps}
-use Rattle.plain_heap.specs.Action.{◌>>=◌, in_record}
-use Rattle.plain_heap.specs.Call as plain
-use Rattle.plain_heap.specs.Call.{After, performed, values_of, value_in, store_in, may_hold}
+use Rattle.plain_heap.specs.Action.{in_record}
+use Rattle.plain_heap.specs.Call.{values_of, may_hold}
 use Rattle.atom_store.specs.declared.step.Step.TheVariants.{Load}
 use Rattle.atom_store.specs.declared.reply.Reply.TheVariants as replies
 use Rattle.heap_words.specs.declared.kind.Kind.{Kind as HeaderKind}
 use Rattle.heap_words.specs.declared.kind.Kind.TheVariants as headers
-use Rattle.heap_words.specs.Decoded.{Decoded, HeaderWord, NumberWord, PointerWord, decode}
+use Rattle.heap_words.specs.Decoded.{decode}
 use Rattle.heap_words.specs.Word.{number_word, pointer_word}
 use Rattle.heap_words.proofs.Tags.{tag_of-pointer_word}
-use Rattle.heap_words.proofs.Decoding.{decode-number_word, decode-pointer_word}
+use Rattle.heap_words.proofs.Decoding.{decode-pointer_word}
+use Rattle.heap_words.proofs.Ranges.{header_bounds}
 use Rattle.space_map.specs.declared.page_word.PageWord.TheVariants.{Open}
 use Rattle.space_map.specs.Spaces.{page_of}
 use Rattle.space_map.specs.Table.{HeapWord, place_of}
@@ -39,20 +38,19 @@ use Rattle.heap_laws.proofs.Fields.Effects.{headers_say}
 use Rattle.heap_laws.proofs.Lifting.Configurations.{below_board}
 use Rattle.gc_worker.specs.declared.access_stage.AccessStage.{AccessStage}
 use Rattle.gc_worker.specs.declared.access_stage.AccessStage.TheVariants.{LooksAtRecord, LoadsHeader, LooksAtField, LoadsField, StoresField}
-use Rattle.gc_worker.specs.declared.accessed.Accessed.TheVariants.{Brings, Fails}
+use Rattle.gc_worker.specs.declared.accessed.Accessed.TheVariants.{Fails}
 use Rattle.gc_worker.specs.declared.field_access.FieldAccess.{FieldAccess}
 use Rattle.gc_worker.specs.declared.field_access.FieldUse.{FieldUse}
 use Rattle.gc_worker.specs.declared.field_access.FieldUse.TheVariants as field_uses
 use Rattle.gc_worker.specs.declared.field_access.Role.{Role}
 use Rattle.gc_worker.specs.declared.field_access.Role.TheVariants as roles
 use Rattle.gc_worker.specs.declared.record_access.RecordAccess.{RecordAccess}
-use Rattle.gc_worker.specs.declared.record_access.RecordUse.{RecordUse}
 use Rattle.gc_worker.specs.declared.record_access.RecordUse.TheVariants as record_uses
-use Rattle.gc_worker.specs.Access.{Answered, GoesTo, Comes, IsInHeap, begun, IsFieldOf, FitsFieldUse, answered, field_at, field_of, kind_of, role_in, role_of, read_header, used_by, to_field, uses_field, loading, storing, may_store, word_as}
-use Rattle.gc_worker.specs.Fits.{Executes, IsAccessing}
+use Rattle.gc_worker.specs.Access.{GoesTo, Comes, IsInHeap, begun, IsFieldOf, FitsFieldUse, answered, field_at, field_of, kind_of, role_in, role_of, read_header, used_by, to_field, uses_field, loading, storing, may_store, word_as}
+use Rattle.gc_worker.specs.Fits.{Executes}
 use Rattle.gc_worker.specs.Goes.{Is, Goes, StepsSo}
 use Rattle.gc_worker.specs.Held.{Held}
-use Rattle.gc_worker.specs.Knows.{access_of as known_of, access_at, opened_at}
+use Rattle.gc_worker.specs.Knows.{access_of as known_of}
 use Rattle.gc_worker.specs.Answer.{MayEnd}
 use Rattle.gc_worker.specs.Full.{FullByEnd}
 use Rattle.gc_worker.specs.Seen.{IsValueWord, by_address, seen_as, word_for, value_seen}
@@ -60,7 +58,7 @@ use Rattle.gc_worker.proofs.Alike.{plain_value}
 use Rattle.gc_worker.proofs.Gate.Words.{wants}
 use Rattle.gc_worker.proofs.Scan.Headers.{heap_word}
 use Rattle.gc_worker.proofs.Steps.{loads}
-use Rattle.gc_worker.proofs.Accessing.Acting.{q, calls, led, names, Held_value, number_held}
+use Rattle.gc_worker.proofs.Accessing.Acting.{q, calls, led, names, is_small, Held_value, IsSmall, decode_number, number_held}
 use Rattle.gc_worker.proofs.Accessing.Going.{own, at, ready, knew_opened, learns, goes_to}
 use Rattle.gc_worker.proofs.Accessing.Outcomes.{goes_loading, goes_ending}
 
@@ -107,6 +105,9 @@ module _ (c : Configuration) (p : Plain) (s : Stands c p) (k : ℕ) (y : Held) (
   says =
       headers_say (era c) (memory c) (team c) s.ghost p k a len (s.ghost.identity a).serial (s.ghost.identity a).mutator (pointer_word a) head (ready c p s k y stage is) s.shown holds.held
       (decode-pointer_word a (let n = is.fits.stage.sound.pages in omega (arith, n.1, inside))) there.header
+
+  short : len < NUMBERS
+  short = let b = header_bounds ((memory c).heap a) head len (s.ghost.identity a).serial (s.ghost.identity a).mutator there.header in omega (arith, b.0)
 
   abbrev i : Identity
   i = s.ghost.identity a
@@ -171,9 +172,9 @@ unfolding decode pointer_word
 address_short a true short is = let l = ltb-true (1 + 4 * a) (2 ^ 34) short in omega (arith, l)
 address_short a false long is = absurd (rw (tag_of-pointer_word a, long) at is)
 
-seen_again : (v : Value) → IsValueWord (word_for v) → value_seen (word_for v) ≡ again v
-seen_again (Number n) is = ap seen_as (decode-number_word n)
-seen_again (Reference i) is = ap seen_as (decode-pointer_word i.serial (address_short i.serial (nat_lt (1 + 4 * i.serial) (2 ^ 34)) refl is))
+seen_again : (v : Value) → IsSmall v → IsValueWord (word_for v) → value_seen (word_for v) ≡ again v
+seen_again (Number n) small is = ap seen_as (decode_number n small)
+seen_again (Reference i) small is = ap seen_as (decode-pointer_word i.serial (address_short i.serial (nat_lt (1 + 4 * i.serial) (2 ^ 34)) refl is))
 
 module _ (identity : ℕ → Identity) where
   -- a record whose words have this role may hold the value, or not, for the mutator and in the plain machine
@@ -202,9 +203,10 @@ module _ (c : Configuration) (p : Plain) (s : Stands c p) (k : ℕ) (y : Held) w
     measures is executes =
         let holds = names c p s k y (LoadsHeader of_length) is (Measures d j) executes in
         let n = len c p s k y of_length is (Measures d j) executes holds in
+        let small = short c p s k y of_length is (Measures d j) executes holds in
         goes_loading c p s k y (LoadsHeader of_length) is (Measures d j) executes (replies.Value (word_in c.pages c.words (HeapWord j.serial))) d (number_word n)
-        (Number (length (values_of p.heap (s.ghost.identity j.serial)))) (reads c p s k y of_length is (Measures d j) executes holds) is.fits.stage.sound.stage.1 (rw (decode-number_word n) tt)
-        (subst (λ (m : ℕ). HoldsValue (era c) s.ghost (number_word n) (Number m)) (sym (long c p s k y of_length is (Measures d j) executes holds)) (number_held (era c) s.ghost n)) refl tt
+        (Number (length (values_of p.heap (s.ghost.identity j.serial)))) (reads c p s k y of_length is (Measures d j) executes holds) is.fits.stage.sound.stage.1 (rw (decode_number n small) tt)
+        (subst (λ (m : ℕ). HoldsValue (era c) s.ghost (number_word n) (Number m)) (sym (long c p s k y of_length is (Measures d j) executes holds)) (number_held (era c) s.ghost n small)) refl tt
 
   -- a value of it
   module _ (d : ℕ) (j : Identity) (at_value : ℕ) where
@@ -255,8 +257,8 @@ module _ (c : Configuration) (p : Plain) (s : Stands c p) (k : ℕ) (y : Held) w
       by_holding : nat_lt at_value length_there ≡ true → Decided s.ghost.identity role_there v → Answers of_new
       by_holding test (inl t) =
           goes_to_it c p s k y of_new is (Stores j at_value v) executes holds_both.0 at_value (ltb-true at_value length_there test) (field_uses.Stores (word_as role_there v)) (refl, t.0, refl) tt
-          (comes_new ∙ rw (test, seen_again v is.fits.stage.sound.stage.1, t.1, t.2) refl)
-      by_holding test (inr t) = ends_new IntoRaw (rw (test, seen_again v is.fits.stage.sound.stage.1, t.0) refl)
+          (comes_new ∙ rw (test, seen_again v (is_small c p s k y (LoadsHeader of_new) is v holds_both.1) is.fits.stage.sound.stage.1, t.1, t.2) refl)
+      by_holding test (inr t) = ends_new IntoRaw (rw (test, seen_again v (is_small c p s k y (LoadsHeader of_new) is v holds_both.1) is.fits.stage.sound.stage.1, t.0) refl)
           (calls c p s k y (LoadsHeader of_new) is (Stores j at_value v) executes (Err IntoRaw)
           (rw (long c p s k y of_new is (Stores j at_value v) executes holds_both.0, test, (says c p s k y of_new is (Stores j at_value v) executes holds_both.0).is, kind_is c p s k y of_new is (Stores j at_value v) executes holds_both.0, t.1) refl)) tt
 

@@ -1,9 +1,8 @@
 -- The looks at a page: it is open, or a round of the duty begins for it.
-use Rattle.std.proofs.Common.{◌≡◌, ℕ, ◌+◌, ◌*◌, ◌/◌, ◌<◌, ◌≤◌, ◌⊎◌, inl, inr, ◌==◌, Bool, true, false, Some, None, refl, sym, ap, subst, ◌∙◌, arith}
+use Rattle.std.proofs.Common.{◌≡◌, ℕ, ◌*◌, ◌≤◌, ◌⊎◌, inl, inr, ◌==◌, Bool, true, false, Some, None, refl, sym, ap, subst, ◌∙◌, arith}
 use Rattle.std.proofs.lemmas.Bool.{eqb-true}
 use Rattle.std.proofs.lemmas.Option.{same_Some}
 use Rattle.plain_state.specs.State.{Plain}
-use Rattle.atom_store.specs.declared.step.Step.{Step}
 use Rattle.atom_store.specs.declared.step.Step.TheVariants.{Load}
 use Rattle.atom_store.specs.declared.reply.Reply.TheVariants.{Value}
 use Rattle.space_map.specs.declared.page_word.PageWord.{PageWord}
@@ -23,13 +22,12 @@ use Rattle.gc_worker.specs.declared.field_access.FieldAccess.{FieldAccess}
 use Rattle.gc_worker.specs.declared.field_access.FieldUse.{FieldUse}
 use Rattle.gc_worker.specs.declared.field_access.FieldUse.TheVariants as field_uses
 use Rattle.gc_worker.specs.declared.record_access.RecordAccess.{RecordAccess}
-use Rattle.gc_worker.specs.Access.{Answered, GoesTo, Comes, IsInHeap, FitsStage, answered, let_through, looked, page_step, field_at, uses_field, uses_board}
+use Rattle.gc_worker.specs.Access.{GoesTo, Comes, IsInHeap, FitsStage, answered, let_through, looked, page_step, field_at}
 use Rattle.gc_worker.specs.Access as access
 use Rattle.gc_worker.specs.Fits.{IsAccessing, IsFaulting}
 use Rattle.gc_worker.specs.Goes.{Is, Goes, StepsSo}
 use Rattle.gc_worker.specs.Held.{Held}
 use Rattle.gc_worker.specs.Knows.{access_at, opened_at, access_of as known_of}
-use Rattle.gc_worker.specs.Wanted.{wanted}
 use Rattle.gc_worker.proofs.Eras.{start_is}
 use Rattle.gc_worker.proofs.Gate.Words.{wants}
 use Rattle.gc_worker.proofs.Rounds.Words.{page_now, page_says}

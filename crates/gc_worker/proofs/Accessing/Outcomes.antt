@@ -1,5 +1,5 @@
 -- What an access comes to: the effect of its instruction, or the end of its mutator.
-use Rattle.std.proofs.Common.{◌≡◌, ℕ, ◌<◌, Option, None, Some, Ok, Err, slice_set, refl, ap, subst, ◌∙◌}
+use Rattle.std.proofs.Common.{◌≡◌, ℕ, ◌<◌, Option, None, Ok, slice_set, refl, ap}
 use Rattle.plain_state.specs.declared.end.End.{End}
 use Rattle.plain_state.specs.declared.value.Value.{Value}
 use Rattle.plain_state.specs.State.{Plain}
@@ -9,7 +9,7 @@ use Rattle.plain_heap.specs.Call.{performed}
 use Rattle.atom_store.specs.declared.reply.Reply.{Reply}
 use Rattle.heap_state.specs.Configuration.{Configuration, Stands, era, memory, team}
 use Rattle.heap_state.specs.Entries.{Entry}
-use Rattle.heap_laws.specs.Fields.Held.{HoldsValue, with_mutator}
+use Rattle.heap_laws.specs.Fields.Held.{HoldsValue}
 use Rattle.heap_laws.proofs.Fields.Laws.{mutators_step}
 use Rattle.gc_worker.specs.declared.access_stage.AccessStage.{AccessStage}
 use Rattle.gc_worker.specs.declared.accessed.Accessed.TheVariants.{Brings, Stored, Fails}
@@ -22,7 +22,7 @@ use Rattle.gc_worker.specs.Goes.{Is, Goes}
 use Rattle.gc_worker.specs.Held.{Held}
 use Rattle.gc_worker.specs.Knows.{knows}
 use Rattle.gc_worker.specs.Seen.{IsValueWord}
-use Rattle.gc_worker.specs.Turned.{turned_access, told_access, loads, went_on, ended}
+use Rattle.gc_worker.specs.Turned.{turned_access, told_access, loads, went_on}
 use Rattle.gc_worker.proofs.Alike.{plain_action}
 use Rattle.gc_worker.proofs.Answering.{LawTo}
 use Rattle.gc_worker.proofs.Effecting.{loaded_goes, loaded_as, effect, ends, went_on_fits, loads_fits, ended_fits}
