@@ -13,3 +13,4 @@ pub mod Between
 pub mod Copied
 pub mod Represented
 pub mod Stepped
+pub mod Counted

@@ -17,11 +17,11 @@ mod board_access;
 mod due;
 mod field_access;
 mod forwarding_register;
+mod instructions;
 mod laws;
 mod looking;
-mod instructions;
-mod record_access;
 mod passing;
+mod record_access;
 mod seen_value;
 mod serving;
 mod stage;
@@ -38,8 +38,8 @@ pub use board_access::{BoardAccess, BoardSwap, BoardUse};
 pub use field_access::{FieldAccess, FieldUse, Role};
 pub use forwarding_register::ForwardingRegister;
 pub use laws::{
-    answers_leave_the_others, flips_are_won, heaps_open, places_fit, readying_stands,
-    registers_lead_back, steps_keep, tasks_may_begin, what_is_represented_stands,
+    answers_leave_the_others, counts_are_apart, flips_are_won, heaps_open, places_fit,
+    readying_stands, registers_lead_back, steps_keep, tasks_may_begin, what_is_represented_stands,
     what_stands_is_so, what_was_copied_was_live, workers_go_on, workers_want,
 };
 pub use record_access::{RecordAccess, RecordUse};
