@@ -1,5 +1,5 @@
 -- What the code reads in a word is what the definitions make of it.
-use Rattle.std.proofs.Common.{◌≡◌, ℕ, ◌+◌, ◌-◌, ◌^◌, ◌<◌, ◌≤◌, arith, Option, zero, suc, List, [], ◌∷◌, map, Some, None, refl, sym, ap, ◌∙◌, slice_get, slice_index, slice_index_or}
+use Rattle.std.proofs.Common.{◌≡◌, ℕ, true, false, ◌+◌, ◌-◌, ◌^◌, ◌<◌, ◌≤◌, arith, Option, zero, suc, List, [], ◌∷◌, map, Some, None, refl, sym, ap, ◌∙◌, slice_get, slice_index, slice_index_or}
 use Rattle.heap_words.specs.Decoded.{Decoded, NumberWord, PointerWord, HeaderWord, ForwardWord, BusyWord, Malformed, decode, encode, number_in, pointer_in}
 use Rattle.heap_words.proofs.Decoding.{decode-header_word}
 use Rattle.heap_words.proofs.Spelling.{number_word-decode, pointer_word-decode}
@@ -17,7 +17,12 @@ use Rattle.plain_heap.specs.Action.{register}
 use Rattle.gc_worker.specs.Fits.{FitsStage, IsMaking}
 use Rattle.gc_worker.specs.Held.{Held, at_stage}
 use Rattle.gc_worker.specs.declared.stage.Stage.{Stage}
-use Rattle.gc_worker.specs.Turned.{Pointed, first_pointer, places}
+use Rattle.gc_worker.specs.Turned.{Pointed, back_from, first_pointer, places, scans, served_by}
+use Rattle.gc_worker.specs.Stepped.{served_in}
+use Rattle.gc_worker.specs.declared.back.Back.{Back}
+use Rattle.fault_duty.specs.Duty.{Round}
+use Rattle.fault_duty.specs.declared.round_end.RoundEnd.{RoundEnd}
+use Rattle.fault_duty.specs.declared.round_end.RoundEnd.TheVariants.{ScanPage, ScanInPlace, Marked, AllLeft, NothingNow}
 use Rattle.gc_worker.specs.declared.task.Task.{Task}
 use Rattle.plain_state.specs.declared.value.Value.TheVariants.{Number, Reference}
 
@@ -162,3 +167,13 @@ serial_fits account registers task m = m.executes.call.serial m.making (ap makin
 pub placing_fits : (x : Held) (was : Stage) (header : Option Header) → FitsStage (at_stage x was) (places x header) → FitsStage x (places x header)
 placing_fits x was (Some header) fits = record { layout = fits.layout; epoch = fits.epoch; going = fits.going; sound = fits.sound }
 placing_fits x was None fits = fits
+
+-- ---- rounds
+
+-- of a round that is done only its epoch counts
+pub served_alike : (x : Held) (d : Round) (epoch : ℕ) (back : Back) (end : RoundEnd) → epoch ≡ d.epoch → served_in x epoch back end ≡ served_by x d back end
+served_alike x d epoch back (ScanPage page) is = ap (λ (e : ℕ). scans (record x { epoch = e }) page false back) is
+served_alike x d epoch back (ScanInPlace page) is = ap (λ (e : ℕ). scans (record x { epoch = e }) page true back) is
+served_alike x d epoch back Marked is = ap (λ (e : ℕ). back_from (record x { epoch = e }) back) is
+served_alike x d epoch back (NothingNow word) is = ap (λ (e : ℕ). back_from (record x { epoch = e }) back) is
+served_alike x d epoch back (AllLeft word) is = refl
