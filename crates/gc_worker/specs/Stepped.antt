@@ -17,6 +17,8 @@ use Rattle.gc_worker.specs.declared.stepped.Stepped.TheVariants.{Moved, Effect, 
 use Rattle.gc_worker.specs.declared.task.Task.{Task}
 use Rattle.gc_worker.specs.declared.task.Task.TheVariants.{Calls, Stops}
 use Rattle.gc_worker.specs.Fits.{Fits}
+use Rattle.forwarding.specs.Keeping as keeping
+use Rattle.forwarding.specs.Keeping.{kept_word, reserved_word}
 use Rattle.fault_duty.specs.declared.round_end.RoundEnd.{RoundEnd}
 use Rattle.fault_duty.specs.declared.round_end.RoundEnd.TheVariants.{ScanPage, ScanInPlace, Marked, AllLeft, NothingNow}
 use Rattle.gc_worker.specs.declared.back.Back.{Back}
@@ -124,3 +126,17 @@ served_in x epoch back (ScanInPlace page) = turned.scans (record x { epoch = epo
 served_in x epoch back Marked = turned.back_from (record x { epoch = epoch }) back
 served_in x epoch back (NothingNow word) = turned.back_from (record x { epoch = epoch }) back
 served_in x epoch back (AllLeft word) = at_stage x Gone
+
+-- ---- what a worker keeps of a copy
+
+-- the header that it keeps, as a word, or 0
+abbrev pub header_kept : Stage → ℕ
+header_kept (Forwards w) = kept_word (keeping.header_kept w.evac.stage)
+header_kept (Evacuates v s back) = kept_word (keeping.header_kept v.stage)
+header_kept _ = 0
+
+-- the address that it has reserved and one more, or 0
+abbrev pub place_kept : Stage → ℕ
+place_kept (Forwards w) = reserved_word (keeping.address_reserved w.evac.stage)
+place_kept (Evacuates v s back) = reserved_word (keeping.address_reserved v.stage)
+place_kept _ = 0

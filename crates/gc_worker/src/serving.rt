@@ -45,7 +45,7 @@ impl State {
     }
 
     /// A step of a round.
-    #[tactic(auto, using(crate::proofs::Reading::served_alike))]
+    #[tactic(auto, using(crate::proofs::Reading::served_after, crate::proofs::Reading::served_fits))]
     pub fn serve(&mut self, reply: Reply) -> Stepped
         requires at { IsServing self.old.stage }
         requires fits { IsSound self.old }
@@ -57,10 +57,8 @@ impl State {
         let Stage::Serves(duty, back) = &mut self.stage else {
             unreachable!()
         };
-        let before = *duty;
         if let Turn::Finished(end) = duty.take(reply) {
             let (epoch, back) = (duty.epoch(), *back);
-            self.stage = Stage::Serves(before, back);
             self.has_served(epoch, back, end);
         }
         Stepped::Moved
