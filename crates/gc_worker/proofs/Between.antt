@@ -1,4 +1,5 @@
 pub mod Standing
+pub mod Copied
 pub mod Readying
 pub mod Beginning
 pub mod Wanting

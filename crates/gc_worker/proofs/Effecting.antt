@@ -4,7 +4,7 @@ use Rattle.std.proofs.Common.{◌≡◌, ◌≢◌, ℕ, ◌+◌, ◌%◌, ◌<�
 use Rattle.std.specs.Prelude.{IsOk, Result}
 use Rattle.std.proofs.lemmas.Bool.{cases_eq}
 use Rattle.plain_state.specs.declared.end.End.{End}
-use Rattle.plain_state.specs.declared.sizes.TheConstants.{NUMBERS, REGISTERS}
+use Rattle.plain_state.specs.declared.sizes.TheConstants.{NUMBERS}
 use Rattle.plain_state.specs.declared.value.Value.{Value}
 use Rattle.plain_state.specs.State.{Mutator, Plain}
 use Rattle.plain_state.proofs.Lists.{slice_get-set_same, slice_get-set_other}
@@ -21,18 +21,17 @@ use Rattle.heap_laws.specs.Fields.Held.{GoesOn, MayHold, HoldsValue, going_on, w
 use Rattle.heap_laws.specs.Fields.Stores.{IsAs}
 use Rattle.heap_laws.specs.Fields.Stores as stores
 use Rattle.heap_laws.proofs.Fields.Laws.{mutators_end}
-use Rattle.gc_worker.specs.declared.stage.Stage.TheVariants.{Looks}
 use Rattle.gc_worker.specs.declared.task.Task.TheVariants.{Calls}
 use Rattle.gc_worker.specs.Answer.{MayEnd}
 use Rattle.gc_worker.specs.Fits.{Fits, Takes}
 use Rattle.gc_worker.specs.Full.{FullByEnd}
 use Rattle.gc_worker.specs.Goes.{Is, Goes}
-use Rattle.gc_worker.specs.Held.{Held, at_stage}
+use Rattle.gc_worker.specs.Held.{Held}
 use Rattle.gc_worker.specs.Knows.{knows, post_in}
 use Rattle.gc_worker.specs.Seen.{IsValueWord}
 use Rattle.gc_worker.specs.Turned.{Effect, Ends, turned, told, won, told_effect, told_end, next_of, loads, went_on, ended}
 use Rattle.gc_worker.proofs.Answering.{LawTo, IsIts, answers, may_hold, going, next_as}
-use Rattle.gc_worker.proofs.Fitting.{page_count}
+use Rattle.gc_worker.proofs.Settling.{values_set, settled_fits}
 use Rattle.gc_worker.proofs.Steps.{prepared}
 
 module _ (c : Configuration) (p : Plain) (s : Stands c p) (k : ℕ) (x : Held) (is : Is c k x) (running : is_running (post_in x x.stage) ≡ true) (unended : x.account.end ≡ None) where
@@ -113,48 +112,10 @@ module _ (c : Configuration) (p : Plain) (s : Stands c p) (k : ℕ) (x : Held) (
   -- ---- its soundness
 
   module _ (mutator : nat_lt x.number x.mutators ≡ true) where
-    registers_fit : (registers : List ℕ) → length registers ≡ REGISTERS → ((r : ℕ) → r < REGISTERS → IsValueWord (slice_index registers r))
-        → Fits c.pages c.mutators k (at_stage (record x { account = counted; registers = registers; task = None }) Looks)
-    registers_fit registers eight values = record {
-      number = is.fits.number;
-      few = is.fits.few;
-      pages = is.fits.pages;
-      counted = is.fits.counted;
-      beside = is.fits.beside;
-      epoch = is.fits.epoch;
-      eight = eight;
-      registers = values;
-      few_printed = is.fits.few_printed;
-      run = is.fits.run;
-      end = ap is_some unended;
-      side = mutator;
-      task = tt;
-      stage = tt;
-    }
-
     pub went_on_fits : Fits c.pages c.mutators k (went_on x)
-    went_on_fits = registers_fit x.registers is.fits.eight is.fits.registers
+    went_on_fits = settled_fits c.pages c.mutators k x is.fits mutator counted x.registers x.run (ap is_some unended) is.fits.eight is.fits.registers is.fits.few_printed is.fits.run
 
     pub loads_fits : (into word : ℕ) → into < 8 → IsValueWord word → Fits c.pages c.mutators k (loads x into word)
-    loads_fits into word small value = registers_fit (slice_set x.registers into word) (length-set x.registers into word ∙ is.fits.eight) (λ r l. ⊎_elim
-        (λ (e : r ≡ into). subst IsValueWord (sym (ap (λ (i : ℕ). slice_index (slice_set x.registers into word) i) e ∙ get_or-set_same x.registers into word 0 (let n = is.fits.eight in omega (arith, n, small)))) value)
-        (λ (e : r ≢ into). subst IsValueWord (sym (get_or-set_other x.registers into r word 0 e)) (is.fits.registers r l))
-        (cases_eq r into))
-
-    pub ended_fits : (why : End) → Fits c.pages c.mutators k (ended x why)
-    ended_fits why = record {
-      number = is.fits.number;
-      few = is.fits.few;
-      pages = is.fits.pages;
-      counted = is.fits.counted;
-      beside = is.fits.beside;
-      epoch = is.fits.epoch;
-      eight = is.fits.eight;
-      registers = is.fits.registers;
-      few_printed = is.fits.few_printed;
-      run = is.fits.run;
-      end = refl;
-      side = mutator;
-      task = refl;
-      stage = record { layout = refl; passage = tt; going = tt; sound = record { pages = page_count c.pages c.mutators k x is.fits; stage = tt } };
-    }
+    loads_fits into word small value =
+        settled_fits c.pages c.mutators k x is.fits mutator counted (slice_set x.registers into word) x.run (ap is_some unended)
+        (length-set x.registers into word ∙ is.fits.eight) (values_set x.registers into word is.fits.eight value is.fits.registers) is.fits.few_printed is.fits.run

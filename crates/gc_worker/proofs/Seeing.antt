@@ -1,5 +1,5 @@
 -- What a running mutator sees of its registers is what the plain machine's registers have, with identities in place of addresses.
-use Rattle.std.proofs.Common.{◌≡◌, ℕ, ◌+◌, ◌-◌, ◌*◌, ◌/◌, ◌%◌, ◌<◌, ◌≤◌, ◌==◌, Bool, true, false, nat_lt, nat_le, List, length, map, get_or, slice_get, slice_index, Option, Some, None, Result, Ok, Err, refl, ap, sym, subst, ◌∙◌, ◌⊎◌, inl, inr, arith}
+use Rattle.std.proofs.Common.{◌≡◌, ℕ, ◌+◌, ◌-◌, ◌*◌, ◌/◌, ◌%◌, ◌<◌, ◌≤◌, ◌==◌, Bool, true, false, nat_lt, nat_le, List, length, map, slice_get, slice_index, Some, None, refl, ap, sym, subst, ◌∙◌, ◌⊎◌, inl, inr, arith}
 use Rattle.std.specs.Prelude.{⊤, IsTrue}
 use Rattle.std.specs.Result.{IfOk}
 use Rattle.std.proofs.lemmas.Bool.{ltb-true, leb-true, and_parts, and_from, eqb-true, eq-eqb, cases_lt}
@@ -9,6 +9,7 @@ use Rattle.std.proofs.Math.Nat.{div-le_self, mod-le}
 use Rattle.heap_words.specs.Decoded.{Decoded, NumberWord, PointerWord, HeaderWord, ForwardWord, BusyWord, Malformed, decode}
 use Rattle.heap_words.specs.Word.{number_word, pointer_word}
 use Rattle.heap_words.proofs.Decoding.{decode-number_word}
+use Rattle.heap_words.proofs.Ranges.{number_bounds}
 use Rattle.heap_words.proofs.Spelling.{pointer_word-decode}
 use Rattle.plain_state.specs.declared.operation.Operation.{Operation}
 use Rattle.plain_state.specs.declared.operation.Operation.TheVariants as operations
@@ -54,6 +55,19 @@ is_value identity w y e = by_word (decode w) e
     by_word (ForwardWord len a) e = none≢some e
     by_word (BusyWord len j) e = none≢some e
     by_word Malformed e = none≢some e
+
+-- a number's word that denotes it is one of a number of the language
+counts : (identity : ℕ → Identity) (n : ℕ) → value_of identity (number_word n) ≡ Some (Number n) → n < NUMBERS
+unfolding value_of
+counts identity n e = by_word (decode (number_word n)) refl e
+  where
+    by_word : (d : Decoded) → decode (number_word n) ≡ d → value_said identity d ≡ Some (Number n) → n < NUMBERS
+    by_word (NumberWord m) is e = let l = number_bounds (number_word n) m is in let same : m ≡ n = cc in omega (arith, l, same)
+    by_word (PointerWord a) is e = absurd (let e = e in cc)
+    by_word (HeaderWord kind len serial mutator) is e = none≢some e
+    by_word (ForwardWord len a) is e = none≢some e
+    by_word (BusyWord len j) is e = none≢some e
+    by_word Malformed is e = none≢some e
 
 -- a pointer's word that denotes a reference is one
 pub points : (identity : ℕ → Identity) (a : ℕ) (i : Identity) → value_of identity (pointer_word a) ≡ Some (Reference i) → decode (pointer_word a) ≡ PointerWord a
@@ -164,12 +178,12 @@ module _ (c : Configuration) (p : Plain) (s : Stands c p) (k : ℕ) (x : Held) (
     pub holds_number : (n : ℕ) → n < NUMBERS → Holds (Number n)
     unfolding value_of
     holds_number n small = record {
-      held = numbers_are_held (era c) s.ghost.size s.ghost.writer (number_word n) n (decode-number_word n);
-      denotes = rw (decode-number_word n) refl;
+      held = numbers_are_held (era c) s.ghost.size s.ghost.writer (number_word n) n (decode-number_word n small);
+      denotes = rw (decode-number_word n small) refl;
     }
 
     pub small_number : (n : ℕ) → Holds (Number n) → n < NUMBERS
-    small_number n holds = ?
+    small_number n holds = counts identity n holds.denotes
 
     held_word : (r : ℕ) (small : r < REGISTERS) → Holds (value_seen (word r))
     held_word r small =

@@ -91,7 +91,7 @@ module _ (k j : Mutator) (same : (x : Operand) → operand k x ≡ operand j x) 
   no_record : (i : Instr) (never : MakesNone i) → making_in (action k i) ≡ making_in (action j i)
   no_record i never = makes_none k i never ∙ sym (makes_none j i never)
 
-  pub makes_same : (i : Instr) → making_in (action k i) ≡ making_in (action j i)
+  makes_same : (i : Instr) → making_in (action k i) ≡ making_in (action j i)
   unfolding action
   makes_same (instrs.New d x) = allocates_same k j Fields d x (same x)
   makes_same (instrs.Raw d x) = allocates_same k j Raw d x (same x)

@@ -10,5 +10,6 @@ pub mod Fits
 pub mod Goes
 pub mod Law
 pub mod Between
+pub mod Copied
 pub mod Represented
 pub mod Stepped

@@ -2,6 +2,7 @@
 
 ghost use Rattle.gc_worker.specs.Law.{StepsKeep, FlipsAreWon, PlacesFit, RegistersLeadBack};
 ghost use Rattle.gc_worker.specs.Between.{HeapsOpen, ReadyingStands, TasksMayBegin, WorkersGoOn, WorkersWant, WhatStandsIsSo, AnswersLeaveTheOthers};
+ghost use Rattle.gc_worker.specs.Copied.{CopiedWasLive, FullTellsLive};
 ghost use Rattle.gc_worker.specs.Represented.{RepresentedWorkersStand};
 
 /// A step of a worker is of a word of the table, and the worker may take the reply. What stood for a plain state before stands for it
@@ -64,4 +65,10 @@ pub fn what_stands_is_so()
 /// A step that answers a task leaves the other mutators of the plain state as they were.
 pub fn answers_leave_the_others()
     ensures { AnswersLeaveTheOthers }
+{}
+
+/// What a traced epoch has copied, by the walk below FRONT, is what was live at its flip, and so is what a full heap tells as live.
+pub fn what_was_copied_was_live()
+    ensures copied { CopiedWasLive }
+    ensures full { FullTellsLive }
 {}

@@ -12,13 +12,13 @@ use Rattle.plain_heap.specs.declared.action.Action.{Action}
 use Rattle.plain_heap.specs.Action.{◌>>=◌, action}
 use Rattle.plain_heap.specs.Call.{After, call, performed}
 use Rattle.plain_heap.proofs.Named.{Names}
-use Rattle.heap_words.specs.Decoded.{NumberWord, decode}
+use Rattle.heap_words.specs.Decoded.{Decoded, NumberWord, PointerWord, HeaderWord, ForwardWord, BusyWord, Malformed, decode}
 use Rattle.heap_words.specs.Word.{number_word, pointer_word}
 use Rattle.heap_words.proofs.Decoding.{decode-number_word, decode-pointer_word}
 use Rattle.heap_state.specs.Configuration.{Configuration, Stands, era, memory, team}
 use Rattle.heap_state.specs.Era.{Era}
 use Rattle.heap_state.specs.Ghost.{Ghost}
-use Rattle.heap_state.specs.Values.{value_of}
+use Rattle.heap_state.specs.Values.{value_of, value_said}
 use Rattle.heap_laws.specs.Fields.Held.{HoldsValue}
 use Rattle.heap_laws.specs.Fields.Words.{IsLedTo}
 use Rattle.heap_laws.proofs.Fields.Shown.{headers_are_read, numbers_are_held}
@@ -27,7 +27,7 @@ use Rattle.gc_worker.specs.Access.{IsInHeap}
 use Rattle.gc_worker.specs.Fits.{Executes}
 use Rattle.gc_worker.specs.Goes.{Is}
 use Rattle.gc_worker.specs.Held.{Held}
-use Rattle.gc_worker.specs.Seen.{seen}
+use Rattle.gc_worker.specs.Seen.{IsValueAs, IsValueWord, seen}
 use Rattle.gc_worker.proofs.Alike.{plain_action, plain_outcome}
 use Rattle.gc_worker.proofs.Seeing.{alike, held, small_number, Holds}
 use Rattle.gc_worker.proofs.Answering.{IsIts, its_mutator}
@@ -36,7 +36,7 @@ use Rattle.gc_worker.proofs.Accessing.Going.{at, no_end, ready}
 -- ---- numbers
 
 pub decode_number : (n : ℕ) → n < NUMBERS → decode (number_word n) ≡ NumberWord n
-decode_number n small = decode-number_word n
+decode_number n small = decode-number_word n small
 
 -- a number's word holds it
 number_value : (identity : ℕ → Identity) (n : ℕ) → n < NUMBERS → value_of identity (number_word n) ≡ Some (Number n)
@@ -51,6 +51,21 @@ number_held E g n small =
 abbrev pub IsSmall : Value → Type 0
 IsSmall (Number n) = n < NUMBERS
 IsSmall (Reference i) = ⊤
+
+-- ---- words
+
+-- a word that denotes a value is a value's
+said_value : (identity : ℕ → Identity) (d : Decoded) (v : Value) → value_said identity d ≡ Some v → IsValueAs d
+said_value identity (NumberWord n) v is = tt
+said_value identity (PointerWord a) v is = tt
+said_value identity (HeaderWord kind len serial mutator) v is = absurd (cc)
+said_value identity (ForwardWord len a) v is = absurd (cc)
+said_value identity (BusyWord len worker) v is = absurd (cc)
+said_value identity Malformed v is = absurd (cc)
+
+pub value_word : (identity : ℕ → Identity) (w : ℕ) (v : Value) → value_of identity w ≡ Some v → IsValueWord w
+unfolding value_of
+value_word identity w v is = said_value identity (decode w) v is
 
 -- ---- the mutator
 

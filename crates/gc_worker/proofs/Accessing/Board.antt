@@ -2,7 +2,6 @@
 use Rattle.std.proofs.Common.{◌≡◌, ℕ, ◌+◌, ◌*◌, ◌<◌, ◌≤◌, Some, None, refl, ap, sym, subst, ◌∙◌, arith}
 use Rattle.std.specs.Prelude.{slice_set}
 use Rattle.std.proofs.lemmas.Option.{get_or_from_slice_get, same_Some}
-use Rattle.plain_state.specs.declared.value.Identity.{Identity}
 use Rattle.plain_state.specs.declared.value.Value.{Value}
 use Rattle.plain_state.specs.declared.value.Value.TheVariants.{Number}
 use Rattle.plain_state.specs.State.{Mutator, Plain}
@@ -13,14 +12,12 @@ use Rattle.plain_heap.specs.Call as plain
 use Rattle.plain_heap.specs.Call.{board_word}
 use Rattle.atom_store.specs.declared.step.Step.TheVariants.{Load, Store, Exchange}
 use Rattle.atom_store.specs.declared.reply.Reply.TheVariants as replies
-use Rattle.heap_words.specs.Decoded.{Decoded, NumberWord, PointerWord, HeaderWord, ForwardWord, BusyWord, Malformed, decode}
 use Rattle.space_map.specs.declared.page_word.PageWord.TheVariants.{Open}
 use Rattle.space_map.specs.Spaces.{board_page, page_of}
 use Rattle.space_map.specs.Table.{HeapWord, place_of}
 use Rattle.heap_state.specs.Configuration.{Configuration, Stands, era, memory, team}
 use Rattle.heap_state.specs.Entries.{WordIs}
 use Rattle.heap_state.specs.Table.{word_in}
-use Rattle.heap_state.specs.Values.{value_of, value_said}
 use Rattle.heap_state.specs.Worker as workers
 use Rattle.heap_laws.specs.Fields.Held.{GoesOn, HoldsValue}
 use Rattle.heap_laws.specs.Fields.Stores.{IsAs}
@@ -36,7 +33,7 @@ use Rattle.gc_worker.specs.Fits.{Executes}
 use Rattle.gc_worker.specs.Goes.{Is, Goes, StepsSo}
 use Rattle.gc_worker.specs.Held.{Held}
 use Rattle.gc_worker.specs.Knows.{knows, opened_at}
-use Rattle.gc_worker.specs.Seen.{IsValueAs, IsValueWord, word_for}
+use Rattle.gc_worker.specs.Seen.{IsValueWord, word_for}
 use Rattle.gc_worker.specs.Turned.{loads, went_on}
 use Rattle.gc_worker.proofs.Alike.{plain_value}
 use Rattle.gc_worker.proofs.Answering.{LawTo, IsIts}
@@ -46,7 +43,7 @@ use Rattle.gc_worker.proofs.Gate.Words.{wants}
 use Rattle.gc_worker.proofs.Scan.Headers.{heap_word}
 use Rattle.gc_worker.proofs.Steps as steps
 use Rattle.gc_worker.proofs.Steps.{nothing}
-use Rattle.gc_worker.proofs.Accessing.Acting.{q, its, names}
+use Rattle.gc_worker.proofs.Accessing.Acting.{q, its, names, value_word}
 use Rattle.gc_worker.proofs.Accessing.Going.{at, ready, running, no_end, knew_opened, goes_to}
 use Rattle.gc_worker.proofs.Accessing.Outcomes.{goes_bringing, goes_loading, goes_storing}
 
@@ -113,19 +110,6 @@ swaps (Loads d i x) s is = absurd (cc)
 swaps (Stores i x v) s is = absurd (cc)
 swaps (Gets d x) s is = absurd (let e = same_use (record { word = x; usage = board_uses.Loads d }) (record { word = s.word; usage = board_uses.Swaps s.into s.new }) is in cc)
 swaps (Puts x v) s is = absurd (let e = same_use (record { word = x; usage = board_uses.Stores (word_for v) }) (record { word = s.word; usage = board_uses.Swaps s.into s.new }) is in cc)
-
--- a word that denotes a value is a value's
-said_value : (identity : ℕ → Identity) (d : Decoded) (v : Value) → value_said identity d ≡ Some v → IsValueAs d
-said_value identity (NumberWord n) v is = tt
-said_value identity (PointerWord a) v is = tt
-said_value identity (HeaderWord kind len serial mutator) v is = absurd (cc)
-said_value identity (ForwardWord len a) v is = absurd (cc)
-said_value identity (BusyWord len worker) v is = absurd (cc)
-said_value identity Malformed v is = absurd (cc)
-
-pub value_word : (identity : ℕ → Identity) (w : ℕ) (v : Value) → value_of identity w ≡ Some v → IsValueWord w
-unfolding value_of
-value_word identity w v is = said_value identity (decode w) v is
 
 -- ---- a word of the board
 

@@ -20,16 +20,13 @@ use Rattle.plain_heap.specs.Call as plain
 use Rattle.plain_heap.specs.Call.{After, performed, values_of, value_in, store_in, may_hold, went_on}
 use Rattle.atom_store.specs.declared.step.Step.TheVariants.{Load, Store}
 use Rattle.atom_store.specs.declared.reply.Reply.TheVariants as replies
-use Rattle.heap_words.specs.Decoded.{Decoded, NumberWord, PointerWord, HeaderWord, ForwardWord, BusyWord, Malformed, decode, number_in}
+use Rattle.heap_words.specs.Decoded.{number_in}
 use Rattle.space_map.specs.Spaces.{page_of}
 use Rattle.space_map.specs.Table.{HeapWord, place_of}
 use Rattle.heap_state.specs.Configuration.{Configuration, Stands, era, memory, team}
 use Rattle.heap_state.specs.Entries.{Entry, WordIs}
-use Rattle.heap_state.specs.Era.{Era}
-use Rattle.heap_state.specs.Ghost.{Ghost}
 use Rattle.heap_state.specs.Parts.Knowledge as parts
 use Rattle.heap_state.specs.Table.{word_in}
-use Rattle.heap_state.specs.Values.{value_of, value_said}
 use Rattle.heap_state.specs.Worker.{Worker}
 use Rattle.heap_laws.specs.Fields.Effects.{IsValueOf, FitsRole, word_held, word_stored}
 use Rattle.heap_laws.specs.Fields.Held.{HoldsValue}
@@ -48,30 +45,17 @@ use Rattle.gc_worker.specs.Fits.{Executes}
 use Rattle.gc_worker.specs.Goes.{Is, Goes, StepsSo}
 use Rattle.gc_worker.specs.Held.{Held}
 use Rattle.gc_worker.specs.Knows.{access_of as known_of, access_at, opened_at}
-use Rattle.gc_worker.specs.Seen.{IsValueAs, IsValueWord, word_for}
+use Rattle.gc_worker.specs.Seen.{word_for}
 use Rattle.gc_worker.proofs.Alike.{plain_value}
 use Rattle.gc_worker.proofs.Effecting.{moved, moved_goes, moved_as}
 use Rattle.gc_worker.proofs.Gate.Words.{wants}
 use Rattle.gc_worker.proofs.Scan.Headers.{heap_word}
 use Rattle.gc_worker.proofs.Steps.{loads, stores}
-use Rattle.gc_worker.proofs.Accessing.Acting.{q, its, names, is_small, Held_value, IsSmall, decode_number}
+use Rattle.gc_worker.proofs.Accessing.Acting.{q, its, names, is_small, value_word, Held_value, IsSmall, decode_number}
 use Rattle.gc_worker.proofs.Accessing.Going.{at, ready, running, no_end}
 use Rattle.gc_worker.proofs.Accessing.Outcomes.{goes_loading, goes_storing}
 
 -- ---- words and roles
-
-value_as : (identity : ℕ → Identity) (d : Decoded) (v : Value) → value_said identity d ≡ Some v → IsValueAs d
-value_as identity (NumberWord n) v e = tt
-value_as identity (PointerWord a) v e = tt
-value_as identity (HeaderWord kind len serial mutator) v e = absurd (cc)
-value_as identity (ForwardWord len a) v e = absurd (cc)
-value_as identity (BusyWord len j) v e = absurd (cc)
-value_as identity Malformed v e = absurd (cc)
-
--- a word that holds a value is a value's word
-pub holds_word : (E : Era) (g : Ghost) (w : ℕ) (v : Value) → HoldsValue E g w v → IsValueWord w
-unfolding value_of
-holds_word E g w v holds = value_as g.identity (decode w) v holds.denotes
 
 kind_by : (o : Role) (of : kinds.Kind) (word : ℕ) → parts.HasRole of word (role_of o) → of ≡ kind_of o
 kind_by roles.Field kind.Fields word has = refl
@@ -144,7 +128,7 @@ module _ (c : Configuration) (p : Plain) (s : Stands c p) (k : ℕ) (y : Held) w
       loads_it =
           let v = value_is (LoadsField f d) is refl refl in
           goes_loading c p s k y (LoadsField f d) is (Loads d j x) executes (replies.Value word) d (word_held (role_of role) word) v.value refl is.fits.stage.sound.stage.1
-          (holds_word (era c) s.ghost (word_held (role_of role) word) v.value (holds (LoadsField f d) is refl refl)) (holds (LoadsField f d) is refl refl)
+          (value_word s.ghost.identity (word_held (role_of role) word) v.value (holds (LoadsField f d) is refl refl).denotes) (holds (LoadsField f d) is refl refl)
           (ap (λ (o : Result Value End). o >>= (λ (v : Value). Ok (plain.loads p.heap (q c p s k y (LoadsField f d) is) d v))) (there_in_plain (LoadsField f d) is refl refl))
           (fits_role (LoadsField f d) is refl refl role refl)
 

@@ -25,7 +25,8 @@ use Rattle.gc_worker.specs.Seen.{IsValueWord}
 use Rattle.gc_worker.specs.Turned.{turned_access, told_access, loads, went_on}
 use Rattle.gc_worker.proofs.Alike.{plain_action}
 use Rattle.gc_worker.proofs.Answering.{LawTo}
-use Rattle.gc_worker.proofs.Effecting.{loaded_goes, loaded_as, effect, ends, went_on_fits, loads_fits, ended_fits}
+use Rattle.gc_worker.proofs.Effecting.{loaded_goes, loaded_as, effect, ends, went_on_fits, loads_fits}
+use Rattle.gc_worker.proofs.Settling.{ended_fits}
 use Rattle.gc_worker.proofs.Accessing.Acting.{q, its, calls}
 use Rattle.gc_worker.proofs.Accessing.Going.{own, at, ready, running, no_end}
 
@@ -68,4 +69,4 @@ module _ (c : Configuration) (p : Plain) (s : Stands c p) (k : ℕ) (y : Held) (
   goes_ending reply why comes may full takes =
       ends c p s k x is refl (no_end c p s k y stage is) (q c p s k y stage is) (its c p s k y stage is) reply executes.instr why executes.task_is
       (ap (λ (r : Answered). turned_access x (goes_by (own c p s k y stage) r) (turn_by r)) comes) (ap (λ (r : Answered). told_access y.task (turn_by r)) comes) refl may full refl takes
-      (ended_fits c p s k x is refl (no_end c p s k y stage is) is.fits.side why)
+      (ended_fits c.pages c.mutators k x is.fits is.fits.side why)

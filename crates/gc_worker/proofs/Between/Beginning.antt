@@ -1,12 +1,10 @@
 -- A mutator without a task and without an end stands at a look, or on the way to one, and may be given a task.
-use Rattle.std.proofs.Common.{◌≡◌, ℕ, ◌<◌, Bool, true, false, is_some, nat_lt, Option, Some, None, refl, sym, ap, ◌∙◌, lt-ltb}
+use Rattle.std.proofs.Common.{◌≡◌, ℕ, Bool, true, false, is_some, nat_lt, Some, refl, sym, ap, ◌∙◌, lt-ltb}
 use Rattle.std.specs.Bool.{⊤}
 use Rattle.gate_core.specs.declared.gate_stage.GateStage.{GateStage}
 use Rattle.gate_core.specs.declared.gate_stage.GateStage.TheVariants as gate_stage
 use Rattle.gate_core.specs.declared.passage.Passage.{Passage}
 use Rattle.gate_core.specs.declared.passage.Passage.TheVariants.{Look, Attach, Park, Request, Resume, Forwarded, Leave}
-use Rattle.gate_core.specs.Gate.{Passing}
-use Rattle.heap_state.specs.Worker.{GateStep}
 use Rattle.gc_worker.specs.declared.access_stage.AccessStage.{AccessStage}
 use Rattle.gc_worker.specs.declared.after.After.{After}
 use Rattle.gc_worker.specs.declared.after.After.TheVariants as afters
@@ -17,7 +15,7 @@ use Rattle.gc_worker.specs.declared.stage.Stage.{Stage}
 use Rattle.gc_worker.specs.declared.stage.Stage.TheVariants.{Looks, Passes, Flips, Forwards, Accesses, Places, Serves, Scans, Evacuates, Opens, Gone}
 use Rattle.gc_worker.specs.declared.task.Task.{Task}
 use Rattle.gc_worker.specs.Between.{IsIdle, TasksMayBegin, with_task}
-use Rattle.gc_worker.specs.Fits.{Fits, FitsCopy, FitsEnd, FitsGate, FitsRegister, FitsStage, FitsTask, FitsTaskAfter, FitsTaskBack, FitsTaskBefore, IsAccessing, IsEndBefore, IsMaking, IsOnSide, IsOnSideBack, MayBegin}
+use Rattle.gc_worker.specs.Fits.{Fits, FitsEnd, FitsRegister, FitsStage, FitsTask, FitsTaskAfter, FitsTaskBack, FitsTaskBefore, IsAccessing, IsEndBefore, IsMaking, IsOnSide, IsOnSideBack, MayBegin}
 use Rattle.gc_worker.specs.Held.{Held, asked_by}
 use Rattle.gc_worker.specs.Knows.{known_at, passage_in, step_from, gate_step_at}
 

@@ -47,11 +47,11 @@ use Rattle.gc_worker.specs.declared.stage.Stage.TheVariants.{Looks, Passes, Flip
 use Rattle.gc_worker.specs.declared.task.Task.{Task}
 use Rattle.gc_worker.specs.declared.task.Task.TheVariants.{Calls, Stops}
 use Rattle.gc_worker.specs.Access as access
-use Rattle.gc_worker.specs.Between.{GoesOn, IsAnswerOf, IsNoAnswer, RestsAfter, WorkersGoOn}
+use Rattle.gc_worker.specs.Between.{IsAnswerOf, IsNoAnswer, WorkersGoOn}
 use Rattle.gc_worker.specs.Fits.{FitsEnd, FitsTask, IsEndBefore, IsMaking}
 use Rattle.gc_worker.specs.Held.{Held, at_stage, making_for}
 use Rattle.gc_worker.specs.Seen.{Making, seen}
-use Rattle.gc_worker.specs.Turned.{Told, Silent, Answers, Marks, Outcome, Effect, Ends, acted, acts, allocated_by, begins, end_of, ended, full_by, is_full, looked_by, passed_by, passes, scanned_by, served_by, started, told, told_acted, told_action, told_at, told_access, told_effect, told_end, told_flip, told_full, told_gate, told_look, told_place, told_start, turned, turned_access, turned_at, turned_copy, turned_flip, turned_gate, turned_look, turned_opening, turned_place, turned_register, turned_round, turned_scan, with_evac, with_record}
+use Rattle.gc_worker.specs.Turned.{Told, Silent, Answers, Marks, Effect, Ends, acted, acts, begins, end_of, ended, full_by, is_full, looked_by, passed_by, passes, served_by, started, told, told_acted, told_action, told_at, told_access, told_effect, told_end, told_flip, told_full, told_gate, told_look, told_place, told_start, turned, turned_access, turned_at, turned_copy, turned_flip, turned_gate, turned_look, turned_opening, turned_place, turned_register, turned_round, turned_scan, with_evac, with_record}
 use Rattle.gc_worker.proofs.Making.{made_is}
 
 -- ---- what becomes of the task

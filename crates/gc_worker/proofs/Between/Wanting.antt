@@ -1,5 +1,5 @@
 -- A worker wants a step exactly where it isn't gone.
-use Rattle.std.proofs.Common.{◌≡◌, ℕ, ◌↔◌, Some, None, refl, sym, ap}
+use Rattle.std.proofs.Common.{◌≡◌, None, refl, ap}
 use Rattle.alloc_end.specs.declared.place_stage.PlaceStage.{PlaceStage}
 use Rattle.alloc_end.specs.declared.place_stage.PlaceStage.TheVariants as place_stage
 use Rattle.alloc_end.specs.Place as place

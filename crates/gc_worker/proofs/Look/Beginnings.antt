@@ -1,34 +1,29 @@
 -- A look that begins an allocation or an access.
-use Rattle.std.proofs.Common.{◌≡◌, ℕ, ◌+◌, ◌*◌, ◌<◌, ◌≤◌, Option, Some, None, Result, Ok, Err, refl, ap, sym, subst, ◌∙◌, arith}
-use Rattle.std.specs.Prelude.{⊤, IsTrue}
+use Rattle.std.proofs.Common.{◌≡◌, ℕ, Some, None, Result, Ok, refl, sym, subst, arith}
+use Rattle.std.specs.Prelude.{⊤}
 use Rattle.std.specs.Result.{IfOk}
-use Rattle.std.proofs.lemmas.Option.{same_Some}
 use Rattle.plain_state.specs.declared.end.End.{End}
 use Rattle.plain_state.specs.declared.kind.Kind.{Kind}
 use Rattle.plain_state.specs.declared.value.Identity.{Identity}
 use Rattle.plain_state.specs.declared.value.Value.{Value}
-use Rattle.plain_state.specs.declared.value.Value.TheVariants.{Number, Reference}
+use Rattle.plain_state.specs.declared.value.Value.TheVariants.{Reference}
 use Rattle.plain_state.specs.State.{Mutator, Plain}
-use Rattle.heap_words.specs.Decoded.{Decoded, NumberWord, PointerWord, HeaderWord, ForwardWord, BusyWord, Malformed, decode}
 use Rattle.heap_words.specs.Word.{pointer_word}
 use Rattle.mutator_asm.specs.declared.instr.Instr.{Instr}
 use Rattle.plain_heap.specs.declared.action.Action.{Action}
-use Rattle.plain_heap.specs.declared.action.Action.TheVariants.{Sets, Jumps, Links, Prints, Makes, Measures, Loads, Stores, Gets, Puts, Swaps}
+use Rattle.plain_heap.specs.declared.action.Action.TheVariants.{Makes, Measures, Loads, Stores, Gets, Puts, Swaps}
 use Rattle.plain_heap.specs.Action.{action}
 use Rattle.plain_heap.proofs.Named.{Names}
 use Rattle.atom_store.specs.declared.reply.Reply.{Reply}
 use Rattle.heap_state.specs.Configuration.{Configuration, Stands, era, memory, team}
-use Rattle.heap_laws.specs.Fields.Held.{HoldsValue, MayHold}
-use Rattle.gc_worker.specs.declared.access.Access.{Access}
 use Rattle.gc_worker.specs.declared.access_stage.AccessStage.{AccessStage}
-use Rattle.gc_worker.specs.declared.access_stage.AccessStage.TheVariants.{LooksAtRecord, LooksAtBoard}
 use Rattle.gc_worker.specs.declared.stage.Stage.TheVariants.{Looks, Accesses}
 use Rattle.gc_worker.specs.declared.task.Task.TheVariants.{Calls}
-use Rattle.gc_worker.specs.Access.{FitsStage, IsInHeap, IsAccessOf, begun}
-use Rattle.gc_worker.specs.Fits.{Fits, MayBegin, FitsCall, Executes, IsMaking, IsAccessing}
+use Rattle.gc_worker.specs.Access.{FitsStage, IsInHeap, IsAccessOf}
+use Rattle.gc_worker.specs.Fits.{MayBegin, FitsCall, Executes, IsMaking}
 use Rattle.gc_worker.specs.Goes.{Is, Goes}
 use Rattle.gc_worker.specs.Held.{Held, at_stage, header_for}
-use Rattle.gc_worker.specs.Knows.{knows, known_at}
+use Rattle.gc_worker.specs.Knows.{knows}
 use Rattle.gc_worker.specs.Seen.{IsValueWord, seen, word_for}
 use Rattle.gc_worker.specs.Turned.{Silent, acts, begins, places, turned, told}
 use Rattle.heap_laws.proofs.Fields.Shown.{headers_are_read}

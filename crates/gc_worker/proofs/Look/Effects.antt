@@ -1,5 +1,5 @@
 -- A look whose instruction's effect the registers alone decide: a register is set, a jump is made, or a number is printed.
-use Rattle.std.proofs.Common.{◌≡◌, ℕ, ◌+◌, ◌%◌, ◌<◌, ◌≤◌, List, [], ◌∷◌, ◌++◌, length, nat_lt, slice_index, slice_set, is_some, Option, Some, None, Result, Ok, Err, refl, ap, sym, subst, ◌∙◌, true, length-set, arith}
+use Rattle.std.proofs.Common.{◌≡◌, ℕ, ◌+◌, ◌%◌, ◌<◌, ◌≤◌, List, [], ◌∷◌, ◌++◌, length, slice_index, slice_set, is_some, Some, None, Result, Ok, refl, ap, sym, subst, ◌∙◌, length-set, arith}
 use Rattle.std.specs.Prelude.{⊤, IsTrue}
 use Rattle.std.specs.Result.{IfOk}
 use Rattle.std.proofs.lemmas.List.{length-append}

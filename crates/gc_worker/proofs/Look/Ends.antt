@@ -1,17 +1,16 @@
 -- An instruction that ends its mutator: the registers alone never show that the heap is full.
-use Rattle.std.proofs.Common.{◌≡◌, ℕ, Bool, true, false, cond, nat_lt, nat_le, length, Result, Ok, Err, refl, sym, ap, subst, ◌∙◌}
+use Rattle.std.proofs.Common.{◌≡◌, ℕ, Bool, true, false, cond, nat_lt, nat_le, length, Result, Ok, Err, subst}
 use Rattle.std.specs.Prelude.{⊤, ◌==◌}
 use Rattle.plain_state.specs.declared.end.End.{End}
-use Rattle.plain_state.specs.declared.end.End.TheVariants.{NotNumber, NotPointer, OutOfRange, OutputFull, ZeroDivisor, HeapFull}
+use Rattle.plain_state.specs.declared.end.End.TheVariants.{OutOfRange, OutputFull, ZeroDivisor}
 use Rattle.plain_state.specs.declared.kind.Kind.{Kind}
 use Rattle.plain_state.specs.declared.kind.Kind.TheVariants.{Fields, Raw}
 use Rattle.plain_state.specs.declared.operation.Operation.{Operation}
 use Rattle.plain_state.specs.declared.operation.Operation.TheVariants as operations
 use Rattle.plain_state.specs.declared.sizes.TheConstants.{LONGEST_RECORD, MOST_PRINTED, BOARD_WORDS}
-use Rattle.plain_state.specs.declared.value.Identity.{Identity}
 use Rattle.plain_state.specs.declared.value.Value.{Value}
 use Rattle.plain_state.specs.declared.value.Value.TheVariants.{Number, Reference}
-use Rattle.plain_state.specs.Operation.{divided_by, applied}
+use Rattle.plain_state.specs.Operation.{applied}
 use Rattle.plain_state.specs.State.{Mutator}
 use Rattle.mutator_asm.specs.declared.instr.Instr.{Instr}
 use Rattle.mutator_asm.specs.declared.instr.Instr.TheVariants as instrs
@@ -19,7 +18,7 @@ use Rattle.mutator_asm.specs.declared.operand.Operand.{Operand}
 use Rattle.mutator_asm.specs.declared.operand.Operand.TheVariants as operands
 use Rattle.plain_heap.specs.declared.action.Action.{Action}
 use Rattle.plain_heap.specs.declared.action.Action.TheVariants.{Prints}
-use Rattle.plain_heap.specs.Action.{◌>>=◌, register, number_in, reference_in, operand, length_of, on_board, board_place, computes, allocates, prints, action}
+use Rattle.plain_heap.specs.Action.{◌>>=◌, register, number_in, reference_in, operand, length_of, on_board, board_place, computes, allocates, action}
 use Rattle.gc_worker.specs.Fits.{MayStop}
 
 -- where it has an end, it is not that the heap is full

@@ -40,12 +40,11 @@ use Rattle.gc_worker.specs.Turned.{Silent, Ends, Answers, is_full, passes, ended
 use Rattle.gc_worker.specs.Turned as turning
 use Rattle.gc_worker.proofs.Answering.{LawTo, IsIts, answers}
 use Rattle.gc_worker.proofs.Areas.{area_now, area_says, is_space}
-use Rattle.gc_worker.proofs.Effecting.{ended_fits}
-use Rattle.gc_worker.proofs.Gate.Resuming.{end_none}
 use Rattle.gc_worker.proofs.Gate.Words.{gate_says}
 use Rattle.gc_worker.proofs.Making.{header_made, plain_pages}
 use Rattle.gc_worker.proofs.Place.Claiming.{placing, at, now}
 use Rattle.gc_worker.proofs.Rounds.Words.{traced_word}
+use Rattle.gc_worker.proofs.Settling.{ended_fits}
 use Rattle.gc_worker.proofs.Steps.{prepared}
 
 module _ (c : Configuration) (p : Plain) (s : Stands c p) (k : ℕ) (y : Held) (run : Run) (making : IsMaking y.account y.registers y.task) where
@@ -136,4 +135,4 @@ module _ (c : Configuration) (p : Plain) (s : Stands c p) (k : ℕ) (y : Held) (
           answers c p s k x None (Value (area_now c space)) after s.ghost q (Calls instr) (Ends end) comes answer refl is.below its.is its.no_end
           (plain_pages y making q acts) law no_room
           (record { pages = is.fits.stage.sound.pages; run = is.fits.stage.sound.run; epoch = is.fits.stage.sound.epoch; stage = subst (FitsPlaceStage y.layout.pages asked run header) (sym reads) tt })
-          (ended_fits c p s k x is refl (end_none y.account.end is.fits.end) is.fits.side end)
+          (ended_fits c.pages c.mutators k x is.fits is.fits.side end)
