@@ -1,5 +1,5 @@
 -- What the code reads in a word is what the definitions make of it.
-use Rattle.std.proofs.Common.{◌≡◌, ℕ, ◌+◌, ◌-◌, ◌^◌, ◌<◌, ◌≤◌, arith, Option, zero, suc, List, [], ◌∷◌, map, Some, None, refl, sym, ap, ◌∙◌, slice_get, slice_index, slice_index_or}
+use Rattle.std.proofs.Common.{◌≡◌, ℕ, true, false, ◌+◌, ◌-◌, ◌^◌, ◌<◌, ◌≤◌, arith, Option, zero, suc, List, [], ◌∷◌, map, Some, None, refl, sym, ap, ◌∙◌, subst, slice_get, slice_index, slice_index_or}
 use Rattle.heap_words.specs.Decoded.{Decoded, NumberWord, PointerWord, HeaderWord, ForwardWord, BusyWord, Malformed, decode, encode, number_in, pointer_in}
 use Rattle.heap_words.proofs.Decoding.{decode-header_word}
 use Rattle.heap_words.proofs.Spelling.{number_word-decode, pointer_word-decode}
@@ -17,7 +17,13 @@ use Rattle.plain_heap.specs.Action.{register}
 use Rattle.gc_worker.specs.Fits.{FitsStage, IsMaking}
 use Rattle.gc_worker.specs.Held.{Held, at_stage}
 use Rattle.gc_worker.specs.declared.stage.Stage.{Stage}
-use Rattle.gc_worker.specs.Turned.{Pointed, first_pointer, places}
+use Rattle.gc_worker.specs.Turned.{Pointed, back_from, first_pointer, places, scans, served_by}
+use Rattle.gc_worker.specs.Stepped.{served_in}
+use Rattle.gc_worker.specs.declared.back.Back.{Back}
+use Rattle.gc_worker.specs.declared.back.Back.TheVariants.{ToAccess, ToPlace, ToScanner}
+use Rattle.fault_duty.specs.Duty.{Round}
+use Rattle.fault_duty.specs.declared.round_end.RoundEnd.{RoundEnd}
+use Rattle.fault_duty.specs.declared.round_end.RoundEnd.TheVariants.{ScanPage, ScanInPlace, Marked, AllLeft, NothingNow}
 use Rattle.gc_worker.specs.declared.task.Task.{Task}
 use Rattle.plain_state.specs.declared.value.Value.TheVariants.{Number, Reference}
 
@@ -162,3 +168,35 @@ serial_fits account registers task m = m.executes.call.serial m.making (ap makin
 pub placing_fits : (x : Held) (was : Stage) (header : Option Header) → FitsStage (at_stage x was) (places x header) → FitsStage x (places x header)
 placing_fits x was (Some header) fits = record { layout = fits.layout; epoch = fits.epoch; going = fits.going; sound = fits.sound }
 placing_fits x was None fits = fits
+
+-- ---- rounds
+
+-- of a round that is done only its epoch counts
+served_alike : (x : Held) (d : Round) (epoch : ℕ) (back : Back) (end : RoundEnd) → epoch ≡ d.epoch → served_in x epoch back end ≡ served_by x d back end
+served_alike x d epoch back (ScanPage page) is = ap (λ (e : ℕ). scans (record x { epoch = e }) page false back) is
+served_alike x d epoch back (ScanInPlace page) is = ap (λ (e : ℕ). scans (record x { epoch = e }) page true back) is
+served_alike x d epoch back Marked is = ap (λ (e : ℕ). back_from (record x { epoch = e }) back) is
+served_alike x d epoch back (NothingNow word) is = ap (λ (e : ℕ). back_from (record x { epoch = e }) back) is
+served_alike x d epoch back (AllLeft word) is = refl
+
+-- nor does the stage at which it was done
+served_anywhere : (x : Held) (was : Stage) (epoch : ℕ) (back : Back) (end : RoundEnd) → served_in (at_stage x was) epoch back end ≡ served_in x epoch back end
+served_anywhere x was epoch back (ScanPage page) = refl
+served_anywhere x was epoch back (ScanInPlace page) = refl
+served_anywhere x was epoch (ToAccess access) Marked = refl
+served_anywhere x was epoch ToPlace Marked = refl
+served_anywhere x was epoch ToScanner Marked = refl
+served_anywhere x was epoch (ToAccess access) (NothingNow word) = refl
+served_anywhere x was epoch ToPlace (NothingNow word) = refl
+served_anywhere x was epoch ToScanner (NothingNow word) = refl
+served_anywhere x was epoch back (AllLeft word) = refl
+
+pub served_after : (x : Held) (was : Stage) (d : Round) (epoch : ℕ) (back : Back) (end : RoundEnd) → epoch ≡ d.epoch
+    → served_in (at_stage x was) epoch back end ≡ served_by x d back end
+served_after x was d epoch back end is = served_anywhere x was epoch back end ∙ served_alike x d epoch back end is
+
+pub served_fits : (x : Held) (was : Stage) (d : Round) (epoch : ℕ) (back : Back) (end : RoundEnd) → epoch ≡ d.epoch
+    → FitsStage (served_by x d back end) (served_by x d back end).stage
+    → FitsStage (served_in (at_stage x was) epoch back end) (served_in (at_stage x was) epoch back end).stage
+served_fits x was d epoch back end is fits =
+    let Fitting : Held → Type 0 = λ y. FitsStage y y.stage in subst Fitting (sym (served_after x was d epoch back end is)) fits

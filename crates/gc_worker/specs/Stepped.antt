@@ -1,5 +1,5 @@
 -- What a worker's code keeps and tells of what it holds.
-use Rattle.std.specs.Prelude.{◌≡◌, ℕ, ◌^◌, ◌<◌, ◌≤◌, ⊤, Option, Some, None, true, nat_lt}
+use Rattle.std.specs.Prelude.{◌≡◌, ℕ, ◌^◌, ◌<◌, ◌≤◌, ⊤, Option, Some, None, true, false, nat_lt}
 use Rattle.plain_state.specs.declared.end.End.{End}
 use Rattle.plain_state.specs.declared.sizes.TheConstants.{BOARD_WORDS, MOST_PRINTED, NUMBERS}
 use Rattle.plain_state.specs.declared.value.Value.{Value}
@@ -9,7 +9,7 @@ use Rattle.plain_heap.specs.declared.action.Action.{Action}
 use Rattle.plain_heap.specs.declared.action.Action.TheVariants.{Sets, Jumps, Links, Prints, Makes, Measures, Loads, Stores, Gets, Puts, Swaps}
 use Rattle.mutator_asm.specs.declared.instr.Instr.{Instr}
 use Rattle.gc_worker.specs.declared.stage.Stage.{Stage}
-use Rattle.gc_worker.specs.declared.stage.Stage.TheVariants.{Passes, Flips, Forwards, Accesses, Places, Serves, Scans, Evacuates, Opens}
+use Rattle.gc_worker.specs.declared.stage.Stage.TheVariants.{Passes, Flips, Forwards, Accesses, Places, Serves, Scans, Evacuates, Opens, Gone}
 use Rattle.gc_worker.specs.declared.due.Due.{Due}
 use Rattle.gc_worker.specs.declared.due.Due.TheVariants as due
 use Rattle.gc_worker.specs.declared.stepped.Stepped.{Stepped}
@@ -17,7 +17,12 @@ use Rattle.gc_worker.specs.declared.stepped.Stepped.TheVariants.{Moved, Effect, 
 use Rattle.gc_worker.specs.declared.task.Task.{Task}
 use Rattle.gc_worker.specs.declared.task.Task.TheVariants.{Calls, Stops}
 use Rattle.gc_worker.specs.Fits.{Fits}
-use Rattle.gc_worker.specs.Held.{Held}
+use Rattle.forwarding.specs.Keeping as keeping
+use Rattle.forwarding.specs.Keeping.{kept_word, reserved_word}
+use Rattle.fault_duty.specs.declared.round_end.RoundEnd.{RoundEnd}
+use Rattle.fault_duty.specs.declared.round_end.RoundEnd.TheVariants.{ScanPage, ScanInPlace, Marked, AllLeft, NothingNow}
+use Rattle.gc_worker.specs.declared.back.Back.{Back}
+use Rattle.gc_worker.specs.Held.{Held, at_stage}
 use Rattle.gc_worker.specs.Seen.{seen}
 use Rattle.gc_worker.specs.Turned as turned
 
@@ -113,3 +118,25 @@ IsOpening _ = ⊥
 -- a register and where it leads
 abbrev pub pointed : ℕ × ℕ → turned.Pointed
 pointed p = record { register = p.0; addr = p.1 }
+
+-- what a round of this epoch comes to
+abbrev pub served_in : Held → (epoch : ℕ) → Back → RoundEnd → Held
+served_in x epoch back (ScanPage page) = turned.scans (record x { epoch = epoch }) page false back
+served_in x epoch back (ScanInPlace page) = turned.scans (record x { epoch = epoch }) page true back
+served_in x epoch back Marked = turned.back_from (record x { epoch = epoch }) back
+served_in x epoch back (NothingNow word) = turned.back_from (record x { epoch = epoch }) back
+served_in x epoch back (AllLeft word) = at_stage x Gone
+
+-- ---- what a worker keeps of a copy
+
+-- the header that it keeps, as a word, or 0
+abbrev pub header_kept : Stage → ℕ
+header_kept (Forwards w) = kept_word (keeping.header_kept w.evac.stage)
+header_kept (Evacuates v s back) = kept_word (keeping.header_kept v.stage)
+header_kept _ = 0
+
+-- the address that it has reserved and one more, or 0
+abbrev pub place_kept : Stage → ℕ
+place_kept (Forwards w) = reserved_word (keeping.address_reserved w.evac.stage)
+place_kept (Evacuates v s back) = reserved_word (keeping.address_reserved v.stage)
+place_kept _ = 0

@@ -85,12 +85,13 @@ impl State {
 
     /// An access begins.
     fn begin_access(&mut self, first: Option<AccessStage>) -> Stepped
-        ensures state { self.new ≡ accesses self.old first }
+        ensures state { self.new ≡ uncounted (accesses self.old first) }
         ensures tells { result ≡ Stepped.Moved }
     {
+        let spaces = self.spaces;
         if let Some(stage) = first {
             self.stage = Stage::Accesses(Access {
-                spaces: self.spaces,
+                spaces,
                 epoch: self.epoch,
                 stage,
             });

@@ -1,6 +1,6 @@
 //! The allocation of the record that an instruction makes.
 
-ghost use Rattle.std.specs.Prelude.{◌≡◌, ◌+◌};
+ghost use Rattle.std.specs.Prelude.{◌≡◌, ◌+◌, ◌^◌, ◌<◌};
 ghost use Rattle.std.specs.Option.{option_and_then};
 ghost use Rattle.heap_words.specs.Decoded.{HeaderWord};
 ghost use Rattle.record_layout.specs.Layout.{header_in};
@@ -83,6 +83,7 @@ impl State {
     }
 
     /// A step of the allocation.
+    #[tactic(auto, using(crate::proofs::Reading::serial_fits))]
     pub fn place(&mut self, reply: Reply) -> Stepped
         requires at { IsPlacing self.old.stage }
         requires fits { IsSound self.old }
@@ -107,9 +108,9 @@ impl State {
     }
 
     /// The record stands, and the register that the task names leads to it.
-    #[tactic(auto, using(crate::proofs::Reading::serial_fits))]
     fn has_placed(&mut self, run: Run, at: u32) -> Stepped
-        requires { IsMaking self.old.account self.old.registers self.old.task }
+        requires serial { self.old.account.serial + 1 < 2 ^ 40 }
+        requires making { IsMaking self.old.account self.old.registers self.old.task }
         ensures state { self.new ≡ uncounted (with_record self.old run at (making_for self.old self.old.task)) }
         ensures tells { result ≡ stepped_by self.old.number (told_effect self.old.task) }
     {

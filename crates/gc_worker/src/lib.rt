@@ -27,7 +27,9 @@ mod serving;
 mod stage;
 mod state;
 mod stepped;
+mod stepping;
 mod task;
+mod worker;
 
 pub use access::Access;
 pub use access_stage::AccessStage;
@@ -46,3 +48,4 @@ pub use record_access::{RecordAccess, RecordUse};
 pub use stage::Stage;
 pub use stepped::Stepped;
 pub use task::Task;
+pub use worker::Worker;

@@ -178,11 +178,16 @@ impl State {
         ensures state { self.new ≡ uncounted (turned self.old reply) }
         ensures tells { result ≡ stepped_by self.old.number (told self.old reply) }
     {
-        let Stage::Forwards(w) = &mut self.stage else {
+        let Stage::Forwards(ForwardingRegister {
+            register,
+            evac,
+            after,
+        }) = &mut self.stage
+        else {
             unreachable!()
         };
-        if let Turn::Finished(to) = w.evac.take(reply) {
-            let (register, after) = (w.register, w.after);
+        let (register, after) = (*register, *after);
+        if let Turn::Finished(to) = evac.take(reply) {
             self.set(register, Word::pointer(to.0).0);
             self.stage = self.forwarding(after, register + 1);
         }

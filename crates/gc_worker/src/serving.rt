@@ -3,8 +3,8 @@
 ghost use Rattle.std.specs.Prelude.{◌≡◌, ◌≤◌};
 ghost use Rattle.space_map.specs.Spaces.{board_page};
 ghost use Rattle.gc_worker.specs.Fits.{FitsStage, Takes};
-ghost use Rattle.gc_worker.specs.Stepped.{IsAtAccess, IsEvacuating, IsOpening, IsScanning, IsServing, IsSound, stepped_by, uncounted};
-ghost use Rattle.gc_worker.specs.Turned.{back_from, goes_back, of_round, scans, served_by, told, turned};
+ghost use Rattle.gc_worker.specs.Stepped.{IsAtAccess, IsEvacuating, IsOpening, IsScanning, IsServing, IsSound, served_in, stepped_by, uncounted};
+ghost use Rattle.gc_worker.specs.Turned.{back_from, goes_back, scans, told, turned};
 
 use crate::accessed::Accessed;
 use crate::back::Back;
@@ -45,6 +45,7 @@ impl State {
     }
 
     /// A step of a round.
+    #[tactic(auto, using(crate::proofs::Reading::served_after, crate::proofs::Reading::served_fits))]
     pub fn serve(&mut self, reply: Reply) -> Stepped
         requires at { IsServing self.old.stage }
         requires fits { IsSound self.old }
@@ -56,45 +57,56 @@ impl State {
         let Stage::Serves(duty, back) = &mut self.stage else {
             unreachable!()
         };
-        let before = *duty;
         if let Turn::Finished(end) = duty.take(reply) {
-            let (duty, back) = (*duty, *back);
-            self.stage = Stage::Serves(before, back);
-            self.has_served(duty, back, end);
+            let (epoch, back) = (duty.epoch(), *back);
+            self.has_served(epoch, back, end);
         }
         Stepped::Moved
     }
 
-    /// What a round comes to.
-    fn has_served(&mut self, duty: Duty, back: Back, end: RoundEnd)
-        requires { FitsStage (served_by self.old duty back end) (served_by self.old duty back end).stage }
-        ensures { self.new ≡ served_by self.old duty back end }
+    /// What a round of an epoch comes to.
+    fn has_served(&mut self, epoch: u32, back: Back, end: RoundEnd)
+        requires { FitsStage (served_in self.old epoch back end) (served_in self.old epoch back end).stage }
+        ensures { self.new ≡ served_in self.old epoch back end }
     {
         match end {
-            RoundEnd::ScanPage(page) => self.scan_page(duty, page, false, back),
-            RoundEnd::ScanInPlace(page) => self.scan_page(duty, page, true, back),
-            RoundEnd::Marked | RoundEnd::NothingNow(_) => self.go_back(duty.epoch(), back),
+            RoundEnd::ScanPage(page) => self.scan_page(epoch, page, false, back),
+            RoundEnd::ScanInPlace(page) => self.scan_page(epoch, page, true, back),
+            RoundEnd::Marked | RoundEnd::NothingNow(_) => self.go_back(epoch, back),
             RoundEnd::AllLeft(_) => self.stage = Stage::Gone,
         }
     }
 
     /// A page was claimed: its scan begins, in the epoch of the round.
-    fn scan_page(&mut self, duty: Duty, page: u32, in_place: bool, back: Back)
+    fn scan_page(&mut self, epoch: u32, page: u32, in_place: bool, back: Back)
         requires { page ≤ board_page self.old.layout.pages }
-        ensures { self.new ≡ scans (of_round self.old duty) page in_place back }
+        ensures { self.new ≡ scans (record self.old { epoch = epoch }) page in_place back }
     {
-        self.epoch = duty.epoch();
-        let scan = Scan::new(self.spaces, page, self.epoch, in_place);
+        self.epoch = epoch;
+        let scan = Scan::new(self.spaces, page, epoch, in_place);
         self.stage = Stage::Scans(scan, back);
     }
 
     /// The worker goes on where it was before the round, in this epoch.
-    #[tactic(auto, using(crate::proofs::Reading::placing_fits))]
     fn go_back(&mut self, epoch: u32, back: Back)
         requires { FitsStage (back_from (record self.old { epoch = epoch }) back) (goes_back (record self.old { epoch = epoch }) back) }
         ensures { self.new ≡ back_from (record self.old { epoch = epoch }) back }
     {
+        self.come_to(epoch);
+        self.return_to(back);
+    }
+
+    fn come_to(&mut self, epoch: u32)
+        ensures { self.new ≡ record self.old { epoch = epoch } }
+    {
         self.epoch = epoch;
+    }
+
+    #[tactic(auto, using(crate::proofs::Reading::placing_fits))]
+    fn return_to(&mut self, back: Back)
+        requires { FitsStage (back_from self.old back) (goes_back self.old back) }
+        ensures { self.new ≡ back_from self.old back }
+    {
         match back {
             Back::ToAccess(access) => self.stage = Stage::Accesses(access),
             Back::ToPlace => self.stage = self.placing(),
