@@ -14,3 +14,5 @@ pub mod Copied
 pub mod Claims
 pub mod Represented
 pub mod FullTold
+pub mod Stepped
+pub mod Counted

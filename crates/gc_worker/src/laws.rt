@@ -5,6 +5,7 @@ ghost use Rattle.gc_worker.specs.Between.{HeapsOpen, ReadyingStands, TasksMayBeg
 ghost use Rattle.gc_worker.specs.Claims.{TracedPagesAreOpen, FlipsAreOfTraced};
 ghost use Rattle.gc_worker.specs.Copied.{CopiedWasLive, FullTellsLive};
 ghost use Rattle.gc_worker.specs.FullTold.{FullIsTold};
+ghost use Rattle.gc_worker.specs.Counted.{CountedFit, CountsAreApart};
 ghost use Rattle.gc_worker.specs.Represented.{RepresentedWorkersStand};
 
 /// A step of a worker is of a word of the table, and the worker may take the reply. What stood for a plain state before stands for it
@@ -84,4 +85,10 @@ pub fn full_is_told()
 pub fn traced_pages_are_open()
     ensures opened { TracedPagesAreOpen }
     ensures flips { FlipsAreOfTraced }
+{}
+
+/// A worker with another count of its mutator's instructions wants, tells and becomes the same, and is as sound.
+pub fn counts_are_apart()
+    ensures same { CountsAreApart }
+    ensures sound { CountedFit }
 {}
