@@ -1,3 +1,4 @@
 pub mod Outcomes
 pub mod Readied
 pub mod Events
+pub mod Claims
