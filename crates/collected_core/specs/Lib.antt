@@ -4,3 +4,4 @@ pub mod Readers
 pub mod Event
 pub mod Run
 pub mod Law
+pub mod Whole
