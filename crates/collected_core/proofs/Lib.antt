@@ -1,3 +1,5 @@
 pub mod Outcomes
 pub mod Readied
 pub mod Events
+pub mod Running
+pub mod Runs

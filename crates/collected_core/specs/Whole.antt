@@ -1,7 +1,6 @@
 -- What holds of a whole run: the plain machine, executing its order, is what the core represents in the end, and each mark of the
 -- order acts.
 use Rattle.std.specs.Prelude.{◌≡◌, ⊤, ℕ, ◌*◌, ◌≤◌, ◌<◌, List, Some, None, IsTrue}
-use Rattle.plain_state.specs.declared.end.End.{End}
 use Rattle.plain_state.specs.declared.end.End.TheVariants as ends
 use Rattle.plain_state.specs.declared.sizes.TheConstants.{PAGE_WORDS}
 use Rattle.plain_state.specs.State as plain
@@ -17,8 +16,7 @@ use Rattle.heap_state.specs.Represents.{Represents}
 use Rattle.gc_worker.specs.Full.{FindsNoRoom}
 use Rattle.gc_worker.specs.Law.{read}
 use Rattle.collected_core.specs.declared.config.Config.{Config}
-use Rattle.collected_core.specs.declared.stepped.Stepped.{Stepped}
-use Rattle.collected_core.specs.declared.stepped.Stepped.TheVariants.{Idle, Moved, Effect, Flipped, Ended}
+use Rattle.collected_core.specs.declared.stepped.Stepped.TheVariants.{Idle, Ended}
 use Rattle.collected_core.specs.Core.{CoreState, is_size, opening_core, workers_of}
 use Rattle.collected_core.specs.Event.{core_after, event_of, ready}
 use Rattle.collected_core.specs.Readers.{seen_of}
@@ -39,17 +37,9 @@ EachActs code turns s order = EachMark (Acts code turns) code turns s order
 
 -- ---- heap full
 
-abbrev pub IsFullBy : CoreState → ℕ → End → Type 0
-IsFullBy s w (ends.HeapFull asked room live) = FindsNoRoom s.heap.pages s.heap.words (ready s w) asked room live
-IsFullBy s w end = ⊤
-
-abbrev pub IsFullWhere : CoreState → ℕ → Stepped → Type 0
-IsFullWhere s w (Ended m why) = IsFullBy s w why
-IsFullWhere s w told = ⊤
-
--- where the event of a worker is the end for want of room, its epoch is traced and has no room for the record, and no flip can help
+-- where the event of a worker is its end for want of room, its epoch is traced and has no room for the record, and no flip can help
 abbrev pub IsFull : CoreState → ℕ → Type 0
-IsFull s w = IsFullWhere s w (event_of s w).told
+IsFull s w = (asked room live : ℕ) → (event_of s w).told ≡ Ended w (ends.HeapFull asked room live) → FindsNoRoom s.heap.pages s.heap.words (ready s w) asked room live
 
 -- ---- a run
 
