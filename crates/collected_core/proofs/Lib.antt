@@ -2,3 +2,5 @@ pub mod Outcomes
 pub mod Readied
 pub mod Events
 pub mod Claims
+pub mod Running
+pub mod Runs
