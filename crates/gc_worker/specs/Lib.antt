@@ -12,4 +12,5 @@ pub mod Law
 pub mod Between
 pub mod Copied
 pub mod Claims
+pub mod Begun
 pub mod Represented
