@@ -80,5 +80,5 @@ module _ (p : Placement) (space : Space) (heap : plain.Heap) (h : RepresentsHeap
       rw d.word_is (false_from_ne_true (eqb (pointer_word (p.place i)) (number_word 0)) (λ is. number-apart 0 (p.place i) (sym (eqb-true (pointer_word (p.place i)) (number_word 0) is))))
 
   pub word_pointer : (word : ℕ) (v : Value) → Denotes heap p.place word v → is_pointer word ≡ is_reference v
-  word_pointer word (Number n) d = rw (d.word_is, decode-number_word n) refl
+  word_pointer word (Number n) d = rw (d.word_is, decode-number_word n d.value) refl
   word_pointer word (Reference i) d = rw (d.word_is, decode-pointer_word (p.place i) (address_fits i d.value)) refl

@@ -22,6 +22,7 @@ use Rattle.plain_heap.specs.Action as acts
 use Rattle.plain_heap.specs.Call as called
 use Rattle.gc_core.specs.Configuration.{Space, Mutator}
 use Rattle.gc_core.specs.Event.{register, number_of, address_of, operand, length_told, kind_told, place_of, board_place, as_read, as_held}
+use Rattle.plain_state.specs.declared.sizes.TheConstants.{NUMBERS}
 use Rattle.gc_core.specs.Represents.{Placement, Denotes, DenotesIn, spelled, RepresentsMutator}
 use Rattle.gc_core.proofs.Heaps.{made_record}
 use Rattle.gc_core.proofs.Next.{RepresentsHeap}
@@ -30,14 +31,14 @@ use Rattle.gc_core.proofs.Parallel.{Same, same-weak}
 
 -- ---- words
 
-number_of-number : (n : ℕ) → number_of (number_word n) ≡ Ok n
-number_of-number n = rw (decode-number_word n) refl
+number_of-number : (n : ℕ) → n < NUMBERS → number_of (number_word n) ≡ Ok n
+number_of-number n small = rw (decode-number_word n small) refl
 
 number_of-pointer : (a : ℕ) → a < 2 ^ 32 → number_of (pointer_word a) ≡ Err ends.NotNumber
 number_of-pointer a fits = rw (decode-pointer_word a fits) refl
 
-address_of-number : (n : ℕ) → address_of (number_word n) ≡ Err ends.NotPointer
-address_of-number n = rw (decode-number_word n) refl
+address_of-number : (n : ℕ) → n < NUMBERS → address_of (number_word n) ≡ Err ends.NotPointer
+address_of-number n small = rw (decode-number_word n small) refl
 
 address_of-pointer : (a : ℕ) → a < 2 ^ 32 → address_of (pointer_word a) ≡ Ok a
 address_of-pointer a fits = rw (decode-pointer_word a fits) refl
@@ -77,11 +78,11 @@ module _ (p : Placement) (space : Space) (heap : plain.Heap) (h : RepresentsHeap
   IsNumber a b = (a ≡ b) × (b < 2 ^ 62)
 
   number-same : (word : ℕ) (v : Value) → Denotes heap p.place word v → Same IsNumber (number_of word) (acts.number_in v)
-  number-same word (Number n) d = rw (d.word_is, number_of-number n) (refl, d.value)
+  number-same word (Number n) d = rw (d.word_is, number_of-number n d.value) (refl, d.value)
   number-same word (Reference i) d = rw (d.word_is, number_of-pointer (p.place i) (address_fits p space heap h size i d.value)) (refl, tt)
 
   address-same : (word : ℕ) (v : Value) → Denotes heap p.place word v → Same (IsPlaced p heap) (address_of word) (acts.reference_in v)
-  address-same word (Number n) d = rw (d.word_is, address_of-number n) (refl, tt)
+  address-same word (Number n) d = rw (d.word_is, address_of-number n d.value) (refl, tt)
   address-same word (Reference i) d = rw (d.word_is, address_of-pointer (p.place i) (address_fits p space heap h size i d.value)) (record { made = d.value; place = refl })
 
   place-same_as : (i : Identity) (x : ℕ) (r : plain.Record) → plain.record_of heap i ≡ Some r → length_told (slice_index space.words (p.place i)) ≡ length r.values
@@ -128,7 +129,7 @@ module _ (p : Placement) (space : Space) (heap : plain.Heap) (h : RepresentsHeap
 
   held_as : (kind : Kind) (word : ℕ) (v : Value) → Denotes heap p.place word v → Same (DenotesIn kind heap p.place) (as_held (spelled kind) word) (called.may_hold kind v)
   held_as Fields word v d = d
-  held_as Raw word (Number n) d = rw (d.word_is, decode-number_word n) (record { number = refl; small = d.value })
+  held_as Raw word (Number n) d = rw (d.word_is, decode-number_word n d.value) (record { number = refl; small = d.value })
   held_as Raw word (Reference i) d = rw (d.word_is, decode-pointer_word (p.place i) (address_fits p space heap h size i d.value)) (refl, tt)
 
   pub held-same : (a : ℕ) (i : Identity) (x place : ℕ) (old v : Value) (word : ℕ) → IsPlaced p heap a i → (is : IsWordAt p heap i x place old) → Denotes heap p.place word v

@@ -1,5 +1,5 @@
 -- A step that answers a mutator's task, by the laws of the heap; and what a running mutator is to the plain one.
-use Rattle.std.proofs.Common.{◌≡◌, ℕ, ◌+◌, ◌<◌, true, false, List, length, slice_index, slice_get, Option, None, Some, refl, ap, sym, subst, ◌∙◌}
+use Rattle.std.proofs.Common.{◌≡◌, ℕ, ◌+◌, ◌<◌, true, List, length, slice_index, slice_get, Option, None, Some, ap, sym, subst, ◌∙◌}
 use Rattle.plain_state.specs.declared.value.Value.{Value}
 use Rattle.plain_state.specs.State.{Mutator, Plain}
 use Rattle.atom_store.specs.declared.reply.Reply.{Reply}
@@ -7,7 +7,7 @@ use Rattle.space_map.specs.Table.{IsRow}
 use Rattle.heap_state.specs.Configuration.{Configuration, Stands, era, memory, team}
 use Rattle.heap_state.specs.Entries.{Entry, row_of}
 use Rattle.heap_state.specs.Ghost.{Ghost}
-use Rattle.heap_state.specs.Worker.{Account, Post, Worker, is_running}
+use Rattle.heap_state.specs.Worker.{Account, Worker, is_running}
 use Rattle.heap_laws.specs.Fields.Effects.{IsMutator, RegisterHolds}
 use Rattle.heap_laws.specs.Fields.Held.{GoesOn, MayHold, going_on}
 use Rattle.heap_laws.specs.Fields.Stores.{IsAs}

@@ -1,1 +1,10 @@
 pub mod Standing
+pub mod Copied
+pub mod Claims
+pub mod Begun
+pub mod Readying
+pub mod Beginning
+pub mod Wanting
+pub mod Opening
+pub mod GoingOn
+pub mod Others

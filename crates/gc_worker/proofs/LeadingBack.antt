@@ -2,7 +2,6 @@
 use Rattle.std.proofs.Common.{◌≡◌, ℕ, ◌+◌, true, sym, ap, subst, ◌∙◌, arith}
 use Rattle.std.proofs.lemmas.Bool.{eqb-true}
 use Rattle.plain_state.specs.State.{Plain}
-use Rattle.atom_store.specs.declared.step.Step.TheVariants.{Load}
 use Rattle.space_map.specs.Spaces.{IsInSpace, to_space, space_start}
 use Rattle.heap_state.specs.Configuration.{era, team}
 use Rattle.heap_state.specs.Era.{from_space}
@@ -14,7 +13,7 @@ use Rattle.gc_worker.specs.Held.{Held, at_stage}
 use Rattle.gc_worker.specs.Knows.{quest_for}
 use Rattle.gc_worker.specs.Law.{Heap, read, WorkersStand, RegistersLeadBack}
 use Rattle.gc_worker.proofs.Eras.{old_start_is, old_span_is}
-use Rattle.gc_worker.proofs.Whole.{is}
+use Rattle.gc_worker.proofs.Members.{member}
 
 module _ (h : Heap) (p o : Plain) (k : ℕ) (x : Held) (w : ForwardingRegister) (st : WorkersStand h p o) (there : Is (read h) k (at_stage x (Forwards w))) where
   before : x.epoch + 1 ≡ (era (read h)).epoch
@@ -33,4 +32,4 @@ module _ (h : Heap) (p o : Plain) (k : ℕ) (x : Held) (w : ForwardingRegister) 
 
 pub registers_lead_back : RegistersLeadBack
 registers_lead_back h p o k x w st l holds staged =
-    leads h p o k x w st (subst (Is (read h) k) (ap (at_stage x) staged) (is h p o k x (Load 0) st l holds))
+    leads h p o k x w st (subst (Is (read h) k) (ap (at_stage x) staged) (member h p o k x st l holds))

@@ -1,6 +1,8 @@
 pub mod Claiming
 pub mod Readying
+pub mod Acts
 pub mod Header
+pub mod Full
 pub mod Opened
 pub mod Areas
 pub mod Traced

@@ -1,7 +1,8 @@
 -- A mutator that has answered its task: it is sound with its new account, registers and run.
-use Rattle.std.proofs.Common.{◌≡◌, ℕ, ◌<◌, ◌≤◌, true, false, List, length, slice_index, Option, None, is_some, nat_lt, subst, sym, ◌∙◌, ⊎_elim, get_or-set_same, get_or-set_other, length-set}
+use Rattle.std.proofs.Common.{◌≡◌, ℕ, ◌<◌, ◌≤◌, true, false, List, length, slice_index, Option, None, is_some, nat_lt, refl, subst, sym, ⊎_elim, get_or-set_same, get_or-set_other}
 use Rattle.std.specs.Prelude.{slice_set}
 use Rattle.std.proofs.lemmas.Bool.{cases_eq}
+use Rattle.plain_state.specs.declared.end.End.{End}
 use Rattle.plain_state.specs.declared.sizes.TheConstants.{REGISTERS, MOST_PRINTED}
 use Rattle.alloc_end.specs.declared.run.Run.{Run}
 use Rattle.heap_state.specs.Functions.{put}
@@ -11,6 +12,8 @@ use Rattle.gc_worker.specs.declared.stage.Stage.TheVariants.{Looks}
 use Rattle.gc_worker.specs.Fits.{Fits, FitsRun}
 use Rattle.gc_worker.specs.Held.{Held}
 use Rattle.gc_worker.specs.Seen.{IsValueWord}
+use Rattle.gc_worker.specs.Turned.{ended}
+use Rattle.gc_worker.proofs.Fitting.{page_count}
 
 -- a register changed in the list is changed in the function
 pub registers_put : (registers : List ℕ) (r v : ℕ) → r < length registers → (λ (j : ℕ). slice_index (slice_set registers r v) j) ≡ put (λ (j : ℕ). slice_index registers j) r v
@@ -48,4 +51,23 @@ settled_fits n mutators k x f mutator account registers run unended eight values
   side = mutator;
   task = tt;
   stage = tt;
+}
+
+-- with an end it leaves
+pub ended_fits : (n mutators k : ℕ) (x : Held) (f : Fits n mutators k x) → nat_lt x.number x.mutators ≡ true → (end : End) → Fits n mutators k (ended x end)
+ended_fits n mutators k x f mutator end = record {
+  number = f.number;
+  few = f.few;
+  pages = f.pages;
+  counted = f.counted;
+  beside = f.beside;
+  epoch = f.epoch;
+  eight = f.eight;
+  registers = f.registers;
+  few_printed = f.few_printed;
+  run = f.run;
+  end = refl;
+  side = mutator;
+  task = refl;
+  stage = record { layout = refl; passage = tt; going = tt; sound = record { pages = page_count n mutators k x f; stage = tt } };
 }

@@ -16,8 +16,8 @@ use Rattle.mutator_asm.specs.declared.instr.Instr.TheVariants as instrs
 use Rattle.mutator_asm.specs.declared.operand.Operand.{Operand}
 use Rattle.mutator_asm.specs.Program.{is_valid, is_register, is_operand}
 use Rattle.plain_heap.specs.declared.action.Action.{Action}
-use Rattle.plain_heap.specs.declared.action.Action.TheVariants.{Sets, Jumps, Links, Prints, Makes, Measures, Loads, Stores, Gets, Puts, Swaps}
-use Rattle.plain_heap.specs.Action.{◌>>=◌, register, number_in, reference_in, operand, length_of, board_place, computes, allocates, prints, action}
+use Rattle.plain_heap.specs.declared.action.Action.TheVariants.{Sets, Links, Makes, Measures, Loads, Gets, Swaps}
+use Rattle.plain_heap.specs.Action.{register, number_in, reference_in, operand, length_of, board_place, computes, allocates, prints, action}
 use Rattle.plain_heap.proofs.Outcomes.{if_ok-bind}
 
 -- where it writes one

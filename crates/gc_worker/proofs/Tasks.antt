@@ -152,7 +152,7 @@ module _ (account : Account) (registers : List ℕ) (r a b : ℕ) (new : ℕ) (i
   begins_still : (task : Option Task) → MayBegin account registers task → MayBegin account (slice_set registers r new) task
   begins_still None may = tt
   begins_still (Some (Calls i)) may = call_stays i may
-  begins_still (Some (Stops end)) may = tt
+  begins_still (Some (Stops end)) may = may
 
   -- what is made is Ok of that action
   made : (o : Result Action End) (m : Making) → making_in o ≡ Some m → o ≡ Ok (Makes m.kind m.into m.len)

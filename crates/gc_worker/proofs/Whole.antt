@@ -1,7 +1,7 @@
 -- The law of a step, from the laws of the kinds.
 use Rattle.std.proofs.Common.{◌≡◌, ◌≢◌, ℕ, ◌+◌, ◌<◌, ◌≤◌, length, set, get_or, Option, Some, None, refl, sym, ap, subst, ◌∙◌, arith, ⊎_elim, get_or-set_same, get_or-set_other, length-set}
 use Rattle.std.proofs.lemmas.Bool.{cases_eq}
-use Rattle.std.proofs.lemmas.List.{map-set, get_or-map, length-map}
+use Rattle.std.proofs.lemmas.List.{map-set}
 use Rattle.plain_state.specs.State.{Plain}
 use Rattle.atom_store.specs.declared.reply.Reply.{Reply}
 use Rattle.atom_store.specs.declared.step.Step.{Step}
@@ -18,7 +18,6 @@ use Rattle.heap_state.specs.Entries.{Entry, GateIs, TracedIs, AreaIs, PageIs, Cr
 use Rattle.heap_state.specs.Table.{table_of}
 use Rattle.space_map.specs.PageWord.{age_of}
 use Rattle.heap_state.specs.Ghost.{Ghost}
-use Rattle.heap_state.specs.Worker.{Scanner, fresh}
 use Rattle.heap_laws.specs.Lifting.{StandsWith, stepped, Leaves, Flipped}
 use Rattle.gc_worker.specs.declared.after.After.{After}
 use Rattle.gc_worker.specs.declared.stage.Stage.{Stage}
@@ -32,12 +31,13 @@ use Rattle.gc_worker.specs.Law.{Heap, read, nobody, held_at, WorkersStand, moved
 use Rattle.gc_worker.specs.Turned.{Told, Silent, Answers, Marks, PageWon, epoch_in, turned, told, won}
 use Rattle.gc_worker.specs.Wanted.{wanted}
 use Rattle.gc_worker.proofs.Gate.Exchanging.{exchanges_gate}
-use Rattle.gc_worker.proofs.Look.{looks}
+use Rattle.gc_worker.proofs.Look.Looking.{looks}
 use Rattle.gc_worker.proofs.Accessing.Stages.{accesses}
 use Rattle.gc_worker.proofs.Gate.Words.{gate_says}
 use Rattle.gc_worker.proofs.Gate.Passing.{loads_gate}
 use Rattle.gc_worker.proofs.Flip.Resetting as resetting
 use Rattle.gc_worker.proofs.Flip.Flipping.{flips_gate}
+use Rattle.gc_worker.proofs.Members.{member}
 use Rattle.gc_worker.proofs.Opening.{opens}
 use Rattle.gc_worker.proofs.Rounds.Whole.{serves}
 use Rattle.gc_worker.proofs.Copying.Whole.{evacuates, forwards}
@@ -107,13 +107,6 @@ unfolding table_of
 page_age c page = refl
 
 module _ (h : Heap) (p o : Plain) (k : ℕ) (x : Held) (q : Step) (st : WorkersStand h p o) (l : k < length h.workers) (holds : held_at h k ≡ x) where
-  pub is : Is (read h) k x
-  is = record {
-    below = (let n = length-map h.workers knows in omega (arith, n, l));
-    as_known = get_or-map knows h.workers k nobody (fresh Scanner) l ∙ ap knows holds;
-    fits = subst (Fits h.pages h.mutators k) holds (st.fit k l);
-  }
-
   abbrev r : Reply
   r = reply_of q h.words
 
@@ -261,4 +254,4 @@ module _ (h : Heap) (p o : Plain) (k : ℕ) (x : Held) (q : Step) (st : WorkersS
 
 pub steps_keep : StepsKeep
 steps_keep h p o k x q st l holds asked =
-    keeps h p o k x q st l holds (kinds (read h) p st.stands k x (is h p o k x q st l holds) q asked)
+    keeps h p o k x q st l holds (kinds (read h) p st.stands k x (member h p o k x st l holds) q asked)

@@ -19,7 +19,7 @@ use Rattle.gc_worker.specs.Held.{Held, at_stage}
 use Rattle.gc_worker.specs.Law.{Heap, read, WorkersStand, FlipsAreWon}
 use Rattle.gc_worker.specs.Wanted.{wanted}
 use Rattle.gc_worker.proofs.Flip.Flipping.{unmoved}
-use Rattle.gc_worker.proofs.Whole.{is}
+use Rattle.gc_worker.proofs.Members.{member}
 
 module _ (h : Heap) (p o : Plain) (k : ℕ) (st : WorkersStand h p o) (r : Reset) where
   -- the flipper in its own layout and epoch
@@ -41,6 +41,6 @@ module _ (h : Heap) (p o : Plain) (k : ℕ) (st : WorkersStand h p o) (r : Reset
 pub flips_are_won : FlipsAreWon
 flips_are_won h p o k x f r q st l holds staged asked =
     let own : x ≡ at_stage x (Flips (record f { stage = Exchanges r })) = ap (at_stage x) staged in
-    let there = subst (Is (read h) k) own (is h p o k x q st l holds) in
+    let there = subst (Is (read h) k) own (member h p o k x st l holds) in
     let next : Some (Exchange (place_of f.layout.pages Gate) (encode_gate r.gate) (encode_gate (gate_flipped r.gate))) ≡ Some q = ap wanted (sym own) ∙ asked in
     subst (λ (z : Step). reply_of z h.words ≡ Won) (same_Some _ q next) (by_flip h p o k st r x f there)

@@ -1,11 +1,12 @@
 -- What is so between any two steps, how a heap begins, and what a worker may become without a step.
-use Rattle.std.specs.Prelude.{◌≡◌, ℕ, ◌+◌, ◌<◌, ◌≤◌, ◌↔◌, ⊤, List, [], length, true, Some, None, nat_lt, replicate, slice_get, slice_index, slice_set, if◌then◌else◌, zero, suc, ◌∷◌}
+use Rattle.std.specs.Prelude.{◌≡◌, ◌≢◌, ℕ, ◌+◌, ◌<◌, ◌≤◌, ◌↔◌, ⊤, List, [], length, true, Some, None, nat_lt, replicate, slice_get, slice_index, slice_set, if◌then◌else◌, zero, suc, ◌∷◌}
 use Rattle.heap_words.specs.declared.kind.Kind.{Kind}
 use Rattle.heap_words.specs.Decoded.{NumberWord, PointerWord, HeaderWord, decode}
+use Rattle.plain_state.specs.declared.end.End.{End}
 use Rattle.plain_state.specs.declared.value.Identity.{Identity}
 use Rattle.plain_state.specs.declared.value.Value.TheVariants.{Number, Reference}
 use Rattle.plain_state.specs.declared.sizes.TheConstants.{REGISTERS}
-use Rattle.plain_state.specs.State.{Mutator, Plain}
+use Rattle.plain_state.specs.State.{Mutator, Plain, serial_of}
 use Rattle.space_map.specs.Spaces.{IsInSpace, IsPageCount, to_space}
 use Rattle.space_map.specs.Table.{HeapWord, table_length}
 use Rattle.atom_store.specs.declared.reply.Reply.{Reply}
@@ -14,18 +15,20 @@ use Rattle.fault_duty.specs.Duty as duty
 use Rattle.gate_core.specs.declared.passage.Passage.TheVariants.{Attach}
 use Rattle.heap_state.specs.Entries.{written}
 use Rattle.heap_state.specs.Table.{word_in}
+use Rattle.heap_state.specs.Theorems.Standing.{IsSound}
 use Rattle.heap_state.specs.Values.{Accounts}
 use Rattle.heap_state.specs.Worker.{is_running}
 use Rattle.heap_laws.specs.Opening.{opening_entries, opening_plain}
 use Rattle.gc_worker.specs.declared.after.After.TheVariants as afters
 use Rattle.gc_worker.specs.declared.back.Back.TheVariants.{ToScanner}
-use Rattle.gc_worker.specs.declared.stage.Stage.TheVariants.{Serves, Gone}
+use Rattle.gc_worker.specs.declared.stage.Stage.TheVariants.{Looks, Serves, Gone}
 use Rattle.gc_worker.specs.declared.task.Task.{Task}
+use Rattle.gc_worker.specs.Answer.{after_told}
 use Rattle.gc_worker.specs.Fits.{Fits, MayBegin}
 use Rattle.gc_worker.specs.Held.{Held}
 use Rattle.gc_worker.specs.Knows.{knows, post_in}
-use Rattle.gc_worker.specs.Law.{Heap, held_at, WorkersStand}
-use Rattle.gc_worker.specs.Turned.{Told, Silent, Answers, Marks, Outcome, passes, turned, told}
+use Rattle.gc_worker.specs.Law.{Heap, read, held_at, WorkersStand, epoch_of}
+use Rattle.gc_worker.specs.Turned.{Told, Silent, Answers, Marks, Outcome, Effect, Ends, passes, turned, told}
 use Rattle.gc_worker.specs.Wanted.{wanted}
 
 -- ---- how it begins
@@ -69,7 +72,7 @@ opening n mutators scanners = record {
 
 -- it stands for the plain state in which nothing was made yet, and a cycle begins there
 abbrev pub HeapsOpen : Type 0
-HeapsOpen = (n mutators scanners : ℕ) → IsPageCount n → 1 ≤ mutators → mutators ≤ 16 → mutators + scanners ≤ 24
+HeapsOpen = (n mutators scanners : ℕ) → IsPageCount n → mutators ≤ 16 → mutators + scanners ≤ 24
     → WorkersStand (opening n mutators scanners) (opening_plain mutators) (opening_plain mutators)
 
 -- ---- what a worker may become without a step
@@ -107,12 +110,23 @@ IsNoAnswer Silent = ⊤
 IsNoAnswer (Answers task outcome) = ⊥
 IsNoAnswer (Marks asked) = ⊤
 
--- A step answers no other task than the one begun; it keeps that one until it answers it, and then there is none. The worker's number,
--- layout and number of mutators never change.
+-- after its effect a mutator looks at the gate again; with an end its registers stay
+abbrev pub RestsAfter : (was now : Held) → Outcome → Type 0
+RestsAfter was now Effect = now.stage ≡ Looks
+RestsAfter was now (Ends end) = (now.account ≡ record was.account { end = Some end }) × (now.registers ≡ was.registers)
+
+-- the task is answered: it was the one begun, and now there is none
+pub record IsAnswerOf (was now : Held) (task : Task) (outcome : Outcome) : Type 0 where
+  pub asked : was.task ≡ Some task
+  pub rests : now.task ≡ None
+  pub after : RestsAfter was now outcome
+
+-- A step answers no other task than the one begun; it keeps that one until it answers it, and then there is none. A mutator with an end
+-- keeps its account and registers. The worker's number, layout and number of mutators never change.
 pub record GoesOn (x : Held) (reply : Reply) : Type 0 where
-  pub asked : (task : Task) (outcome : Outcome) → told x reply ≡ Answers task outcome → x.task ≡ Some task
+  pub answers : (task : Task) (outcome : Outcome) → told x reply ≡ Answers task outcome → IsAnswerOf x (turned x reply) task outcome
   pub kept : IsNoAnswer (told x reply) → (turned x reply).task ≡ x.task
-  pub rests : (task : Task) (outcome : Outcome) → told x reply ≡ Answers task outcome → (turned x reply).task ≡ None
+  pub ended : (end : End) → x.account.end ≡ Some end → ((turned x reply).account ≡ x.account) × ((turned x reply).registers ≡ x.registers)
   pub number : (turned x reply).number ≡ x.number
   pub layout : (turned x reply).layout ≡ x.layout
   pub mutators : (turned x reply).mutators ≡ x.mutators
@@ -137,21 +151,24 @@ pub record Lands (n : ℕ) (words : List ℕ) (x : Held) : Type 0 where
   pub header : (j a : ℕ) → j < REGISTERS → decode (slice_index x.registers j) ≡ PointerWord a
       → (kind : Kind) × (len : ℕ) × (serial : ℕ) × (mutator : ℕ) × (decode (word_in n words (HeapWord a)) ≡ HeaderWord kind len serial mutator)
 
--- two registers that lead to one record hold one pointer
+-- two registers hold one word exactly where those of the plain mutator have one value
 abbrev pub AreAlike : List ℕ → Mutator → Type 0
-AreAlike registers q = (j i a b : ℕ) → j < REGISTERS → i < REGISTERS → decode (slice_index registers j) ≡ PointerWord a → decode (slice_index registers i) ≡ PointerWord b
-    → slice_get q.registers j ≡ slice_get q.registers i → a ≡ b
+AreAlike registers q = (j i : ℕ) → j < REGISTERS → i < REGISTERS → (slice_index registers j ≡ slice_index registers i) ↔ (slice_get q.registers j ≡ slice_get q.registers i)
 
--- a mutator is as its plain one; where it has no end its registers show that one's, and where it runs they lead to where the records are
+-- A mutator is as its plain one, and where it has no end its registers show that one's. Where it runs its epoch is the gate's, and then
+-- they lead to where the records are.
 pub record IsAsPlain (h : Heap) (p : Plain) (k : ℕ) (x : Held) (q : Mutator) : Type 0 where
   pub account : Accounts p.heap k x.account q
   pub shows : q.end ≡ None → Shows x.registers q
+  pub epoch : is_running (post_in x x.stage) ≡ true → epoch_of h.pages h.words ≡ x.epoch
   pub lands : q.end ≡ None → is_running (post_in x x.stage) ≡ true → Lands h.pages h.words x
   pub alike : q.end ≡ None → is_running (post_in x x.stage) ≡ true → AreAlike x.registers q
 
--- the table has all its words, each worker is sound, and each mutator is as its plain one, of which there are as many
+-- The table has all its words, which keep the invariant and represent the plain state; each worker is sound, and each mutator is as its
+-- plain one, of which there are as many.
 pub record IsSo (h : Heap) (p : Plain) : Type 0 where
   pub whole : table_length h.pages ≤ length h.words
+  pub sound : IsSound (read h) p
   pub fit : (k : ℕ) → k < length h.workers → Fits h.pages h.mutators k (held_at h k)
   pub as_many : length p.mutators ≡ h.mutators
   pub enough : h.mutators ≤ length h.workers
@@ -159,3 +176,14 @@ pub record IsSo (h : Heap) (p : Plain) : Type 0 where
 
 abbrev pub WhatStandsIsSo : Type 0
 WhatStandsIsSo = (h : Heap) (p o : Plain) → WorkersStand h p o → IsSo h p
+
+-- ---- the other mutators
+
+-- all but the heap and mutator k are as they were: also how many records another one has made
+pub record LeavesTheOthers (p after : Plain) (k : ℕ) : Type 0 where
+  pub as_many : length after.mutators ≡ length p.mutators
+  pub mutator : (j : ℕ) → j ≢ k → slice_get after.mutators j ≡ slice_get p.mutators j
+  pub serial : (j : ℕ) → j ≢ k → serial_of after.heap j ≡ serial_of p.heap j
+
+abbrev pub AnswersLeaveTheOthers : Type 0
+AnswersLeaveTheOthers = (p : Plain) (k : ℕ) (t : Told) → LeavesTheOthers p (after_told p k t) k

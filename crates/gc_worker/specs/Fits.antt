@@ -40,6 +40,8 @@ use Rattle.gc_worker.specs.Access.{IsSoundAccess, IsAccessOf}
 use Rattle.gc_worker.specs.Access as access
 use Rattle.gc_worker.specs.Seen.{IsValueWord, Making, making_in, seen}
 use Rattle.gc_worker.specs.Held.{Held, asked_by, header_for}
+use Rattle.plain_state.specs.declared.end.End.{End}
+use Rattle.plain_state.specs.declared.end.End.TheVariants.{HeapFull}
 use Rattle.plain_state.specs.declared.sizes.TheConstants.{REGISTERS, MOST_PRINTED}
 use Rattle.mutator_asm.specs.declared.instr.Instr.{Instr}
 use Rattle.mutator_asm.specs.Program.{is_valid}
@@ -194,10 +196,15 @@ pub record FitsCall (account : Account) (registers : List ℕ) (instr : Instr) :
   pub valid : IsTrue (is_valid instr)
   pub serial : (m : Making) → making_in (action (seen account registers) instr) ≡ Some m → account.serial + 1 < 2 ^ 40
 
+-- an end that may stand in place of an instruction: that the heap is full is seen at an allocation alone
+abbrev pub MayStop : End → Type 0
+MayStop (HeapFull asked room live) = ⊥
+MayStop end = ⊤
+
 abbrev pub MayBegin : Account → (registers : List ℕ) → Option Task → Type 0
 MayBegin account registers None = ⊤
 MayBegin account registers (Some (Calls instr)) = FitsCall account registers instr
-MayBegin account registers (Some (Stops end)) = ⊤
+MayBegin account registers (Some (Stops end)) = MayStop end
 
 -- it executes an instruction whose action is this
 pub record Executes (account : Account) (registers : List ℕ) (task : Option Task) (act : Action) : Type 0 where

@@ -10,4 +10,10 @@ pub mod Fits
 pub mod Goes
 pub mod Law
 pub mod Between
+pub mod Copied
+pub mod Claims
+pub mod Begun
 pub mod Represented
+pub mod FullTold
+pub mod Stepped
+pub mod Counted

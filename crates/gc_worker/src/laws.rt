@@ -1,7 +1,12 @@
 //! What holds of a worker's steps. Each function here does nothing: its contract is what is proved.
 
 ghost use Rattle.gc_worker.specs.Law.{StepsKeep, FlipsAreWon, PlacesFit, RegistersLeadBack};
-ghost use Rattle.gc_worker.specs.Between.{WhatStandsIsSo};
+ghost use Rattle.gc_worker.specs.Between.{HeapsOpen, ReadyingStands, TasksMayBegin, WorkersGoOn, WorkersWant, WhatStandsIsSo, AnswersLeaveTheOthers};
+ghost use Rattle.gc_worker.specs.Begun.{BeginningsAreKept, FullIsFoundLater};
+ghost use Rattle.gc_worker.specs.Claims.{TracedPagesAreOpen, FlipsAreOfTraced};
+ghost use Rattle.gc_worker.specs.Copied.{CopiedWasLive, FullTellsLive};
+ghost use Rattle.gc_worker.specs.FullTold.{FullIsTold};
+ghost use Rattle.gc_worker.specs.Counted.{CountedFit, CountsAreApart};
 ghost use Rattle.gc_worker.specs.Represented.{RepresentedWorkersStand};
 
 /// A step of a worker is of a word of the table, and the worker may take the reply. What stood for a plain state before stands for it
@@ -30,7 +35,67 @@ pub fn what_is_represented_stands()
     ensures { RepresentedWorkersStand }
 {}
 
-/// Of a heap that stands for a plain state the table has all its words, each worker is sound, and each mutator is as its plain one.
+/// A new heap, with its workers before their first steps, stands for the plain state in which nothing was made yet.
+pub fn heaps_open()
+    ensures { HeapsOpen }
+{}
+
+/// A worker may become another without a step, where it is the same to the proofs of the heap and still sound.
+pub fn readying_stands()
+    ensures { ReadyingStands }
+{}
+
+/// A mutator that has no end, and no task that it has not answered, may be given a task.
+pub fn tasks_may_begin()
+    ensures { TasksMayBegin }
+{}
+
+/// A step answers the task that was begun, or keeps it; once it is answered there is none.
+pub fn workers_go_on()
+    ensures { WorkersGoOn }
+{}
+
+/// A worker wants a step until it is gone.
+pub fn workers_want()
+    ensures { WorkersWant }
+{}
+
+/// What is so of a heap with its workers between any two steps: its words represent the plain state, each mutator is as its plain one,
+/// and its registers show that one's.
 pub fn what_stands_is_so()
     ensures { WhatStandsIsSo }
+{}
+
+/// A step that answers a task leaves the other mutators of the plain state as they were.
+pub fn answers_leave_the_others()
+    ensures { AnswersLeaveTheOthers }
+{}
+
+/// What a traced epoch has copied, by the walk below FRONT, is what was live at its flip, and so is what a full heap tells as live.
+pub fn what_was_copied_was_live()
+    ensures copied { CopiedWasLive }
+    ensures full { FullTellsLive }
+{}
+
+/// A mutator that found its epoch traced tells that the heap is full where the words have no room for the pages that its task asks for.
+pub fn full_is_told()
+    ensures { FullIsTold }
+{}
+
+/// Once an epoch is traced, the board and all pages into which records were copied are open in it; and no step flips before that.
+pub fn traced_pages_are_open()
+    ensures opened { TracedPagesAreOpen }
+    ensures flips { FlipsAreOfTraced }
+{}
+
+/// A worker with another count of its mutator's instructions wants, tells and becomes the same, and is as sound.
+pub fn counts_are_apart()
+    ensures same { CountsAreApart }
+    ensures sound { CountedFit }
+{}
+
+/// The epoch in which an instruction began, at a look, is kept until it is answered; and that the heap is full is found only after the look.
+pub fn beginnings_are_kept()
+    ensures kept { BeginningsAreKept }
+    ensures full { FullIsFoundLater }
 {}

@@ -1,3 +1,4 @@
 pub mod Looks
 pub mod Traced
 pub mod Copied
+pub mod Live

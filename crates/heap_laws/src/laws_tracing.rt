@@ -1,6 +1,7 @@
 //! The end of the copied area: it is looked at, TRACED is exchanged, and then nothing leads into the old space.
 
 ghost use Rattle.heap_laws.specs.Tracing.{ReadingTracedKeeps, ReadingRoundFrontKeeps, BeginningLookKeeps, LookingAtFrontKeeps, LookingAtBoardKeeps, LookingAtPageKeeps, LookingAtFillingPageKeeps, LookingAgainKeeps, ClaimingFillingPageKeeps, TracingKeeps, SleeperLosesTraced, TracedLeadsNowhere, TracedCopiesReachable};
+ghost use Rattle.heap_laws.specs.Live.{TracedIsLive};
 
 /// The loads of a round of the duty.
 pub fn rounds_are_begun()
@@ -29,4 +30,9 @@ pub fn epochs_are_traced()
 pub fn traced_epochs_are_clean()
     ensures clean { TracedLeadsNowhere }
     ensures copied { TracedCopiesReachable }
+{}
+
+/// What a traced epoch has copied, by the words alone, is what was live at its flip.
+pub fn traced_epochs_have_copied()
+    ensures { TracedIsLive }
 {}

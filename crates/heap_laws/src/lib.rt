@@ -46,4 +46,5 @@ pub use laws_scanning::{
 };
 pub use laws_tracing::{
     epochs_are_traced, rounds_are_begun, the_end_is_looked_at, traced_epochs_are_clean,
+    traced_epochs_have_copied,
 };

@@ -3,3 +3,4 @@ pub mod SpaceWalks
 pub mod Spaces
 pub mod Reserving
 pub mod InHeap
+pub mod Copies

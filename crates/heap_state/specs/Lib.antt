@@ -18,6 +18,7 @@ pub mod Holds
 pub mod Reachable
 pub mod Entries
 pub mod Cycle
+pub mod Copies
 pub mod Worked
 pub mod Flipped
 pub mod Theorems

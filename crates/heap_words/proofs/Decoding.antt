@@ -2,16 +2,18 @@
 use Rattle.std.proofs.Common.{◌≡◌, ℕ, ◌+◌, ◌*◌, ◌/◌, ◌%◌, ◌^◌, ◌<◌, ◌≤◌, nat_lt, true, refl, arith, ap}
 use Rattle.std.proofs.lemmas.Bool.Decides.{nat_tests}
 use Rattle.heap_words.specs.declared.kind.Kind.{Kind}
+use Rattle.heap_words.specs.declared.word.TheConstants.{NUMBERS}
 use Rattle.heap_words.specs.Word.{kind_code, number_word, pointer_word, header_word, forward_word, busy_word}
 use Rattle.heap_words.specs.Decoded.{NumberWord, PointerWord, HeaderWord, ForwardWord, BusyWord, decode}
 use Rattle.heap_words.proofs.Tags.{tag_of-number_word, tag_of-pointer_word, tag_of-header_word, tag_of-forward_word, tag_of-busy_word}
 use Rattle.heap_words.proofs.KindCodes.{kind_code-lt, kind_spelled-kind_code}
 
-pub decode-number_word : (n : ℕ) → decode (number_word n) ≡ NumberWord n
+pub decode-number_word : (n : ℕ) → n < NUMBERS → decode (number_word n) ≡ NumberWord n
 unfolding decode number_word
-decode-number_word n =
+decode-number_word n in_range =
     let part : 4 * n / 4 ≡ n = omega arith in
-    rw (tag_of-number_word n) (ap NumberWord part)
+    let short : nat_lt (4 * n) (2 ^ 64) ≡ true = grind (arith, nat_tests) in
+    rw (tag_of-number_word n, short) (ap NumberWord part)
 
 pub decode-pointer_word : (address : ℕ) → address < 2 ^ 32 → decode (pointer_word address) ≡ PointerWord address
 unfolding decode pointer_word

@@ -3,13 +3,14 @@ use Rattle.std.proofs.Common.{◌≡◌, ℕ, zero, suc, ◌/◌, ◌%◌, ◌^�
 use Rattle.std.specs.Bool.{⊤}
 use Rattle.std.proofs.lemmas.Bool.{ltb-true}
 use Rattle.heap_words.specs.declared.kind.Kind.{Kind}
+use Rattle.heap_words.specs.declared.word.TheConstants.{NUMBERS}
 use Rattle.heap_words.specs.Word.{tag_spelled, tag_of, number_word, header_word}
 use Rattle.heap_words.specs.Decoded.{Decoded, NumberWord, PointerWord, HeaderWord, ForwardWord, BusyWord, Malformed, kind_spelled, decode_as, decode_header, decode_forward, decode, IsInRange}
 use Rattle.heap_words.proofs.Spelling.{number_word-decode, header_word-decode}
 
--- the parts are in range but for those that reach up to a word's end, the number and the mutator
+-- the parts are in range but for one that reaches up to a word's end, the mutator
 abbrev IsBounded : Decoded → Type 0
-IsBounded (NumberWord n) = ⊤
+IsBounded (NumberWord n) = n < NUMBERS
 IsBounded (PointerWord address) = address < 2 ^ 32
 IsBounded (HeaderWord kind len serial mutator) = (len ≤ 4095) × (serial < 2 ^ 40)
 IsBounded (ForwardWord len address) = (len ≤ 4095) × (address < 2 ^ 32)
@@ -35,7 +36,8 @@ bounded_forward (suc zero) w =
 bounded_forward (suc (suc form)) w = tt
 
 bounded_tagged : (bits w : ℕ) → IsBounded (decode_as (tag_spelled bits) w)
-bounded_tagged zero w = tt
+bounded_tagged zero w =
+    bounded_if (nat_lt w (2 ^ 64)) (NumberWord (w / 4)) (λ short. let below = ltb-true w (2 ^ 64) short in omega arith)
 bounded_tagged (suc zero) w =
     bounded_if (nat_lt w (2 ^ 34)) (PointerWord (w / 4)) (λ short. let below = ltb-true w (2 ^ 34) short in omega arith)
 bounded_tagged (suc (suc zero)) w = bounded_header (w / 4 % 4) w
@@ -44,6 +46,9 @@ bounded_tagged (suc (suc (suc bits))) w = bounded_forward (w / 4 % 4) w
 bounded : (w : ℕ) → IsBounded (decode w)
 unfolding decode tag_of
 bounded w = bounded_tagged (w % 4) w
+
+pub number_bounds : (w n : ℕ) → decode w ≡ NumberWord n → n < NUMBERS
+number_bounds w n is = subst IsBounded is (bounded w)
 
 pub pointer_bounds : (w address : ℕ) → decode w ≡ PointerWord address → address < 2 ^ 32
 pointer_bounds w address is = subst IsBounded is (bounded w)
@@ -60,7 +65,7 @@ busy_bounds w len worker is = subst IsBounded is (bounded w)
 
 in_range : (w : ℕ) (d : Decoded) → decode w ≡ d → w < 2 ^ 64 → IsInRange d
 unfolding number_word header_word
-in_range w (NumberWord n) is below = omega (arith, number_word-decode w n is)
+in_range w (NumberWord n) is below = number_bounds w n is
 in_range w (PointerWord address) is below = pointer_bounds w address is
 in_range w (HeaderWord kind len serial mutator) is below =
     let bounds = header_bounds w kind len serial mutator is in

@@ -10,9 +10,9 @@ use Rattle.heap_words.proofs.Spelling.{number_word-decode, pointer_word-decode}
 
 -- ---- numbers
 
-pub number_in-number : (w : ℕ) → tag_of w ≡ Number → number_in (decode w) ≡ Some (w / 4)
+pub number_in-number : (w : ℕ) → tag_of w ≡ Number → w < 2 ^ 64 → number_in (decode w) ≡ Some (w / 4)
 unfolding decode
-number_in-number w tag = rw tag refl
+number_in-number w tag short = let test : nat_lt w (2 ^ 64) ≡ true = grind (arith, nat_tests) in rw (tag, test) refl
 
 no_number : (w : ℕ) (d : Decoded) → decode w ≡ d → tag_of w ≢ Number → number_in d ≡ None
 no_number w (NumberWord n) is other = absurd (other (ap tag_of (number_word-decode w n is) ∙ tag_of-number_word n))

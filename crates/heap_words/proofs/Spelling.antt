@@ -30,7 +30,7 @@ spells-forward (suc (suc form)) w tag is formed = absurd (formed refl)
 
 spells-tagged : (bits w : ℕ) → w % 4 ≡ bits → Spells (decode_as (tag_spelled bits) w) w
 unfolding number_word pointer_word
-spells-tagged zero w tag formed = omega arith
+spells-tagged zero w tag formed = spells_if _ (NumberWord (w / 4)) w (omega arith) formed
 spells-tagged (suc zero) w tag formed = spells_if _ (PointerWord (w / 4)) w (omega arith) formed
 spells-tagged (suc (suc zero)) w tag formed = spells-header (w / 4 % 4) w tag refl formed
 spells-tagged (suc (suc (suc bits))) w tag formed = spells-forward (w / 4 % 4) w (omega arith) refl formed
@@ -66,7 +66,7 @@ unfolding decode tag_of
 decode-malformed = refl
 
 pub decode-encode : (d : Decoded) → IsInRange d → decode (encode d) ≡ d
-decode-encode (NumberWord n) fits = decode-number_word n
+decode-encode (NumberWord n) fits = decode-number_word n fits
 decode-encode (PointerWord address) fits = decode-pointer_word address fits
 decode-encode (HeaderWord kind len serial mutator) fits = decode-header_word kind len serial mutator fits.0 fits.1
 decode-encode (ForwardWord len address) fits = decode-forward_word len address fits.0 fits.1

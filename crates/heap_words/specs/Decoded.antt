@@ -38,7 +38,7 @@ decode_forward (suc (suc bits)) w = Malformed
 
 -- a word of this tag
 abbrev pub decode_as : Tag → ℕ → Decoded
-decode_as Number w = NumberWord (w / 4)
+decode_as Number w = if nat_lt w (2 ^ 64) then NumberWord (w / 4) else Malformed
 decode_as Pointer w = if nat_lt w (2 ^ 34) then PointerWord (w / 4) else Malformed
 decode_as Header w = decode_header (kind_spelled (w / 4 % 4)) w
 decode_as Forward w = decode_forward (w / 4 % 4) w

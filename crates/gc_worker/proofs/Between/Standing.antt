@@ -15,6 +15,8 @@ use Rattle.heap_state.specs.Configuration.{Configuration, era, memory, team}
 use Rattle.heap_state.specs.Ghost.{Ghost, header_kind}
 use Rattle.heap_state.specs.Values.{Accounts, value_of}
 use Rattle.heap_state.specs.Worker.{Worker, Account, is_mutator, is_running, is_late}
+use Rattle.heap_state.proofs.Holds.Keeping.{holds}
+use Rattle.heap_state.proofs.Represents.Representing.{represents}
 use Rattle.heap_laws.specs.Fields.Effects.{IsMutator, RegisterHolds}
 use Rattle.heap_laws.specs.Fields.Words.{IsLedTo}
 use Rattle.heap_laws.specs.Steps.{Ready}
@@ -32,9 +34,11 @@ use Rattle.gc_worker.specs.Fits.{FitsStage}
 use Rattle.gc_worker.specs.Goes.{Is}
 use Rattle.gc_worker.specs.Held.{Held}
 use Rattle.gc_worker.specs.Knows.{knows, post_in, epoch_at, epoch_in}
-use Rattle.gc_worker.specs.Law.{Heap, read, held_at, WorkersStand}
+use Rattle.gc_worker.specs.Law.{Heap, read, held_at, WorkersStand, epoch_of}
+use Rattle.gc_worker.specs.Turned.{epoch_in as epoch_in_gate}
 use Rattle.gc_worker.proofs.Copying.Words.{heap_word}
 use Rattle.gc_worker.proofs.Eras.{start_is, span_is}
+use Rattle.gc_worker.proofs.Gate.Words.{gate_says}
 use Rattle.gc_worker.proofs.Members.{member}
 
 -- who runs and makes a round makes it in its own epoch
@@ -107,6 +111,24 @@ module _ (h : Heap) (p o : Plain) (st : WorkersStand h p o) (k : ℕ) (q : Mutat
   register : (j : ℕ) → w.registers j ≡ slice_index x.registers j
   register j = ap (λ (v : Worker). v.registers j) there.as_known
 
+  -- ---- where it runs
+
+  module _ (runs : is_running (post_in x x.stage) ≡ true) where
+    running : is_running w.post ≡ true
+    running = ap (λ (v : Worker). is_running v.post) there.as_known ∙ runs
+
+    -- its epoch is the current one
+    of_now : x.epoch ≡ (era c).epoch
+    of_now =
+        sym (own_epoch x x.stage there.fits.stage runs) ∙ (ap (λ (v : Worker). v.epoch) (sym there.as_known)
+        ∙ (st.stands.invariant.workers k there.below).timely.running running)
+
+    epoch_is : epoch_of h.pages h.words ≡ x.epoch
+    epoch_is = ap (epoch_in_gate 0) (gate_says c p st.stands) ∙ sym of_now
+
+    not_late : is_late (era c).epoch w ≡ false
+    not_late = timely (era c) w running (st.stands.invariant.workers k there.below).timely.running
+
   -- ---- where it has no end
 
   module _ (no_end : q.end ≡ None) where
@@ -120,28 +142,16 @@ module _ (h : Heap) (p o : Plain) (st : WorkersStand h p o) (k : ℕ) (q : Mutat
     -- ---- and runs
 
     module _ (runs : is_running (post_in x x.stage) ≡ true) where
-      running : is_running w.post ≡ true
-      running = ap (λ (v : Worker). is_running v.post) there.as_known ∙ runs
-
-      not_late : is_late (era c).epoch w ≡ false
-      not_late = timely (era c) w running (st.stands.invariant.workers k there.below).timely.running
-
       unended : w.account.end ≡ None
       unended = as_plain.same.account.end ∙ no_end
 
       led : (j a : ℕ) → j < REGISTERS → decode (slice_index x.registers j) ≡ PointerWord a → IsLedTo (era c) (memory c) g p a
       led j a small e =
           headers_are_read (era c) (memory c) (team c) g p k (w.registers j) a prepared st.stands.shown
-          (registers_are_held (era c) (memory c) (team c) g k j prepared is_mutator_there not_late unended small) (ap decode (register j) ∙ e)
-
-      -- its epoch is the current one
-      of_now : x.epoch ≡ (era c).epoch
-      of_now =
-          sym (own_epoch x x.stage there.fits.stage runs) ∙ (ap (λ (v : Worker). v.epoch) (sym there.as_known)
-          ∙ (st.stands.invariant.workers k there.below).timely.running running)
+          (registers_are_held (era c) (memory c) (team c) g k j prepared is_mutator_there (not_late runs) unended small) (ap decode (register j) ∙ e)
 
       start : (era c).start ≡ space_start h.pages (to_space x.epoch)
-      start = start_is c ∙ ap (λ e. space_start h.pages (to_space e)) (sym of_now)
+      start = start_is c ∙ ap (λ e. space_start h.pages (to_space e)) (sym (of_now runs))
 
       lands : Lands h.pages h.words x
       lands = record {
@@ -150,24 +160,28 @@ module _ (h : Heap) (p o : Plain) (st : WorkersStand h p o) (k : ℕ) (q : Mutat
             (header_kind (g.kind a), g.size a - 1, (g.identity a).serial, (g.identity a).mutator, ap decode (sym (heap_word c a)) ∙ (led j a small e).header);
       }
 
-      holds : (j : ℕ) → j < REGISTERS → (y : Value) × (slice_get q.registers j ≡ Some y) × RegisterHolds (era c) g (w.registers j) y
-      holds j small = registers_hold (era c) (memory c) (team c) g p k q j prepared as_plain is_mutator_there not_late unended small
+      held : (j : ℕ) → j < REGISTERS → (y : Value) × (slice_get q.registers j ≡ Some y) × RegisterHolds (era c) g (w.registers j) y
+      held j small = registers_hold (era c) (memory c) (team c) g p k q j prepared as_plain is_mutator_there (not_late runs) unended small
 
       alike : AreAlike x.registers q
-      alike j i a b small_j small_i at_j at_i same =
-          let one = holds j small_j in
-          let other = holds i small_i in
-          let value : one.0 ≡ other.0 = same_Some one.0 other.0 (sym one.1 ∙ (same ∙ other.1)) in
-          let word = (same_words (era c) (memory c) (team c) g k (w.registers j) (w.registers i) one.0 other.0 prepared one.2.holds other.2.holds).1 value in
-          let both : PointerWord a ≡ PointerWord b = sym at_j ∙ (ap decode (sym (register j) ∙ (word ∙ register i)) ∙ at_i) in
-          cc
+      alike j i small_j small_i =
+          let one = held j small_j in
+          let other = held i small_i in
+          let words = same_words (era c) (memory c) (team c) g k (w.registers j) (w.registers i) one.0 other.0 prepared one.2.holds other.2.holds in (
+            (λ e. one.1 ∙ (ap Some (words.0 (register j ∙ (e ∙ sym (register i)))) ∙ sym other.1)),
+            (λ e. sym (register j) ∙ (words.1 (same_Some one.0 other.0 (sym one.1 ∙ (e ∙ other.1))) ∙ register i)),
+          )
 
   is_as_plain : IsAsPlain h p k x q
-  is_as_plain = record { account = account; shows = shows; lands = lands; alike = alike }
+  is_as_plain = record { account = account; shows = shows; epoch = epoch_is; lands = lands; alike = alike }
 
 pub what_stands_is_so : WhatStandsIsSo
 what_stands_is_so h p o st = record {
   whole = st.stands.formed.whole;
+  sound = record {
+    holds = holds (read h) st.stands.ghost st.stands.invariant;
+    represents = represents (read h) st.stands.ghost st.stands.invariant p st.stands.shown;
+  };
   fit = st.fit;
   as_many = st.stands.shown.as_many;
   enough = enough h p o st;

@@ -1,8 +1,7 @@
 -- A new record's header is stored: the record stands, and the register that the instruction names leads to it.
-use Rattle.std.proofs.Common.{◌≡◌, ℕ, ◌+◌, ◌-◌, ◌*◌, ◌<◌, ◌≤◌, ◌^◌, List, length, slice_index, Some, None, Option, Result, Ok, Err, refl, ap, sym, subst, ◌∙◌, arith, length-set}
+use Rattle.std.proofs.Common.{◌≡◌, ℕ, ◌+◌, ◌-◌, ◌<◌, ◌≤◌, length, Some, None, Result, Ok, refl, ap, sym, subst, ◌∙◌, arith, length-set}
 use Rattle.std.specs.Prelude.{slice_set, IsOk}
 use Rattle.std.specs.Result.{IfOk}
-use Rattle.std.proofs.lemmas.Option.{same_Some}
 use Rattle.heap_words.specs.Decoded.{PointerWord, HeaderWord, decode, encode}
 use Rattle.heap_words.specs.Word.{pointer_word}
 use Rattle.heap_words.proofs.Decoding.{decode-pointer_word, decode-header_word}
@@ -13,7 +12,7 @@ use Rattle.mutator_asm.specs.declared.instr.Instr.{Instr}
 use Rattle.plain_heap.specs.declared.action.Action.{Action}
 use Rattle.plain_heap.specs.declared.action.Action.TheVariants.{Makes}
 use Rattle.plain_heap.specs.Action.{◌>>=◌, action, next_of}
-use Rattle.plain_heap.specs.Call.{After, call, performed, allocated as plain_allocated}
+use Rattle.plain_heap.specs.Call.{After, call, performed, went_on, allocated as plain_allocated}
 use Rattle.plain_heap.specs.Step.{settled}
 use Rattle.atom_store.specs.declared.step.Step.TheVariants.{Store}
 use Rattle.atom_store.specs.declared.reply.Reply.TheVariants.{Done}
@@ -30,24 +29,24 @@ use Rattle.heap_state.specs.Ghost.{Ghost, header_kind}
 use Rattle.heap_state.specs.Values.{Shows, value_of}
 use Rattle.heap_state.specs.Worker.{Account, Stock, Worker}
 use Rattle.heap_laws.specs.Allocation.Records.{PlacesNext, allocated, next_identity}
-use Rattle.heap_laws.specs.Fields.Held.{going_on}
 use Rattle.heap_laws.specs.Fields.Stores.{with_record}
 use Rattle.heap_laws.proofs.Allocation.Placed.{mutators_place}
 use Rattle.heap_laws.proofs.Allocation.Shown.{zeros_show}
-use Rattle.gc_worker.specs.declared.stage.Stage.TheVariants.{Places}
 use Rattle.gc_worker.specs.declared.task.Task.TheVariants.{Calls}
 use Rattle.gc_worker.specs.Answer.{after_outcome}
 use Rattle.gc_worker.specs.Fits.{Fits, IsMaking}
 use Rattle.gc_worker.specs.Goes.{Is, Goes, StepsSo}
 use Rattle.gc_worker.specs.Held.{Held}
 use Rattle.gc_worker.specs.Knows.{knows, stock_of}
-use Rattle.gc_worker.specs.Seen.{Making, IsValueAs, IsValueWord, seen}
+use Rattle.gc_worker.specs.Seen.{Making, IsValueAs, seen}
 use Rattle.gc_worker.specs.Turned.{Effect, Answers, turned, told, told_effect}
 use Rattle.gc_worker.specs.Turned as turning
-use Rattle.gc_worker.proofs.Answering.{LawTo, IsIts, answers, its_mutator, may_hold, going, next_as, row_fits_to}
+use Rattle.gc_worker.proofs.Answering.{LawTo, IsIts, answers, its_mutator, row_fits_to}
+use Rattle.gc_worker.proofs.Effecting.{moved, moved_goes, moved_as}
 use Rattle.gc_worker.proofs.Gate.Resuming.{end_none}
 use Rattle.gc_worker.proofs.Gate.Words.{wants}
-use Rattle.gc_worker.proofs.Making.{made, made_is, header_made, header_is}
+use Rattle.gc_worker.proofs.Making.{made, made_is, header_made}
+use Rattle.gc_worker.proofs.Place.Acts.{makes_alike}
 use Rattle.gc_worker.proofs.Place.Claiming.{placing, at}
 use Rattle.gc_worker.proofs.Settling.{registers_put, values_set, settled_as, settled_fits}
 use Rattle.gc_worker.proofs.Steps.{stores, prepared}
@@ -151,9 +150,12 @@ module _ (c : Configuration) (p : Plain) (s : Stands c p) (k : ℕ) (y : Held) (
         subst (λ (n : ℕ). Shows (value_of s.ghost.identity) (memory c).heap run.at m.kind (m.len + 1) (zeros m.kind n)) len
         (zeros_show (era c) (memory c) (team c) s.ghost k stock m.kind (m.len + 1) word (prepared c p s k x is) places)
 
+    unended : y.account.end ≡ None
+    unended = end_none y.account.end is.fits.end
+
     -- what it knows when the record stands
     abbrev next : Worker
-    next = going_on (knows x) account (λ (j : ℕ). slice_index y.registers j) None None
+    next = moved c p s k x is refl unended y.registers
 
     known : with_record next stock (m.len + 1) m.into (pointer_word run.at) ≡ knows after
     known = let set = registers_put y.registers m.into (pointer_word run.at) inside in λ i. record (knows after) { registers = sym set i }
@@ -162,17 +164,10 @@ module _ (c : Configuration) (p : Plain) (s : Stands c p) (k : ℕ) (y : Held) (
       calls : call k p.heap q instr ≡ Ok (plain_allocated k p.heap q m.kind m.into m.len)
       calls = called k p q instr (Makes m.kind m.into m.len) acts
 
-      abbrev q_next : Mutator
-      q_next = record q { counter = next_of q; executed = q.executed + 1 }
-
       law : LawTo c p s k x (Some entry) (knows after) ghost_after (after_outcome p k q (Calls instr) Effect)
       law =
-          let unended = end_none y.account.end is.fits.end in
-          let counter : next_counter ≡ next_of q = ap (λ (n : ℕ). next_of (record q { counter = n })) its.same.account.counter in
-          let goes = going c p s k x is refl unended account (λ (j : ℕ). slice_index y.registers j) refl (may_hold c p s k x is refl unended) in
-          let alike = next_as c p s k x q its next_counter (next_of q) y.account.printed q.printed counter its.same.account.printed in
-          let placed = mutators_place (era c) (memory c) (team c) s.ghost p k next q_next stock m.kind (m.len + 1) word m.into (pointer_word run.at) (zeros m.kind m.len)
-          (prepared c p s k x is) s.shown places shows small points goes alike in
+          let placed = mutators_place (era c) (memory c) (team c) s.ghost p k next (went_on q) stock m.kind (m.len + 1) word m.into (pointer_word run.at) (zeros m.kind m.len)
+          (prepared c p s k x is) s.shown places shows small points (moved_goes c p s k x is refl unended q its) (moved_as c p s k x is refl unended q its) in
           subst (λ (o : Result After End). LawTo c p s k x (Some entry) (knows after) ghost_after (settled p k q o)) (sym calls)
           (subst (λ (w : Worker). LawTo c p s k x (Some entry) w ghost_after (settled p k q (Ok (plain_allocated k p.heap q m.kind m.into m.len)))) known placed)
 
@@ -181,7 +176,12 @@ module _ (c : Configuration) (p : Plain) (s : Stands c p) (k : ℕ) (y : Held) (
           answers c p s k x (Some entry) Done after ghost_after q (Calls instr) Effect comes answer refl is.below its.is its.no_end
           (subst (λ (o : Result After End). IsOk o) (sym calls) refl) law tt takes fits
 
-      steps : StepsSo c p s k x
-      steps =
+      stores_for : StepsSo c p s k x
+      stores_for =
           wants c p s k x (Store (place_of c.pages (HeapWord run.at)) word) (ap (λ n. Some (Store (place_of n (HeapWord run.at)) word)) is.fits.pages)
           (stores c p s k x entry (row_fits_to c p s k x entry (knows after) ghost_after (after_outcome p k q (Calls instr) Effect) is.below law) goes)
+
+    pub stores_header : StepsSo c p s k x
+    stores_header =
+        let its = its_mutator c p s k x is refl unended in
+        stores_for its.0 its.1 (makes_alike c p s k x is refl unended its.0 its.1 making)

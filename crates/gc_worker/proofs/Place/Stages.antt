@@ -1,9 +1,7 @@
--- All stages of an allocation, up to the header.
-use Rattle.std.proofs.Common.{◌≡◌, ℕ, Bool, true, false, cond, Some, None, refl, ap, sym, subst, ◌∙◌}
+-- All stages of an allocation.
+use Rattle.std.proofs.Common.{◌≡◌, ℕ, true, false, Some, sym, subst, ◌∙◌}
+use Rattle.std.proofs.lemmas.Option.{same_Some}
 use Rattle.plain_state.specs.State.{Plain}
-use Rattle.atom_store.specs.declared.step.Step.TheVariants.{Load}
-use Rattle.space_map.specs.Spaces.{to_space}
-use Rattle.space_map.specs.Table.{Area, place_of}
 use Rattle.record_layout.specs.declared.header.Header.{Header}
 use Rattle.alloc_end.specs.declared.place_stage.PlaceStage.{PlaceStage}
 use Rattle.alloc_end.specs.declared.place_stage.PlaceStage.TheVariants.{LoadsTraced, LoadsArea, ExchangesArea, StoresZero, OpensPage, StoresHeader, Ended}
@@ -12,35 +10,33 @@ use Rattle.alloc_end.specs.Place.{Placing}
 use Rattle.heap_state.specs.Configuration.{Configuration, Stands}
 use Rattle.gc_worker.specs.declared.stage.Stage.TheVariants.{Places}
 use Rattle.gc_worker.specs.Goes.{Is, StepsSo}
-use Rattle.gc_worker.specs.Held.{Held, at_stage}
-use Rattle.gc_worker.specs.Turned.{is_full}
-use Rattle.gc_worker.specs.Wanted.{wanted}
+use Rattle.gc_worker.specs.Fits.{IsMaking}
+use Rattle.gc_worker.specs.Held.{Held, at_stage, header_for}
+use Rattle.gc_worker.proofs.Making.{header_made, header_is}
 use Rattle.gc_worker.proofs.Place.Areas.{loads_area}
 use Rattle.gc_worker.proofs.Place.Claiming.{at, loads_traced, exchanges_area}
+use Rattle.gc_worker.proofs.Place.Header.{stores_header}
 use Rattle.gc_worker.proofs.Place.Opened.{opens_page}
 use Rattle.gc_worker.proofs.Place.Traced.{loads_area as loads_area_traced}
 use Rattle.gc_worker.proofs.Place.Readying.{stores_zero}
 
 module _ (c : Configuration) (p : Plain) (s : Stands c p) (k : ℕ) (x : Held) where
-  -- a worker that wants nothing owes nothing
-  rests : (y : Held) → wanted y ≡ None → StepsSo c p s k y
-  rests y none q asked = absurd (let e = sym none ∙ asked in cc)
-
-  -- where the heap may be found full nothing is wanted yet
-  traced : (run : Run) (header : Header) (b : Bool) → is_full x ≡ b → Is c k (at c p s k x run header (LoadsArea true)) → StepsSo c p s k (at c p s k x run header (LoadsArea true))
-  traced run header true full is =
-      rests (at c p s k x run header (LoadsArea true)) (ap (λ (b : Bool). cond b None (Some (Load (place_of x.layout.pages (Area (to_space x.epoch)))))) full)
-  traced run header false full is = loads_area_traced c p s k x run header is full
+  -- the header is that of the record that the task makes
+  for_made : (run : Run) (header : Header) (stage : PlaceStage) (making : IsMaking x.account x.registers x.task) → header_for x ≡ Some header
+      → (Is c k (at c p s k x run (header_made x making) stage) → StepsSo c p s k (at c p s k x run (header_made x making) stage))
+      → Is c k (at c p s k x run header stage) → StepsSo c p s k (at c p s k x run header stage)
+  for_made run header stage making is =
+      subst (λ (h : Header). Is c k (at c p s k x run h stage) → StepsSo c p s k (at c p s k x run h stage)) (same_Some (header_made x making) header (sym (header_is x making) ∙ is))
 
   own : (run : Run) (header : Header) (stage : PlaceStage) → Is c k (at c p s k x run header stage) → StepsSo c p s k (at c p s k x run header stage)
   own run header LoadsTraced is = loads_traced c p s k x run header is
   own run header (LoadsArea false) is = loads_area c p s k x run header is
-  own run header (LoadsArea true) is = traced run header (is_full x) refl is
+  own run header (LoadsArea true) is = let task = is.fits.task in for_made run header (LoadsArea true) task.0 task.1 (loads_area_traced c p s k x run task.0) is
   own run header (ExchangesArea f) is = exchanges_area c p s k x run header f is
   own run header (StoresZero new) is = stores_zero c p s k x run header new is
   own run header (OpensPage new) is = opens_page c p s k x run header new is
-  own run header StoresHeader is = rests (at c p s k x run header StoresHeader) refl
-  own run header (Ended result) is = rests (at c p s k x run header (Ended result)) refl
+  own run header StoresHeader is = let task = is.fits.task in for_made run header StoresHeader task.0 task.1 (stores_header c p s k x run task.0) is
+  own run header (Ended result) is = absurd is.fits.stage.going
 
   pub places : (z : Placing) → Is c k (at_stage x (Places z)) → StepsSo c p s k (at_stage x (Places z))
   places z is =

@@ -4,6 +4,7 @@ use Rattle.std.proofs.lemmas.Bool.{ltb-true}
 use Rattle.std.proofs.lemmas.Option.{slice_get-get_or}
 use Rattle.heap_words.proofs.Decoding.{decode-number_word}
 use Rattle.heap_words.specs.Decoded.{Decoded, NumberWord, PointerWord, HeaderWord, ForwardWord, BusyWord, Malformed, decode, number_in}
+use Rattle.plain_state.specs.declared.sizes.TheConstants.{NUMBERS}
 use Rattle.heap_words.specs.Word.{number_word}
 use Rattle.plain_state.specs.Layout.{word_of}
 use Rattle.plain_state.specs.State as plain
@@ -36,8 +37,8 @@ unfolding value_of
 value_of_number identity w n e = rw e refl
 
 -- a number by itself is held as a number word
-holds_number : (E : Era) (g : Ghost) (v : ℕ) → HoldsValue E g (number_word v) (Number v)
-holds_number E g v = record { held = numbers_are_held E g.size g.writer (number_word v) v (decode-number_word v); denotes = value_of_number g.identity (number_word v) v (decode-number_word v) }
+holds_number : (E : Era) (g : Ghost) (v : ℕ) → v < NUMBERS → HoldsValue E g (number_word v) (Number v)
+holds_number E g v small = let d = decode-number_word v small in record { held = numbers_are_held E g.size g.writer (number_word v) v d; denotes = value_of_number g.identity (number_word v) v d }
 
 number_word_of : (d : Decoded) (v : ℕ) → number_in d ≡ Some v → d ≡ NumberWord v
 number_word_of (NumberWord n) v e = ap NumberWord (some_same e)
@@ -136,7 +137,7 @@ module _ (E : Era) (m : Memory) (team : Team) (g : Ghost) (p : plain.Plain) (k :
   -- by what stands there
   loaded : (role : Role) → HasRole kind (word_of kind x) role → HoldsValue E g (word_held role (m.heap (f.at + word_of kind x))) y
   loaded FieldRole t = record { held = may.held t; denotes = shows.fields x within t ∙ value_is }
-  loaded NumberRole t = let e : Number (m.heap (f.at + word_of kind x)) ≡ y = some_same (shows.numbers x within t ∙ value_is) in rw (← e) (holds_number E g (m.heap (f.at + word_of kind x)))
+  loaded NumberRole t = let e : Number (m.heap (f.at + word_of kind x)) ≡ y = some_same (shows.numbers x within t ∙ value_is) in rw (← e) (holds_number E g (m.heap (f.at + word_of kind x)) (may.number (raw_is_no_field kind (word_of kind x) t)))
 
   stored : (role : Role) → HasRole kind (word_of kind x) role → (w v : ℕ) (u : Value) → HoldsValue E g w u → word_stored role w ≡ Some v → FitsRole role v
       → MayStore E g.size g.writer kind x v × StandsFor g kind x v u

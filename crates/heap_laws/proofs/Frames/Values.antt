@@ -52,7 +52,7 @@ pointer_lands size writer w a l e = (l a e).0
 
 pub zero_word : decode 0 ≡ NumberWord 0
 unfolding number_word
-zero_word = decode-number_word 0
+zero_word = decode-number_word 0 (omega arith)
 
 pub zero_clean : (E : Era) (w : ℕ) → w ≡ 0 → ¬ (Leads E w)
 unfolding Leads

@@ -74,7 +74,7 @@ blank_word x l = rw (ne_eqb x 192 (λ e. omega arith), ne_eqb x 193 (λ e. omega
 
 pub zero_word : decode 0 ≡ NumberWord 0
 unfolding number_word
-zero_word = decode-number_word 0
+zero_word = decode-number_word 0 (omega arith)
 
 pub first_register : decode (pointer_word 192) ≡ PointerWord 192
 first_register = decode-pointer_word 192 (omega arith)

@@ -46,7 +46,7 @@ module _ (c : Configuration) (g : Ghost) (inv : Invariant (era c) (memory c) (te
   says_here : (a : ℕ) → 0 < g.size a → g.writer a ≡ 0 → met_word (decode (m.heap a)) ≡ Record (g.size a)
   says_here = says E m (team c) g inv
 
-  told_now : Told E.start m.front m.low (E.start + E.span) E.epoch g.size g.writer m.heap m.page
+  pub told_now : Told E.start m.front m.low (E.start + E.span) E.epoch g.size g.writer m.heap m.page
   told_now = record {
     space = record {
       lies = λ a st f l. ⊎_elim

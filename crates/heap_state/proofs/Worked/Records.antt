@@ -41,11 +41,11 @@ word_256 = decode-header_word (header_kind Fields) 2 1 0 (omega arith) (omega ar
 
 pub word_257 : decode (heap 257) ≡ NumberWord 7
 unfolding put
-word_257 = decode-number_word 7
+word_257 = decode-number_word 7 (omega arith)
 
 pub word_193 : decode (heap 193) ≡ NumberWord 7
 unfolding put
-word_193 = decode-number_word 7
+word_193 = decode-number_word 7 (omega arith)
 
 pub word_258 : decode (heap 258) ≡ PointerWord 195
 unfolding put
@@ -77,7 +77,7 @@ blank_word x n l = rw (
 
 pub elsewhere : (x : ℕ) → x ≢ 515 → 260 ≤ x → decode (heap x) ≡ NumberWord 0
 unfolding number_word
-elsewhere x n l = rw (blank_word x n l) (decode-number_word 0)
+elsewhere x n l = rw (blank_word x n l) (decode-number_word 0 (omega arith))
 
 -- ---- records
 

@@ -31,7 +31,7 @@ first_register = decode-pointer_word 256 (omega arith)
 
 pub zero_register : decode 0 ≡ NumberWord 0
 unfolding number_word
-zero_register = decode-number_word 0
+zero_register = decode-number_word 0 (omega arith)
 
 clean : Clean worked_era size writer false 0 worked_mutator.registers
 clean = record {

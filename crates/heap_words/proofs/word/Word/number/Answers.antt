@@ -8,4 +8,4 @@ unfolding number_word
 returns-clause-word c = omega arith
 
 pub returns-clause-reads_back : goal.returns-clause-reads_back
-returns-clause-reads_back c = rw (returns-clause-word c) (decode-number_word c.args.n)
+returns-clause-reads_back c = rw (returns-clause-word c) (decode-number_word c.args.n (omega arith))

@@ -1,0 +1,8 @@
+pub mod Going
+pub mod Looking
+pub mod Acting
+pub mod Outcomes
+pub mod Headers
+pub mod Fields
+pub mod Board
+pub mod Stages

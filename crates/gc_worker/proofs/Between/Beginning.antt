@@ -1,0 +1,193 @@
+-- A mutator without a task and without an end stands at a look, or on the way to one, and may be given a task.
+use Rattle.std.proofs.Common.{◌≡◌, ℕ, Bool, true, false, is_some, nat_lt, Some, refl, sym, ap, ◌∙◌, lt-ltb}
+use Rattle.std.specs.Bool.{⊤}
+use Rattle.gate_core.specs.declared.gate_stage.GateStage.{GateStage}
+use Rattle.gate_core.specs.declared.gate_stage.GateStage.TheVariants as gate_stage
+use Rattle.gate_core.specs.declared.passage.Passage.{Passage}
+use Rattle.gate_core.specs.declared.passage.Passage.TheVariants.{Look, Attach, Park, Request, Resume, Forwarded, Leave}
+use Rattle.gc_worker.specs.declared.access_stage.AccessStage.{AccessStage}
+use Rattle.gc_worker.specs.declared.after.After.{After}
+use Rattle.gc_worker.specs.declared.after.After.TheVariants as afters
+use Rattle.gc_worker.specs.declared.back.Back.{Back}
+use Rattle.gc_worker.specs.declared.back.Back.TheVariants.{ToAccess, ToPlace, ToScanner}
+use Rattle.gc_worker.specs.declared.forwarding_register.ForwardingRegister.{ForwardingRegister}
+use Rattle.gc_worker.specs.declared.stage.Stage.{Stage}
+use Rattle.gc_worker.specs.declared.stage.Stage.TheVariants.{Looks, Passes, Flips, Forwards, Accesses, Places, Serves, Scans, Evacuates, Opens, Gone}
+use Rattle.gc_worker.specs.declared.task.Task.{Task}
+use Rattle.gc_worker.specs.Between.{IsIdle, TasksMayBegin, with_task}
+use Rattle.gc_worker.specs.Fits.{Fits, FitsEnd, FitsRegister, FitsStage, FitsTask, FitsTaskAfter, FitsTaskBack, FitsTaskBefore, IsAccessing, IsEndBefore, IsMaking, IsOnSide, IsOnSideBack, MayBegin}
+use Rattle.gc_worker.specs.Held.{Held, asked_by}
+use Rattle.gc_worker.specs.Knows.{known_at, passage_in, step_from, gate_step_at}
+use Rattle.gc_worker.specs.Stepped.{IsSound}
+
+-- ---- where it stands
+
+-- a passage after which a mutator looks
+abbrev IsOnTheWay : Passage → After → Type 0
+IsOnTheWay Attach after = ⊤
+IsOnTheWay Park after = after ≡ afters.Looks
+IsOnTheWay (Resume epoch) after = after ≡ afters.Looks
+IsOnTheWay Forwarded after = after ≡ afters.Looks
+IsOnTheWay Look after = ⊥
+IsOnTheWay Request after = ⊥
+IsOnTheWay Leave after = ⊥
+
+abbrev Waits : Stage → Type 0
+Waits Looks = ⊤
+Waits (Passes g after) = IsOnTheWay g.passage after
+Waits (Forwards w) = w.after ≡ afters.Looks
+Waits stage = ⊥
+
+module _ (x : Held) (idle : IsIdle x) where
+  makes_none : IsMaking x.account x.registers x.task → ⊥
+  makes_none m = absurd (let e = sym idle.no_task ∙ m.executes.task_is in cc)
+
+  accesses_none : (stage : AccessStage) → IsAccessing x.account x.registers x.task stage → ⊥
+  accesses_none stage a = absurd (let e = sym idle.no_task ∙ a.executes.task_is in cc)
+
+  unended : is_some x.account.end ≡ true → ⊥
+  unended e = absurd (let f = sym (ap is_some idle.no_end) ∙ e in cc)
+
+  mutator : nat_lt x.number x.mutators ≡ false → ⊥
+  mutator e = absurd (let f = sym (lt-ltb x.number x.mutators idle.is_mutator) ∙ e in cc)
+
+  looks_after : (after : After) → FitsTaskAfter x after → after ≡ afters.Looks
+  looks_after afters.Looks task = refl
+  looks_after afters.Places task = absurd (makes_none task)
+
+  by_passage : (passage : Passage) (after : After) → IsEndBefore passage (is_some x.account.end) → FitsTaskBefore x passage after → IsOnTheWay passage after
+  by_passage Attach after end task = tt
+  by_passage Park after end task = looks_after after task
+  by_passage (Resume epoch) after end task = looks_after after task
+  by_passage Forwarded after end task = looks_after after task
+  by_passage Look after end task = absurd task
+  by_passage Request after end task = absurd (makes_none task.0)
+  by_passage Leave after end task = absurd (unended end)
+
+  by_back : (back : Back) → FitsTaskBack x back → IsOnSideBack back (nat_lt x.number x.mutators) → ⊥
+  by_back (ToAccess a) task side = accesses_none a.stage task
+  by_back ToPlace task side = makes_none task
+  by_back ToScanner task side = mutator side
+
+  is_gone : (b : Bool) → nat_lt x.number x.mutators ≡ b → IsOnSide Gone b (is_some x.account.end) → ⊥
+  is_gone true e side = unended side
+  is_gone false e side = mutator e
+
+  waits : (stage : Stage) → FitsTask x stage → FitsEnd stage (is_some x.account.end) → IsOnSide stage (nat_lt x.number x.mutators) (is_some x.account.end) → Waits stage
+  waits Looks task end side = tt
+  waits (Passes g after) task end side = by_passage g.passage after end task
+  waits (Flips f) task end side = makes_none task.0
+  waits (Forwards w) task end side = looks_after w.after task
+  waits (Accesses a) task end side = accesses_none a.stage task
+  waits (Places p) task end side = makes_none task.0
+  waits (Serves d back) task end side = by_back back task side
+  waits (Scans s back) task end side = by_back back task side
+  waits (Evacuates v s back) task end side = by_back back task side
+  waits (Opens o s back) task end side = by_back back task side
+  waits Gone task end side = is_gone (nat_lt x.number x.mutators) refl side
+
+-- ---- with the task
+
+module _ (x : Held) (task : Task) where
+  abbrev y : Held
+  y = with_task x task
+
+  -- no passage but a request says for what it is made
+  same_passage : (passage : Passage) (after : After) → IsOnTheWay passage after → passage_in (asked_by y) passage ≡ passage_in (asked_by x) passage
+  same_passage Attach after on = refl
+  same_passage Park after on = refl
+  same_passage (Resume epoch) after on = refl
+  same_passage Forwarded after on = refl
+  same_passage Look after on = refl
+  same_passage Request after on = absurd on
+  same_passage Leave after on = refl
+
+  same_step : (passage : Passage) (after : After) (stage : GateStage) → IsOnTheWay passage after → gate_step_at (asked_by y) passage stage ≡ gate_step_at (asked_by x) passage stage
+  same_step passage after (gate_stage.Exchanges gate) on = ap (step_from gate) (same_passage passage after on)
+  same_step passage after gate_stage.Loads on = refl
+  same_step passage after (gate_stage.Ended result) on = refl
+
+  known : (stage : Stage) → Waits stage → known_at y stage ≡ known_at x stage
+  known Looks w = refl
+  known (Passes g after) w = λ i. record (known_at x (Passes g after)) { gate_step = same_step g.passage after g.stage w i }
+  known (Forwards w) e = refl
+  known (Flips f) w = absurd w
+  known (Accesses a) w = absurd w
+  known (Places p) w = absurd w
+  known (Serves d back) w = absurd w
+  known (Scans s back) w = absurd w
+  known (Evacuates v s back) w = absurd w
+  known (Opens o s back) w = absurd w
+  known Gone w = absurd w
+
+  fits_copy : (w : ForwardingRegister) → FitsRegister x w → FitsRegister y w
+  fits_copy w f =
+      let c = f.copy in
+      record { register = f.register; copy = record { layout = c.layout; of_epoch = c.of_epoch; worker = c.worker; going = c.going; sound = c.sound } }
+
+  fits_stage : (stage : Stage) → Waits stage → FitsStage x stage → FitsStage y stage
+  fits_stage Looks w f = tt
+  fits_stage (Passes g after) w f = record { layout = f.layout; passage = f.passage; going = f.going; sound = f.sound }
+  fits_stage (Forwards w) e f = fits_copy w f
+  fits_stage (Flips f) w s = absurd w
+  fits_stage (Accesses a) w s = absurd w
+  fits_stage (Places p) w s = absurd w
+  fits_stage (Serves d back) w s = absurd w
+  fits_stage (Scans s back) w f = absurd w
+  fits_stage (Evacuates v s back) w f = absurd w
+  fits_stage (Opens o s back) w f = absurd w
+  fits_stage Gone w f = absurd w
+
+  module _ (may : MayBegin x.account x.registers (Some task)) where
+    task_after : (after : After) → after ≡ afters.Looks → FitsTaskAfter y after
+    task_after afters.Looks e = may
+    task_after afters.Places e = absurd (cc)
+
+    task_before : (passage : Passage) (after : After) → IsOnTheWay passage after → FitsTaskBefore y passage after
+    task_before Attach after on = may
+    task_before Park after e = task_after after e
+    task_before (Resume epoch) after e = task_after after e
+    task_before Forwarded after e = task_after after e
+    task_before Look after on = absurd on
+    task_before Request after on = absurd on
+    task_before Leave after on = absurd on
+
+    fits_task : (stage : Stage) → Waits stage → FitsTask y stage
+    fits_task Looks w = may
+    fits_task (Passes g after) w = task_before g.passage after w
+    fits_task (Forwards w) e = task_after w.after e
+    fits_task (Flips f) w = absurd w
+    fits_task (Accesses a) w = absurd w
+    fits_task (Places p) w = absurd w
+    fits_task (Serves d back) w = absurd w
+    fits_task (Scans s back) w = absurd w
+    fits_task (Evacuates v s back) w = absurd w
+    fits_task (Opens o s back) w = absurd w
+    fits_task Gone w = absurd w
+
+    with_it : (n mutators k : ℕ) → Waits x.stage → Fits n mutators k x → Fits n mutators k y
+    with_it n mutators k w f = record {
+      number = f.number;
+      few = f.few;
+      pages = f.pages;
+      counted = f.counted;
+      beside = f.beside;
+      epoch = f.epoch;
+      eight = f.eight;
+      registers = f.registers;
+      few_printed = f.few_printed;
+      run = f.run;
+      end = f.end;
+      side = f.side;
+      task = fits_task x.stage w;
+      stage = fits_stage x.stage w f.stage;
+    }
+
+pub tasks_may_begin : TasksMayBegin
+tasks_may_begin n mutators k x task f idle may =
+    let w = waits x idle x.stage f.task f.end f.side in
+    record { same = known x task x.stage w; fits = λ f. with_it x task may n mutators k w f }
+
+-- it is sound with it
+pub task_sound : (x : Held) (task : Task) → IsSound x → IsIdle x → MayBegin x.account x.registers (Some task) → IsSound (with_task x task)
+task_sound x task f idle may = (tasks_may_begin x.layout.pages x.mutators x.number x task f idle may).fits f

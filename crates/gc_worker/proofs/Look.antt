@@ -1,0 +1,5 @@
+pub mod Begun
+pub mod Ends
+pub mod Effects
+pub mod Beginnings
+pub mod Looking
