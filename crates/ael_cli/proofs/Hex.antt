@@ -1,5 +1,5 @@
 -- What the hexadecimal form of a word with zeros in front writes.
-use Rattle.std.proofs.Common.{◌≡◌, ℕ, ◌^◌, ◌-◌, false, [], ◌++◌, length, refl, append-nil, arith}
+use Rattle.std.proofs.Common.{◌≡◌, ℕ, ◌^◌, ◌-◌, false, [], length, refl, append-nil, arith}
 use Rattle.std.specs.Fmt.{digits, padded_integral, format_spec, char_count}
 use Rattle.ael_cli.specs.Dump.{word_text}
 

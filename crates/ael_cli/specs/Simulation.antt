@@ -6,7 +6,7 @@ use Rattle.mutator_asm.specs.declared.item.Item.{Item}
 use Rattle.plain_heap.specs.declared.mark.Mark.{Mark}
 use Rattle.plain_heap.specs.Order.{opening, plain}
 use Rattle.plain_heap.specs.Print.{print_of, order_line, plain_seen}
-use Rattle.collected_core.specs.declared.config.Config.{Config}
+use Rattle.gc_worker.specs.declared.config.Config.{Config}
 use Rattle.collected_core.specs.Core.{CoreState, opening_core, workers_of}
 use Rattle.collected_core.specs.Run.{Ran, run_from, EachEvent}
 use Rattle.collected_core.specs.Whole.{EachActs, IsFull}

@@ -11,7 +11,7 @@ ghost use Rattle.ael_cli.specs.Schedule.{schedule_of};
 
 use crate::options::SimOptions;
 use crate::scheduler::Scheduler;
-use collected_core::{Core, Stepped, missing_workers_are_idle};
+use collected_core::{Core, Stepped, mark, missing_workers_are_idle};
 use mutator_asm::Item;
 use plain_heap::Mark;
 use std::alloc::{AllocError, Global};
@@ -21,7 +21,7 @@ fn note(order: &mut Vec<Mark>, keep: bool, stepped: Stepped) -> Result<(), Alloc
     ensures { OnOk result (keep ≡ true → order.new.items ≡ order.old.items ++ option_to_list (mark_of stepped)) }
 {
     if keep {
-        if let Some(mark) = stepped.mark() {
+        if let Some(mark) = mark(stepped) {
             order.push(mark)?;
         }
     }
