@@ -1,5 +1,7 @@
 pub mod Outcomes
 pub mod Readied
 pub mod Events
-pub mod Running
 pub mod Runs
+pub mod Running
+pub mod Opening
+pub mod Whole
