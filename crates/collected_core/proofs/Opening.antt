@@ -1,7 +1,8 @@
 -- A core begins steady, for the plain state in which its program begins.
-use Rattle.std.proofs.Common.{◌≡◌, ℕ, ◌+◌, ◌<◌, ◌≤◌, ◌&&◌, Bool, true, false, nat_lt, nat_le, List, [], ◌∷◌, length, replicate, Some, None, refl, ap, sym, subst, ◌∙◌, arith, lt-ltb}
+use Rattle.std.proofs.Common.{◌≡◌, ℕ, ◌+◌, ◌<◌, ◌≤◌, ◌&&◌, Bool, true, false, nat_le, List, [], ◌∷◌, length, replicate, refl, ap, sym, subst, ◌∙◌, arith, lt-ltb}
 use Rattle.std.specs.Prelude.{map, IsTrue, if◌then◌else◌}
 use Rattle.std.proofs.lemmas.Bool.{leb-true}
+use Rattle.plain_state.specs.declared.value.Value.TheVariants.{Number}
 use Rattle.plain_state.specs.State.{Plain}
 use Rattle.mutator_asm.specs.declared.instr.Instr.{Instr}
 use Rattle.mutator_asm.specs.declared.item.Item.{Item}
@@ -25,7 +26,7 @@ map_const b (x ∷ xs) = ap (λ rest. b ∷ rest) (map_const b xs)
 
 opens_so : (code : List (List Instr)) → opening_plain (length code) ≡ order.opening code
 opens_so code = λ i. record {
-  heap = record { records = sym (map_const [] code) i; board = replicate 16 _ };
+  heap = record { records = sym (map_const [] code) i; board = replicate 16 (Number 0) };
   mutators = sym (map_const order.fresh code) i;
 }
 
@@ -41,7 +42,7 @@ module _ (opens : HeapsOpen) (code : List (List Instr)) (items : List Item) (con
   pub opening_stands : WorkersStand (opening_core code config).heap (order.opening code) (order.opening code)
   opening_stands =
       subst (λ (p : Plain). WorkersStand (opening_core code config).heap p p) (opens_so code)
-      (opens config.pages (length code) config.scanners (size_fits config.pages size) program.a_section program.few_sections (let l = program.few_sections in omega (arith, l, few)))
+      (opens config.pages (length code) config.scanners (size_fits config.pages size) program.few_sections (let l = program.few_sections in omega (arith, l, few)))
 
   mutator_there : (m : ℕ) → m < length code → held_at (opening_core code config).heap m ≡ fresh_mutator config.pages (length code) m
   mutator_there m l =

@@ -1,9 +1,6 @@
 -- What holds of all events and runs, from the laws of a worker's step.
-use Rattle.std.proofs.Common.{◌≡◌, refl, sym, subst}
 use Rattle.plain_heap.specs.Order.{Story, opening}
 use Rattle.plain_heap.proofs.Stories.{story_after-now}
-use Rattle.heap_state.specs.Represents.{Represents}
-use Rattle.gc_worker.specs.Law.{read}
 use Rattle.gc_worker.proofs.Between.Beginning.{tasks_may_begin}
 use Rattle.gc_worker.proofs.Between.GoingOn.{workers_go_on}
 use Rattle.gc_worker.proofs.Between.Opening.{heaps_open}
