@@ -1,7 +1,9 @@
 pub mod Outcomes
 pub mod Readied
 pub mod Events
+pub mod Claims
 pub mod Runs
 pub mod Running
 pub mod Opening
 pub mod Whole
+pub mod Lawful

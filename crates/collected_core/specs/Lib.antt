@@ -4,4 +4,5 @@ pub mod Readers
 pub mod Event
 pub mod Run
 pub mod Law
+pub mod Claims
 pub mod Whole

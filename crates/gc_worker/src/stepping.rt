@@ -3,7 +3,8 @@
 ghost use Rattle.std.specs.Prelude.{◌≡◌, ◌<◌, [], IfSome, IsSome, vec_capacity};
 ghost use Rattle.atom_store.specs.Step.{place_in};
 ghost use Rattle.space_map.specs.Table.{table_length};
-ghost use Rattle.gc_worker.specs.Between.{fresh};
+ghost use Rattle.gc_worker.specs.declared.task.Task.TheVariants.{Calls, Stops};
+ghost use Rattle.gc_worker.specs.Between.{fresh, with_task};
 ghost use Rattle.gc_worker.specs.Fits.{Takes};
 ghost use Rattle.gc_worker.specs.Held.{at_stage};
 ghost use Rattle.gc_worker.specs.Stepped.{HasRoom, IsSound, stepped_by, uncounted};
@@ -43,6 +44,22 @@ impl State {
             stop: End::Halt,
             stage,
         }
+    }
+
+    /// An instruction is due.
+    pub fn begin(&mut self, instr: Instr)
+        ensures { self.new ≡ with_task self.old (Calls instr) }
+    {
+        self.due = Due::Call;
+        self.instr = instr;
+    }
+
+    /// An end is due in place of one.
+    pub fn begin_end(&mut self, end: End)
+        ensures { self.new ≡ with_task self.old (Stops end) }
+    {
+        self.due = Due::Stop;
+        self.stop = end;
     }
 
     /// The next step.

@@ -3,14 +3,13 @@ ghost use Rattle.atom_store.specs.Step.{place_in};
 ghost use Rattle.space_map.specs.Table.{table_length};
 ghost use Rattle.gc_worker.specs.declared.task.Task.TheVariants.{Calls, Stops};
 ghost use Rattle.gc_worker.specs.Between.{IsIdle, fresh_mutator, fresh_scanner, with_task};
-ghost use Rattle.gc_worker.specs.Fits.{MayBegin, Takes};
+ghost use Rattle.gc_worker.specs.Fits.{MayBegin, MayStop, Takes};
 ghost use Rattle.gc_worker.specs.Stepped.{IsSound, header_kept, place_kept, stepped_by, uncounted};
 ghost use Rattle.gc_worker.specs.Turned.{told, turned};
 ghost use Rattle.gc_worker.specs.Wanted.{wanted};
 
 use crate::after::After;
 use crate::back::Back;
-use crate::due::Due;
 use crate::stage::Stage;
 use crate::state::State;
 use crate::stepped::Stepped;
@@ -42,7 +41,12 @@ impl Model for Worker {
 
 impl Worker {
     /// A mutator that is about to come to a heap, with room for all that it may print.
-    pub fn mutator(alloc: Global, spaces: Spaces, number: u8, mutators: u8) -> Result<Worker, NoMemory>
+    pub fn mutator(
+        alloc: Global,
+        spaces: Spaces,
+        number: u8,
+        mutators: u8,
+    ) -> Result<Worker, NoMemory>
         requires number { number < mutators }
         requires few { mutators ≤ 16 }
         ensures { IfOk result (λ worker. worker ≡ fresh_mutator spaces.pages mutators number) }
@@ -87,22 +91,23 @@ impl Worker {
     }
 
     /// An instruction, which the next look at the gate begins.
+    #[tactic(auto, using(crate::proofs::Between::Beginning::task_sound))]
     pub fn begin(&mut self, instr: &Instr)
         requires idle { IsIdle self.old }
         requires may_begin { MayBegin self.old.account self.old.registers (Some (Calls instr.now)) }
         ensures { self.new ≡ with_task self.old (Calls instr.now) }
     {
-        self.state.due = Due::Call;
-        self.state.instr = *instr;
+        self.state.begin(*instr);
     }
 
     /// An end in place of an instruction.
+    #[tactic(auto, using(crate::proofs::Between::Beginning::task_sound))]
     pub fn begin_end(&mut self, end: End)
-        requires { IsIdle self.old }
+        requires idle { IsIdle self.old }
+        requires may_stop { MayStop end }
         ensures { self.new ≡ with_task self.old (Stops end) }
     {
-        self.state.due = Due::Stop;
-        self.state.stop = end;
+        self.state.begin_end(end);
     }
 
     /// The words in its registers.
