@@ -1,5 +1,5 @@
 -- What a core's code is owed: its core stays lawful, and each step that a worker wants may be made.
-use Rattle.std.proofs.Common.{◌≡◌, ℕ, ◌<◌, ◌≤◌, List, length, Option, Some, None, refl, ap, sym, ◌∙◌, arith, length-set}
+use Rattle.std.proofs.Common.{◌≡◌, ℕ, ◌<◌, ◌≤◌, List, length, Option, Some, None, refl, ap, ◌∙◌, arith, length-set}
 use Rattle.std.specs.Prelude.{IsTrue}
 use Rattle.mutator_asm.specs.declared.instr.Instr.{Instr}
 use Rattle.mutator_asm.specs.declared.item.Item.{Item}
@@ -10,8 +10,7 @@ use Rattle.atom_store.specs.Step.{place_in, reply_of}
 use Rattle.gc_worker.specs.declared.stage.Stage.TheVariants.{Looks}
 use Rattle.gc_worker.specs.Between.{IsIdle}
 use Rattle.gc_worker.specs.Fits.{Fits, Takes, MayBegin}
-use Rattle.gc_worker.specs.Held.{Held}
-use Rattle.gc_worker.specs.Law.{Heap, held_at, moved, StepKeeps}
+use Rattle.gc_worker.specs.Law.{held_at, moved}
 use Rattle.gc_worker.specs.Turned.{turned, told}
 use Rattle.gc_worker.specs.Wanted.{wanted}
 use Rattle.gc_worker.proofs.Between.Beginning.{tasks_may_begin}
@@ -23,7 +22,7 @@ use Rattle.collected_core.specs.Core.{CoreState, opening_core, workers_of, is_si
 use Rattle.collected_core.specs.Event.{Event, event_of, event_by, core_after, ready, next_task, stepped_of}
 use Rattle.collected_core.specs.Law.{IsLawful, story_by}
 use Rattle.collected_core.proofs.Opening.{opening_stands, opening_steady}
-use Rattle.collected_core.proofs.Readied.{Ready, readied_stands, looks_idle, may_begin}
+use Rattle.collected_core.proofs.Readied.{readied_stands, looks_idle, may_begin}
 use Rattle.collected_core.proofs.Whole.{events_keep}
 
 -- ---- it stays lawful
