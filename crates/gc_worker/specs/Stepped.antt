@@ -34,8 +34,11 @@ task_due due.Stop instr end = Some (Stops end)
 
 -- The instructions that a mutator has executed are not counted by its code: on threads no number bounds them, and nobody reads
 -- them there. So it holds this.
+abbrev pub counted : (executed : ℕ) → Held → Held
+counted executed x = record x { account = record x.account { executed = executed } }
+
 abbrev pub uncounted : Held → Held
-uncounted x = record x { account = record x.account { executed = 0 } }
+uncounted x = counted 0 x
 
 -- a worker fits a heap of its own layout
 abbrev pub IsSound : Held → Type 0

@@ -8,15 +8,10 @@ ghost use Rattle.gc_worker.specs.Stepped.{IsSound, header_kept, place_kept, step
 ghost use Rattle.gc_worker.specs.Turned.{told, turned};
 ghost use Rattle.gc_worker.specs.Wanted.{wanted};
 
-use crate::after::After;
-use crate::back::Back;
-use crate::due::Due;
 use crate::stage::Stage;
 use crate::state::State;
 use crate::stepped::Stepped;
 use atom_store::{NoMemory, Reply, Step};
-use fault_duty::Duty;
-use gate_core::Gate;
 use mutator_asm::Instr;
 use plain_state::{End, MOST_PRINTED, REGISTERS};
 use space_map::Spaces;
@@ -42,29 +37,28 @@ impl Model for Worker {
 
 impl Worker {
     /// A mutator that is about to come to a heap, with room for all that it may print.
+    #[tactic(auto, using(crate::proofs::Sound::mutators_are_sound))]
     pub fn mutator(alloc: Global, spaces: Spaces, number: u8, mutators: u8) -> Result<Worker, NoMemory>
         requires number { number < mutators }
         requires few { mutators ≤ 16 }
         ensures { IfOk result (λ worker. worker ≡ fresh_mutator spaces.pages mutators number) }
     {
+        let _pages = spaces.pages();
         let printed = Vec::with_capacity(alloc, MOST_PRINTED)?;
-        let stage = Stage::Passes(Gate::attach(spaces), After::Looks);
-        Ok(Worker {
-            state: State::new(spaces, number, mutators, printed, stage),
-        })
+        let state = State::mutator(spaces, number, mutators, printed);
+        Ok(Worker { state })
     }
 
     /// A scanner before its first round.
+    #[tactic(auto, using(crate::proofs::Sound::scanners_are_sound))]
     pub fn scanner(alloc: Global, spaces: Spaces, number: u8, mutators: u8) -> Worker
         requires number { mutators ≤ number }
         requires few { number ≤ 23 }
         ensures { result ≡ fresh_scanner spaces.pages mutators number }
     {
-        let duty = Duty::scanner(spaces, number, mutators);
-        let stage = Stage::Serves(duty, Back::ToScanner);
-        Worker {
-            state: State::new(spaces, number, mutators, Vec::new(alloc), stage),
-        }
+        let _pages = spaces.pages();
+        let state = State::scanner(spaces, number, mutators, Vec::new(alloc));
+        Worker { state }
     }
 
     /// The next step. A mutator that has left has none, and neither has a scanner that has seen all leave.
@@ -76,6 +70,7 @@ impl Worker {
     }
 
     /// Takes the reply to it.
+    #[tactic(auto, using(crate::proofs::Sound::uncounted_are_sound))]
     pub fn take(&mut self, reply: Reply) -> Stepped
         requires wants { IsSome (wanted self.old) }
         requires takes { Takes self.old reply }
@@ -87,22 +82,22 @@ impl Worker {
     }
 
     /// An instruction, which the next look at the gate begins.
+    #[tactic(auto, using(crate::proofs::Sound::begun_are_sound))]
     pub fn begin(&mut self, instr: &Instr)
         requires idle { IsIdle self.old }
         requires may_begin { MayBegin self.old.account self.old.registers (Some (Calls instr.now)) }
         ensures { self.new ≡ with_task self.old (Calls instr.now) }
     {
-        self.state.due = Due::Call;
-        self.state.instr = *instr;
+        self.state.begin(*instr);
     }
 
     /// An end in place of an instruction.
+    #[tactic(auto, using(crate::proofs::Sound::begun_are_sound))]
     pub fn begin_end(&mut self, end: End)
         requires { IsIdle self.old }
         ensures { self.new ≡ with_task self.old (Stops end) }
     {
-        self.state.due = Due::Stop;
-        self.state.stop = end;
+        self.state.begin_end(end);
     }
 
     /// The words in its registers.
