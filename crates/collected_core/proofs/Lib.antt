@@ -1,2 +1,6 @@
 pub mod Outcomes
 pub mod Readied
+pub mod Events
+pub mod Claims
+pub mod Running
+pub mod Runs

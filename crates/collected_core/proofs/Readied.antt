@@ -74,6 +74,7 @@ pub record Ready (s : CoreState) (w : ℕ) (p o : Plain) : Type 0 where
   pub holds : held_at heap w ≡ ready s w
   pub words : heap.words ≡ s.heap.words
   pub pages : heap.pages ≡ s.heap.pages
+  pub mutators : heap.mutators ≡ s.heap.mutators
   pub moves : (x : Held) (q : Step) → moved heap w x q ≡ moved s.heap w x q
 
 no_end : (end : Option End) → is_some end ≡ false → end ≡ None
@@ -100,7 +101,7 @@ module _ (readies : ReadyingStands) (tasks : TasksMayBegin) (s : CoreState) (w :
       mutator_by false e b = absurd (cc)
 
   ready_by : Due s.code s.turns w x → Ready s w p o
-  ready_by (Rests e) = record { heap = s.heap; stands = stands; below = below; holds = sym e; words = refl; pages = refl; moves = λ y q. refl }
+  ready_by (Rests e) = record { heap = s.heap; stands = stands; below = below; holds = sym e; words = refl; pages = refl; mutators = refl; moves = λ y q. refl }
   ready_by (Begins e f is) =
       let idle = looks_idle e f in
       let task = next_task s.code s.turns w x in
@@ -113,8 +114,32 @@ module _ (readies : ReadyingStands) (tasks : TasksMayBegin) (s : CoreState) (w :
         holds = get_or-set_same s.heap.workers w (with_task x task) nobody below ∙ sym is;
         words = refl;
         pages = refl;
+        mutators = refl;
         moves = λ y q. ap (λ (ks : List Held). record s.heap { words = words_after q s.heap.words; workers = ks }) (set-set s.heap.workers w (with_task x task) (turned y (reply_of q s.heap.words)));
       }
 
   pub readied_stands : Ready s w p o
   readied_stands = ready_by (due s.code s.turns w x)
+
+-- ---- what it holds then
+
+-- the next task is that of an account with this counter and so many instructions executed
+pub same_task : (code : List (List Instr)) (turns m : ℕ) (x y : Held) → x.account.counter ≡ y.account.counter → x.account.executed ≡ y.account.executed
+    → next_task code turns m x ≡ next_task code turns m y
+same_task code turns m x y c e = rw (c, e) refl
+
+module _ (s : CoreState) (w : ℕ) (steady : IsSteady s) (few : w < s.heap.mutators) where
+  -- the task that it has then is its next one
+  pub ready_task : (task : Task) → (ready s w).task ≡ Some task → task ≡ next_task s.code s.turns w (held_at s.heap w)
+  ready_task task e = by_due (due s.code s.turns w (held_at s.heap w))
+    where
+      by_due : Due s.code s.turns w (held_at s.heap w) → task ≡ next_task s.code s.turns w (held_at s.heap w)
+      by_due (Begins stage none is) = let q : Some (next_task s.code s.turns w (held_at s.heap w)) ≡ Some task = sym (ap (λ (h : Held). h.task) is) ∙ e in cc
+      by_due (Rests is) = (steady.on_task w few).task task (sym (ap (λ (h : Held). h.task) is) ∙ e)
+
+pub ready_account : (s : CoreState) (w : ℕ) → (ready s w).account ≡ (held_at s.heap w).account
+ready_account s w = by_due (due s.code s.turns w (held_at s.heap w))
+  where
+    by_due : Due s.code s.turns w (held_at s.heap w) → (ready s w).account ≡ (held_at s.heap w).account
+    by_due (Begins stage none is) = ap (λ (h : Held). h.account) is
+    by_due (Rests is) = ap (λ (h : Held). h.account) is

@@ -1,5 +1,6 @@
 pub mod Standing
 pub mod Copied
+pub mod Claims
 pub mod Readying
 pub mod Beginning
 pub mod Wanting

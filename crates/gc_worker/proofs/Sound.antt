@@ -9,7 +9,7 @@ use Rattle.gc_worker.specs.Held.{Held}
 use Rattle.gc_worker.specs.Stepped.{IsSound, uncounted}
 use Rattle.gc_worker.proofs.Between.Beginning.{tasks_may_begin}
 use Rattle.gc_worker.proofs.Between.Opening.{mutator_fits, scanner_fits}
-use Rattle.gc_worker.proofs.Counting.{counted_fits}
+use Rattle.gc_worker.proofs.Counting.{counted_fit}
 
 pub mutators_are_sound : (n mutators k : ℕ) (y : Held) → y ≡ fresh_mutator n mutators k → IsPageCount n → k < mutators → mutators ≤ 16 → IsSound y
 mutators_are_sound n mutators k y is size below few =
@@ -23,4 +23,4 @@ begun_are_sound x y task is sound idle may =
     subst IsSound (sym is) ((tasks_may_begin x.layout.pages x.mutators x.number x task sound idle may).fits sound)
 
 pub uncounted_are_sound : (x y : Held) → y ≡ uncounted x → IsSound x → IsSound y
-uncounted_are_sound x y is sound = subst IsSound (sym is) (counted_fits x 0 x.layout.pages x.mutators x.number sound)
+uncounted_are_sound x y is sound = subst IsSound (sym is) ((counted_fit x.layout.pages x.mutators x.number 0 x).1 sound)

@@ -11,5 +11,8 @@ pub mod Goes
 pub mod Law
 pub mod Between
 pub mod Copied
+pub mod Claims
 pub mod Represented
+pub mod FullTold
 pub mod Stepped
+pub mod Counted

@@ -16,6 +16,7 @@ use Rattle.gc_worker.specs.declared.stepped.Stepped.{Stepped}
 use Rattle.gc_worker.specs.declared.stepped.Stepped.TheVariants.{Moved, Effect, Flipped, Ended}
 use Rattle.gc_worker.specs.declared.task.Task.{Task}
 use Rattle.gc_worker.specs.declared.task.Task.TheVariants.{Calls, Stops}
+use Rattle.gc_worker.specs.Counted.{counted}
 use Rattle.gc_worker.specs.Fits.{Fits}
 use Rattle.forwarding.specs.Keeping as keeping
 use Rattle.forwarding.specs.Keeping.{kept_word, reserved_word}
@@ -34,9 +35,6 @@ task_due due.Stop instr end = Some (Stops end)
 
 -- The instructions that a mutator has executed are not counted by its code: on threads no number bounds them, and nobody reads
 -- them there. So it holds this.
-abbrev pub counted : (executed : ℕ) → Held → Held
-counted executed x = record x { account = record x.account { executed = executed } }
-
 abbrev pub uncounted : Held → Held
 uncounted x = counted 0 x
 

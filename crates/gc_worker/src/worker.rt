@@ -3,7 +3,7 @@ ghost use Rattle.atom_store.specs.Step.{place_in};
 ghost use Rattle.space_map.specs.Table.{table_length};
 ghost use Rattle.gc_worker.specs.declared.task.Task.TheVariants.{Calls, Stops};
 ghost use Rattle.gc_worker.specs.Between.{IsIdle, fresh_mutator, fresh_scanner, with_task};
-ghost use Rattle.gc_worker.specs.Fits.{MayBegin, Takes};
+ghost use Rattle.gc_worker.specs.Fits.{MayBegin, MayStop, Takes};
 ghost use Rattle.gc_worker.specs.Stepped.{IsSound, header_kept, place_kept, stepped_by, uncounted};
 ghost use Rattle.gc_worker.specs.Turned.{told, turned};
 ghost use Rattle.gc_worker.specs.Wanted.{wanted};
@@ -94,7 +94,8 @@ impl Worker {
     /// An end in place of an instruction.
     #[tactic(auto, using(crate::proofs::Sound::begun_are_sound))]
     pub fn begin_end(&mut self, end: End)
-        requires { IsIdle self.old }
+        requires idle { IsIdle self.old }
+        requires may_stop { MayStop end }
         ensures { self.new ≡ with_task self.old (Stops end) }
     {
         self.state.begin_end(end);

@@ -39,7 +39,7 @@ module _ (n mutators k : ℕ) where
   is_value r l = subst IsValueAs (sym (ap decode (no_word r) ∙ zero_word)) tt
 
   module _ (size : IsPageCount n) (few : k ≤ 23) where
-    mutator_fits : nat_lt k mutators ≡ true → Fits n mutators k (fresh_mutator n mutators k)
+    pub mutator_fits : nat_lt k mutators ≡ true → Fits n mutators k (fresh_mutator n mutators k)
     mutator_fits side = record {
       number = refl;
       few = few;
@@ -57,7 +57,7 @@ module _ (n mutators k : ℕ) where
       stage = record { layout = refl; passage = tt; going = tt; sound = record { pages = size; stage = tt } };
     }
 
-    scanner_fits : nat_lt k mutators ≡ false → Fits n mutators k (fresh_scanner n mutators k)
+    pub scanner_fits : nat_lt k mutators ≡ false → Fits n mutators k (fresh_scanner n mutators k)
     scanner_fits side = record {
       number = refl;
       few = few;
@@ -115,12 +115,12 @@ module _ (n mutators : ℕ) where
   known from (suc count) scanners zero at all = absurd (omega (arith, all))
   known from (suc count) scanners (suc total) at all = λ i. as_mutator from (omega (arith, at)) i ∷ known (from + 1) count scanners total (omega (arith, at)) (omega (arith, all)) i
 
-  many : (from count : ℕ) → length (fresh_workers n mutators from count) ≡ count
+  pub many : (from count : ℕ) → length (fresh_workers n mutators from count) ≡ count
   unfolding fresh_workers
   many from zero = refl
   many from (suc count) = ap suc (many (from + 1) count)
 
-  is_there : (from count j k : ℕ) → j < count → k ≡ from + j → get_or (fresh_workers n mutators from count) j nobody ≡ fresh_worker n mutators k
+  pub is_there : (from count j k : ℕ) → j < count → k ≡ from + j → get_or (fresh_workers n mutators from count) j nobody ≡ fresh_worker n mutators k
   unfolding fresh_workers
   is_there from zero j k l at = absurd (omega (arith, l))
   is_there from (suc count) zero k l at = ap (fresh_worker n mutators) (let same : from ≡ k = omega (arith, at) in same)
