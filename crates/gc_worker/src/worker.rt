@@ -37,7 +37,6 @@ impl Model for Worker {
 
 impl Worker {
     /// A mutator that is about to come to a heap, with room for all that it may print.
-    #[tactic(auto, using(crate::proofs::Sound::mutators_are_sound))]
     pub fn mutator(alloc: Global, spaces: Spaces, number: u8, mutators: u8) -> Result<Worker, NoMemory>
         requires number { number < mutators }
         requires few { mutators ≤ 16 }
@@ -50,7 +49,6 @@ impl Worker {
     }
 
     /// A scanner before its first round.
-    #[tactic(auto, using(crate::proofs::Sound::scanners_are_sound))]
     pub fn scanner(alloc: Global, spaces: Spaces, number: u8, mutators: u8) -> Worker
         requires number { mutators ≤ number }
         requires few { number ≤ 23 }
