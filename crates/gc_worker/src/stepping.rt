@@ -43,7 +43,13 @@ impl State {
         ensures { result ≡ fresh_scanner spaces.pages mutators number }
     {
         let duty = Duty::scanner(spaces, number, mutators);
-        State::new(spaces, number, mutators, printed, Stage::Serves(duty, Back::ToScanner))
+        State::new(
+            spaces,
+            number,
+            mutators,
+            printed,
+            Stage::Serves(duty, Back::ToScanner),
+        )
     }
 
     /// A worker before its first step, which is about to do this.

@@ -37,7 +37,12 @@ impl Model for Worker {
 
 impl Worker {
     /// A mutator that is about to come to a heap, with room for all that it may print.
-    pub fn mutator(alloc: Global, spaces: Spaces, number: u8, mutators: u8) -> Result<Worker, NoMemory>
+    pub fn mutator(
+        alloc: Global,
+        spaces: Spaces,
+        number: u8,
+        mutators: u8,
+    ) -> Result<Worker, NoMemory>
         requires number { number < mutators }
         requires few { mutators ≤ 16 }
         ensures { IfOk result (λ worker. worker ≡ fresh_mutator spaces.pages mutators number) }
