@@ -1,12 +1,12 @@
 -- The law of an event, from the law of a worker's step.
-use Rattle.std.proofs.Common.{◌≡◌, ◌≢◌, ℕ, ◌+◌, ◌<◌, ◌≤◌, Bool, true, false, nat_lt, List, length, Option, Some, None, slice_get, get_or, refl, ap, sym, subst, ◌∙◌, arith, get_or-set_same, get_or-set_other, lt-ltb, ⊎_elim}
+use Rattle.std.proofs.Common.{◌≡◌, ◌≢◌, ℕ, ◌+◌, ◌<◌, ◌≤◌, true, false, nat_lt, length, Option, Some, None, slice_get, get_or, refl, ap, sym, subst, ◌∙◌, arith, get_or-set_same, get_or-set_other, lt-ltb, ⊎_elim}
 use Rattle.std.specs.Option.{is_some, option_map, option_to_list}
 use Rattle.std.proofs.lemmas.Bool.{cases_eq, cases_lt}
 use Rattle.std.proofs.lemmas.List.{get_or_past}
 use Rattle.std.proofs.lemmas.Option.{slice_get_within, slice_get-get_or, slice_get_past}
 use Rattle.plain_state.specs.declared.end.End.{End}
 use Rattle.plain_state.specs.declared.end.End.TheVariants as ends
-use Rattle.plain_state.specs.State.{Plain, Mutator, serial_of}
+use Rattle.plain_state.specs.State.{Plain, Mutator}
 use Rattle.plain_heap.specs.Order.{Story, fresh, end_of}
 use Rattle.plain_heap.specs.Step.{fetch, asked_by}
 use Rattle.plain_heap.proofs.Stories.{story_after-now}
@@ -15,7 +15,6 @@ use Rattle.heap_state.specs.Values.{Accounts}
 use Rattle.heap_state.proofs.Puts.{none≢some}
 use Rattle.atom_store.specs.declared.step.Step.{Step}
 use Rattle.atom_store.specs.Step.{words_after, reply_of}
-use Rattle.gc_worker.specs.declared.stage.Stage.{Stage}
 use Rattle.gc_worker.specs.declared.stage.Stage.TheVariants.{Gone}
 use Rattle.gc_worker.specs.declared.task.Task.{Task}
 use Rattle.gc_worker.specs.Answer.{ComesTo, MayCome, IsAnswered, after_outcome, after_told}
@@ -29,12 +28,12 @@ use Rattle.gc_worker.specs.Wanted.{wanted}
 use Rattle.collected_core.specs.declared.stepped.Stepped.{Stepped}
 use Rattle.collected_core.specs.declared.stepped.Stepped.TheVariants as tells
 use Rattle.collected_core.specs.Core.{CoreState}
-use Rattle.collected_core.specs.Event.{Event, event_of, event_by, core_after, ready, task_of, next_task, told_outcome, stepped_of}
+use Rattle.collected_core.specs.Event.{event_of, ready, task_of, told_outcome, stepped_of}
 use Rattle.collected_core.specs.Law.{IsOnTask, IsSteady, IsForWant, IsTold, Keeps, EventsKeep, EventsMeet, plain_after, story_by, epoch_in}
 use Rattle.collected_core.specs.Run.{mark_of}
 use Rattle.collected_core.specs.Whole.{MissingWorkersAreIdle}
 use Rattle.gc_worker.proofs.Represented.{represented_workers}
-use Rattle.collected_core.proofs.Outcomes.{Sort, IsFull, IsStep, sort, IsCounted, comes, end_then, asks_then, counted_then, was_running}
+use Rattle.collected_core.proofs.Outcomes.{Sort, IsFull, IsStep, sort, comes, end_then, asks_then, counted_then, was_running}
 use Rattle.collected_core.proofs.Readied.{Ready, readied_stands, same_task, ready_task, ready_account}
 
 -- ---- idle

@@ -4,3 +4,6 @@ pub mod Events
 pub mod Claims
 pub mod Running
 pub mod Runs
+pub mod Running
+pub mod Opening
+pub mod Whole

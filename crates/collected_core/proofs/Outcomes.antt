@@ -1,15 +1,14 @@
 -- What a task comes to is what the mark of it does to the plain machine.
-use Rattle.std.proofs.Common.{◌≡◌, ℕ, ◌+◌, ◌<◌, ◌≤◌, Bool, true, false, nat_le, List, [], ◌∷◌, length, Option, Some, None, Result, Ok, Err, slice_get, slice_set, refl, ap, sym, ◌∙◌, arith, lt-ltb, ⊎_elim, eq-eqb}
-use Rattle.std.specs.Option.{option_map, option_map_or, option_and_then, option_to_list, ok_or}
+use Rattle.std.proofs.Common.{◌≡◌, ℕ, ◌+◌, ◌<◌, ◌≤◌, Bool, true, false, nat_le, List, length, Option, Some, None, Result, Ok, Err, slice_get, slice_set, refl, ap, sym, ◌∙◌, arith, lt-ltb, eq-eqb}
+use Rattle.std.specs.Option.{option_map, option_to_list, ok_or}
 use Rattle.std.specs.Prelude.{IfOk, IsOk, if◌then◌else◌}
-use Rattle.std.proofs.lemmas.Bool.{cases_lt}
 use Rattle.std.proofs.lemmas.Option.{slice_get_within}
 use Rattle.plain_state.specs.declared.end.End.{End}
 use Rattle.plain_state.specs.declared.end.End.TheVariants as ends
 use Rattle.plain_state.specs.State.{Record, Heap, Mutator, Plain, record_of, serial_of}
 use Rattle.plain_state.specs.declared.value.Identity.{Identity}
 use Rattle.plain_state.specs.declared.value.Value.{Value}
-use Rattle.plain_state.specs.Writing.{zeros, gained, stored}
+use Rattle.plain_state.specs.Writing.{zeros, stored}
 use Rattle.plain_state.proofs.Lists.{slice_get-set_same}
 use Rattle.plain_state.proofs.Gained.{gained_serial}
 use Rattle.plain_state.proofs.Stored.{stored_serial}
@@ -20,12 +19,10 @@ use Rattle.plain_heap.specs.declared.action.Action.{Action}
 use Rattle.plain_heap.specs.declared.action.Action.TheVariants.{Sets, Jumps, Links, Prints, Makes, Measures, Loads, Stores, Gets, Puts, Swaps}
 use Rattle.plain_heap.specs.Action.{◌>>=◌, action}
 use Rattle.plain_heap.specs.Call.{After, call, performed, value_in, store_in, may_hold, went_on}
-use Rattle.plain_heap.specs.Order.{marked, state_after, end_of, is_asked}
+use Rattle.plain_heap.specs.Order.{marked, state_after, end_of}
 use Rattle.plain_heap.specs.Step.{fetch, executes, ended, settled, stepped, asked_by, new_record, pages_of}
 use Rattle.plain_heap.proofs.Counting.{Went, call-went}
 use Rattle.plain_heap.proofs.Outcomes.{if_ok-bind}
-use Rattle.gc_worker.specs.declared.task.Task.{Task}
-use Rattle.gc_worker.specs.declared.task.Task.TheVariants.{Calls, Stops}
 use Rattle.gc_worker.specs.Answer.{MayEnd, MayCome, after_outcome}
 use Rattle.gc_worker.specs.Turned.{Outcome, Effect, Ends}
 use Rattle.collected_core.specs.Event.{task_of, told_outcome}

@@ -1,5 +1,5 @@
 -- What the machine with a collected heap is between two events.
-use Rattle.std.specs.Prelude.{ℕ, ◌&&◌, Bool, nat_le, List, length, slice_index_or}
+use Rattle.std.specs.Prelude.{ℕ, ◌&&◌, Bool, nat_le, List, length}
 use Rattle.mutator_asm.specs.declared.instr.Instr.{Instr}
 use Rattle.gc_worker.specs.Between.{opening}
 use Rattle.gc_worker.specs.Law.{Heap}
