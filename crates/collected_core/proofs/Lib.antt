@@ -2,3 +2,4 @@ pub mod Outcomes
 pub mod Readied
 pub mod Events
 pub mod Claims
+pub mod Fulls

@@ -5,3 +5,4 @@ pub mod Event
 pub mod Run
 pub mod Law
 pub mod Claims
+pub mod Fulls
