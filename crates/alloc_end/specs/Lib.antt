@@ -2,3 +2,4 @@ pub mod Place
 pub mod Soundness
 pub mod Rows
 pub mod Theorems
+pub mod HeldUp

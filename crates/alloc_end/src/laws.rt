@@ -1,6 +1,7 @@
 //! What holds of the machines. Each function here does nothing: its contract is what is proved.
 
 ghost use Rattle.alloc_end.specs.Rows.{FirstPairIsPlaced, NextRecordIsPlaced, ReserveIsKept, ReserveIsFreeOnceTraced, FullTellsItsNumbers, LongestIsFull, LostClaimIsTriedAgain};
+ghost use Rattle.alloc_end.specs.HeldUp.{GoesOn};
 ghost use Rattle.alloc_end.specs.Theorems.{TracedIsRead, PagesAreClaimed, PagesAreLost, PagesAreMadeReady, RecordsArePlaced, FullHeapsAreShort, ShortHeapsAreFull};
 
 /// Pages are claimed only where the room that has to be kept is left, by an exchange of the area that was read.
@@ -20,6 +21,11 @@ pub fn records_are_placed_in_cleared_pages()
 pub fn full_heaps_are_short_of_room()
     ensures short { FullHeapsAreShort }
     ensures full { ShortHeapsAreFull }
+{}
+
+/// Nothing but a lost exchange holds an allocation up, whatever words its steps meet, or a word that can't be there.
+pub fn allocations_go_on()
+    ensures { GoesOn }
 {}
 
 /// Allocations, worked out step by step with all words as numbers.

@@ -22,8 +22,8 @@ mod shortage;
 pub use allocated::Allocated;
 pub use fitting::Fitting;
 pub use laws::{
-    claims_keep_the_reserve, full_heaps_are_short_of_room, records_are_placed_in_cleared_pages,
-    rows_are_worked_out,
+    allocations_go_on, claims_keep_the_reserve, full_heaps_are_short_of_room,
+    records_are_placed_in_cleared_pages, rows_are_worked_out,
 };
 pub use new_pages::NewPages;
 pub use place::Place;

@@ -1,6 +1,6 @@
 -- The law of an event, from the law of a worker's step.
 use Rattle.std.proofs.Common.{◌≡◌, ◌≢◌, ℕ, ◌+◌, ◌<◌, ◌≤◌, Bool, true, false, nat_lt, List, length, Option, Some, None, slice_get, get_or, refl, ap, sym, subst, ◌∙◌, arith, get_or-set_same, get_or-set_other, lt-ltb, ⊎_elim}
-use Rattle.std.specs.Option.{is_some, option_map}
+use Rattle.std.specs.Option.{is_some, option_map, option_to_list}
 use Rattle.std.proofs.lemmas.Bool.{cases_eq, cases_lt}
 use Rattle.std.proofs.lemmas.List.{get_or_past}
 use Rattle.std.proofs.lemmas.Option.{slice_get_within, slice_get-get_or, slice_get_past}
@@ -9,6 +9,8 @@ use Rattle.plain_state.specs.declared.end.End.TheVariants as ends
 use Rattle.plain_state.specs.State.{Plain, Mutator, serial_of}
 use Rattle.plain_heap.specs.Order.{Story, fresh, end_of}
 use Rattle.plain_heap.specs.Step.{fetch, asked_by}
+use Rattle.plain_heap.proofs.Stories.{story_after-now}
+use Rattle.heap_state.specs.Represents.{Represents}
 use Rattle.heap_state.specs.Values.{Accounts}
 use Rattle.heap_state.proofs.Puts.{none≢some}
 use Rattle.atom_store.specs.declared.step.Step.{Step}
@@ -21,14 +23,17 @@ use Rattle.gc_worker.specs.Between.{ReadyingStands, TasksMayBegin, WorkersGoOn, 
 use Rattle.gc_worker.specs.Fits.{Fits, IsOnSide}
 use Rattle.gc_worker.specs.Full.{FullByEnd, FullWhereTold}
 use Rattle.gc_worker.specs.Held.{Held}
-use Rattle.gc_worker.specs.Law.{Heap, nobody, held_at, moved, WorkersStand, StepKeeps, StepsKeep, FlipsWhereTold, epoch_of, at_flip}
+use Rattle.gc_worker.specs.Law.{Heap, nobody, held_at, read, moved, WorkersStand, StepKeeps, StepsKeep, FlipsWhereTold, epoch_of, at_flip}
 use Rattle.gc_worker.specs.Turned.{Outcome, Effect, Ends, Told, Silent, Answers, Marks, turned, told}
 use Rattle.gc_worker.specs.Wanted.{wanted}
 use Rattle.collected_core.specs.declared.stepped.Stepped.{Stepped}
 use Rattle.collected_core.specs.declared.stepped.Stepped.TheVariants as tells
 use Rattle.collected_core.specs.Core.{CoreState}
 use Rattle.collected_core.specs.Event.{Event, event_of, event_by, core_after, ready, task_of, next_task, told_outcome, stepped_of}
-use Rattle.collected_core.specs.Law.{IsOnTask, IsSteady, IsForWant, IsTold, Keeps, plain_after, story_by, epoch_in}
+use Rattle.collected_core.specs.Law.{IsOnTask, IsSteady, IsForWant, IsTold, Keeps, EventsKeep, EventsMeet, plain_after, story_by, epoch_in}
+use Rattle.collected_core.specs.Run.{mark_of}
+use Rattle.collected_core.specs.Whole.{MissingWorkersAreIdle}
+use Rattle.gc_worker.proofs.Represented.{represented_workers}
 use Rattle.collected_core.proofs.Outcomes.{Sort, IsFull, IsStep, sort, IsCounted, comes, end_then, asks_then, counted_then, was_running}
 use Rattle.collected_core.proofs.Readied.{Ready, readied_stands, same_task, ready_task, ready_account}
 
@@ -283,3 +288,49 @@ module _ (law : StepsKeep) (goes : WorkersGoOn) (wants : WorkersWant) (so : What
           stands = rw (event_is, stood.0, stood.1) keeps.stands;
           told = rw event_is (told_by t refl keeps.answered keeps.full keeps.flips);
         }
+
+-- ---- any event
+
+module _ (law : StepsKeep) (readies : ReadyingStands) (tasks : TasksMayBegin) (goes : WorkersGoOn) (wants : WorkersWant) (so : WhatStandsIsSo) where
+  by_want : (s : CoreState) (w : ℕ) (story : Story) (steady : IsSteady s) (stands : WorkersStand s.heap story.now story.flip) (r : Ready s w story.now story.flip)
+      → (o : Option Step) → wanted (ready s w) ≡ o → Keeps s w story
+  by_want s w story steady stands r None e =
+      idle_keeps s w story steady stands e
+      (gone_ended law goes wants so s w story steady r ((wants r.heap.pages r.heap.mutators w (ready s w) (fits law goes wants so s w story steady r)).0 e))
+  by_want s w story steady stands r (Some q) e = step_keeps law goes wants so s w story steady r q e
+
+  -- there is no such worker
+  missing : (s : CoreState) (w : ℕ) → length s.heap.workers ≤ w → wanted (ready s w) ≡ None
+  missing s w past = rw (get_or_past s.heap.workers w nobody past) refl
+
+  not_there : (s : CoreState) (w : ℕ) (p o : Plain) → WorkersStand s.heap p o → length s.heap.workers ≤ w → end_of p w ≢ Some None
+  not_there s w p o stands past is =
+      let all = so s.heap p o stands in
+      let none : slice_get p.mutators w ≡ None = slice_get_past p.mutators w (let a = all.as_many in let b = all.enough in omega (arith, a, b, past)) in
+      let e : end_of p w ≡ None = rw none refl in
+      absurd (cc)
+
+  pub events_keep : EventsKeep
+  events_keep s w story steady stands = ⊎_elim
+      (λ (below : w < length s.heap.workers). by_want s w story steady stands (readied_stands readies tasks s w story.now story.flip steady stands below) (wanted (ready s w)) refl)
+      (λ (past : length s.heap.workers ≤ w). idle_keeps s w story steady stands (missing s w past) (not_there s w story.now story.flip stands past))
+      (cases_lt w (length s.heap.workers))
+
+  -- ---- of each plain state that is represented
+
+  story_now : (s : CoreState) (story : Story) (told : Stepped) → (story_by s story told).now ≡ plain_after s story.now told
+  story_now s story told = story_after-now s.code s.turns story (option_to_list (mark_of told))
+
+  pub events_meet : EventsMeet
+  events_meet s w p lawful represents =
+      let story : Story = record { flip = lawful.flip; now = p } in
+      let stands = represented_workers s.heap lawful.plain p lawful.flip lawful.stands represents in
+      let k = events_keep s w story lawful.steady stands in
+      let later = so (event_of s w).after (story_by s story (event_of s w).told).now (story_by s story (event_of s w).told).flip k.stands in
+      record { represents = subst (Represents (read (event_of s w).after)) (story_now s story (event_of s w).told) later.sound.represents; told = k.told }
+
+pub missing_workers_are_idle : MissingWorkersAreIdle
+unfolding event_of
+missing_workers_are_idle s w past =
+    let none : wanted (ready s w) ≡ None = rw (get_or_past s.heap.workers w nobody past) refl in
+    (rw none refl, rw none refl)

@@ -10,7 +10,7 @@ use Rattle.collected_core.specs.declared.stepped.Stepped.{Stepped}
 use Rattle.collected_core.specs.declared.stepped.Stepped.TheVariants.{Idle, Moved, Effect, Flipped, Ended}
 use Rattle.collected_core.specs.Core.{CoreState}
 use Rattle.collected_core.specs.Event.{event_of, core_after}
-use Rattle.collected_core.specs.Readers.{mutators_in}
+use Rattle.collected_core.specs.Readers.{seen_of}
 
 -- the mark of an end that mutator m got
 abbrev pub end_mark : ℕ → End → Mark
@@ -35,7 +35,7 @@ mark_of (Ended m why) = Some (end_mark m why)
 
 -- whether every mutator has its end
 abbrev pub all_ended : CoreState → Bool
-all_ended s = list_all (λ x. is_some x.account.end) (mutators_in s)
+all_ended s = list_all (λ k. is_some k.end) (seen_of s)
 
 -- what a run comes to: the core in the end, and the marks of its events in order
 pub record Ran : Type 0 where

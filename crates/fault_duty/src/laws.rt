@@ -1,6 +1,7 @@
 //! What holds of the machines. Each function here does nothing: its contract is what is proved.
 
 ghost use Rattle.fault_duty.specs.Rows.{BoardIsClaimed, FillingPageIsClaimed, EpochIsMarked, TracedEpochIsLeft, ScannerEndsWithMutators, LostMarkEnds, LostBoardEnds, LostFillingPageEnds, MovedFrontEnds, BehindForbidsEnd, ScannedBoardForbidsEnd, FullPageIsWanted, NextFullPageIsChosen, OpenPageIsLeft, FillingPageIsNotWanted, NoFillingPage, LaterWantedPageEnds, LaterFillingPageEnds, ScannedBoardIsPassed};
+ghost use Rattle.fault_duty.specs.HeldUp.{GoesOn};
 ghost use Rattle.fault_duty.specs.Theorems.{NothingIsShown, TracedEpochsEndRounds, ClaimsHaveCause, AllLeftIsSeen, AllLeftIsTold, MarkedEpochsAreTraced, ScannedPagesAreClaimed, PagesInPlaceAreClaimed};
 
 /// A round does nothing only where a word shows why.
@@ -21,6 +22,11 @@ pub fn rounds_claim_or_mark()
     ensures claimed_for { ClaimsHaveCause }
     ensures scan_page { ScannedPagesAreClaimed }
     ensures scan_in_place { PagesInPlaceAreClaimed }
+{}
+
+/// Nothing holds a round up, whatever words its steps meet, but a word that can't be there.
+pub fn rounds_go_on()
+    ensures { GoesOn }
 {}
 
 /// Rounds of the duty, worked out step by step with all words as numbers.

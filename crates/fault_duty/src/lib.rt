@@ -28,7 +28,7 @@ pub use duty_stage::DutyStage;
 pub use end_look::EndLook;
 pub use findings::Findings;
 pub use laws::{
-    rounds_claim_or_mark, rounds_without_work_show_why, rows_are_worked_out,
+    rounds_claim_or_mark, rounds_go_on, rounds_without_work_show_why, rows_are_worked_out,
     scanners_end_with_the_mutators,
 };
 pub use page_state::PageState;

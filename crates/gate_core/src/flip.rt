@@ -50,6 +50,13 @@ impl Flip {
         }
     }
 
+    /// The pages that the flipper asks for.
+    pub fn asked(&self) -> u32
+        ensures { result ≡ self.now.asked }
+    {
+        self.asked
+    }
+
     /// The next step.
     pub fn want(&self) -> Step
         requires { IsFlippingGoing self.now.stage }

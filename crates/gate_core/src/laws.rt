@@ -1,6 +1,7 @@
 //! What holds of the machines. Each function here does nothing: its contract is what is proved.
 
 ghost use Rattle.gate_core.specs.Rows.{Attaches, Requests, FlipsSpaces, TellsForwarded, Resumes, Leaves, Looks, Parks, ExchangeIsTriedAgain, RequestHinders, BehindHinders, NoRequestHinders, LaterEpochHinders, RunningHindersFlip, LostFlipBeginsAgain};
+ghost use Rattle.gate_core.specs.HeldUp.{PassagesGoOn, FlipsGoOn};
 ghost use Rattle.gate_core.specs.Theorems.{PassagesAreMade, HinderedPassagesShowIt, FlipsKeepWhatTheyRead, FlipsAreMade, HinderedFlipsShowIt};
 
 /// A passage of the gate is made where the gate allows it, and changes what it says as the passage does. Where it isn't made,
@@ -15,6 +16,12 @@ pub fn flips_are_made_where_all_is_still()
     ensures kept { FlipsKeepWhatTheyRead }
     ensures made { FlipsAreMade }
     ensures hindered { HinderedFlipsShowIt }
+{}
+
+/// Nothing but a lost exchange holds a passage or a flip up, whatever words its steps meet, or a word that can't be there.
+pub fn passages_and_flips_go_on()
+    ensures passages { PassagesGoOn }
+    ensures flips { FlipsGoOn }
 {}
 
 /// Each passage of the gate and a flip, worked out step by step with all words as numbers.

@@ -27,7 +27,8 @@ pub use flipped::Flipped;
 pub use gate::Gate;
 pub use gate_stage::GateStage;
 pub use laws::{
-    flips_are_made_where_all_is_still, passages_are_made_where_allowed, rows_are_worked_out,
+    flips_are_made_where_all_is_still, passages_and_flips_go_on, passages_are_made_where_allowed,
+    rows_are_worked_out,
 };
 pub use passage::Passage;
 pub use passed::Passed;

@@ -1,15 +1,31 @@
 -- What the code reads in a word is what the definitions make of it.
-use Rattle.std.proofs.Common.{◌≡◌, ℕ, Some, None, refl, sym, ap, ◌∙◌}
-use Rattle.heap_words.specs.Decoded.{Decoded, NumberWord, PointerWord, HeaderWord, ForwardWord, BusyWord, Malformed, decode, encode}
+use Rattle.std.proofs.Common.{◌≡◌, ℕ, true, false, ◌+◌, ◌-◌, ◌^◌, ◌<◌, ◌≤◌, arith, Option, zero, suc, List, [], ◌∷◌, map, Some, None, refl, sym, ap, ◌∙◌, subst, slice_get, slice_index, slice_index_or}
+use Rattle.heap_words.specs.Decoded.{Decoded, NumberWord, PointerWord, HeaderWord, ForwardWord, BusyWord, Malformed, decode, encode, number_in, pointer_in}
 use Rattle.heap_words.proofs.Decoding.{decode-header_word}
 use Rattle.heap_words.proofs.Spelling.{number_word-decode, pointer_word-decode}
 use Rattle.record_layout.specs.declared.header.Header.{Header}
-use Rattle.record_layout.specs.Layout.{header_in, header_says}
-use Rattle.record_layout.proofs.Rereading.{header_in-said}
+use Rattle.record_layout.specs.Layout.{header_in, header_says, header_with}
+use Rattle.heap_words.specs.declared.kind.Kind.{Kind}
+use Rattle.std.proofs.Math.Decide.{dec_le, dec_lt}
+use Rattle.record_layout.proofs.Rereading.{header_in-said, header_in-header_says}
 use Rattle.gc_worker.specs.declared.access_stage.AccessStage.TheVariants.{LoadsHeader}
 use Rattle.gc_worker.specs.declared.record_access.RecordAccess.{RecordAccess}
 use Rattle.gc_worker.specs.Access.{GoesTo, read_header, role_in, used_by}
-use Rattle.gc_worker.specs.Seen.{IsValueAs, IsValueWord, seen_as, value_seen, word_for}
+use Rattle.gc_worker.specs.Seen.{IsValueAs, IsValueWord, by_address, making_in, seen, seen_as, value_seen, word_for}
+use Rattle.heap_state.specs.Worker.{Account}
+use Rattle.plain_heap.specs.Action.{register}
+use Rattle.gc_worker.specs.Fits.{FitsStage, IsMaking}
+use Rattle.gc_worker.specs.Held.{Held, at_stage}
+use Rattle.gc_worker.specs.declared.stage.Stage.{Stage}
+use Rattle.gc_worker.specs.Turned.{Pointed, back_from, first_pointer, places, scans, served_by}
+use Rattle.gc_worker.specs.Stepped.{served_in}
+use Rattle.gc_worker.specs.declared.back.Back.{Back}
+use Rattle.gc_worker.specs.declared.back.Back.TheVariants.{ToAccess, ToPlace, ToScanner}
+use Rattle.fault_duty.specs.Duty.{Round}
+use Rattle.fault_duty.specs.declared.round_end.RoundEnd.{RoundEnd}
+use Rattle.fault_duty.specs.declared.round_end.RoundEnd.TheVariants.{ScanPage, ScanInPlace, Marked, AllLeft, NothingNow}
+use Rattle.gc_worker.specs.declared.task.Task.{Task}
+use Rattle.plain_state.specs.declared.value.Value.TheVariants.{Number, Reference}
 
 -- ---- values
 
@@ -42,3 +58,145 @@ no_header r w Malformed e none = refl
 
 pub others_are_not_read : (r : RecordAccess) (w : ℕ) → None ≡ header_in (decode w) → read_header r (decode w) ≡ GoesTo (LoadsHeader r)
 others_are_not_read r w none = no_header r w (decode w) refl (sym none)
+
+-- ---- registers
+
+seen_as_number : (d : Decoded) (n : ℕ) → Some n ≡ number_in d → seen_as d ≡ Number n
+seen_as_number (NumberWord m) n is = cc
+seen_as_number (PointerWord address) n is = cc
+seen_as_number (HeaderWord kind len serial mutator) n is = cc
+seen_as_number (ForwardWord len address) n is = cc
+seen_as_number (BusyWord len worker) n is = cc
+seen_as_number Malformed n is = cc
+
+seen_as_pointer : (d : Decoded) (a : ℕ) → Some a ≡ pointer_in d → seen_as d ≡ Reference (by_address a)
+seen_as_pointer (NumberWord m) a is = cc
+seen_as_pointer (PointerWord address) a is = cc
+seen_as_pointer (HeaderWord kind len serial mutator) a is = cc
+seen_as_pointer (ForwardWord len address) a is = cc
+seen_as_pointer (BusyWord len worker) a is = cc
+seen_as_pointer Malformed a is = cc
+
+seen_as_neither : (d : Decoded) → None ≡ number_in d → None ≡ pointer_in d → seen_as d ≡ Number 0
+seen_as_neither (NumberWord m) number pointer = cc
+seen_as_neither (PointerWord address) number pointer = cc
+seen_as_neither (HeaderWord kind len serial mutator) number pointer = refl
+seen_as_neither (ForwardWord len address) number pointer = refl
+seen_as_neither (BusyWord len worker) number pointer = refl
+seen_as_neither Malformed number pointer = refl
+
+pub seen_number : (w n : ℕ) → Some n ≡ number_in (decode w) → value_seen w ≡ Number n
+seen_number w n is = seen_as_number (decode w) n is
+
+pub seen_pointer : (w address : ℕ) → Some address ≡ pointer_in (decode w) → value_seen w ≡ Reference (record { mutator = 0; serial = address })
+seen_pointer w address is = seen_as_pointer (decode w) address is
+
+pub seen_neither : (w : ℕ) → None ≡ number_in (decode w) → None ≡ pointer_in (decode w) → value_seen w ≡ Number 0
+seen_neither w number pointer = seen_as_neither (decode w) number pointer
+
+map_found : (xs : List ℕ) (r w : ℕ) → slice_get xs r ≡ Some w → slice_index_or (map value_seen xs) r (Number 0) ≡ value_seen w
+map_found [] zero w is = absurd (let z = is in cc)
+map_found [] (suc r) w is = absurd (let z = is in cc)
+map_found (x ∷ xs) zero w is = let e : x ≡ w = cc in ap value_seen e
+map_found (x ∷ xs) (suc r) w is = map_found xs r w is
+
+map_lost : (xs : List ℕ) (r : ℕ) → slice_get xs r ≡ None → slice_index_or (map value_seen xs) r (Number 0) ≡ Number 0
+map_lost [] zero is = refl
+map_lost [] (suc r) is = refl
+map_lost (x ∷ xs) zero is = absurd (let z = is in cc)
+map_lost (x ∷ xs) (suc r) is = map_lost xs r is
+
+pub register_seen : (account : Account) (registers : List ℕ) (r w : ℕ) → Some w ≡ slice_get registers r → register (seen account registers) r ≡ value_seen w
+register_seen account registers r w is = map_found registers r w (sym is)
+
+pub no_register_seen : (account : Account) (registers : List ℕ) (r : ℕ) → None ≡ slice_get registers r → register (seen account registers) r ≡ Number 0
+no_register_seen account registers r is = map_lost registers r (sym is)
+
+-- ---- headers of new records
+
+pub header_made : (h : Header) → Some h ≡ header_in (header_says h)
+header_made h = sym (header_in-header_says h)
+
+too_long : (kind : Kind) (len serial mutator : ℕ) → 4095 < len → (s : Dec (len ≤ 4095)) (c : Dec (serial < 2 ^ 40)) → header_with kind len serial mutator s c ≡ None
+too_long kind len serial mutator long (yes short) c = absurd (omega arith)
+too_long kind len serial mutator long (no still) c = refl
+
+too_late : (kind : Kind) (len serial mutator : ℕ) → 2 ^ 40 ≤ serial → (s : Dec (len ≤ 4095)) (c : Dec (serial < 2 ^ 40)) → header_with kind len serial mutator s c ≡ None
+too_late kind len serial mutator late (yes short) (yes counted) = absurd (omega arith)
+too_late kind len serial mutator late (yes short) (no uncounted) = refl
+too_late kind len serial mutator late (no long) c = refl
+
+pub no_header_long : (kind : Kind) (len serial mutator : ℕ) → 4095 < len → None ≡ header_in (HeaderWord kind len serial mutator)
+unfolding header_in
+no_header_long kind len serial mutator long = sym (too_long kind len serial mutator long (dec_le len 4095) (dec_lt serial (2 ^ 40)))
+
+pub no_header_late : (kind : Kind) (len serial mutator : ℕ) → 2 ^ 40 ≤ serial → None ≡ header_in (HeaderWord kind len serial mutator)
+unfolding header_in
+no_header_late kind len serial mutator late = sym (too_late kind len serial mutator late (dec_le len 4095) (dec_lt serial (2 ^ 40)))
+
+-- ---- the first pointer among registers
+
+pub pointer_found : (rs : List ℕ) (i w a : ℕ) → i < 8 → w ≡ slice_index rs i → Some a ≡ pointer_in (decode w)
+    → Some (record { register = i; addr = a }) ≡ first_pointer rs (8 - i) i
+unfolding first_pointer
+pointer_found rs i w a below word is =
+    let n : 8 - i ≡ suc (8 - (i + 1)) = omega arith in
+    let d : pointer_in (decode (slice_index rs i)) ≡ Some a = ap (λ (v : ℕ). pointer_in (decode v)) (sym word) ∙ sym is in
+    rw (n, d)
+
+pub pointer_not_there : (rs : List ℕ) (i w : ℕ) → i < 8 → w ≡ slice_index rs i → None ≡ pointer_in (decode w)
+    → first_pointer rs (8 - i) i ≡ first_pointer rs (8 - (i + 1)) (i + 1)
+unfolding first_pointer
+pointer_not_there rs i w below word is =
+    let n : 8 - i ≡ suc (8 - (i + 1)) = omega arith in
+    let d : pointer_in (decode (slice_index rs i)) ≡ None = ap (λ (v : ℕ). pointer_in (decode v)) (sym word) ∙ sym is in
+    rw (n, d)
+
+pub no_pointer_left : (rs : List ℕ) (i : ℕ) → 8 ≤ i → first_pointer rs (8 - i) i ≡ None
+unfolding first_pointer
+no_pointer_left rs i past = let n : 8 - i ≡ 0 = omega arith in rw n
+
+-- ---- who makes a record
+
+-- the serial of the record fits a header
+pub serial_fits : (account : Account) (registers : List ℕ) (task : Option Task) → IsMaking account registers task → account.serial + 1 < 2 ^ 40
+serial_fits account registers task m = m.executes.call.serial m.making (ap making_in m.executes.acts)
+
+-- ---- allocations
+
+-- an allocation fits a worker whatever its stage was before
+pub placing_fits : (x : Held) (was : Stage) (header : Option Header) → FitsStage (at_stage x was) (places x header) → FitsStage x (places x header)
+placing_fits x was (Some header) fits = record { layout = fits.layout; epoch = fits.epoch; going = fits.going; sound = fits.sound }
+placing_fits x was None fits = fits
+
+-- ---- rounds
+
+-- of a round that is done only its epoch counts
+served_alike : (x : Held) (d : Round) (epoch : ℕ) (back : Back) (end : RoundEnd) → epoch ≡ d.epoch → served_in x epoch back end ≡ served_by x d back end
+served_alike x d epoch back (ScanPage page) is = ap (λ (e : ℕ). scans (record x { epoch = e }) page false back) is
+served_alike x d epoch back (ScanInPlace page) is = ap (λ (e : ℕ). scans (record x { epoch = e }) page true back) is
+served_alike x d epoch back Marked is = ap (λ (e : ℕ). back_from (record x { epoch = e }) back) is
+served_alike x d epoch back (NothingNow word) is = ap (λ (e : ℕ). back_from (record x { epoch = e }) back) is
+served_alike x d epoch back (AllLeft word) is = refl
+
+-- nor does the stage at which it was done
+served_anywhere : (x : Held) (was : Stage) (epoch : ℕ) (back : Back) (end : RoundEnd) → served_in (at_stage x was) epoch back end ≡ served_in x epoch back end
+served_anywhere x was epoch back (ScanPage page) = refl
+served_anywhere x was epoch back (ScanInPlace page) = refl
+served_anywhere x was epoch (ToAccess access) Marked = refl
+served_anywhere x was epoch ToPlace Marked = refl
+served_anywhere x was epoch ToScanner Marked = refl
+served_anywhere x was epoch (ToAccess access) (NothingNow word) = refl
+served_anywhere x was epoch ToPlace (NothingNow word) = refl
+served_anywhere x was epoch ToScanner (NothingNow word) = refl
+served_anywhere x was epoch back (AllLeft word) = refl
+
+pub served_after : (x : Held) (was : Stage) (d : Round) (epoch : ℕ) (back : Back) (end : RoundEnd) → epoch ≡ d.epoch
+    → served_in (at_stage x was) epoch back end ≡ served_by x d back end
+served_after x was d epoch back end is = served_anywhere x was epoch back end ∙ served_alike x d epoch back end is
+
+pub served_fits : (x : Held) (was : Stage) (d : Round) (epoch : ℕ) (back : Back) (end : RoundEnd) → epoch ≡ d.epoch
+    → FitsStage (served_by x d back end) (served_by x d back end).stage
+    → FitsStage (served_in (at_stage x was) epoch back end) (served_in (at_stage x was) epoch back end).stage
+served_fits x was d epoch back end is fits =
+    let Fitting : Held → Type 0 = λ y. FitsStage y y.stage in subst Fitting (sym (served_after x was d epoch back end is)) fits

@@ -14,3 +14,6 @@ pub mod Copied
 pub mod Claims
 pub mod Begun
 pub mod Represented
+pub mod FullTold
+pub mod Stepped
+pub mod Counted

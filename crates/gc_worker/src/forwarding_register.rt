@@ -2,7 +2,7 @@ use crate::after::After;
 use forwarding::Evac;
 
 /// A register of a stopped mutator whose record is being copied.
-#[derive(Debug, Drop)]
+#[derive(Clone, Copy, Debug)]
 pub struct ForwardingRegister {
     pub register: u8,
     pub evac: Evac,

@@ -5,6 +5,8 @@ ghost use Rattle.gc_worker.specs.Between.{HeapsOpen, ReadyingStands, TasksMayBeg
 ghost use Rattle.gc_worker.specs.Begun.{BeginningsAreKept, FullIsFoundLater};
 ghost use Rattle.gc_worker.specs.Claims.{TracedPagesAreOpen, FlipsAreOfTraced};
 ghost use Rattle.gc_worker.specs.Copied.{CopiedWasLive, FullTellsLive};
+ghost use Rattle.gc_worker.specs.FullTold.{FullIsTold};
+ghost use Rattle.gc_worker.specs.Counted.{CountedFit, CountsAreApart};
 ghost use Rattle.gc_worker.specs.Represented.{RepresentedWorkersStand};
 
 /// A step of a worker is of a word of the table, and the worker may take the reply. What stood for a plain state before stands for it
@@ -75,10 +77,21 @@ pub fn what_was_copied_was_live()
     ensures full { FullTellsLive }
 {}
 
+/// A mutator that found its epoch traced tells that the heap is full where the words have no room for the pages that its task asks for.
+pub fn full_is_told()
+    ensures { FullIsTold }
+{}
+
 /// Once an epoch is traced, the board and all pages into which records were copied are open in it; and no step flips before that.
 pub fn traced_pages_are_open()
     ensures opened { TracedPagesAreOpen }
     ensures flips { FlipsAreOfTraced }
+{}
+
+/// A worker with another count of its mutator's instructions wants, tells and becomes the same, and is as sound.
+pub fn counts_are_apart()
+    ensures same { CountsAreApart }
+    ensures sound { CountedFit }
 {}
 
 /// The epoch in which an instruction began, at a look, is kept until it is answered; and that the heap is full is found only after the look.

@@ -9,15 +9,27 @@ mod access;
 mod access_stage;
 mod access_words;
 mod accessed;
+mod acting;
 mod after;
+mod allocating;
 mod back;
 mod board_access;
+mod due;
 mod field_access;
 mod forwarding_register;
+mod instructions;
 mod laws;
+mod looking;
+mod passing;
 mod record_access;
+mod seen_value;
+mod serving;
 mod stage;
+mod state;
+mod stepped;
+mod stepping;
 mod task;
+mod worker;
 
 pub use access::Access;
 pub use access_stage::AccessStage;
@@ -28,11 +40,13 @@ pub use board_access::{BoardAccess, BoardSwap, BoardUse};
 pub use field_access::{FieldAccess, FieldUse, Role};
 pub use forwarding_register::ForwardingRegister;
 pub use laws::{
-    answers_leave_the_others, beginnings_are_kept, flips_are_won, heaps_open, places_fit,
-    readying_stands, registers_lead_back, steps_keep, tasks_may_begin, traced_pages_are_open,
-    what_is_represented_stands, what_stands_is_so, what_was_copied_was_live, workers_go_on,
-    workers_want,
+    answers_leave_the_others, beginnings_are_kept, counts_are_apart, flips_are_won, full_is_told,
+    heaps_open, places_fit, readying_stands, registers_lead_back, steps_keep, tasks_may_begin,
+    traced_pages_are_open, what_is_represented_stands, what_stands_is_so,
+    what_was_copied_was_live, workers_go_on, workers_want,
 };
 pub use record_access::{RecordAccess, RecordUse};
 pub use stage::Stage;
+pub use stepped::Stepped;
 pub use task::Task;
+pub use worker::Worker;

@@ -1,3 +1,4 @@
 pub mod ClaimsLeft
 pub mod Claiming
 pub mod Opening
+pub mod GoingOn

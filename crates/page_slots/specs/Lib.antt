@@ -3,3 +3,4 @@ pub mod Open
 pub mod Soundness
 pub mod Rows
 pub mod Theorems
+pub mod HeldUp

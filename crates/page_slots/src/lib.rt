@@ -22,7 +22,10 @@ mod opened;
 pub use claim::Claim;
 pub use claim_stage::ClaimStage;
 pub use claimed::Claimed;
-pub use laws::{claims_win_pages_of_earlier_epochs, openings_open_pages, rows_are_worked_out};
+pub use laws::{
+    claims_go_on, claims_win_pages_of_earlier_epochs, openings_go_on, openings_open_pages,
+    rows_are_worked_out,
+};
 pub use open::Open;
 pub use open_stage::OpenStage;
 pub use opened::Opened;

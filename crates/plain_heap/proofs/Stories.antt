@@ -13,7 +13,7 @@ module _ (code : List (List Instr)) (turns : ℕ) where
   turned-now s (Flip asked) = refl
   turned-now s (Full m asked room live) = refl
 
-  story_after-now : (s : Story) (order : List Mark) → (story_after code turns s order).now ≡ state_after code turns s.now order
+  pub story_after-now : (s : Story) (order : List Mark) → (story_after code turns s order).now ≡ state_after code turns s.now order
   story_after-now s [] = refl
   story_after-now s (mark ∷ marks) =
       story_after-now (turned code turns s mark) marks ∙ ap (λ now. state_after code turns now marks) (turned-now s mark)
@@ -24,7 +24,7 @@ module _ (code : List (List Instr)) (turns : ℕ) where
   story_after-flip s (Flip asked ∷ marks) none = cc
   story_after-flip s (Full m asked room live ∷ marks) none = story_after-flip (turned code turns s (Full m asked room live)) marks none
 
-  story_after-append : (s : Story) (before after : List Mark) → story_after code turns s (before ++ after) ≡ story_after code turns (story_after code turns s before) after
+  pub story_after-append : (s : Story) (before after : List Mark) → story_after code turns s (before ++ after) ≡ story_after code turns (story_after code turns s before) after
   story_after-append s [] after = refl
   story_after-append s (mark ∷ before) after = story_after-append (turned code turns s mark) before after
 

@@ -115,12 +115,12 @@ module _ (n mutators : ℕ) where
   known from (suc count) scanners zero at all = absurd (omega (arith, all))
   known from (suc count) scanners (suc total) at all = λ i. as_mutator from (omega (arith, at)) i ∷ known (from + 1) count scanners total (omega (arith, at)) (omega (arith, all)) i
 
-  many : (from count : ℕ) → length (fresh_workers n mutators from count) ≡ count
+  pub many : (from count : ℕ) → length (fresh_workers n mutators from count) ≡ count
   unfolding fresh_workers
   many from zero = refl
   many from (suc count) = ap suc (many (from + 1) count)
 
-  is_there : (from count j k : ℕ) → j < count → k ≡ from + j → get_or (fresh_workers n mutators from count) j nobody ≡ fresh_worker n mutators k
+  pub is_there : (from count j k : ℕ) → j < count → k ≡ from + j → get_or (fresh_workers n mutators from count) j nobody ≡ fresh_worker n mutators k
   unfolding fresh_workers
   is_there from zero j k l at = absurd (omega (arith, l))
   is_there from (suc count) zero k l at = ap (fresh_worker n mutators) (let same : from ≡ k = omega (arith, at) in same)

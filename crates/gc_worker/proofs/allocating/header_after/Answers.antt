@@ -1,0 +1,5 @@
+use Rattle.gc_worker.proofs.Reading.{header_made}
+use Rattle.gc_worker.proofs.allocating.header_after.Goals as goal
+
+pub returns : goal.returns
+returns c = header_made _

@@ -1,0 +1,5 @@
+use Rattle.gc_worker.proofs.FullTold.{full_is_told}
+use Rattle.gc_worker.proofs.laws.full_is_told.Goals as goal
+
+pub returns : goal.returns
+returns c = full_is_told

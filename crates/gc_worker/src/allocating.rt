@@ -1,0 +1,173 @@
+//! The allocation of the record that an instruction makes.
+
+ghost use Rattle.std.specs.Prelude.{◌≡◌, ◌+◌, ◌^◌, ◌<◌};
+ghost use Rattle.std.specs.Option.{option_and_then};
+ghost use Rattle.heap_words.specs.Decoded.{HeaderWord};
+ghost use Rattle.record_layout.specs.Layout.{header_in};
+ghost use Rattle.heap_state.specs.Ghost.{header_kind};
+ghost use Rattle.gc_worker.specs.Fits.{FitsStage, IsMaking, Takes};
+ghost use Rattle.gc_worker.specs.Held.{asked_by, header_for, header_of, making_for};
+ghost use Rattle.gc_worker.specs.Seen.{making_in};
+ghost use Rattle.gc_worker.specs.Stepped.{IsPlacing, IsSound, stepped_by, uncounted};
+ghost use Rattle.gc_worker.specs.Turned.{full_by, places, told, told_effect, told_full, turned, with_record};
+
+use crate::after::After;
+use crate::back::Back;
+use crate::due::Due;
+use crate::stage::Stage;
+use crate::state::State;
+use crate::stepped::Stepped;
+use alloc_end::{Allocated, Place, Run, Shortage};
+use atom_store::{Reply, Turn};
+use fault_duty::Duty;
+use gate_core::Gate;
+use heap_words::{Kind as HeaderKind, Word};
+use plain_heap::Action;
+use plain_state::{End, Kind, LONGEST_RECORD};
+use record_layout::Header;
+use space_map::PAGE_WORDS;
+
+/// The greatest serial that a header can have.
+const LAST_SERIAL: u64 = 0xff_ffff_ffff;
+
+impl State {
+    /// The header of the next record, which has this kind and length, if a header can say that.
+    fn next_header(&self, kind: Kind, len: u16) -> Option<Header>
+        ensures { result ≡ header_in (HeaderWord (header_kind kind) len (self.now.account.serial + 1) self.now.number) }
+    {
+        header_after(self.serial, header_kind(kind), len, self.number)
+    }
+
+    /// The header of the record that an action makes, if it makes one.
+    fn header_by(&self, action: Result<Action, End>) -> Option<Header>
+        ensures { result ≡ option_and_then (header_of self.now) (making_in action) }
+    {
+        match action {
+            Ok(Action::Makes(kind, _, len)) => self.next_header(kind, len),
+            _ => None,
+        }
+    }
+
+    /// The header of the record that the task makes, if it makes one.
+    fn header(&self) -> Option<Header>
+        ensures { result ≡ header_for self.now }
+    {
+        match self.due {
+            Due::Call => self.header_by(self.action(self.instr)),
+            Due::Stop | Due::Nothing => None,
+        }
+    }
+
+    /// The pages that it needs.
+    pub fn asked(&self) -> u32
+        ensures { result ≡ asked_by self.now }
+    {
+        match self.header() {
+            Some(header) => (u32::from(header.len) + 1).div_ceil(PAGE_WORDS),
+            None => 0,
+        }
+    }
+
+    /// The beginning of its allocation.
+    pub fn placing(&self) -> Stage
+        requires { FitsStage self.now (places self.now (header_for self.now)) }
+        ensures { result ≡ places self.now (header_for self.now) }
+    {
+        match self.header() {
+            Some(header) => {
+                let run = self.run.unwrap_or(Run { at: 0, end: 0 });
+                Stage::Places(Place::new(self.spaces, run, header, self.epoch))
+            }
+            None => Stage::Looks,
+        }
+    }
+
+    /// A step of the allocation.
+    #[tactic(auto, using(crate::proofs::Reading::serial_fits))]
+    pub fn place(&mut self, reply: Reply) -> Stepped
+        requires at { IsPlacing self.old.stage }
+        requires fits { IsSound self.old }
+        requires takes { Takes self.old reply }
+        requires after { IsSound (turned self.old reply) }
+        ensures state { self.new ≡ uncounted (turned self.old reply) }
+        ensures tells { result ≡ stepped_by self.old.number (told self.old reply) }
+    {
+        let Stage::Places(place) = &mut self.stage else {
+            unreachable!()
+        };
+        let before = *place;
+        let Turn::Finished(allocated) = place.take(reply) else {
+            return Stepped::Moved;
+        };
+        let run = place.run();
+        self.stage = Stage::Places(before);
+        match allocated {
+            Allocated::Placed(at) => self.has_placed(run, at),
+            Allocated::Full(shortage) => self.has_no_room(shortage),
+        }
+    }
+
+    /// The record stands, and the register that the task names leads to it.
+    fn has_placed(&mut self, run: Run, at: u32) -> Stepped
+        requires serial { self.old.account.serial + 1 < 2 ^ 40 }
+        requires making { IsMaking self.old.account self.old.registers self.old.task }
+        ensures state { self.new ≡ uncounted (with_record self.old run at (making_for self.old self.old.task)) }
+        ensures tells { result ≡ stepped_by self.old.number (told_effect self.old.task) }
+    {
+        self.run = Some(run);
+        match self.action(self.instr) {
+            Ok(Action::Makes(_, into, _)) => {
+                self.serial += 1;
+                self.load(into, Word::pointer(at).0)
+            }
+            _ => unreachable!(),
+        }
+    }
+
+    /// The heap is full where the epoch is traced, and no flip can help.
+    fn has_no_room(&mut self, s: Shortage) -> Stepped
+        requires making { IsMaking self.old.account self.old.registers self.old.task }
+        requires after { FitsStage (full_by self.old s s.traced) (full_by self.old s s.traced).stage }
+        ensures state { self.new ≡ uncounted (full_by self.old s s.traced) }
+        ensures tells { result ≡ stepped_by self.old.number (told_full self.old s s.traced) }
+    {
+        if !s.traced {
+            let duty = Duty::new(self.spaces, None, self.epoch, self.number);
+            self.stage = Stage::Serves(duty, Back::ToPlace);
+            return Stepped::Moved;
+        }
+        if self.begun < self.epoch || self.epoch == u32::MAX {
+            let Shortage {
+                asked, room, live, ..
+            } = s;
+            return self.end_with(End::HeapFull { asked, room, live });
+        }
+        self.stage = Stage::Passes(Gate::request(self.spaces), After::Places);
+        Stepped::Moved
+    }
+}
+
+/// The header of the record after the one with this serial, if a header can say that.
+#[tactic(auto, using(crate::proofs::Reading::header_made, crate::proofs::Reading::no_header_long, crate::proofs::Reading::no_header_late))]
+fn header_after(serial: u64, kind: HeaderKind, len: u16, mutator: u8) -> Option<Header>
+    ensures { result ≡ header_in (HeaderWord kind len (serial + 1) mutator) }
+{
+    if u64::from(len) > LONGEST_RECORD || serial >= LAST_SERIAL {
+        return None;
+    }
+    Some(Header {
+        kind,
+        len,
+        serial: serial + 1,
+        mutator,
+    })
+}
+
+fn header_kind(kind: Kind) -> HeaderKind
+    ensures { result ≡ header_kind kind }
+{
+    match kind {
+        Kind::Fields => HeaderKind::Fields,
+        Kind::Raw => HeaderKind::Raw,
+    }
+}

@@ -1,0 +1,9 @@
+/// Whether the next look at the gate begins something.
+#[derive(Clone, Copy, Debug, PartialEq, Eq)]
+pub enum Due {
+    Nothing,
+    /// An instruction.
+    Call,
+    /// An end that stands in place of one.
+    Stop,
+}

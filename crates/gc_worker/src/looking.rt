@@ -1,0 +1,92 @@
+//! The look at the gate that begins an instruction.
+
+ghost use Rattle.std.specs.Prelude.{◌≡◌, IsTrue, true, nat_lt};
+ghost use Rattle.space_map.specs.GateWord.{decode_gate};
+ghost use Rattle.mutator_asm.specs.Program.{is_valid};
+ghost use Rattle.gc_worker.specs.declared.task.Task.TheVariants.{Calls};
+ghost use Rattle.gc_worker.specs.Fits.{FitsStage, MayBegin};
+ghost use Rattle.gc_worker.specs.Stepped.{IsSound, seen_by, stepped_by, uncounted};
+ghost use Rattle.gc_worker.specs.Turned.{acted, looked_by, started, told, told_acted, told_gate, told_start, turned};
+ghost use Rattle.plain_heap.specs.Action.{action};
+
+use crate::after::After;
+use crate::due::Due;
+use crate::stage::Stage;
+use crate::state::State;
+use crate::stepped::Stepped;
+use atom_store::Reply;
+use gate_core::Gate;
+use mutator_asm::Instr;
+use space_map::GateWord;
+
+impl State {
+    /// The gate was looked at.
+    pub fn look(&mut self, reply: Reply) -> Stepped
+        requires at { self.old.stage ≡ Stage.Looks }
+        requires fits { IsSound self.old }
+        requires after { IsSound (turned self.old reply) }
+        ensures state { self.new ≡ uncounted (turned self.old reply) }
+        ensures tells { result ≡ stepped_by self.old.number (told self.old reply) }
+    {
+        let _number = self.number;
+        match reply {
+            Reply::Value(word) => self.looked(word),
+            Reply::Done | Reply::Won | Reply::Lost(_) => Stepped::Moved,
+        }
+    }
+
+    fn looked(&mut self, word: u64) -> Stepped
+        requires is_mutator { nat_lt self.old.number self.old.mutators ≡ true }
+        requires may_begin { MayBegin self.old.account self.old.registers self.old.task }
+        requires after { FitsStage (looked_by self.old (decode_gate word)) (looked_by self.old (decode_gate word)).stage }
+        ensures state { self.new ≡ uncounted (looked_by self.old (decode_gate word)) }
+        ensures tells { result ≡ stepped_by self.old.number (told_gate self.old (decode_gate word)) }
+    {
+        let _number = self.number;
+        match GateWord::read(word) {
+            Some(gate) if gate.request => {
+                self.stage = Stage::Passes(Gate::park(self.spaces), After::Looks);
+                Stepped::Moved
+            }
+            Some(_) => self.start(),
+            None => Stepped::Moved,
+        }
+    }
+
+    /// The task begins, if there is one.
+    fn start(&mut self) -> Stepped
+        requires is_mutator { nat_lt self.old.number self.old.mutators ≡ true }
+        requires may_begin { MayBegin self.old.account self.old.registers self.old.task }
+        requires after { FitsStage (started self.old self.old.task) (started self.old self.old.task).stage }
+        ensures state { self.new ≡ uncounted (started self.old self.old.task) }
+        ensures tells { result ≡ stepped_by self.old.number (told_start self.old self.old.task) }
+    {
+        match self.due {
+            Due::Nothing => {
+                self.stage = Stage::Looks;
+                Stepped::Moved
+            }
+            Due::Call => {
+                self.begun = self.epoch;
+                self.execute(self.instr)
+            }
+            Due::Stop => {
+                self.begun = self.epoch;
+                self.end_with(self.stop)
+            }
+        }
+    }
+
+    fn execute(&mut self, instr: Instr) -> Stepped
+        requires is_mutator { nat_lt self.old.number self.old.mutators ≡ true }
+        requires valid { IsTrue (is_valid instr) }
+        requires after { FitsStage (acted self.old (action (seen_by self.old) instr)) (acted self.old (action (seen_by self.old) instr)).stage }
+        ensures state { self.new ≡ uncounted (acted self.old (action (seen_by self.old) instr)) }
+        ensures tells { result ≡ stepped_by self.old.number (told_acted (Calls instr) (action (seen_by self.old) instr)) }
+    {
+        match self.action(instr) {
+            Ok(action) => self.act(action),
+            Err(why) => self.end_with(why),
+        }
+    }
+}

@@ -1,0 +1,206 @@
+//! What passages of the gate come to, and the flip.
+
+ghost use Rattle.std.specs.Prelude.{◌≡◌, ◌+◌, ◌-◌, ◌^◌, ◌<◌, ◌≤◌};
+ghost use Rattle.std.specs.Option.{option_map};
+ghost use Rattle.gc_worker.specs.Held.{at_stage};
+ghost use Rattle.gc_worker.specs.Fits.{FitsStage, Takes};
+ghost use Rattle.gc_worker.specs.Stepped.{IsAtGate, IsFlipping, IsForwarding, IsSound, pointed, stepped_by, uncounted};
+ghost use Rattle.gc_worker.specs.Turned.{epoch_said, first_pointer, forwards_from, goes_on, in_epoch, passed_by, passes, stopped, told, turned};
+
+use crate::after::After;
+use crate::forwarding_register::ForwardingRegister;
+use crate::stage::Stage;
+use crate::state::State;
+use crate::stepped::Stepped;
+use atom_store::{Reply, Turn};
+use forwarding::Evac;
+use gate_core::{Flip, Flipped, Gate, Passage, Passed};
+use heap_words::Word;
+use space_map::GateWord;
+
+impl State {
+    /// A step at the gate.
+    pub fn pass(&mut self, reply: Reply) -> Stepped
+        requires at { IsAtGate self.old.stage }
+        requires fits { IsSound self.old }
+        requires takes { Takes self.old reply }
+        requires after { IsSound (turned self.old reply) }
+        ensures state { self.new ≡ uncounted (turned self.old reply) }
+        ensures tells { result ≡ stepped_by self.old.number (told self.old reply) }
+    {
+        let Stage::Passes(gate, after) = &mut self.stage else {
+            unreachable!()
+        };
+        let (before, after) = (*gate, *after);
+        if let Turn::Finished(passed) = gate.take(reply) {
+            self.stage = Stage::Passes(before, after);
+            self.has_passed(after, before.passage(), passed);
+        }
+        Stepped::Moved
+    }
+
+    /// What a passage comes to.
+    fn has_passed(&mut self, after: After, passage: Passage, passed: Passed)
+        requires { FitsStage (passed_by self.old after passage passed) (passed_by self.old after passage passed).stage }
+        ensures { self.new ≡ passed_by self.old after passage passed }
+    {
+        match (passage, passed) {
+            (Passage::Attach, Passed::Went(word)) => {
+                self.enter(word);
+                self.stage = Stage::Looks;
+            }
+            (Passage::Attach, Passed::NotYet(_)) => {
+                self.stage = Stage::Passes(Gate::attach(self.spaces), after);
+            }
+            (Passage::Park, Passed::Went(_)) => self.resume(after),
+            (Passage::Park, Passed::NotYet(_)) | (Passage::Resume(_), Passed::Went(_)) => {
+                self.stage = self.going_on(after);
+            }
+            (Passage::Request, Passed::Went(_)) => {
+                self.stage = Stage::Flips(Flip::new(self.spaces, self.epoch, self.asked()));
+            }
+            (Passage::Request, Passed::NotYet(_)) => {
+                self.stage = Stage::Passes(Gate::park(self.spaces), after);
+            }
+            (Passage::Resume(_), Passed::NotYet(word)) => self.has_stopped(after, word),
+            (Passage::Forwarded, Passed::Went(word)) => {
+                self.enter(word);
+                self.resume(after);
+            }
+            (Passage::Leave, Passed::Went(_)) => self.stage = Stage::Gone,
+            (Passage::Forwarded | Passage::Leave, Passed::NotYet(_)) | (Passage::Look, _) => {}
+        }
+    }
+
+    /// The mutator comes into the epoch that a word of the gate says.
+    fn enter(&mut self, word: u64)
+        ensures { self.new ≡ in_epoch self.old (epoch_said self.old.epoch word) }
+    {
+        self.epoch = epoch_in(self.epoch, word);
+        self.run = None;
+    }
+
+    fn resume(&mut self, after: After)
+        ensures { self.new ≡ at_stage self.old (passes self.old (Passage.Resume self.old.epoch) after) }
+    {
+        self.stage = Stage::Passes(Gate::resume(self.spaces, self.epoch), after);
+    }
+
+    /// Where a mutator that stopped goes on.
+    fn going_on(&self, after: After) -> Stage
+        requires { FitsStage self.now (goes_on self.now after) }
+        ensures { result ≡ goes_on self.now after }
+    {
+        match after {
+            After::Looks => Stage::Looks,
+            After::Places => self.placing(),
+        }
+    }
+
+    /// A stopped mutator that sees a later epoch forwards its registers.
+    fn has_stopped(&mut self, after: After, word: u64)
+        requires { FitsStage (stopped self.old after word) (stopped self.old after word).stage }
+        ensures { self.new ≡ stopped self.old after word }
+    {
+        if self.epoch < epoch_in(self.epoch, word) {
+            self.stage = self.forwarding(after, 0);
+        } else {
+            self.resume(after);
+        }
+    }
+
+    /// The copy of the record to which the first register leads that holds a pointer, from this one on; else all are forwarded.
+    fn forwarding(&self, after: After, from: u8) -> Stage
+        requires from { from ≤ 8 }
+        requires next { self.now.epoch + 1 < 2 ^ 32 }
+        requires after { FitsStage self.now (forwards_from self.now after from) }
+        ensures { result ≡ forwards_from self.now after from }
+    {
+        match self.first_pointer(from) {
+            Some((register, addr)) => Stage::Forwards(ForwardingRegister {
+                register,
+                evac: Evac::new(self.spaces, addr, self.epoch + 1, self.number),
+                after,
+            }),
+            None => Stage::Passes(Gate::forwarded(self.spaces), after),
+        }
+    }
+
+    /// The first register from this one on that holds a pointer, and where that leads.
+    #[tactic(auto, using(crate::proofs::Reading::pointer_found, crate::proofs::Reading::pointer_not_there, crate::proofs::Reading::no_pointer_left))]
+    fn first_pointer(&self, from: u8) -> Option<(u8, u32)>
+        requires { from ≤ 8 }
+        ensures { option_map pointed result ≡ first_pointer self.now.registers (8 - from) from }
+    {
+        for register in from..8 {
+            if let Some(addr) = Word(self.registers[register as usize]).as_pointer() {
+                return Some((register, addr));
+            }
+        }
+        None
+    }
+
+    /// A step of the flip.
+    pub fn flip(&mut self, reply: Reply) -> Stepped
+        requires at { IsFlipping self.old.stage }
+        requires fits { IsSound self.old }
+        requires takes { Takes self.old reply }
+        requires after { IsSound (turned self.old reply) }
+        ensures state { self.new ≡ uncounted (turned self.old reply) }
+        ensures tells { result ≡ stepped_by self.old.number (told self.old reply) }
+    {
+        let Stage::Flips(flip) = &mut self.stage else {
+            unreachable!()
+        };
+        match flip.take(reply) {
+            Turn::More => Stepped::Moved,
+            Turn::Finished(Flipped::Went(asked)) => {
+                self.stage = Stage::Passes(
+                    Gate::resume(self.spaces, self.epoch),
+                    After::Places,
+                );
+                Stepped::Flipped(asked)
+            }
+            Turn::Finished(Flipped::NotYet(_)) => {
+                let asked = flip.asked();
+                self.stage = Stage::Flips(Flip::new(self.spaces, self.epoch, asked));
+                Stepped::Moved
+            }
+        }
+    }
+
+    /// A step of the copy of a record to which a register leads.
+    pub fn forward(&mut self, reply: Reply) -> Stepped
+        requires at { IsForwarding self.old.stage }
+        requires fits { IsSound self.old }
+        requires takes { Takes self.old reply }
+        requires after { IsSound (turned self.old reply) }
+        ensures state { self.new ≡ uncounted (turned self.old reply) }
+        ensures tells { result ≡ stepped_by self.old.number (told self.old reply) }
+    {
+        let Stage::Forwards(ForwardingRegister {
+            register,
+            evac,
+            after,
+        }) = &mut self.stage
+        else {
+            unreachable!()
+        };
+        let (register, after) = (*register, *after);
+        if let Turn::Finished(to) = evac.take(reply) {
+            self.set(register, Word::pointer(to.0).0);
+            self.stage = self.forwarding(after, register + 1);
+        }
+        Stepped::Moved
+    }
+}
+
+/// The epoch that a word of the gate says.
+fn epoch_in(own: u32, word: u64) -> u32
+    ensures { result ≡ epoch_said own word }
+{
+    match GateWord::read(word) {
+        Some(gate) => gate.epoch,
+        None => own,
+    }
+}

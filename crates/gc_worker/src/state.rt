@@ -1,0 +1,55 @@
+ghost use Rattle.std.specs.Prelude.{◌≡◌};
+
+use crate::due::Due;
+use crate::stage::Stage;
+use alloc_end::Run;
+use mutator_asm::Instr;
+use plain_state::{End, REGISTERS};
+use space_map::Spaces;
+use std::marker::Model;
+
+/// What a worker holds between two steps.
+#[derive(Debug, Drop)]
+pub(crate) struct State {
+    pub number: u8,
+    pub spaces: Spaces,
+    pub mutators: u8,
+    pub epoch: u32,
+    /// The epoch at the look that began the instruction.
+    pub begun: u32,
+    pub registers: [u64; REGISTERS],
+    pub counter: u64,
+    pub serial: u64,
+    pub printed: Vec<u64>,
+    pub end: Option<End>,
+    pub run: Option<Run>,
+    pub due: Due,
+    /// The instruction, where one is due.
+    pub instr: Instr,
+    /// The end, where one is due.
+    pub stop: End,
+    pub stage: Stage,
+}
+
+impl Model for State {
+    ghost use Rattle.std.specs.Prelude.{vec_capacity};
+    ghost use Rattle.gc_worker.specs.Held.{Held};
+    ghost use Rattle.gc_worker.specs.Stepped.{task_due, HasRoom};
+
+    ghost Value = { Held };
+
+    ghost view = { λ s. record {
+      number = s.number;
+      layout = s.spaces;
+      mutators = s.mutators;
+      epoch = s.epoch;
+      begun = s.begun;
+      account = record { counter = s.counter; printed = s.printed.items; executed = 0; serial = s.serial; end = s.end };
+      registers = s.registers;
+      run = s.run;
+      task = task_due s.due s.instr s.stop;
+      stage = s.stage;
+    } };
+
+    ghost invariant = { λ s. HasRoom s.number s.mutators (vec_capacity s.printed) };
+}

@@ -1,0 +1,165 @@
+ghost use Rattle.std.specs.Prelude.{◌≡◌, ◌≤◌, ◌<◌, Some, IfOk, IfSome, IsSome};
+ghost use Rattle.atom_store.specs.Step.{place_in};
+ghost use Rattle.space_map.specs.Table.{table_length};
+ghost use Rattle.gc_worker.specs.declared.task.Task.TheVariants.{Calls, Stops};
+ghost use Rattle.gc_worker.specs.Between.{IsIdle, fresh_mutator, fresh_scanner, with_task};
+ghost use Rattle.gc_worker.specs.Fits.{MayBegin, MayStop, Takes};
+ghost use Rattle.gc_worker.specs.Stepped.{IsSound, header_kept, place_kept, stepped_by, uncounted};
+ghost use Rattle.gc_worker.specs.Turned.{told, turned};
+ghost use Rattle.gc_worker.specs.Wanted.{wanted};
+
+use crate::after::After;
+use crate::back::Back;
+use crate::stage::Stage;
+use crate::state::State;
+use crate::stepped::Stepped;
+use atom_store::{NoMemory, Reply, Step};
+use fault_duty::Duty;
+use gate_core::Gate;
+use mutator_asm::Instr;
+use plain_state::{End, MOST_PRINTED, REGISTERS};
+use space_map::Spaces;
+use std::alloc::Global;
+use std::marker::Model;
+
+/// One worker of the collected heap. It names its next step and takes the reply; who has the words makes the step.
+#[derive(Debug, Drop)]
+pub struct Worker {
+    state: State,
+}
+
+impl Model for Worker {
+    ghost use Rattle.gc_worker.specs.Held.{Held};
+    ghost use Rattle.gc_worker.specs.Stepped.{IsSound};
+
+    ghost Value = { Held };
+
+    ghost view = { λ w. w.state };
+
+    ghost invariant = { λ w. IsSound w.state };
+}
+
+impl Worker {
+    /// A mutator that is about to come to a heap, with room for all that it may print.
+    pub fn mutator(
+        alloc: Global,
+        spaces: Spaces,
+        number: u8,
+        mutators: u8,
+    ) -> Result<Worker, NoMemory>
+        requires number { number < mutators }
+        requires few { mutators ≤ 16 }
+        ensures { IfOk result (λ worker. worker ≡ fresh_mutator spaces.pages mutators number) }
+    {
+        let printed = Vec::with_capacity(alloc, MOST_PRINTED)?;
+        let stage = Stage::Passes(Gate::attach(spaces), After::Looks);
+        Ok(Worker {
+            state: State::new(spaces, number, mutators, printed, stage),
+        })
+    }
+
+    /// A scanner before its first round.
+    pub fn scanner(alloc: Global, spaces: Spaces, number: u8, mutators: u8) -> Worker
+        requires number { mutators ≤ number }
+        requires few { number ≤ 23 }
+        ensures { result ≡ fresh_scanner spaces.pages mutators number }
+    {
+        let duty = Duty::scanner(spaces, number, mutators);
+        let stage = Stage::Serves(duty, Back::ToScanner);
+        Worker {
+            state: State::new(spaces, number, mutators, Vec::new(alloc), stage),
+        }
+    }
+
+    /// The next step. A mutator that has left has none, and neither has a scanner that has seen all leave.
+    pub fn want(&self) -> Option<Step>
+        ensures wanted { result ≡ wanted self.now }
+        ensures in_table { IfSome result (λ step. place_in step < table_length self.now.layout.pages) }
+    {
+        self.state.want()
+    }
+
+    /// Takes the reply to it.
+    pub fn take(&mut self, reply: Reply) -> Stepped
+        requires wants { IsSome (wanted self.old) }
+        requires takes { Takes self.old reply }
+        requires fits { IsSound (turned self.old reply) }
+        ensures state { self.new ≡ uncounted (turned self.old reply) }
+        ensures tells { result ≡ stepped_by self.old.number (told self.old reply) }
+    {
+        self.state.take(reply)
+    }
+
+    /// An instruction, which the next look at the gate begins.
+    #[tactic(auto, using(crate::proofs::Between::Beginning::task_sound))]
+    pub fn begin(&mut self, instr: &Instr)
+        requires idle { IsIdle self.old }
+        requires may_begin { MayBegin self.old.account self.old.registers (Some (Calls instr.now)) }
+        ensures { self.new ≡ with_task self.old (Calls instr.now) }
+    {
+        self.state.begin(*instr);
+    }
+
+    /// An end in place of an instruction.
+    #[tactic(auto, using(crate::proofs::Between::Beginning::task_sound))]
+    pub fn begin_end(&mut self, end: End)
+        requires idle { IsIdle self.old }
+        requires may_stop { MayStop end }
+        ensures { self.new ≡ with_task self.old (Stops end) }
+    {
+        self.state.begin_end(end);
+    }
+
+    /// The words in its registers.
+    pub fn regs(&self) -> [u64; REGISTERS]
+        ensures { result ≡ self.now.registers }
+    {
+        self.state.registers
+    }
+
+    /// The numbers that it has printed.
+    pub fn outputs(&self) -> &[u64]
+        ensures { result.now ≡ self.now.account.printed }
+    {
+        self.state.printed.as_slice()
+    }
+
+    /// Its end, where it has one.
+    pub fn ended(&self) -> Option<End>
+        ensures { result ≡ self.now.account.end }
+    {
+        self.state.end
+    }
+
+    /// The serial of its latest record.
+    pub fn serial(&self) -> u64
+        ensures { result ≡ self.now.account.serial }
+    {
+        self.state.serial
+    }
+
+    pub fn epoch(&self) -> u32
+        ensures { result ≡ self.now.epoch }
+    {
+        self.state.epoch
+    }
+
+    /// The number of its next instruction.
+    pub fn pc(&self) -> u64
+        ensures { result ≡ self.now.account.counter }
+    {
+        self.state.counter
+    }
+
+    /// The header that it keeps while it copies a record, and the address that it has reserved and one more; 0 for none.
+    pub fn kept(&self) -> (u64, u64)
+        ensures header { result.0 ≡ header_kept self.now.stage }
+        ensures place { result.1 ≡ place_kept self.now.stage }
+    {
+        match &self.state.stage {
+            Stage::Forwards(w) => w.evac.kept(),
+            Stage::Evacuates(evac, _, _) => evac.kept(),
+            _ => (0, 0),
+        }
+    }
+}
