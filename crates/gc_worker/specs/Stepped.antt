@@ -16,6 +16,7 @@ use Rattle.gc_worker.specs.declared.stepped.Stepped.{Stepped}
 use Rattle.gc_worker.specs.declared.stepped.Stepped.TheVariants.{Moved, Effect, Flipped, Ended}
 use Rattle.gc_worker.specs.declared.task.Task.{Task}
 use Rattle.gc_worker.specs.declared.task.Task.TheVariants.{Calls, Stops}
+use Rattle.gc_worker.specs.Counted.{counted}
 use Rattle.gc_worker.specs.Fits.{Fits}
 use Rattle.forwarding.specs.Keeping as keeping
 use Rattle.forwarding.specs.Keeping.{kept_word, reserved_word}
@@ -35,7 +36,7 @@ task_due due.Stop instr end = Some (Stops end)
 -- The instructions that a mutator has executed are not counted by its code: on threads no number bounds them, and nobody reads
 -- them there. So it holds this.
 abbrev pub uncounted : Held → Held
-uncounted x = record x { account = record x.account { executed = 0 } }
+uncounted x = counted 0 x
 
 -- a worker fits a heap of its own layout
 abbrev pub IsSound : Held → Type 0
