@@ -5,3 +5,5 @@ pub mod Claims
 pub mod Fulls
 pub mod Running
 pub mod Runs
+pub mod Opening
+pub mod Whole

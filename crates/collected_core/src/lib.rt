@@ -2,7 +2,9 @@
 #![tactic(auto)]
 
 mod config;
+mod laws;
 mod stepped;
 
 pub use config::{Config, OpenError};
+pub use laws::{events_meet, missing_workers_are_idle, runs_follow};
 pub use stepped::Stepped;
