@@ -2,8 +2,8 @@ pub mod Outcomes
 pub mod Readied
 pub mod Events
 pub mod Claims
+pub mod Fulls
 pub mod Running
 pub mod Runs
-pub mod Running
 pub mod Opening
 pub mod Whole
