@@ -1,6 +1,7 @@
 pub mod Standing
 pub mod Copied
 pub mod Claims
+pub mod Begun
 pub mod Readying
 pub mod Beginning
 pub mod Wanting

@@ -2,6 +2,7 @@
 
 ghost use Rattle.gc_worker.specs.Law.{StepsKeep, FlipsAreWon, PlacesFit, RegistersLeadBack};
 ghost use Rattle.gc_worker.specs.Between.{HeapsOpen, ReadyingStands, TasksMayBegin, WorkersGoOn, WorkersWant, WhatStandsIsSo, AnswersLeaveTheOthers};
+ghost use Rattle.gc_worker.specs.Begun.{BeginningsAreKept, FullIsFoundLater};
 ghost use Rattle.gc_worker.specs.Claims.{TracedPagesAreOpen, FlipsAreOfTraced};
 ghost use Rattle.gc_worker.specs.Copied.{CopiedWasLive, FullTellsLive};
 ghost use Rattle.gc_worker.specs.FullTold.{FullIsTold};
@@ -91,4 +92,10 @@ pub fn traced_pages_are_open()
 pub fn counts_are_apart()
     ensures same { CountsAreApart }
     ensures sound { CountedFit }
+{}
+
+/// The epoch in which an instruction began, at a look, is kept until it is answered; and that the heap is full is found only after the look.
+pub fn beginnings_are_kept()
+    ensures kept { BeginningsAreKept }
+    ensures full { FullIsFoundLater }
 {}

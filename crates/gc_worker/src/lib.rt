@@ -40,8 +40,8 @@ pub use board_access::{BoardAccess, BoardSwap, BoardUse};
 pub use field_access::{FieldAccess, FieldUse, Role};
 pub use forwarding_register::ForwardingRegister;
 pub use laws::{
-    answers_leave_the_others, counts_are_apart, flips_are_won, full_is_told, heaps_open,
-    places_fit, readying_stands, registers_lead_back, steps_keep, tasks_may_begin,
+    answers_leave_the_others, beginnings_are_kept, counts_are_apart, flips_are_won, full_is_told,
+    heaps_open, places_fit, readying_stands, registers_lead_back, steps_keep, tasks_may_begin,
     traced_pages_are_open, what_is_represented_stands, what_stands_is_so,
     what_was_copied_was_live, workers_go_on, workers_want,
 };

@@ -1,0 +1,293 @@
+-- When a mutator began its instruction: the epoch of that look is kept until it has answered.
+use Rattle.std.proofs.Common.{◌≡◌, ℕ, ◌+◌, ◌-◌, ◌⊎◌, inl, inr, Bool, true, false, cond, nat_lt, Option, Some, None, Result, Ok, Err, refl, sym, subst}
+use Rattle.std.specs.Prelude.{⊤}
+use Rattle.plain_state.specs.declared.end.End.TheVariants.{HeapFull}
+use Rattle.record_layout.specs.declared.header.Header.{Header}
+use Rattle.plain_state.specs.declared.end.End.{End}
+use Rattle.atom_store.specs.declared.reply.Reply.{Reply}
+use Rattle.atom_store.specs.declared.reply.Reply.TheVariants as replies
+use Rattle.atom_store.specs.declared.turn.Turn.{Turn}
+use Rattle.atom_store.specs.declared.turn.Turn.TheVariants.{More, Finished}
+use Rattle.space_map.specs.declared.gate_word.GateWord.{GateWord}
+use Rattle.space_map.specs.GateWord.{decode_gate}
+use Rattle.alloc_end.specs.declared.allocated.Allocated.{Allocated}
+use Rattle.alloc_end.specs.declared.allocated.Allocated.TheVariants.{Placed, Full}
+use Rattle.alloc_end.specs.declared.run.Run.{Run}
+use Rattle.alloc_end.specs.declared.shortage.Shortage.{Shortage}
+use Rattle.alloc_end.specs.Place as place
+use Rattle.fault_duty.specs.declared.round_end.RoundEnd.{RoundEnd}
+use Rattle.fault_duty.specs.declared.round_end.RoundEnd.TheVariants.{ScanPage, ScanInPlace, Marked, AllLeft, NothingNow}
+use Rattle.fault_duty.specs.Duty as duty
+use Rattle.forwarding.specs.declared.to.To.{To}
+use Rattle.forwarding.specs.Evacuation as evac
+use Rattle.forwarding.specs.Taken as evac_taken
+use Rattle.gate_core.specs.declared.flipped.Flipped.{Flipped}
+use Rattle.gate_core.specs.declared.flipped.Flipped.TheVariants as flipped
+use Rattle.gate_core.specs.declared.passage.Passage.{Passage}
+use Rattle.gate_core.specs.declared.passage.Passage.TheVariants.{Look, Attach, Park, Request, Resume, Forwarded, Leave}
+use Rattle.gate_core.specs.declared.passed.Passed.{Passed}
+use Rattle.gate_core.specs.declared.passed.Passed.TheVariants as passed
+use Rattle.gate_core.specs.Flip as flip
+use Rattle.gate_core.specs.Gate as gate
+use Rattle.page_scan.specs.declared.scanned.Scanned.{Scanned}
+use Rattle.page_scan.specs.declared.scanned.Scanned.TheVariants as scanned
+use Rattle.page_scan.specs.Scanning as scan
+use Rattle.page_scan.specs.Taken as scan_taken
+use Rattle.page_slots.specs.declared.opened.Opened.{Opened}
+use Rattle.page_slots.specs.Open as open_page
+use Rattle.plain_heap.specs.declared.action.Action.{Action}
+use Rattle.plain_heap.specs.declared.action.Action.TheVariants.{Sets, Jumps, Links, Prints, Makes, Measures, Loads, Stores, Gets, Puts, Swaps}
+use Rattle.plain_heap.specs.Action.{action}
+use Rattle.gc_worker.specs.declared.access.Access.{Access}
+use Rattle.gc_worker.specs.declared.accessed.Accessed.{Accessed}
+use Rattle.gc_worker.specs.declared.accessed.Accessed.TheVariants.{Faults, Brings, Stored, Fails}
+use Rattle.gc_worker.specs.declared.after.After.{After}
+use Rattle.gc_worker.specs.declared.after.After.TheVariants as afters
+use Rattle.gc_worker.specs.declared.back.Back.{Back}
+use Rattle.gc_worker.specs.declared.back.Back.TheVariants.{ToAccess, ToPlace, ToScanner}
+use Rattle.gc_worker.specs.declared.forwarding_register.ForwardingRegister.{ForwardingRegister}
+use Rattle.gc_worker.specs.declared.stage.Stage.{Stage}
+use Rattle.gc_worker.specs.declared.stage.Stage.TheVariants.{Looks, Passes, Flips, Forwards, Accesses, Places, Serves, Scans, Evacuates, Opens, Gone}
+use Rattle.gc_worker.specs.declared.task.Task.{Task}
+use Rattle.gc_worker.specs.declared.task.Task.TheVariants.{Calls, Stops}
+use Rattle.gc_worker.specs.Access as access
+use Rattle.gc_worker.specs.Begun.{IsPastAfter, IsPastBack, IsPastLook, BeginningsAreKept, FullIsFoundLater}
+use Rattle.gc_worker.specs.Fits.{FitsTask, FitsTaskBefore, MayBegin, MayStop}
+use Rattle.gc_worker.specs.Held.{Held, at_stage, making_for}
+use Rattle.gc_worker.specs.Seen.{Making, seen}
+use Rattle.gc_worker.specs.Turned.{Pointed, epoch_said, first_pointer, forwards_from, forwards_it, goes_back, goes_on, places, with_copy, Told, Silent, Answers, Marks, Effect, Ends, acted, acts, begins, end_of, ended, full_by, is_full, looked_by, passed_by, passes, served_by, started, told, told_acted, told_action, told_at, told_gate, told_look, told_start, turned_access, turned_at, turned_copy, turned_flip, turned_gate, turned_look, turned_opening, turned_place, turned_register, turned_round, turned_scan, with_evac, with_record}
+use Rattle.gc_worker.proofs.Look.Ends.{Stops as StopsRight, action_stops}
+
+-- ---- past the look
+
+pasts : (P : Type 0) (b : Bool) (s t : Stage) → (IsPastLook s → P) → (IsPastLook t → P) → IsPastLook (cond b s t) → P
+pasts P true s t left right = left
+pasts P false s t left right = right
+
+placing_so : (x : Held) (o : Option Header) → IsPastLook (places x o) → IsPastAfter afters.Places
+placing_so x o past = tt
+
+goes_on_so : (x : Held) (after : After) → IsPastLook (goes_on x after) → IsPastAfter after
+goes_on_so x afters.Looks past = past
+goes_on_so x afters.Places past = tt
+
+goes_back_so : (x : Held) (back : Back) → IsPastLook (goes_back x back) → IsPastBack back
+goes_back_so x (ToAccess a) past = tt
+goes_back_so x ToPlace past = tt
+goes_back_so x ToScanner past = past
+
+forwards_so : (x : Held) (after : After) (o : Option Pointed) → IsPastLook (forwards_it x after o) → IsPastAfter after
+forwards_so x after (Some p) past = past
+forwards_so x after None past = past
+
+module _ (x : Held) where
+  -- a worker that comes past the look from a stage at which this is so keeps the epoch in which it began
+  abbrev Kept : Type 0 → Held → Type 0
+  Kept P y = IsPastLook y.stage → P × (y.begun ≡ x.begun)
+
+  -- ---- at the gate
+
+  passed_so : (after : After) (passage : Passage) (result : Passed) → (passage ≡ Request → IsPastAfter after) → (IsPastLook x.stage → IsPastAfter after) → Kept (IsPastAfter after) (passed_by x after passage result)
+  passed_so after Attach (passed.Went word) asks own past = absurd past
+  passed_so after Attach (passed.NotYet word) asks own past = (past, refl)
+  passed_so after Park (passed.Went word) asks own past = (past, refl)
+  passed_so after Park (passed.NotYet word) asks own past = (goes_on_so x after past, refl)
+  passed_so after Request (passed.Went word) asks own past = (asks refl, refl)
+  passed_so after Request (passed.NotYet word) asks own past = (past, refl)
+  passed_so after (Resume epoch) (passed.Went word) asks own past = (goes_on_so x after past, refl)
+  passed_so after (Resume epoch) (passed.NotYet word) asks own past =
+      (pasts (IsPastAfter after) (nat_lt x.epoch (epoch_said x.epoch word)) (forwards_from x after 0) (passes x (Resume x.epoch) after) (forwards_so x after (first_pointer x.registers 8 0)) (λ p. p) past, refl)
+  passed_so after Forwarded (passed.Went word) asks own past = (past, refl)
+  passed_so after Forwarded (passed.NotYet word) asks own past = (own past, refl)
+  passed_so after Leave (passed.Went word) asks own past = absurd past
+  passed_so after Leave (passed.NotYet word) asks own past = (own past, refl)
+  passed_so after Look result asks own past = (own past, refl)
+
+  passing_by : (g : gate.Passing) (after : After) (turn : Turn Passed) → (g.passage ≡ Request → IsPastAfter after) → (IsPastLook x.stage → IsPastAfter after) → Kept (IsPastAfter after) (turned_gate x g after turn)
+  passing_by g after More asks own past = (past, refl)
+  passing_by g after (Finished result) asks own past = passed_so after g.passage result asks own past
+
+  flip_by : (f : flip.Flipping) (turn : Turn Flipped) → Kept ⊤ (turned_flip x f turn)
+  flip_by f More past = (tt, refl)
+  flip_by f (Finished (flipped.Went asked)) past = (tt, refl)
+  flip_by f (Finished (flipped.NotYet word)) past = (tt, refl)
+
+  register_by : (w : ForwardingRegister) (turn : Turn To) → Kept (IsPastAfter w.after) (turned_register x w turn)
+  register_by w More past = (past, refl)
+  register_by w (Finished to) past =
+      (forwards_so (with_copy x w.register to.0) w.after (first_pointer (with_copy x w.register to.0).registers (8 - (w.register + 1)) (w.register + 1)) past, refl)
+
+  -- ---- an access, an allocation
+
+  access_by : (a : Access) (turn : Turn Accessed) → Kept ⊤ (turned_access x a turn)
+  access_by a More past = (tt, refl)
+  access_by a (Finished (Faults page)) past = (tt, refl)
+  access_by a (Finished (Brings into word)) past = (tt, refl)
+  access_by a (Finished Stored) past = (tt, refl)
+  access_by a (Finished (Fails why)) past = (tt, refl)
+
+  full_if : (b : Bool) (y z : Held) → y.begun ≡ x.begun → z.begun ≡ x.begun → (cond b y z).begun ≡ x.begun
+  full_if true y z is other = is
+  full_if false y z is other = other
+
+  shortage_by : (s : Shortage) (traced : Bool) → (full_by x s traced).begun ≡ x.begun
+  shortage_by s false = refl
+  shortage_by s true = full_if (is_full x) (ended x (end_of s)) (at_stage x (passes x Request afters.Places)) refl refl
+
+  placed_by : (run : Run) (at : ℕ) (made : Option Making) → (with_record x run at made).begun ≡ x.begun
+  placed_by run at (Some m) = refl
+  placed_by run at None = refl
+
+  place_by : (p : place.Placing) (turn : Turn Allocated) → Kept ⊤ (turned_place x p turn)
+  place_by p More past = (tt, refl)
+  place_by p (Finished (Placed at)) past = (tt, placed_by p.run at (making_for x x.task))
+  place_by p (Finished (Full s)) past = (tt, shortage_by s s.traced)
+
+  -- ---- rounds and scans
+
+  served_so : (d : duty.Round) (back : Back) (result : RoundEnd) → Kept (IsPastBack back) (served_by x d back result)
+  served_so d back (ScanPage page) past = (past, refl)
+  served_so d back (ScanInPlace page) past = (past, refl)
+  served_so d back Marked past = (goes_back_so (record x { epoch = d.epoch }) back past, refl)
+  served_so d back (NothingNow word) past = (goes_back_so (record x { epoch = d.epoch }) back past, refl)
+  served_so d back (AllLeft word) past = absurd past
+
+  round_by : (d : duty.Round) (back : Back) (turn : Turn RoundEnd) → Kept (IsPastBack back) (turned_round x d back turn)
+  round_by d back More past = (past, refl)
+  round_by d back (Finished result) past = served_so d back result past
+
+  scan_by : (s : scan.Scanning) (back : Back) (turn : Turn Scanned) → Kept (IsPastBack back) (turned_scan x s back turn)
+  scan_by s back More past = (past, refl)
+  scan_by s back (Finished (scanned.Ask old)) past = (past, refl)
+  scan_by s back (Finished (scanned.Ended at_front)) past = (past, refl)
+
+  copy_by : (v : evac.Evacuation) (s : scan.Scanning) (back : Back) (turn : Turn To) → Kept (IsPastBack back) (turned_copy x v s back turn)
+  copy_by v s back More past = (past, refl)
+  copy_by v s back (Finished to) past = (past, refl)
+
+  opening_by : (o : open_page.Opening) (s : scan.Scanning) (back : Back) (turn : Turn Opened) → Kept (IsPastBack back) (turned_opening x o s back turn)
+  opening_by o s back More past = (past, refl)
+  opening_by o s back (Finished opened) past = (goes_back_so x back past, refl)
+
+  -- ---- a look
+
+  abbrev Begins : Held → Type 0
+  Begins y = IsPastLook y.stage → y.begun ≡ x.epoch
+
+  by_action : (act : Action) → (acts (begins x) act).begun ≡ x.epoch
+  by_action (Sets d v) = refl
+  by_action (Jumps target) = refl
+  by_action (Links d target) = refl
+  by_action (Prints n) = refl
+  by_action (Makes kind d n) = refl
+  by_action (Measures d i) = refl
+  by_action (Loads d i n) = refl
+  by_action (Stores i n v) = refl
+  by_action (Gets d n) = refl
+  by_action (Puts n v) = refl
+  by_action (Swaps d n v) = refl
+
+  by_result : (r : Result Action End) → (acted (begins x) r).begun ≡ x.epoch
+  by_result (Ok act) = by_action act
+  by_result (Err why) = refl
+
+  start_by : (task : Option Task) → Begins (started x task)
+  start_by None past = absurd past
+  start_by (Some (Calls instr)) past = by_result (action (seen x.account x.registers) instr)
+  start_by (Some (Stops why)) past = refl
+
+  request_by : (b : Bool) → Begins (cond b (at_stage x (passes x Park afters.Looks)) (started x x.task))
+  request_by true past = absurd past
+  request_by false past = start_by x.task past
+
+  module _ (looks : x.stage ≡ Looks) where
+    at_look : Begins x
+    at_look past = absurd (subst IsPastLook looks past)
+
+    gate_by : (o : Option GateWord) → Begins (looked_by x o)
+    gate_by (Some read) past = request_by read.request past
+    gate_by None past = at_look past
+
+    look_by : (reply : Reply) → Begins (turned_look x reply)
+    look_by (replies.Value word) past = gate_by (decode_gate word) past
+    look_by replies.Done past = at_look past
+    look_by replies.Won past = at_look past
+    look_by (replies.Lost word) past = at_look past
+
+  -- ---- each stage
+
+  -- who requests a flip makes a record
+  asks_for : (g : gate.Passing) (after : After) → FitsTaskBefore x g.passage after → g.passage ≡ Request → IsPastAfter after
+  asks_for g after task e = let t = subst (λ (p : Passage). FitsTaskBefore x p after) e task in subst IsPastAfter (sym t.1) tt
+
+  by_stage : (stage : Stage) → x.stage ≡ stage → FitsTask x stage → (reply : Reply) → IsPastLook (turned_at x stage reply).stage
+      → ((stage ≡ Looks) × ((turned_at x stage reply).begun ≡ x.epoch)) ⊎ (IsPastLook stage × ((turned_at x stage reply).begun ≡ x.begun))
+  by_stage Looks e task reply past = inl (refl, look_by e reply past)
+  by_stage (Passes g after) e task reply past = inr (passing_by (gate.taken g reply) after (gate.told (gate.taken g reply)) (asks_for g after task) (subst IsPastLook e) past)
+  by_stage (Flips f) e task reply past = inr (flip_by (flip.taken f reply) (flip.told (flip.taken f reply)) past)
+  by_stage (Forwards w) e task reply past = inr (register_by (with_evac w (evac_taken.taken w.evac reply)) (evac_taken.told (evac_taken.taken w.evac reply).stage) past)
+  by_stage (Accesses a) e task reply past = inr (access_by (access.taken a reply) (access.told a reply) past)
+  by_stage (Places p) e task reply past = inr (place_by (place.taken p reply) (place.told (place.taken p reply)) past)
+  by_stage (Serves d back) e task reply past = inr (round_by (duty.taken d reply) back (duty.told (duty.taken d reply)) past)
+  by_stage (Scans s back) e task reply past = inr (scan_by (scan_taken.taken s reply) back (scan_taken.told (scan_taken.taken s reply).stage) past)
+  by_stage (Evacuates v s back) e task reply past = inr (copy_by (evac_taken.taken v reply) s back (evac_taken.told (evac_taken.taken v reply).stage) past)
+  by_stage (Opens o s back) e task reply past = inr (opening_by (open_page.taken o reply) s back (open_page.told (open_page.taken o reply)) past)
+  by_stage Gone e task reply past = absurd (subst IsPastLook e past)
+
+pub beginnings_are_kept : BeginningsAreKept
+beginnings_are_kept n mutators k x reply fits past = by_stage x x.stage refl fits.task reply past
+
+-- ---- a look finds no full heap
+
+abbrev NotFull : Told → Type 0
+NotFull Silent = ⊤
+NotFull (Answers task Effect) = ⊤
+NotFull (Answers task (Ends end)) = MayStop end
+NotFull (Marks asked) = ⊤
+
+action_not_full : (task : Task) (act : Action) → NotFull (told_action task act)
+action_not_full task (Sets d v) = tt
+action_not_full task (Jumps target) = tt
+action_not_full task (Links d target) = tt
+action_not_full task (Prints n) = tt
+action_not_full task act = tt
+
+acted_not_full : (task : Task) (r : Result Action End) → StopsRight r → NotFull (told_acted task r)
+acted_not_full task (Ok act) stops = action_not_full task act
+acted_not_full task (Err why) stops = stops
+
+module _ (x : Held) (fits : MayBegin x.account x.registers x.task) where
+  start_not_full : (task : Option Task) → x.task ≡ task → NotFull (told_start x task)
+  start_not_full None e = tt
+  start_not_full (Some (Calls instr)) e = acted_not_full (Calls instr) (action (seen x.account x.registers) instr) (action_stops (seen x.account x.registers) instr)
+  start_not_full (Some (Stops why)) e = subst (MayBegin x.account x.registers) e fits
+
+  request_not_full : (b : Bool) → NotFull (cond b Silent (told_start x x.task))
+  request_not_full true = tt
+  request_not_full false = start_not_full x.task refl
+
+  gate_not_full : (o : Option GateWord) → NotFull (told_gate x o)
+  gate_not_full (Some read) = request_not_full read.request
+  gate_not_full None = tt
+
+  look_not_full : (reply : Reply) → NotFull (told_look x reply)
+  look_not_full (replies.Value word) = gate_not_full (decode_gate word)
+  look_not_full replies.Done = tt
+  look_not_full replies.Won = tt
+  look_not_full (replies.Lost word) = tt
+
+full_by_stage : (x : Held) (reply : Reply) (task : Task) (asked room live : ℕ) (stage : Stage) → FitsTask x stage → told_at x stage reply ≡ Answers task (Ends (HeapFull asked room live)) → IsPastLook stage
+full_by_stage x reply task asked room live Looks fits e = subst NotFull e (look_not_full x fits reply)
+full_by_stage x reply task asked room live (Flips f) fits e = tt
+full_by_stage x reply task asked room live (Accesses a) fits e = tt
+full_by_stage x reply task asked room live (Places p) fits e = tt
+full_by_stage x reply task asked room live (Passes g after) fits e = absurd (let e = e in cc)
+full_by_stage x reply task asked room live (Forwards w) fits e = absurd (let e = e in cc)
+full_by_stage x reply task asked room live (Serves d back) fits e = absurd (let e = e in cc)
+full_by_stage x reply task asked room live (Scans s back) fits e = absurd (let e = e in cc)
+full_by_stage x reply task asked room live (Evacuates v s back) fits e = absurd (let e = e in cc)
+full_by_stage x reply task asked room live (Opens o s back) fits e = absurd (let e = e in cc)
+full_by_stage x reply task asked room live Gone fits e = absurd (let e = e in cc)
+
+pub full_is_found_later : FullIsFoundLater
+full_is_found_later n mutators k x reply task asked room live fits e = full_by_stage x reply task asked room live x.stage fits.task e
