@@ -5,4 +5,5 @@ pub mod Event
 pub mod Run
 pub mod Law
 pub mod Claims
+pub mod Fulls
 pub mod Whole
