@@ -17,7 +17,7 @@ use Rattle.gc_worker.proofs.Between.Beginning.{tasks_may_begin}
 use Rattle.gc_worker.proofs.Between.Opening.{heaps_open}
 use Rattle.gc_worker.proofs.Between.Readying.{readying_stands}
 use Rattle.gc_worker.proofs.Whole.{steps_keep}
-use Rattle.collected_core.specs.declared.config.Config.{Config}
+use Rattle.gc_worker.specs.declared.config.Config.{Config}
 use Rattle.collected_core.specs.Core.{CoreState, opening_core, workers_of, is_size}
 use Rattle.collected_core.specs.Event.{Event, event_of, event_by, core_after, ready, next_task, stepped_of}
 use Rattle.collected_core.specs.Law.{IsLawful, story_by}

@@ -15,7 +15,7 @@ use Rattle.gc_worker.specs.Between.{HeapsOpen, fresh_mutator, fresh_scanner}
 use Rattle.gc_worker.specs.Held.{Held}
 use Rattle.gc_worker.specs.Law.{WorkersStand, held_at}
 use Rattle.gc_worker.proofs.Between.Opening.{is_there}
-use Rattle.collected_core.specs.declared.config.Config.{Config}
+use Rattle.gc_worker.specs.declared.config.Config.{Config}
 use Rattle.collected_core.specs.Core.{opening_core, is_size}
 use Rattle.collected_core.specs.Law.{IsSteady}
 

@@ -15,8 +15,8 @@ use Rattle.plain_heap.specs.Print.{plain_seen}
 use Rattle.heap_state.specs.Represents.{Represents}
 use Rattle.gc_worker.specs.Full.{FindsNoRoom}
 use Rattle.gc_worker.specs.Law.{read}
-use Rattle.collected_core.specs.declared.config.Config.{Config}
-use Rattle.collected_core.specs.declared.stepped.Stepped.TheVariants.{Idle, Ended}
+use Rattle.gc_worker.specs.declared.config.Config.{Config}
+use Rattle.gc_worker.specs.declared.stepped.Stepped.TheVariants.{Idle, Ended}
 use Rattle.collected_core.specs.Core.{CoreState, is_size, opening_core, workers_of}
 use Rattle.collected_core.specs.Event.{core_after, event_of, ready}
 use Rattle.collected_core.specs.Readers.{seen_of}

@@ -1,10 +1,9 @@
 //! The machine whose heap is collected: mutators and scanners over the words of a table, stepped in any order.
 #![tactic(auto)]
 
-mod config;
 mod laws;
-mod stepped;
+mod marks;
 
-pub use config::{Config, OpenError};
+pub use gc_worker::{Config, OpenError, Stepped};
 pub use laws::{events_meet, missing_workers_are_idle, runs_follow};
-pub use stepped::Stepped;
+pub use marks::mark;
