@@ -42,11 +42,11 @@ lawful_opening code items config program size turns few = record {
   stands = opening_stands heaps_open code items config program size turns few;
 }
 
-event_none : (s : CoreState) (w : ℕ) → wanted (ready s w) ≡ None → event_of s w ≡ record { told = (event_by s.heap w (ready s w) None).told; after = s.heap }
+pub event_none : (s : CoreState) (w : ℕ) → wanted (ready s w) ≡ None → event_of s w ≡ record { told = (event_by s.heap w (ready s w) None).told; after = s.heap }
 unfolding event_of
 event_none s w e = rw e refl
 
-event_some : (s : CoreState) (w : ℕ) (q : Step) → wanted (ready s w) ≡ Some q
+pub event_some : (s : CoreState) (w : ℕ) (q : Step) → wanted (ready s w) ≡ Some q
     → event_of s w ≡ record { told = stepped_of w (told (ready s w) (reply_of q s.heap.words)); after = moved s.heap w (ready s w) q }
 unfolding event_of
 event_some s w q e = rw e refl
