@@ -10,14 +10,20 @@ use Rattle.mutator_asm.specs.Program.{IsWellFormed}
 use Rattle.plain_heap.specs.Order as order
 use Rattle.heap_state.proofs.Puts.{none≢some}
 use Rattle.space_map.specs.Spaces.{IsPageCount}
-use Rattle.heap_laws.specs.Opening.{opening_plain}
+use Rattle.heap_state.specs.Configuration.{table}
+use Rattle.heap_state.specs.Table.{Table}
+use Rattle.heap_state.proofs.Table.Writing.{writes_tables}
+use Rattle.heap_laws.specs.Opening.{opening_plain, opening_entries}
+use Rattle.heap_laws.proofs.Opening.Heap.{entries_fit}
 use Rattle.gc_worker.specs.Between.{HeapsOpen, fresh_mutator, fresh_scanner}
 use Rattle.gc_worker.specs.Held.{Held}
-use Rattle.gc_worker.specs.Law.{WorkersStand, held_at}
+use Rattle.gc_worker.specs.Law.{WorkersStand, held_at, read}
+use Rattle.gc_worker.specs.Turned.{epoch_in as epoch_in_gate}
+use Rattle.gc_worker.proofs.Gate.Words.{gate_says}
 use Rattle.gc_worker.proofs.Between.Opening.{is_there}
 use Rattle.gc_worker.specs.declared.config.Config.{Config}
 use Rattle.collected_core.specs.Core.{opening_core, is_size}
-use Rattle.collected_core.specs.Law.{IsSteady}
+use Rattle.collected_core.specs.Law.{IsSteady, epoch_in}
 
 -- one for each element
 map_const : {A B : Type 0} (b : B) (xs : List A) → map (λ x. b) xs ≡ replicate (length xs) b
@@ -56,3 +62,12 @@ module _ (opens : HeapsOpen) (code : List (List Instr)) (items : List Item) (con
     turns_fit = turns;
     on_task = λ m l. let e = mutator_there m l in record { counted = rw e (omega arith); within = rw e (omega arith); task = λ task t. none≢some (sym (ap (λ (h : Held). h.task) e) ∙ t) };
   }
+
+  -- it begins in the first epoch
+  pub opening_epoch : epoch_in (opening_core code config).heap ≡ 0
+  opening_epoch =
+      let fit : IsPageCount config.pages = size_fits config.pages size in
+      let c = read (opening_core code config).heap in
+      let says = (writes_tables config.pages (opening_entries config.pages) (entries_fit config.pages fit)).says in
+      let e : (table c).gate.epoch ≡ 0 = ap (λ (t : Table). t.gate.epoch) says in
+      ap (epoch_in_gate 0) (gate_says c (order.opening code) opening_stands.stands) ∙ e

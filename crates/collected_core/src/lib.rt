@@ -5,5 +5,7 @@ mod laws;
 mod marks;
 
 pub use gc_worker::{Config, OpenError, Stepped};
-pub use laws::{events_meet, missing_workers_are_idle, runs_follow};
+pub use laws::{
+    events_meet, fulls_follow_flips, missing_workers_are_idle, no_page_is_won_twice, runs_follow,
+};
 pub use marks::mark;
