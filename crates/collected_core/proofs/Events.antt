@@ -1,12 +1,12 @@
 -- The law of an event, from the law of a worker's step.
-use Rattle.std.proofs.Common.{◌≡◌, ◌≢◌, ℕ, ◌+◌, ◌<◌, ◌≤◌, Bool, true, false, nat_lt, List, length, Option, Some, None, slice_get, get_or, refl, ap, sym, subst, ◌∙◌, arith, get_or-set_same, get_or-set_other, lt-ltb, ⊎_elim}
+use Rattle.std.proofs.Common.{◌≡◌, ◌≢◌, ℕ, ◌+◌, ◌<◌, ◌≤◌, true, false, nat_lt, length, Option, Some, None, slice_get, get_or, refl, ap, sym, subst, ◌∙◌, arith, get_or-set_same, get_or-set_other, lt-ltb, ⊎_elim}
 use Rattle.std.specs.Option.{is_some, option_map, option_to_list}
 use Rattle.std.proofs.lemmas.Bool.{cases_eq, cases_lt}
 use Rattle.std.proofs.lemmas.List.{get_or_past}
 use Rattle.std.proofs.lemmas.Option.{slice_get_within, slice_get-get_or, slice_get_past}
 use Rattle.plain_state.specs.declared.end.End.{End}
 use Rattle.plain_state.specs.declared.end.End.TheVariants as ends
-use Rattle.plain_state.specs.State.{Plain, Mutator, serial_of}
+use Rattle.plain_state.specs.State.{Plain, Mutator}
 use Rattle.plain_heap.specs.Order.{Story, fresh, end_of}
 use Rattle.plain_heap.specs.Step.{fetch, asked_by}
 use Rattle.plain_heap.proofs.Stories.{story_after-now}
@@ -15,7 +15,6 @@ use Rattle.heap_state.specs.Values.{Accounts}
 use Rattle.heap_state.proofs.Puts.{none≢some}
 use Rattle.atom_store.specs.declared.step.Step.{Step}
 use Rattle.atom_store.specs.Step.{words_after, reply_of}
-use Rattle.gc_worker.specs.declared.stage.Stage.{Stage}
 use Rattle.gc_worker.specs.declared.stage.Stage.TheVariants.{Gone}
 use Rattle.gc_worker.specs.declared.task.Task.{Task}
 use Rattle.gc_worker.specs.Answer.{ComesTo, MayCome, IsAnswered, after_outcome, after_told}
@@ -26,15 +25,15 @@ use Rattle.gc_worker.specs.Held.{Held}
 use Rattle.gc_worker.specs.Law.{Heap, nobody, held_at, read, moved, WorkersStand, StepKeeps, StepsKeep, FlipsWhereTold, epoch_of, at_flip}
 use Rattle.gc_worker.specs.Turned.{Outcome, Effect, Ends, Told, Silent, Answers, Marks, turned, told}
 use Rattle.gc_worker.specs.Wanted.{wanted}
-use Rattle.collected_core.specs.declared.stepped.Stepped.{Stepped}
-use Rattle.collected_core.specs.declared.stepped.Stepped.TheVariants as tells
+use Rattle.gc_worker.specs.declared.stepped.Stepped.{Stepped}
+use Rattle.gc_worker.specs.declared.stepped.Stepped.TheVariants as tells
 use Rattle.collected_core.specs.Core.{CoreState}
-use Rattle.collected_core.specs.Event.{Event, event_of, event_by, core_after, ready, task_of, next_task, told_outcome, stepped_of}
+use Rattle.collected_core.specs.Event.{event_of, ready, task_of, told_outcome, stepped_of}
 use Rattle.collected_core.specs.Law.{IsOnTask, IsSteady, IsForWant, IsTold, Keeps, EventsKeep, EventsMeet, plain_after, story_by, epoch_in}
 use Rattle.collected_core.specs.Run.{mark_of}
 use Rattle.collected_core.specs.Whole.{MissingWorkersAreIdle}
 use Rattle.gc_worker.proofs.Represented.{represented_workers}
-use Rattle.collected_core.proofs.Outcomes.{Sort, IsFull, IsStep, sort, IsCounted, comes, end_then, asks_then, counted_then, was_running}
+use Rattle.collected_core.proofs.Outcomes.{Sort, IsFull, IsStep, sort, comes, end_then, asks_then, counted_then, was_running}
 use Rattle.collected_core.proofs.Readied.{Ready, readied_stands, same_task, ready_task, ready_account}
 
 -- ---- idle
@@ -221,7 +220,7 @@ module _ (law : StepsKeep) (goes : WorkersGoOn) (wants : WorkersWant) (so : What
     other_task m l d =
         let same : held_at after m ≡ held_at s.heap m = ap (λ (h : Heap). held_at h m) (r.moves y q) ∙ get_or-set_other s.heap.workers w m (turned y (reply_of q s.heap.words)) nobody d in
         let was = steady.on_task m l in
-        record { counted = rw same was.counted; task = rw same was.task }
+        record { counted = rw same was.counted; within = rw same was.within; task = rw same was.task }
 
     here : held_at after w ≡ turned y (reply_of q r.heap.words)
     here = get_or-set_same r.heap.workers w (turned y (reply_of q r.heap.words)) nobody r.below
@@ -238,9 +237,10 @@ module _ (law : StepsKeep) (goes : WorkersGoOn) (wants : WorkersWant) (so : What
         let is : slice_get p.mutators w ≡ Some k = slice_get-get_or p.mutators w fresh (omega (arith, l, length_is, c)) in
         let b = account_before k is in
         let a : Accounts p.heap w (held_at after w).account k = subst (λ (u : Plain). slice_get u.mutators w ≡ Some k → Accounts u.heap w (held_at after w).account k) same (account_after k) is in
-        let counted = (steady.on_task w l).counted in
+        let was = steady.on_task w l in
         record {
-          counted = omega (arith, a.serial, a.executed, b.serial, b.executed, counted);
+          counted = omega (arith, a.serial, a.executed, b.serial, b.executed, was.counted);
+          within = omega (arith, a.executed, b.executed, was.within);
           task = λ task e.
               ready_task s w steady l task (sym (goes_on.kept none) ∙ sym (ap (λ (h : Held). h.task) here) ∙ e)
               ∙ same_task s.code s.turns w (held_at s.heap w) (held_at after w) (b.counter ∙ sym a.counter) (b.executed ∙ sym a.executed);
@@ -252,15 +252,16 @@ module _ (law : StepsKeep) (goes : WorkersGoOn) (wants : WorkersWant) (so : What
         let k = answered.mutator in
         let own_is = own task outcome e answered in
         let b = account_before k answered.is in
-        let was = (steady.on_task w l).counted in
+        let was = steady.on_task w l in
         let made = is_so.sound.represents.dump.as_many.1 in
         let length_is = r.mutators in
-        let c = counted_then s.code s.turns p w k (has_code k answered.is) answered.is answered.no_end outcome (may task outcome e answered) (omega (arith, l, made, length_is)) (omega (arith, was, b.serial, b.executed)) in
+        let c = counted_then s.code s.turns p w k (has_code k answered.is) answered.is answered.no_end outcome (may task outcome e answered) (omega (arith, l, made, length_is)) (omega (arith, was.counted, b.serial, b.executed)) (omega (arith, was.within, b.executed)) in
         let same : after_told p w t ≡ after_outcome p w k (task_of (fetch s.code s.turns w k)) outcome = rw e (rw (answered.is, own_is) refl) in
         let a : Accounts (after_outcome p w k (task_of (fetch s.code s.turns w k)) outcome).heap w (held_at after w).account c.mutator =
         subst (λ (u : Plain). slice_get u.mutators w ≡ Some c.mutator → Accounts u.heap w (held_at after w).account c.mutator) same (account_after c.mutator) c.found in
         record {
           counted = omega (arith, a.serial, a.executed, c.counted);
+          within = omega (arith, a.executed, c.bounded);
           task = λ other f. none≢some (sym ((goes_on.answers task outcome e).rests) ∙ sym (ap (λ (h : Held). h.task) here) ∙ f);
         }
 

@@ -2,5 +2,11 @@ pub mod Outcomes
 pub mod Readied
 pub mod Events
 pub mod Claims
-pub mod Running
+pub mod Fulls
 pub mod Runs
+pub mod Running
+pub mod Opening
+pub mod Whole
+pub mod Lawful
+pub mod Slots
+pub mod Stepping

@@ -1,12 +1,12 @@
 -- A mutator is given its next task before it looks at the gate: the heap stands on.
-use Rattle.std.proofs.Common.{◌≡◌, ℕ, ◌+◌, ◌^◌, ◌<◌, ◌≤◌, Bool, true, false, nat_lt, nat_le, List, length, Option, Some, None, Result, Ok, Err, refl, ap, sym, subst, ◌∙◌, arith, set, get_or-set_same, length-set, leb-false, ltb-true}
+use Rattle.std.proofs.Common.{◌≡◌, ℕ, ◌<◌, ◌≤◌, Bool, true, false, nat_lt, nat_le, List, length, Option, Some, None, Err, refl, ap, sym, subst, ◌∙◌, arith, get_or-set_same, length-set, leb-false, ltb-true}
 use Rattle.std.specs.Option.{is_some, ok_or}
 use Rattle.std.specs.Prelude.{IsTrue, IfSome, if◌then◌else◌}
 use Rattle.std.specs.List.{list_all}
 use Rattle.std.proofs.lemmas.List.{set-set}
 use Rattle.plain_state.specs.declared.end.End.{End}
 use Rattle.plain_state.specs.declared.end.End.TheVariants.{TurnsOut, JumpOut}
-use Rattle.plain_state.specs.State.{Plain, Mutator}
+use Rattle.plain_state.specs.State.{Plain}
 use Rattle.mutator_asm.specs.declared.instr.Instr.{Instr}
 use Rattle.mutator_asm.specs.Program.{is_valid, instr_at}
 use Rattle.mutator_asm.proofs.Programs.{valid_at}
@@ -17,7 +17,6 @@ use Rattle.heap_state.specs.Worker.{Account}
 use Rattle.gc_worker.specs.declared.stage.Stage.{Stage}
 use Rattle.gc_worker.specs.declared.stage.Stage.TheVariants.{Looks, Passes, Flips, Forwards, Accesses, Places, Serves, Scans, Evacuates, Opens, Gone}
 use Rattle.gc_worker.specs.declared.task.Task.{Task}
-use Rattle.gc_worker.specs.declared.task.Task.TheVariants.{Calls, Stops}
 use Rattle.gc_worker.specs.Between.{ReadyingStands, TasksMayBegin, IsIdle, with_task, with_worker}
 use Rattle.gc_worker.specs.Fits.{Fits, MayBegin, FitsEnd, IsOnSide}
 use Rattle.gc_worker.specs.Held.{Held}
@@ -25,7 +24,7 @@ use Rattle.gc_worker.specs.Law.{Heap, nobody, held_at, moved, WorkersStand}
 use Rattle.gc_worker.specs.Seen.{seen}
 use Rattle.gc_worker.specs.Turned.{turned}
 use Rattle.collected_core.specs.Core.{CoreState}
-use Rattle.collected_core.specs.Event.{task_of, next_task, given, readied, ready}
+use Rattle.collected_core.specs.Event.{task_of, next_task, readied, ready}
 use Rattle.collected_core.specs.Law.{IsSteady}
 
 -- ---- whether a task is due
@@ -89,7 +88,7 @@ module _ (readies : ReadyingStands) (tasks : TasksMayBegin) (s : CoreState) (w :
   fits = stands.fit w below
 
   -- who looks at the gate is a mutator without an end
-  looks_idle : x.stage ≡ Looks → x.task ≡ None → IsIdle x
+  pub looks_idle : x.stage ≡ Looks → x.task ≡ None → IsIdle x
   looks_idle e f = record {
     is_mutator = mutator_by (nat_lt x.number x.mutators) refl (subst (λ (t : Stage). IsOnSide t (nat_lt x.number x.mutators) (is_some x.account.end)) e fits.side);
     no_end = no_end x.account.end (subst (λ (t : Stage). FitsEnd t (is_some x.account.end)) e fits.end);

@@ -1,5 +1,5 @@
 -- A whole run does to the story what its order does, and each of its marks acts.
-use Rattle.std.proofs.Common.{◌≡◌, ℕ, zero, suc, ◌+◌, ◌<◌, ◌≤◌, Bool, true, false, List, [], ◌∷◌, ◌++◌, length, Some, slice_get, get_or, refl, ap, sym, subst, ◌∙◌, arith}
+use Rattle.std.proofs.Common.{◌≡◌, ℕ, zero, suc, ◌+◌, Bool, true, false, List, [], ◌∷◌, length, Some, slice_get, get_or, refl, sym, subst, ◌∙◌, arith}
 use Rattle.std.specs.Prelude.{map, take}
 use Rattle.std.specs.Option.{option_to_list}
 use Rattle.std.proofs.lemmas.List.{get_or-take, length-take-le}
@@ -7,21 +7,18 @@ use Rattle.std.proofs.lemmas.Option.{slice_get_within}
 use Rattle.plain_state.specs.declared.end.End.{End}
 use Rattle.plain_state.specs.declared.end.End.TheVariants as ends
 use Rattle.plain_state.specs.State as plain
-use Rattle.mutator_asm.specs.declared.instr.Instr.{Instr}
-use Rattle.plain_heap.specs.declared.mark.Mark.{Mark}
-use Rattle.plain_heap.specs.Order.{Story, state_after, story_after, EachMark}
+use Rattle.plain_heap.specs.Order.{Story, story_after}
 use Rattle.plain_heap.specs.Print.{Seen, plain_seen}
 use Rattle.plain_heap.proofs.Marks.{EachMark-append}
 use Rattle.plain_heap.proofs.Stories.{story_after-now, story_after-append}
 use Rattle.gc_worker.specs.Between.{WhatStandsIsSo}
-use Rattle.gc_worker.specs.Full.{FindsNoRoom}
 use Rattle.gc_worker.specs.Held.{Held}
 use Rattle.gc_worker.specs.Law.{Heap, WorkersStand, nobody, held_at}
-use Rattle.collected_core.specs.declared.stepped.Stepped.{Stepped}
-use Rattle.collected_core.specs.declared.stepped.Stepped.TheVariants.{Idle, Moved, Effect, Flipped, Ended}
+use Rattle.gc_worker.specs.declared.stepped.Stepped.{Stepped}
+use Rattle.gc_worker.specs.declared.stepped.Stepped.TheVariants.{Idle, Moved, Effect, Flipped, Ended}
 use Rattle.collected_core.specs.Core.{CoreState}
-use Rattle.collected_core.specs.Event.{core_after, event_of, ready}
-use Rattle.collected_core.specs.Law.{IsForWant, IsSteady, IsTold, Keeps, EventsKeep, plain_after, story_by}
+use Rattle.collected_core.specs.Event.{core_after, event_of}
+use Rattle.collected_core.specs.Law.{IsSteady, IsTold, EventsKeep, plain_after, story_by}
 use Rattle.collected_core.specs.Readers.{seen_of}
 use Rattle.collected_core.specs.Run.{Ran, run_from, all_ended, mark_of, EachEvent, Unless}
 use Rattle.collected_core.specs.Whole.{Acts, EachActs, IsFull}

@@ -1,9 +1,9 @@
 -- What the machine with a collected heap is between two events.
-use Rattle.std.specs.Prelude.{ℕ, ◌&&◌, Bool, nat_le, List, length, slice_index_or}
+use Rattle.std.specs.Prelude.{ℕ, ◌&&◌, Bool, nat_le, List, length}
 use Rattle.mutator_asm.specs.declared.instr.Instr.{Instr}
 use Rattle.gc_worker.specs.Between.{opening}
 use Rattle.gc_worker.specs.Law.{Heap}
-use Rattle.collected_core.specs.declared.config.Config.{Config}
+use Rattle.gc_worker.specs.declared.config.Config.{Config}
 
 -- what a core steps: the code, how many instructions a mutator may execute, and the heap with its workers
 pub record CoreState : Type 0 where

@@ -16,8 +16,8 @@ use Rattle.gc_worker.specs.Seen.{seen}
 use Rattle.gc_worker.specs.Turned.{Outcome, Effect, Ends, Told, Silent, Answers, Marks, told}
 use Rattle.gc_worker.specs.Wanted.{wanted}
 use Rattle.collected_core.specs.Core.{CoreState}
-use Rattle.collected_core.specs.declared.stepped.Stepped.{Stepped}
-use Rattle.collected_core.specs.declared.stepped.Stepped.TheVariants as tells
+use Rattle.gc_worker.specs.declared.stepped.Stepped.{Stepped}
+use Rattle.gc_worker.specs.declared.stepped.Stepped.TheVariants as tells
 
 -- ---- the next task
 

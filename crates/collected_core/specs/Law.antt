@@ -1,11 +1,10 @@
 -- The law of an event: it does to the plain state what the mark of it does, and what is told of it is what the plain machine has.
-use Rattle.std.specs.Prelude.{◌≡◌, ◌≢◌, ⊤, ℕ, ◌+◌, ◌<◌, ◌≤◌, List, length, Some, None, IsTrue}
+use Rattle.std.specs.Prelude.{◌≡◌, ◌≢◌, ⊤, ℕ, ◌+◌, ◌<◌, ◌≤◌, length, Some, None, IsTrue}
 use Rattle.std.specs.List.{list_all}
 use Rattle.std.specs.Option.{option_to_list}
 use Rattle.plain_state.specs.declared.end.End.{End}
 use Rattle.plain_state.specs.declared.end.End.TheVariants as ends
 use Rattle.plain_state.specs.State.{Plain}
-use Rattle.mutator_asm.specs.declared.instr.Instr.{Instr}
 use Rattle.mutator_asm.specs.Program.{is_valid}
 use Rattle.plain_heap.specs.Step.{asked_by}
 use Rattle.plain_heap.specs.Order.{Story, state_after, story_after, end_of}
@@ -14,17 +13,18 @@ use Rattle.gc_worker.specs.declared.task.Task.{Task}
 use Rattle.gc_worker.specs.Full.{FindsNoRoom}
 use Rattle.gc_worker.specs.Held as held
 use Rattle.gc_worker.specs.Law.{Heap, WorkersStand, held_at, read, epoch_of}
-use Rattle.collected_core.specs.declared.stepped.Stepped.{Stepped}
-use Rattle.collected_core.specs.declared.stepped.Stepped.TheVariants.{Idle, Moved, Effect, Flipped, Ended}
+use Rattle.gc_worker.specs.declared.stepped.Stepped.{Stepped}
+use Rattle.gc_worker.specs.declared.stepped.Stepped.TheVariants.{Idle, Moved, Effect, Flipped, Ended}
 use Rattle.collected_core.specs.Core.{CoreState}
 use Rattle.collected_core.specs.Event.{Event, next_task, ready, event_of, core_after}
 use Rattle.collected_core.specs.Run.{mark_of}
 
 -- ---- what a core keeps beside the plain state
 
--- A mutator made a record by an instruction each; and the task that it has begun is its next one.
+-- A mutator made a record by an instruction each, and executed no more than it may; and the task that it has begun is its next one.
 pub record IsOnTask (s : CoreState) (m : ℕ) : Type 0 where
   pub counted : (held_at s.heap m).account.serial ≤ (held_at s.heap m).account.executed
+  pub within : (held_at s.heap m).account.executed ≤ s.turns
   pub task : (t : Task) → (held_at s.heap m).task ≡ Some t → t ≡ next_task s.code s.turns m (held_at s.heap m)
 
 -- there is a mutator for each section of valid code, and each is on its task

@@ -1,8 +1,8 @@
-pub mod OpenError
 pub mod Core
 pub mod Readers
 pub mod Event
 pub mod Run
 pub mod Law
 pub mod Claims
+pub mod Fulls
 pub mod Whole

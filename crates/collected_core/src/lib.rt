@@ -1,8 +1,11 @@
 //! The machine whose heap is collected: mutators and scanners over the words of a table, stepped in any order.
 #![tactic(auto)]
 
-mod config;
-mod stepped;
+mod laws;
+mod marks;
 
-pub use config::{Config, OpenError};
-pub use stepped::Stepped;
+pub use gc_worker::{Config, OpenError, Stepped};
+pub use laws::{
+    events_meet, fulls_follow_flips, missing_workers_are_idle, no_page_is_won_twice, runs_follow,
+};
+pub use marks::mark;

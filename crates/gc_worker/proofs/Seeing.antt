@@ -1,5 +1,5 @@
 -- What a running mutator sees of its registers is what the plain machine's registers have, with identities in place of addresses.
-use Rattle.std.proofs.Common.{◌≡◌, ℕ, ◌+◌, ◌-◌, ◌*◌, ◌/◌, ◌%◌, ◌<◌, ◌≤◌, ◌==◌, Bool, true, false, nat_lt, nat_le, List, length, map, slice_get, slice_index, Some, None, refl, ap, sym, subst, ◌∙◌, ◌⊎◌, inl, inr, arith}
+use Rattle.std.proofs.Common.{◌≡◌, ℕ, ◌+◌, ◌-◌, ◌*◌, ◌/◌, ◌%◌, ◌<◌, ◌≤◌, ◌==◌, Bool, true, false, nat_lt, nat_le, List, length, map, slice_get, slice_index, Some, None, Result, Ok, refl, ap, sym, subst, ◌∙◌, ◌⊎◌, inl, inr, arith}
 use Rattle.std.specs.Prelude.{⊤, IsTrue}
 use Rattle.std.specs.Result.{IfOk}
 use Rattle.std.proofs.lemmas.Bool.{ltb-true, leb-true, and_parts, and_from, eqb-true, eq-eqb, cases_lt}
@@ -11,6 +11,7 @@ use Rattle.heap_words.specs.Word.{number_word, pointer_word}
 use Rattle.heap_words.proofs.Decoding.{decode-number_word}
 use Rattle.heap_words.proofs.Ranges.{number_bounds}
 use Rattle.heap_words.proofs.Spelling.{pointer_word-decode}
+use Rattle.plain_state.specs.declared.end.End.{End}
 use Rattle.plain_state.specs.declared.operation.Operation.{Operation}
 use Rattle.plain_state.specs.declared.operation.Operation.TheVariants as operations
 use Rattle.plain_state.specs.declared.sizes.TheConstants.{NUMBERS, REGISTERS}
@@ -22,6 +23,7 @@ use Rattle.plain_state.specs.State.{Mutator, Plain}
 use Rattle.mutator_asm.specs.declared.instr.Instr.{Instr}
 use Rattle.mutator_asm.specs.declared.instr.Instr.TheVariants as instrs
 use Rattle.mutator_asm.specs.Program.{is_valid, is_register, is_number}
+use Rattle.plain_heap.specs.declared.action.Action.{Action}
 use Rattle.plain_heap.specs.Action.{register, are_same, action}
 use Rattle.plain_heap.proofs.Named.{Spells, Names, named}
 use Rattle.heap_state.specs.Configuration.{Configuration, Stands, era, memory, team}
@@ -40,6 +42,7 @@ use Rattle.gc_worker.proofs.Alike.{plain_value, plain_outcome, AreAlike, acts_al
 use Rattle.gc_worker.proofs.Answering.{IsIts, holds}
 use Rattle.gc_worker.proofs.Reading.{word_of_value_seen}
 use Rattle.gc_worker.proofs.Steps.{prepared}
+use Rattle.gc_worker.proofs.Targets.{WritesRegister, writes_register}
 
 -- ---- words
 
@@ -246,3 +249,10 @@ module _ (c : Configuration) (p : Plain) (s : Stands c p) (k : ℕ) (x : Held) (
     -- each value and record that it names is held; lengths and words of the board are in range, and there is room to print
     pub held : (i : Instr) → IsTrue (is_valid i) → IfOk (action sight i) (Names Holds ⊤ sight)
     held i valid = named Holds ⊤ sight (λ r. held_register r (cases_lt r REGISTERS)) (below (x.account.counter + 1)) truth computed i (spells i valid)
+
+    -- the same of one action, which writes one of the eight registers, if any
+    pub names : (i : Instr) → IsTrue (is_valid i) → (act : Action) → action sight i ≡ Ok act → Names Holds ⊤ sight act
+    names i valid act is_act = subst (λ (o : Result Action End). IfOk o (Names Holds ⊤ sight)) is_act (held i valid)
+
+    pub writes : (i : Instr) → IsTrue (is_valid i) → (act : Action) → action sight i ≡ Ok act → WritesRegister act
+    writes i valid act is_act = subst (λ (o : Result Action End). IfOk o WritesRegister) is_act (writes_register sight i valid)

@@ -1,5 +1,5 @@
 -- What a worker's code keeps and tells of what it holds.
-use Rattle.std.specs.Prelude.{◌≡◌, ℕ, ◌^◌, ◌<◌, ◌≤◌, ⊤, Option, Some, None, true, false, nat_lt}
+use Rattle.std.specs.Prelude.{◌≡◌, ℕ, ◌^◌, ◌<◌, ◌≤◌, ⊤, Bool, Option, Some, None, true, false, nat_lt}
 use Rattle.plain_state.specs.declared.end.End.{End}
 use Rattle.plain_state.specs.declared.sizes.TheConstants.{BOARD_WORDS, MOST_PRINTED, NUMBERS}
 use Rattle.plain_state.specs.declared.value.Value.{Value}
@@ -9,13 +9,14 @@ use Rattle.plain_heap.specs.declared.action.Action.{Action}
 use Rattle.plain_heap.specs.declared.action.Action.TheVariants.{Sets, Jumps, Links, Prints, Makes, Measures, Loads, Stores, Gets, Puts, Swaps}
 use Rattle.mutator_asm.specs.declared.instr.Instr.{Instr}
 use Rattle.gc_worker.specs.declared.stage.Stage.{Stage}
-use Rattle.gc_worker.specs.declared.stage.Stage.TheVariants.{Passes, Flips, Forwards, Accesses, Places, Serves, Scans, Evacuates, Opens, Gone}
+use Rattle.gc_worker.specs.declared.stage.Stage.TheVariants.{Looks, Passes, Flips, Forwards, Accesses, Places, Serves, Scans, Evacuates, Opens, Gone}
 use Rattle.gc_worker.specs.declared.due.Due.{Due}
 use Rattle.gc_worker.specs.declared.due.Due.TheVariants as due
 use Rattle.gc_worker.specs.declared.stepped.Stepped.{Stepped}
 use Rattle.gc_worker.specs.declared.stepped.Stepped.TheVariants.{Moved, Effect, Flipped, Ended}
 use Rattle.gc_worker.specs.declared.task.Task.{Task}
 use Rattle.gc_worker.specs.declared.task.Task.TheVariants.{Calls, Stops}
+use Rattle.gc_worker.specs.Counted.{counted}
 use Rattle.gc_worker.specs.Fits.{Fits}
 use Rattle.forwarding.specs.Keeping as keeping
 use Rattle.forwarding.specs.Keeping.{kept_word, reserved_word}
@@ -35,7 +36,15 @@ task_due due.Stop instr end = Some (Stops end)
 -- The instructions that a mutator has executed are not counted by its code: on threads no number bounds them, and nobody reads
 -- them there. So it holds this.
 abbrev pub uncounted : Held → Held
-uncounted x = record x { account = record x.account { executed = 0 } }
+uncounted x = counted 0 x
+
+-- it looks at the gate, and has no task
+abbrev pub awaits_at : Stage → Option Task → Bool
+awaits_at Looks None = true
+awaits_at stage task = false
+
+abbrev pub awaits : Held → Bool
+awaits x = awaits_at x.stage x.task
 
 -- a worker fits a heap of its own layout
 abbrev pub IsSound : Held → Type 0

@@ -138,7 +138,10 @@ impl State {
         }
         if self.begun < self.epoch || self.epoch == u32::MAX {
             let Shortage {
-                asked, room, live, ..
+                asked,
+                room,
+                live,
+                ..
             } = s;
             return self.end_with(End::HeapFull { asked, room, live });
         }

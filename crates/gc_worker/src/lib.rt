@@ -14,12 +14,14 @@ mod after;
 mod allocating;
 mod back;
 mod board_access;
+mod config;
 mod due;
 mod field_access;
 mod forwarding_register;
 mod instructions;
 mod laws;
 mod looking;
+mod open_error;
 mod passing;
 mod record_access;
 mod seen_value;
@@ -37,14 +39,16 @@ pub use accessed::Accessed;
 pub use after::After;
 pub use back::Back;
 pub use board_access::{BoardAccess, BoardSwap, BoardUse};
+pub use config::Config;
 pub use field_access::{FieldAccess, FieldUse, Role};
 pub use forwarding_register::ForwardingRegister;
 pub use laws::{
     answers_leave_the_others, beginnings_are_kept, counts_are_apart, flips_are_won, full_is_told,
     heaps_open, places_fit, readying_stands, registers_lead_back, steps_keep, tasks_may_begin,
-    traced_pages_are_open, what_is_represented_stands, what_stands_is_so,
-    what_was_copied_was_live, workers_go_on, workers_want,
+    traced_pages_are_open, what_is_represented_stands, what_stands_is_so, what_was_copied_was_live,
+    workers_go_on, workers_want,
 };
+pub use open_error::OpenError;
 pub use record_access::{RecordAccess, RecordUse};
 pub use stage::Stage;
 pub use stepped::Stepped;

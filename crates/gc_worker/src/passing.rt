@@ -155,10 +155,7 @@ impl State {
         match flip.take(reply) {
             Turn::More => Stepped::Moved,
             Turn::Finished(Flipped::Went(asked)) => {
-                self.stage = Stage::Passes(
-                    Gate::resume(self.spaces, self.epoch),
-                    After::Places,
-                );
+                self.stage = Stage::Passes(Gate::resume(self.spaces, self.epoch), After::Places);
                 Stepped::Flipped(asked)
             }
             Turn::Finished(Flipped::NotYet(_)) => {
@@ -178,11 +175,13 @@ impl State {
         ensures state { self.new ≡ uncounted (turned self.old reply) }
         ensures tells { result ≡ stepped_by self.old.number (told self.old reply) }
     {
-        let Stage::Forwards(ForwardingRegister {
-            register,
-            evac,
-            after,
-        }) = &mut self.stage
+        let Stage::Forwards(
+            ForwardingRegister {
+                register,
+                evac,
+                after,
+            },
+        ) = &mut self.stage
         else {
             unreachable!()
         };

@@ -1,28 +1,59 @@
 //! A worker's next step, and the reply to it.
 
-ghost use Rattle.std.specs.Prelude.{◌≡◌, ◌<◌, [], IfSome, IsSome, vec_capacity};
+ghost use Rattle.std.specs.Prelude.{◌≡◌, ◌<◌, ◌≤◌, [], IfSome, IsSome, vec_capacity};
 ghost use Rattle.atom_store.specs.Step.{place_in};
 ghost use Rattle.space_map.specs.Table.{table_length};
 ghost use Rattle.gc_worker.specs.declared.task.Task.TheVariants.{Calls, Stops};
-ghost use Rattle.gc_worker.specs.Between.{fresh, with_task};
+ghost use Rattle.gc_worker.specs.Between.{fresh, fresh_mutator, fresh_scanner, with_task};
 ghost use Rattle.gc_worker.specs.Fits.{Takes};
 ghost use Rattle.gc_worker.specs.Held.{at_stage};
 ghost use Rattle.gc_worker.specs.Stepped.{HasRoom, IsSound, stepped_by, uncounted};
 ghost use Rattle.gc_worker.specs.Turned.{told, turned};
 ghost use Rattle.gc_worker.specs.Wanted.{wanted};
 
+use crate::after::After;
+use crate::back::Back;
 use crate::due::Due;
 use crate::stage::Stage;
 use crate::state::State;
 use crate::stepped::Stepped;
 use atom_store::{Reply, Step};
+use fault_duty::Duty;
+use gate_core::Gate;
 use mutator_asm::Instr;
 use plain_state::{End, REGISTERS};
 use space_map::Spaces;
 
 impl State {
+    /// A mutator that is about to come to a heap.
+    pub fn mutator(spaces: Spaces, number: u8, mutators: u8, printed: Vec<u64>) -> State
+        requires room { HasRoom number mutators (vec_capacity printed) }
+        requires empty { printed.items ≡ [] }
+        ensures { result ≡ fresh_mutator spaces.pages mutators number }
+    {
+        let stage = Stage::Passes(Gate::attach(spaces), After::Looks);
+        State::new(spaces, number, mutators, printed, stage)
+    }
+
+    /// A scanner before its first round.
+    pub fn scanner(spaces: Spaces, number: u8, mutators: u8, printed: Vec<u64>) -> State
+        requires few { number ≤ 23 }
+        requires room { HasRoom number mutators (vec_capacity printed) }
+        requires empty { printed.items ≡ [] }
+        ensures { result ≡ fresh_scanner spaces.pages mutators number }
+    {
+        let duty = Duty::scanner(spaces, number, mutators);
+        State::new(
+            spaces,
+            number,
+            mutators,
+            printed,
+            Stage::Serves(duty, Back::ToScanner),
+        )
+    }
+
     /// A worker before its first step, which is about to do this.
-    pub fn new(spaces: Spaces, number: u8, mutators: u8, printed: Vec<u64>, stage: Stage) -> State
+    fn new(spaces: Spaces, number: u8, mutators: u8, printed: Vec<u64>, stage: Stage) -> State
         requires room { HasRoom number mutators (vec_capacity printed) }
         requires empty { printed.items ≡ [] }
         ensures { result ≡ at_stage (fresh spaces.pages mutators number) stage }
@@ -46,7 +77,7 @@ impl State {
         }
     }
 
-    /// An instruction is due.
+    /// The task is an instruction.
     pub fn begin(&mut self, instr: Instr)
         ensures { self.new ≡ with_task self.old (Calls instr) }
     {
@@ -54,7 +85,7 @@ impl State {
         self.instr = instr;
     }
 
-    /// An end is due in place of one.
+    /// The task is an end.
     pub fn begin_end(&mut self, end: End)
         ensures { self.new ≡ with_task self.old (Stops end) }
     {

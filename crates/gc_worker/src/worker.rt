@@ -4,18 +4,15 @@ ghost use Rattle.space_map.specs.Table.{table_length};
 ghost use Rattle.gc_worker.specs.declared.task.Task.TheVariants.{Calls, Stops};
 ghost use Rattle.gc_worker.specs.Between.{IsIdle, fresh_mutator, fresh_scanner, with_task};
 ghost use Rattle.gc_worker.specs.Fits.{MayBegin, MayStop, Takes};
-ghost use Rattle.gc_worker.specs.Stepped.{IsSound, header_kept, place_kept, stepped_by, uncounted};
+ghost use Rattle.gc_worker.specs.Stepped.{IsSound, awaits, header_kept, place_kept, stepped_by, uncounted};
 ghost use Rattle.gc_worker.specs.Turned.{told, turned};
 ghost use Rattle.gc_worker.specs.Wanted.{wanted};
 
-use crate::after::After;
-use crate::back::Back;
+use crate::due::Due;
 use crate::stage::Stage;
 use crate::state::State;
 use crate::stepped::Stepped;
 use atom_store::{NoMemory, Reply, Step};
-use fault_duty::Duty;
-use gate_core::Gate;
 use mutator_asm::Instr;
 use plain_state::{End, MOST_PRINTED, REGISTERS};
 use space_map::Spaces;
@@ -51,11 +48,10 @@ impl Worker {
         requires few { mutators ≤ 16 }
         ensures { IfOk result (λ worker. worker ≡ fresh_mutator spaces.pages mutators number) }
     {
+        let _pages = spaces.pages();
         let printed = Vec::with_capacity(alloc, MOST_PRINTED)?;
-        let stage = Stage::Passes(Gate::attach(spaces), After::Looks);
-        Ok(Worker {
-            state: State::new(spaces, number, mutators, printed, stage),
-        })
+        let state = State::mutator(spaces, number, mutators, printed);
+        Ok(Worker { state })
     }
 
     /// A scanner before its first round.
@@ -64,11 +60,9 @@ impl Worker {
         requires few { number ≤ 23 }
         ensures { result ≡ fresh_scanner spaces.pages mutators number }
     {
-        let duty = Duty::scanner(spaces, number, mutators);
-        let stage = Stage::Serves(duty, Back::ToScanner);
-        Worker {
-            state: State::new(spaces, number, mutators, Vec::new(alloc), stage),
-        }
+        let _pages = spaces.pages();
+        let state = State::scanner(spaces, number, mutators, Vec::new(alloc));
+        Worker { state }
     }
 
     /// The next step. A mutator that has left has none, and neither has a scanner that has seen all leave.
@@ -80,6 +74,7 @@ impl Worker {
     }
 
     /// Takes the reply to it.
+    #[tactic(auto, using(crate::proofs::Sound::uncounted_are_sound))]
     pub fn take(&mut self, reply: Reply) -> Stepped
         requires wants { IsSome (wanted self.old) }
         requires takes { Takes self.old reply }
@@ -90,8 +85,18 @@ impl Worker {
         self.state.take(reply)
     }
 
+    /// Whether it looks at the gate, and has no task.
+    pub fn awaits(&self) -> bool
+        ensures { result ≡ awaits self.now }
+    {
+        match self.state.stage {
+            Stage::Looks => self.state.due == Due::Nothing,
+            _ => false,
+        }
+    }
+
     /// An instruction, which the next look at the gate begins.
-    #[tactic(auto, using(crate::proofs::Between::Beginning::task_sound))]
+    #[tactic(auto, using(crate::proofs::Sound::begun_are_sound))]
     pub fn begin(&mut self, instr: &Instr)
         requires idle { IsIdle self.old }
         requires may_begin { MayBegin self.old.account self.old.registers (Some (Calls instr.now)) }
@@ -101,7 +106,7 @@ impl Worker {
     }
 
     /// An end in place of an instruction.
-    #[tactic(auto, using(crate::proofs::Between::Beginning::task_sound))]
+    #[tactic(auto, using(crate::proofs::Sound::begun_are_sound))]
     pub fn begin_end(&mut self, end: End)
         requires idle { IsIdle self.old }
         requires may_stop { MayStop end }

@@ -39,7 +39,7 @@ module _ (n mutators k : ℕ) where
   is_value r l = subst IsValueAs (sym (ap decode (no_word r) ∙ zero_word)) tt
 
   module _ (size : IsPageCount n) (few : k ≤ 23) where
-    mutator_fits : nat_lt k mutators ≡ true → Fits n mutators k (fresh_mutator n mutators k)
+    pub mutator_fits : nat_lt k mutators ≡ true → Fits n mutators k (fresh_mutator n mutators k)
     mutator_fits side = record {
       number = refl;
       few = few;
@@ -57,7 +57,7 @@ module _ (n mutators k : ℕ) where
       stage = record { layout = refl; passage = tt; going = tt; sound = record { pages = size; stage = tt } };
     }
 
-    scanner_fits : nat_lt k mutators ≡ false → Fits n mutators k (fresh_scanner n mutators k)
+    pub scanner_fits : nat_lt k mutators ≡ false → Fits n mutators k (fresh_scanner n mutators k)
     scanner_fits side = record {
       number = refl;
       few = few;

@@ -1,8 +1,6 @@
 -- A look that begins an allocation or an access.
-use Rattle.std.proofs.Common.{◌≡◌, ℕ, Some, None, Result, Ok, refl, sym, subst, arith}
+use Rattle.std.proofs.Common.{◌≡◌, ℕ, Some, None, Ok, refl, sym, subst, arith}
 use Rattle.std.specs.Prelude.{⊤}
-use Rattle.std.specs.Result.{IfOk}
-use Rattle.plain_state.specs.declared.end.End.{End}
 use Rattle.plain_state.specs.declared.kind.Kind.{Kind}
 use Rattle.plain_state.specs.declared.value.Identity.{Identity}
 use Rattle.plain_state.specs.declared.value.Value.{Value}
@@ -33,9 +31,9 @@ use Rattle.gc_worker.proofs.Eras.{board_is}
 use Rattle.gc_worker.proofs.Fitting.{refit, page_count}
 use Rattle.gc_worker.proofs.Going.{places_known, places_fit}
 use Rattle.gc_worker.proofs.Look.Begun.{begun_fits}
-use Rattle.gc_worker.proofs.Seeing.{sight, Holds, held, is_value, points}
+use Rattle.gc_worker.proofs.Seeing.{sight, Holds, is_value, names, points, writes}
 use Rattle.gc_worker.proofs.Steps.{becomes, nothing, prepared}
-use Rattle.gc_worker.proofs.Targets.{WritesRegister, writes_register}
+use Rattle.gc_worker.proofs.Targets.{WritesRegister}
 
 module _ (c : Configuration) (p : Plain) (s : Stands c p) (k : ℕ) (y : Held) where
   abbrev x : Held
@@ -62,11 +60,11 @@ module _ (c : Configuration) (p : Plain) (s : Stands c p) (k : ℕ) (y : Held) w
 
     -- ---- an access
 
-    names : (act : Action) → Acts act → Names (Holds c p s k x is refl unended q its) ⊤ (sight c p s k x is refl unended) act
-    names act is_act = subst (λ (o : Result Action End). IfOk o (Names (Holds c p s k x is refl unended q its) ⊤ (sight c p s k x is refl unended))) is_act (held c p s k x is refl unended q its instr call.valid)
+    named : (act : Action) → Acts act → Names (Holds c p s k x is refl unended q its) ⊤ (sight c p s k x is refl unended) act
+    named = names c p s k x is refl unended q its instr call.valid
 
-    writes : (act : Action) → Acts act → WritesRegister act
-    writes act is_act = subst (λ (o : Result Action End). IfOk o WritesRegister) is_act (writes_register (seen x.account x.registers) instr call.valid)
+    small_in : (act : Action) → Acts act → WritesRegister act
+    small_in = writes c p s k x is refl unended q its instr call.valid
 
     -- a record that a register leads to lies in the heap
     in_heap : (i : Identity) → Holds c p s k x is refl unended q its (Reference i) → IsInHeap x.layout.pages i.serial
@@ -94,20 +92,20 @@ module _ (c : Configuration) (p : Plain) (s : Stands c p) (k : ℕ) (y : Held) w
         (record { layout = refl; epoch = refl; sound = record { pages = page_count c.pages c.mutators k x is.fits; stage = fits } }))
 
     pub measures : (d : ℕ) (i : Identity) → Acts (Measures d i) → turned x reply ≡ acts (begins x) (Measures d i) → Goes c p s k None x reply
-    measures d i is_act turns = access (Measures d i) _ is_act refl (in_heap i (names (Measures d i) is_act), writes (Measures d i) is_act) refl turns
+    measures d i is_act turns = access (Measures d i) _ is_act refl (in_heap i (named (Measures d i) is_act), small_in (Measures d i) is_act) refl turns
 
     pub loads : (d : ℕ) (i : Identity) (n : ℕ) → Acts (Loads d i n) → turned x reply ≡ acts (begins x) (Loads d i n) → Goes c p s k None x reply
-    loads d i n is_act turns = access (Loads d i n) _ is_act refl (in_heap i (names (Loads d i n) is_act), writes (Loads d i n) is_act) refl turns
+    loads d i n is_act turns = access (Loads d i n) _ is_act refl (in_heap i (named (Loads d i n) is_act), small_in (Loads d i n) is_act) refl turns
 
     pub stores : (i : Identity) (n : ℕ) (v : Value) → Acts (Stores i n v) → turned x reply ≡ acts (begins x) (Stores i n v) → Goes c p s k None x reply
-    stores i n v is_act turns = let named = names (Stores i n v) is_act in
-        access (Stores i n v) _ is_act refl (in_heap i named.0, value v named.1) refl turns
+    stores i n v is_act turns = let held = named (Stores i n v) is_act in
+        access (Stores i n v) _ is_act refl (in_heap i held.0, value v held.1) refl turns
 
     pub gets : (d n : ℕ) → Acts (Gets d n) → turned x reply ≡ acts (begins x) (Gets d n) → Goes c p s k None x reply
-    gets d n is_act turns = access (Gets d n) _ is_act refl ((names (Gets d n) is_act).1, writes (Gets d n) is_act) refl turns
+    gets d n is_act turns = access (Gets d n) _ is_act refl ((named (Gets d n) is_act).1, small_in (Gets d n) is_act) refl turns
 
     pub puts : (n : ℕ) (v : Value) → Acts (Puts n v) → turned x reply ≡ acts (begins x) (Puts n v) → Goes c p s k None x reply
-    puts n v is_act turns = access (Puts n v) _ is_act refl ((names (Puts n v) is_act).1, tt) refl turns
+    puts n v is_act turns = access (Puts n v) _ is_act refl ((named (Puts n v) is_act).1, tt) refl turns
 
     pub swaps : (d n : ℕ) (v : Value) → Acts (Swaps d n v) → turned x reply ≡ acts (begins x) (Swaps d n v) → Goes c p s k None x reply
-    swaps d n v is_act turns = access (Swaps d n v) _ is_act refl ((names (Swaps d n v) is_act).1, writes (Swaps d n v) is_act) refl turns
+    swaps d n v is_act turns = access (Swaps d n v) _ is_act refl ((named (Swaps d n v) is_act).1, small_in (Swaps d n v) is_act) refl turns

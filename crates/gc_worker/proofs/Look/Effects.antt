@@ -1,7 +1,6 @@
 -- A look whose instruction's effect the registers alone decide: a register is set, a jump is made, or a number is printed.
 use Rattle.std.proofs.Common.{◌≡◌, ℕ, ◌+◌, ◌%◌, ◌<◌, ◌≤◌, List, [], ◌∷◌, ◌++◌, length, slice_index, slice_set, is_some, Some, None, Result, Ok, refl, ap, sym, subst, ◌∙◌, length-set, arith}
 use Rattle.std.specs.Prelude.{⊤, IsTrue}
-use Rattle.std.specs.Result.{IfOk}
 use Rattle.std.proofs.lemmas.List.{length-append}
 use Rattle.plain_state.specs.declared.end.End.{End}
 use Rattle.plain_state.specs.declared.sizes.TheConstants.{NUMBERS, REGISTERS, MOST_PRINTED}
@@ -36,10 +35,10 @@ use Rattle.gc_worker.proofs.Alike.{plain_value, plain_action, plain_outcome}
 use Rattle.gc_worker.proofs.Answering.{LawTo, IsIts, may_hold, going, next_as}
 use Rattle.gc_worker.proofs.Effecting.{counted, loaded_goes, loaded_as, effect}
 use Rattle.gc_worker.proofs.Look.Begun.{begun_fits}
-use Rattle.gc_worker.proofs.Seeing.{sight, Holds, holds_number, alike, held, is_value}
+use Rattle.gc_worker.proofs.Seeing.{sight, Holds, holds_number, alike, is_value, names, writes}
 use Rattle.gc_worker.proofs.Settling.{AreValues, values_set, settled_as, settled_fits}
 use Rattle.gc_worker.proofs.Steps.{prepared}
-use Rattle.gc_worker.proofs.Targets.{WritesRegister, writes_register}
+use Rattle.gc_worker.proofs.Targets.{WritesRegister}
 
 module _ (c : Configuration) (p : Plain) (s : Stands c p) (k : ℕ) (y : Held) where
   abbrev x : Held
@@ -52,11 +51,14 @@ module _ (c : Configuration) (p : Plain) (s : Stands c p) (k : ℕ) (y : Held) w
     unfolding call
     called act is_act = ap (λ (o : Result Action End). o >>= performed k p.heap q) (alike c p s k x is refl unended q its instr valid ∙ ap (plain_outcome s.ghost.identity) is_act)
 
-    names : (act : Action) → action (sight c p s k x is refl unended) instr ≡ Ok act → Names (Holds c p s k x is refl unended q its) ⊤ (sight c p s k x is refl unended) act
-    names act is_act = subst (λ (o : Result Action End). IfOk o (Names (Holds c p s k x is refl unended q its) ⊤ (sight c p s k x is refl unended))) is_act (held c p s k x is refl unended q its instr valid)
+    abbrev Acts : Action → Type 0
+    Acts act = action (sight c p s k x is refl unended) instr ≡ Ok act
 
-    writes : (act : Action) → action (sight c p s k x is refl unended) instr ≡ Ok act → WritesRegister act
-    writes act is_act = subst (λ (o : Result Action End). IfOk o WritesRegister) is_act (writes_register (sight c p s k x is refl unended) instr valid)
+    named : (act : Action) → Acts act → Names (Holds c p s k x is refl unended q its) ⊤ (sight c p s k x is refl unended) act
+    named = names c p s k x is refl unended q its instr valid
+
+    small_in : (act : Action) → Acts act → WritesRegister act
+    small_in = writes c p s k x is refl unended q its instr valid
 
     -- with this account and these registers it goes on, as the plain mutator does
     module _ (account : Account) (registers : List ℕ) (next : Mutator) (serial : account.serial ≡ x.account.serial) (no_end : account.end ≡ None) (few : length account.printed ≤ MOST_PRINTED)
@@ -77,16 +79,13 @@ module _ (c : Configuration) (p : Plain) (s : Stands c p) (k : ℕ) (y : Held) w
     abbrev identity : ℕ → Rattle.plain_state.specs.declared.value.Identity.Identity
     identity = s.ghost.identity
 
-    abbrev Acts : Action → Type 0
-    Acts act = action (sight c p s k x is refl unended) instr ≡ Ok act
-
     next_same : turn.next_of x ≡ next_of q
     next_same = ap (λ (n : ℕ). (n + 1) % NUMBERS) its.same.account.counter
 
     pub sets : (d : ℕ) (v : Value) → Acts (Sets d v) → turned x reply ≡ acts (begins x) (Sets d v) → Goes c p s k None x reply
     sets d v is_act same =
-        let small = writes (Sets d v) is_act in
-        let holds = names (Sets d v) is_act in
+        let small = small_in (Sets d v) is_act in
+        let holds = named (Sets d v) is_act in
         goes (counted c p s k x is refl unended) (slice_set x.registers d (word_for v)) (plain.went_on (plain.set_register q d (plain_value identity v))) refl unended is.fits.few_printed
         (length-set x.registers d (word_for v) ∙ is.fits.eight) (values_set x.registers d (word_for v) is.fits.eight (is_value identity (word_for v) (plain_value identity v) holds.denotes) is.fits.registers)
         ((loaded_goes c p s k x is refl unended q its d (word_for v) (plain_value identity v) small holds).registers unended)
@@ -99,7 +98,7 @@ module _ (c : Configuration) (p : Plain) (s : Stands c p) (k : ℕ) (y : Held) w
 
     pub links : (d target : ℕ) → Acts (Links d target) → turned x reply ≡ acts (begins x) (Links d target) → Goes c p s k None x reply
     links d target is_act same =
-        let small = writes (Links d target) is_act in
+        let small = small_in (Links d target) is_act in
         let word : ℕ = number_word (turn.next_of x) in
         let holds : HoldsValue (era c) s.ghost word (Number (next_of q)) = subst (λ (n : ℕ). HoldsValue (era c) s.ghost word (Number n)) next_same (holds_number c p s k x is refl unended q its (turn.next_of x) (omega arith)) in
         let a = its.same.account in
@@ -114,7 +113,7 @@ module _ (c : Configuration) (p : Plain) (s : Stands c p) (k : ℕ) (y : Held) w
 
     pub prints : (n : ℕ) → Acts (Prints n) → turned x reply ≡ acts (begins x) (Prints n) → Goes c p s k None x reply
     prints n is_act same =
-        let room = (names (Prints n) is_act).1 in
+        let room = (named (Prints n) is_act).1 in
         let printed : List ℕ = x.account.printed ++ n ∷ [] in
         goes (record x.account { counter = turn.next_of x; printed = printed; executed = x.account.executed + 1 }) x.registers (plain.went_on (record q { printed = q.printed ++ n ∷ [] })) refl unended
         (let l = length-append x.account.printed (n ∷ []) in omega (arith, room, l)) is.fits.eight is.fits.registers
