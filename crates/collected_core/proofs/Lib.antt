@@ -10,3 +10,4 @@ pub mod Whole
 pub mod Lawful
 pub mod Slots
 pub mod Stepping
+pub mod Telling
