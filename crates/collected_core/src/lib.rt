@@ -3,6 +3,7 @@
 
 mod config;
 mod laws;
+mod slot;
 mod stepped;
 
 pub use config::{Config, OpenError};
