@@ -1,5 +1,5 @@
 -- What a worker's code keeps and tells of what it holds.
-use Rattle.std.specs.Prelude.{◌≡◌, ℕ, ◌^◌, ◌<◌, ◌≤◌, ⊤, Bool, Option, Some, None, true, false, nat_lt}
+use Rattle.std.specs.Prelude.{◌≡◌, ℕ, ◌^◌, ◌<◌, ◌≤◌, ⊤, Option, Some, None, true, false, nat_lt}
 use Rattle.plain_state.specs.declared.end.End.{End}
 use Rattle.plain_state.specs.declared.sizes.TheConstants.{BOARD_WORDS, MOST_PRINTED, NUMBERS}
 use Rattle.plain_state.specs.declared.value.Value.{Value}
@@ -9,7 +9,7 @@ use Rattle.plain_heap.specs.declared.action.Action.{Action}
 use Rattle.plain_heap.specs.declared.action.Action.TheVariants.{Sets, Jumps, Links, Prints, Makes, Measures, Loads, Stores, Gets, Puts, Swaps}
 use Rattle.mutator_asm.specs.declared.instr.Instr.{Instr}
 use Rattle.gc_worker.specs.declared.stage.Stage.{Stage}
-use Rattle.gc_worker.specs.declared.stage.Stage.TheVariants.{Looks, Passes, Flips, Forwards, Accesses, Places, Serves, Scans, Evacuates, Opens, Gone}
+use Rattle.gc_worker.specs.declared.stage.Stage.TheVariants.{Passes, Flips, Forwards, Accesses, Places, Serves, Scans, Evacuates, Opens, Gone}
 use Rattle.gc_worker.specs.declared.due.Due.{Due}
 use Rattle.gc_worker.specs.declared.due.Due.TheVariants as due
 use Rattle.gc_worker.specs.declared.stepped.Stepped.{Stepped}
@@ -45,14 +45,6 @@ IsSound x = Fits x.layout.pages x.mutators x.number x
 -- a mutator has room for all that it may print
 abbrev pub HasRoom : (number mutators capacity : ℕ) → Type 0
 HasRoom number mutators capacity = nat_lt number mutators ≡ true → MOST_PRINTED ≤ capacity
-
-abbrev pub is_free_at : Stage → Option Task → Bool
-is_free_at Looks None = true
-is_free_at stage task = false
-
--- it looks at the gate, and has no task
-abbrev pub is_free : Held → Bool
-is_free x = is_free_at x.stage x.task
 
 -- what is told of a step of worker k
 abbrev pub stepped_by : (k : ℕ) → turned.Told → Stepped
