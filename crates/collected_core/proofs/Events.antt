@@ -220,7 +220,7 @@ module _ (law : StepsKeep) (goes : WorkersGoOn) (wants : WorkersWant) (so : What
     other_task m l d =
         let same : held_at after m ≡ held_at s.heap m = ap (λ (h : Heap). held_at h m) (r.moves y q) ∙ get_or-set_other s.heap.workers w m (turned y (reply_of q s.heap.words)) nobody d in
         let was = steady.on_task m l in
-        record { counted = rw same was.counted; task = rw same was.task }
+        record { counted = rw same was.counted; within = rw same was.within; task = rw same was.task }
 
     here : held_at after w ≡ turned y (reply_of q r.heap.words)
     here = get_or-set_same r.heap.workers w (turned y (reply_of q r.heap.words)) nobody r.below
@@ -237,9 +237,10 @@ module _ (law : StepsKeep) (goes : WorkersGoOn) (wants : WorkersWant) (so : What
         let is : slice_get p.mutators w ≡ Some k = slice_get-get_or p.mutators w fresh (omega (arith, l, length_is, c)) in
         let b = account_before k is in
         let a : Accounts p.heap w (held_at after w).account k = subst (λ (u : Plain). slice_get u.mutators w ≡ Some k → Accounts u.heap w (held_at after w).account k) same (account_after k) is in
-        let counted = (steady.on_task w l).counted in
+        let was = steady.on_task w l in
         record {
-          counted = omega (arith, a.serial, a.executed, b.serial, b.executed, counted);
+          counted = omega (arith, a.serial, a.executed, b.serial, b.executed, was.counted);
+          within = omega (arith, a.executed, b.executed, was.within);
           task = λ task e.
               ready_task s w steady l task (sym (goes_on.kept none) ∙ sym (ap (λ (h : Held). h.task) here) ∙ e)
               ∙ same_task s.code s.turns w (held_at s.heap w) (held_at after w) (b.counter ∙ sym a.counter) (b.executed ∙ sym a.executed);
@@ -251,15 +252,16 @@ module _ (law : StepsKeep) (goes : WorkersGoOn) (wants : WorkersWant) (so : What
         let k = answered.mutator in
         let own_is = own task outcome e answered in
         let b = account_before k answered.is in
-        let was = (steady.on_task w l).counted in
+        let was = steady.on_task w l in
         let made = is_so.sound.represents.dump.as_many.1 in
         let length_is = r.mutators in
-        let c = counted_then s.code s.turns p w k (has_code k answered.is) answered.is answered.no_end outcome (may task outcome e answered) (omega (arith, l, made, length_is)) (omega (arith, was, b.serial, b.executed)) in
+        let c = counted_then s.code s.turns p w k (has_code k answered.is) answered.is answered.no_end outcome (may task outcome e answered) (omega (arith, l, made, length_is)) (omega (arith, was.counted, b.serial, b.executed)) (omega (arith, was.within, b.executed)) in
         let same : after_told p w t ≡ after_outcome p w k (task_of (fetch s.code s.turns w k)) outcome = rw e (rw (answered.is, own_is) refl) in
         let a : Accounts (after_outcome p w k (task_of (fetch s.code s.turns w k)) outcome).heap w (held_at after w).account c.mutator =
         subst (λ (u : Plain). slice_get u.mutators w ≡ Some c.mutator → Accounts u.heap w (held_at after w).account c.mutator) same (account_after c.mutator) c.found in
         record {
           counted = omega (arith, a.serial, a.executed, c.counted);
+          within = omega (arith, a.executed, c.bounded);
           task = λ other f. none≢some (sym ((goes_on.answers task outcome e).rests) ∙ sym (ap (λ (h : Held). h.task) here) ∙ f);
         }
 

@@ -3,7 +3,8 @@ pub mod Readied
 pub mod Events
 pub mod Claims
 pub mod Fulls
-pub mod Running
 pub mod Runs
+pub mod Running
 pub mod Opening
 pub mod Whole
+pub mod Lawful

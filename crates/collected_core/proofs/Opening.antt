@@ -54,5 +54,5 @@ module _ (opens : HeapsOpen) (code : List (List Instr)) (items : List Item) (con
     valid = program.instrs;
     sections = refl;
     turns_fit = turns;
-    on_task = λ m l. let e = mutator_there m l in record { counted = rw e (omega arith); task = λ task t. none≢some (sym (ap (λ (h : Held). h.task) e) ∙ t) };
+    on_task = λ m l. let e = mutator_there m l in record { counted = rw e (omega arith); within = rw e (omega arith); task = λ task t. none≢some (sym (ap (λ (h : Held). h.task) e) ∙ t) };
   }

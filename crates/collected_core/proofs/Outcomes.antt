@@ -1,5 +1,5 @@
 -- What a task comes to is what the mark of it does to the plain machine.
-use Rattle.std.proofs.Common.{◌≡◌, ℕ, ◌+◌, ◌<◌, ◌≤◌, Bool, true, false, nat_le, List, length, Option, Some, None, Result, Ok, Err, slice_get, slice_set, refl, ap, sym, ◌∙◌, arith, lt-ltb, eq-eqb}
+use Rattle.std.proofs.Common.{◌≡◌, ℕ, ◌+◌, ◌<◌, ◌≤◌, Bool, true, false, nat_le, List, length, Option, Some, None, Result, Ok, Err, slice_get, slice_set, refl, ap, sym, ◌∙◌, arith, lt-ltb, leb-false, eq-eqb}
 use Rattle.std.specs.Option.{option_map, option_to_list, ok_or}
 use Rattle.std.specs.Prelude.{IfOk, IsOk, if◌then◌else◌}
 use Rattle.std.proofs.lemmas.Option.{slice_get_within}
@@ -179,23 +179,35 @@ module _ (code : List (List Instr)) (turns : ℕ) (p : Plain) (m : ℕ) (q : Mut
 
   -- ---- what it made and executed
 
-  -- it made no more records than it executed instructions
+  -- it made no more records than it executed instructions, and executed no more than it may
   pub record IsCounted (heap : Heap) (ks : List Mutator) : Type 0 where
     pub mutator : Mutator
     pub found : slice_get ks m ≡ Some mutator
     pub counted : serial_of heap m ≤ mutator.executed
+    pub bounded : mutator.executed ≤ turns
 
-  counted_by : (f : Result Instr End) (outcome : Outcome) → MayCome m p.heap q (task_of f) outcome → m < length p.heap.records → serial_of p.heap m ≤ q.executed
+  -- an instruction is executed only where there are turns left
+  turns_left : (instr : Instr) → fetch code turns m q ≡ Ok instr → q.executed < turns
+  turns_left instr e = by_turns (nat_le turns q.executed) (instr_at code m q.counter) refl e
+    where
+      by_turns : (b : Bool) (o : Option Instr) → nat_le turns q.executed ≡ b → (if b then Err ends.TurnsOut else ok_or o ends.JumpOut) ≡ Ok instr → q.executed < turns
+      by_turns true o y z = absurd (cc)
+      by_turns false o y z = leb-false turns q.executed y
+
+  ends_counted : (why : End) → serial_of p.heap m ≤ q.executed → q.executed ≤ turns → IsCounted p.heap (slice_set p.mutators m (record q { end = Some why }))
+  ends_counted why c b = record { mutator = record q { end = Some why }; found = slice_get-set_same p.mutators m (record q { end = Some why }) within; counted = c; bounded = b }
+
+  counted_by : (f : Result Instr End) → fetch code turns m q ≡ f → (outcome : Outcome) → MayCome m p.heap q (task_of f) outcome → m < length p.heap.records → serial_of p.heap m ≤ q.executed → q.executed ≤ turns
       → IsCounted (after_outcome p m q (task_of f) outcome).heap (after_outcome p m q (task_of f) outcome).mutators
-  counted_by (Ok instr) Effect may made c = by_call (call m p.heap q instr) (call-went m p.heap q instr) (call-counted m p.heap q made instr)
+  counted_by (Ok instr) e Effect may made c b = by_call (call m p.heap q instr) (call-went m p.heap q instr) (call-counted m p.heap q made instr)
     where
       by_call : (r : Result After End) → IfOk r (λ a. Went q a.mutator) → IfOk r (λ a. serial_of a.heap m ≤ serial_of p.heap m + 1) → IsCounted (settled p m q r).heap (settled p m q r).mutators
-      by_call (Ok a) went y = record { mutator = a.mutator; found = slice_get-set_same p.mutators m a.mutator within; counted = (let e = went.executed in omega (arith, e, y, c)) }
-      by_call (Err why) went y = record { mutator = record q { end = Some why }; found = slice_get-set_same p.mutators m (record q { end = Some why }) within; counted = c }
-  counted_by (Ok instr) (Ends why) may made c = record { mutator = record q { end = Some why }; found = slice_get-set_same p.mutators m (record q { end = Some why }) within; counted = c }
-  counted_by (Err why) Effect may made c = absurd may
-  counted_by (Err why) (Ends other) may made c = record { mutator = record q { end = Some other }; found = slice_get-set_same p.mutators m (record q { end = Some other }) within; counted = c }
+      by_call (Ok a) went y = let x = went.executed in let l = turns_left instr e in record { mutator = a.mutator; found = slice_get-set_same p.mutators m a.mutator within; counted = omega (arith, x, y, c); bounded = omega (arith, x, l) }
+      by_call (Err why) went y = ends_counted why c b
+  counted_by (Ok instr) e (Ends why) may made c b = ends_counted why c b
+  counted_by (Err why) e Effect may made c b = absurd may
+  counted_by (Err why) e (Ends other) may made c b = ends_counted other c b
 
-  pub counted_then : (outcome : Outcome) → MayCome m p.heap q (task_of (fetch code turns m q)) outcome → m < length p.heap.records → serial_of p.heap m ≤ q.executed
+  pub counted_then : (outcome : Outcome) → MayCome m p.heap q (task_of (fetch code turns m q)) outcome → m < length p.heap.records → serial_of p.heap m ≤ q.executed → q.executed ≤ turns
       → IsCounted (after_outcome p m q (task_of (fetch code turns m q)) outcome).heap (after_outcome p m q (task_of (fetch code turns m q)) outcome).mutators
-  counted_then outcome may made c = counted_by (fetch code turns m q) outcome may made c
+  counted_then outcome may made c b = counted_by (fetch code turns m q) refl outcome may made c b

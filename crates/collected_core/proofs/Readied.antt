@@ -88,7 +88,7 @@ module _ (readies : ReadyingStands) (tasks : TasksMayBegin) (s : CoreState) (w :
   fits = stands.fit w below
 
   -- who looks at the gate is a mutator without an end
-  looks_idle : x.stage ≡ Looks → x.task ≡ None → IsIdle x
+  pub looks_idle : x.stage ≡ Looks → x.task ≡ None → IsIdle x
   looks_idle e f = record {
     is_mutator = mutator_by (nat_lt x.number x.mutators) refl (subst (λ (t : Stage). IsOnSide t (nat_lt x.number x.mutators) (is_some x.account.end)) e fits.side);
     no_end = no_end x.account.end (subst (λ (t : Stage). FitsEnd t (is_some x.account.end)) e fits.end);

@@ -21,9 +21,10 @@ use Rattle.collected_core.specs.Run.{mark_of}
 
 -- ---- what a core keeps beside the plain state
 
--- A mutator made a record by an instruction each; and the task that it has begun is its next one.
+-- A mutator made a record by an instruction each, and executed no more than it may; and the task that it has begun is its next one.
 pub record IsOnTask (s : CoreState) (m : ℕ) : Type 0 where
   pub counted : (held_at s.heap m).account.serial ≤ (held_at s.heap m).account.executed
+  pub within : (held_at s.heap m).account.executed ≤ s.turns
   pub task : (t : Task) → (held_at s.heap m).task ≡ Some t → t ≡ next_task s.code s.turns m (held_at s.heap m)
 
 -- there is a mutator for each section of valid code, and each is on its task

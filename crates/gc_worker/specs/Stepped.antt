@@ -1,5 +1,5 @@
 -- What a worker's code keeps and tells of what it holds.
-use Rattle.std.specs.Prelude.{◌≡◌, ℕ, ◌^◌, ◌<◌, ◌≤◌, ⊤, Option, Some, None, true, false, nat_lt}
+use Rattle.std.specs.Prelude.{◌≡◌, ℕ, ◌^◌, ◌<◌, ◌≤◌, ⊤, Bool, Option, Some, None, true, false, nat_lt}
 use Rattle.plain_state.specs.declared.end.End.{End}
 use Rattle.plain_state.specs.declared.sizes.TheConstants.{BOARD_WORDS, MOST_PRINTED, NUMBERS}
 use Rattle.plain_state.specs.declared.value.Value.{Value}
@@ -9,7 +9,7 @@ use Rattle.plain_heap.specs.declared.action.Action.{Action}
 use Rattle.plain_heap.specs.declared.action.Action.TheVariants.{Sets, Jumps, Links, Prints, Makes, Measures, Loads, Stores, Gets, Puts, Swaps}
 use Rattle.mutator_asm.specs.declared.instr.Instr.{Instr}
 use Rattle.gc_worker.specs.declared.stage.Stage.{Stage}
-use Rattle.gc_worker.specs.declared.stage.Stage.TheVariants.{Passes, Flips, Forwards, Accesses, Places, Serves, Scans, Evacuates, Opens, Gone}
+use Rattle.gc_worker.specs.declared.stage.Stage.TheVariants.{Looks, Passes, Flips, Forwards, Accesses, Places, Serves, Scans, Evacuates, Opens, Gone}
 use Rattle.gc_worker.specs.declared.due.Due.{Due}
 use Rattle.gc_worker.specs.declared.due.Due.TheVariants as due
 use Rattle.gc_worker.specs.declared.stepped.Stepped.{Stepped}
@@ -37,6 +37,14 @@ task_due due.Stop instr end = Some (Stops end)
 -- them there. So it holds this.
 abbrev pub uncounted : Held → Held
 uncounted x = counted 0 x
+
+-- it looks at the gate, and has no task
+abbrev pub awaits_at : Stage → Option Task → Bool
+awaits_at Looks None = true
+awaits_at stage task = false
+
+abbrev pub awaits : Held → Bool
+awaits x = awaits_at x.stage x.task
 
 -- a worker fits a heap of its own layout
 abbrev pub IsSound : Held → Type 0

@@ -4,10 +4,11 @@ ghost use Rattle.space_map.specs.Table.{table_length};
 ghost use Rattle.gc_worker.specs.declared.task.Task.TheVariants.{Calls, Stops};
 ghost use Rattle.gc_worker.specs.Between.{IsIdle, fresh_mutator, fresh_scanner, with_task};
 ghost use Rattle.gc_worker.specs.Fits.{MayBegin, MayStop, Takes};
-ghost use Rattle.gc_worker.specs.Stepped.{IsSound, header_kept, place_kept, stepped_by, uncounted};
+ghost use Rattle.gc_worker.specs.Stepped.{IsSound, awaits, header_kept, place_kept, stepped_by, uncounted};
 ghost use Rattle.gc_worker.specs.Turned.{told, turned};
 ghost use Rattle.gc_worker.specs.Wanted.{wanted};
 
+use crate::due::Due;
 use crate::stage::Stage;
 use crate::state::State;
 use crate::stepped::Stepped;
@@ -82,6 +83,16 @@ impl Worker {
         ensures tells { result ≡ stepped_by self.old.number (told self.old reply) }
     {
         self.state.take(reply)
+    }
+
+    /// Whether it looks at the gate, and has no task.
+    pub fn awaits(&self) -> bool
+        ensures { result ≡ awaits self.now }
+    {
+        match self.state.stage {
+            Stage::Looks => self.state.due == Due::Nothing,
+            _ => false,
+        }
     }
 
     /// An instruction, which the next look at the gate begins.
