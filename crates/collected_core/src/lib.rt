@@ -3,9 +3,11 @@
 
 mod config;
 mod laws;
+mod machine;
 mod slot;
 mod stepped;
 
 pub use config::{Config, OpenError};
 pub use laws::{events_meet, missing_workers_are_idle, runs_follow};
+pub use machine::Core;
 pub use stepped::Stepped;

@@ -45,7 +45,7 @@ impl Slot {
         requires counted { self.old.account.serial ≤ self.old.account.executed }
         ensures { self.new ≡ readied program.now.code turns m self.old }
     {
-        if self.worker.is_free() {
+        if self.worker.awaits() {
             if turns <= self.count {
                 self.worker.begin_end(End::TurnsOut);
             } else {
