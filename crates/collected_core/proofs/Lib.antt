@@ -8,3 +8,4 @@ pub mod Running
 pub mod Opening
 pub mod Whole
 pub mod Lawful
+pub mod Slots

@@ -1,11 +1,11 @@
 //! A worker of a core, with the count of the instructions that it has executed.
 
-ghost use Rattle.std.specs.Prelude.{◌≡◌, ◌+◌, ◌≤◌, ◌<◌, ◌^◌, true, IsSome, IfSome};
-ghost use Rattle.atom_store.specs.Step.{place_in};
-ghost use Rattle.space_map.specs.Table.{table_length};
+ghost use Rattle.std.specs.Prelude.{◌≡◌, ◌-◌, ◌≤◌, ◌<◌, ◌^◌, IsSome, IsTrue};
+ghost use Rattle.std.specs.List.{list_all};
+ghost use Rattle.mutator_asm.specs.Program.{is_valid};
 ghost use Rattle.gc_worker.specs.Counted.{counted};
 ghost use Rattle.gc_worker.specs.Fits.{Takes};
-ghost use Rattle.gc_worker.specs.Stepped.{IsSound, header_kept, place_kept, stepped_by};
+ghost use Rattle.gc_worker.specs.Stepped.{IsSound, stepped_by};
 ghost use Rattle.gc_worker.specs.Turned.{told, turned};
 ghost use Rattle.gc_worker.specs.Wanted.{wanted};
 ghost use Rattle.collected_core.specs.Event.{readied};
@@ -42,6 +42,8 @@ impl Slot {
     /// Where the worker may be given its next task, it is.
     pub fn ready(&mut self, program: &Program, turns: u32, m: u8)
         requires turns { turns ≤ 10000000 }
+        requires valid { IsTrue (list_all (list_all is_valid) program.now.code) }
+        requires sound { IsSound self.old }
         requires counted { self.old.account.serial ≤ self.old.account.executed }
         ensures { self.new ≡ readied program.now.code turns m self.old }
     {
@@ -66,6 +68,7 @@ impl Slot {
 
     /// Takes the reply to it.
     pub fn take(&mut self, reply: Reply) -> Stepped
+        requires sound { IsSound self.old }
         requires wants { IsSome (wanted self.old) }
         requires takes { Takes self.old reply }
         requires fits { IsSound (turned self.old reply) }
