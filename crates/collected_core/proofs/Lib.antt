@@ -9,5 +9,6 @@ pub mod Opening
 pub mod Whole
 pub mod Lawful
 pub mod Slots
+pub mod Counts
 pub mod Stepping
 pub mod Telling
