@@ -4,6 +4,8 @@
 mod laws;
 mod machine;
 mod marks;
+mod opening;
+mod readers;
 mod slot;
 
 pub use gc_worker::{Config, OpenError, Stepped};
