@@ -23,7 +23,7 @@ use Rattle.collected_core.specs.Event.{Event, event_of, core_after, ready, next_
 use Rattle.collected_core.specs.Law.{IsLawful}
 use Rattle.collected_core.proofs.Lawful.{event_none, event_some, ready_fits, may_be_given}
 use Rattle.collected_core.proofs.Readied.{Due, Begins, Rests, due, readied_stands, ready_account}
-use Rattle.collected_core.proofs.Slots.{awaiting, few_executed}
+use Rattle.collected_core.proofs.Counts.{awaiting, few_executed}
 
 -- what a worker is owed that awaits a task
 pub ready_owed : (s : CoreState) (w : ℕ) → IsLawful s → w < workers_of s → awaits (held_at s.heap w) ≡ true

@@ -1,7 +1,7 @@
 -- A core begins steady, for the plain state in which its program begins.
-use Rattle.std.proofs.Common.{◌≡◌, ℕ, ◌+◌, ◌<◌, ◌≤◌, ◌&&◌, Bool, true, false, nat_le, List, [], ◌∷◌, length, replicate, refl, ap, sym, subst, ◌∙◌, arith, lt-ltb}
+use Rattle.std.proofs.Common.{◌≡◌, ℕ, zero, suc, ◌+◌, ◌++◌, ◌<◌, ◌≤◌, ◌&&◌, Bool, true, false, nat_le, List, [], ◌∷◌, length, replicate, refl, ap, sym, subst, ◌∙◌, arith, lt-ltb}
 use Rattle.std.specs.Prelude.{map, IsTrue, if◌then◌else◌}
-use Rattle.std.proofs.lemmas.Bool.{leb-true}
+use Rattle.std.proofs.lemmas.Bool.{leb-true, le-leb}
 use Rattle.plain_state.specs.declared.value.Value.TheVariants.{Number}
 use Rattle.plain_state.specs.State.{Plain}
 use Rattle.mutator_asm.specs.declared.instr.Instr.{Instr}
@@ -15,7 +15,7 @@ use Rattle.heap_state.specs.Table.{Table}
 use Rattle.heap_state.proofs.Table.Writing.{writes_tables}
 use Rattle.heap_laws.specs.Opening.{opening_plain, opening_entries}
 use Rattle.heap_laws.proofs.Opening.Heap.{entries_fit}
-use Rattle.gc_worker.specs.Between.{HeapsOpen, fresh_mutator, fresh_scanner}
+use Rattle.gc_worker.specs.Between.{HeapsOpen, fresh_worker, fresh_workers, fresh_mutator, fresh_scanner}
 use Rattle.gc_worker.specs.Held.{Held}
 use Rattle.gc_worker.specs.Law.{WorkersStand, held_at, read}
 use Rattle.gc_worker.specs.Turned.{epoch_in as epoch_in_gate}
@@ -43,6 +43,18 @@ size_fits pages e = by_tests (nat_le 4 pages) (nat_le pages 2048) refl refl e
     by_tests true true x y e = (leb-true 4 pages x, leb-true pages 2048 y)
     by_tests true false x y e = absurd (cc)
     by_tests false b x y e = absurd (cc)
+
+pub size_is : (pages : ℕ) → IsPageCount pages → IsTrue (is_size pages)
+size_is pages fit = rw (le-leb 4 pages fit.0, le-leb pages 2048 fit.1) refl
+
+-- one worker more is the next one
+pub fresh_push : (n mutators from count : ℕ) → fresh_workers n mutators from (count + 1) ≡ fresh_workers n mutators from count ++ fresh_worker n mutators (from + count) ∷ []
+unfolding fresh_workers
+fresh_push n mutators from zero = let e : from + 0 ≡ from = omega arith in rw e refl
+fresh_push n mutators from (suc count) =
+    let e : from + 1 + count ≡ from + suc count = omega arith in
+    let f : suc count + 1 ≡ suc (count + 1) = omega arith in
+    rw f (ap (λ (ks : List Held). fresh_worker n mutators from ∷ ks) (fresh_push n mutators (from + 1) count ∙ ap (λ (k : ℕ). fresh_workers n mutators (from + 1) count ++ fresh_worker n mutators k ∷ []) e))
 
 module _ (opens : HeapsOpen) (code : List (List Instr)) (items : List Item) (config : Config) (program : IsWellFormed code items) (size : IsTrue (is_size config.pages)) (turns : config.turns ≤ 10000000) (few : config.scanners ≤ 8) where
   pub opening_stands : WorkersStand (opening_core code config).heap (order.opening code) (order.opening code)

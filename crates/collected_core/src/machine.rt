@@ -1,0 +1,53 @@
+//! A core: the workers and the words that they share, stepped by whoever has the schedule.
+
+ghost use Rattle.std.specs.Prelude.{◌≡◌, ◌<◌};
+ghost use Rattle.collected_core.specs.Core.{workers_of};
+ghost use Rattle.collected_core.specs.Event.{core_after, event_of};
+
+use crate::slot::Slot;
+use atom_store::{Atoms, PlainAtoms};
+use gc_worker::Stepped;
+use mutator_asm::Program;
+use space_map::Spaces;
+use std::marker::Model;
+
+/// The workers of a program, the mutators first, and the words that they share.
+#[derive(Debug, Drop)]
+pub struct Core<'p> {
+    pub(crate) program: &'p Program,
+    pub(crate) turns: u32,
+    pub(crate) spaces: Spaces,
+    pub(crate) atoms: PlainAtoms,
+    pub(crate) slots: Vec<Slot>,
+}
+
+impl<'p> Model for Core<'p> {
+    ghost use Rattle.std.specs.Prelude.{◌≤◌, length, vec_len};
+    ghost use Rattle.collected_core.specs.Core.{CoreState};
+    ghost use Rattle.collected_core.specs.Law.{IsLawful};
+
+    ghost Value = { CoreState };
+
+    ghost view = { λ c. record { code = c.program.now.code; turns = c.turns; heap = record { pages = c.spaces.pages; words = c.atoms; mutators = length c.program.now.code; workers = c.slots.items } } };
+
+    ghost invariant = { λ c. (vec_len c.slots ≤ 24) × (length c.program.now.code ≤ vec_len c.slots)
+        × IsLawful (record { code = c.program.now.code; turns = c.turns; heap = record { pages = c.spaces.pages; words = c.atoms; mutators = length c.program.now.code; workers = c.slots.items } }) };
+}
+
+impl<'p> Core<'p> {
+    /// One event of a worker: its next atomic step. It takes no memory.
+    pub fn step(&mut self, worker: u8) -> Stepped
+        requires { worker < workers_of self.old }
+        ensures told { result ≡ (event_of self.old worker).told }
+        ensures after { self.new ≡ core_after self.old worker }
+        ensures workers { workers_of self.new ≡ workers_of self.old }
+    {
+        let at = worker as usize;
+        self.slots[at].ready(self.program, self.turns, worker);
+        let Some(step) = self.slots[at].want() else {
+            return Stepped::Idle;
+        };
+        let reply = self.atoms.act(step);
+        self.slots[at].take(reply)
+    }
+}
