@@ -9,3 +9,4 @@ pub mod Opening
 pub mod Whole
 pub mod Lawful
 pub mod Slots
+pub mod CoreSteps

@@ -2,7 +2,7 @@
 
 ghost use Rattle.std.specs.Prelude.{◌≡◌, ◌<◌};
 ghost use Rattle.collected_core.specs.Core.{workers_of};
-ghost use Rattle.collected_core.specs.Event.{core_after, event_of};
+ghost use Rattle.collected_core.specs.Event.{core_after, event_of, told_as};
 
 use crate::slot::Slot;
 use crate::stepped::Stepped;
@@ -35,7 +35,9 @@ impl<'p> Model for Core<'p> {
 }
 
 /// What a worker's step is to a core.
-fn stepped(told: gc_worker::Stepped) -> Stepped {
+fn stepped(told: gc_worker::Stepped) -> Stepped
+    ensures { result ≡ told_as told }
+{
     match told {
         gc_worker::Stepped::Idle => Stepped::Idle,
         gc_worker::Stepped::Moved => Stepped::Moved,
