@@ -1,20 +1,16 @@
 -- What a core's step needs of its worker, and what it leaves.
-use Rattle.std.proofs.Common.{◌≡◌, ℕ, ◌+◌, ◌<◌, ◌≤◌, Bool, true, false, nat_le, List, length, set, get_or, Option, Some, None, Result, Ok, Err, refl, ap, sym, subst, ◌∙◌, arith, leb-false, get_or-set_same}
+use Rattle.std.proofs.Common.{◌≡◌, ℕ, ◌<◌, ◌≤◌, Bool, true, false, nat_le, List, length, set, get_or, Some, None, Err, refl, ap, sym, subst, ◌∙◌, arith, leb-false, get_or-set_same}
 use Rattle.std.specs.Option.{ok_or}
 use Rattle.std.specs.Prelude.{if◌then◌else◌}
 use Rattle.std.proofs.lemmas.List.{get_or_default, set-get_or, set-set}
 use Rattle.std.proofs.lemmas.Option.{slice_get_within}
-use Rattle.plain_state.specs.declared.end.End.{End}
 use Rattle.plain_state.specs.declared.end.End.TheVariants.{TurnsOut, JumpOut}
-use Rattle.plain_state.specs.State.{Mutator, Plain}
+use Rattle.plain_state.specs.State.{Mutator}
 use Rattle.mutator_asm.specs.declared.instr.Instr.{Instr}
 use Rattle.mutator_asm.specs.Program.{instr_at}
-use Rattle.plain_heap.specs.Order.{Story}
-use Rattle.plain_heap.specs.Step.{fetch}
 use Rattle.atom_store.specs.declared.reply.Reply.{Reply}
 use Rattle.atom_store.specs.declared.step.Step.{Step}
 use Rattle.atom_store.specs.Step.{place_in, reply_of, words_after}
-use Rattle.gc_worker.specs.declared.stepped.Stepped.TheVariants as steps
 use Rattle.gc_worker.specs.declared.stage.Stage.{Stage}
 use Rattle.gc_worker.specs.declared.task.Task.{Task}
 use Rattle.gc_worker.specs.declared.task.Task.TheVariants.{Calls, Stops}
@@ -22,8 +18,7 @@ use Rattle.gc_worker.specs.Answer.{ComesTo, IsAnswered, MayCome}
 use Rattle.gc_worker.specs.Fits.{Fits, Takes}
 use Rattle.gc_worker.specs.Held.{Held}
 use Rattle.heap_state.specs.Worker.{Account}
-use Rattle.gc_worker.specs.Law.{Heap, StepKeeps, WorkersStand, held_at, moved, nobody}
-use Rattle.gc_worker.specs.Seen.{seen}
+use Rattle.gc_worker.specs.Law.{StepKeeps, held_at, moved, nobody}
 use Rattle.gc_worker.specs.Stepped.{IsSound, awaits, stepped_by}
 use Rattle.gc_worker.specs.Turned.{Told, Silent, Answers, Marks, Effect, Ends, told, turned}
 use Rattle.gc_worker.specs.Wanted.{wanted, wanted_at}
@@ -32,10 +27,10 @@ use Rattle.gc_worker.proofs.Between.GoingOn.{workers_go_on}
 use Rattle.gc_worker.proofs.Between.Readying.{readying_stands}
 use Rattle.gc_worker.proofs.Between.Standing.{what_stands_is_so}
 use Rattle.gc_worker.proofs.Whole.{steps_keep}
-use Rattle.collected_core.specs.declared.stepped.Stepped.TheVariants as tells
+use Rattle.gc_worker.specs.declared.stepped.Stepped.TheVariants as tells
 use Rattle.collected_core.specs.Core.{CoreState}
-use Rattle.collected_core.specs.Event.{Event, core_after, event_of, next_task, readied, ready, stepped_of, task_of, told_as}
-use Rattle.collected_core.specs.Law.{IsLawful, IsSteady}
+use Rattle.collected_core.specs.Event.{Event, core_after, event_of, next_task, readied, ready, stepped_of, task_of}
+use Rattle.collected_core.specs.Law.{IsLawful}
 use Rattle.collected_core.proofs.Readied.{Due, Begins, Rests, Ready, due, readied_stands, ready_task, ready_account}
 use Rattle.collected_core.proofs.Slots.{idle_by}
 use Rattle.collected_core.proofs.Whole.{events_keep}
@@ -54,7 +49,7 @@ has_turns code turns m x instr is = by_turns (nat_le turns x.account.executed) r
     by_turns true e = absurd (let stops : Calls instr ≡ Stops TurnsOut = is ∙ ap (λ (b : Bool). task_of (if b then Err TurnsOut else ok_or (instr_at code m x.account.counter) JumpOut)) e in cc)
 
 -- an effect answers a task
-effect_of : (k m : ℕ) (t : Told) → stepped_by k t ≡ steps.Effect m → (task : Task) × (t ≡ Answers task Effect)
+effect_of : (k m : ℕ) (t : Told) → stepped_by k t ≡ tells.Effect m → (task : Task) × (t ≡ Answers task Effect)
 effect_of k m (Answers task Effect) is = (task, refl)
 effect_of k m (Answers task (Ends end)) is = absurd (cc)
 effect_of k m Silent is = absurd (cc)
@@ -121,7 +116,7 @@ module _ (s : CoreState) (w : ℕ) (lawful : IsLawful s) (below : w < length s.h
     unfolding event_of
     moved_event = rw asked refl
 
-    pub room : (m : ℕ) → stepped_by y.number (told y reply) ≡ steps.Effect m → y.account.executed < 4294967295
+    pub room : (m : ℕ) → stepped_by y.number (told y reply) ≡ tells.Effect m → y.account.executed < 4294967295
     room m is =
         let effect = effect_of y.number m (told y reply) is in
         let comes : ComesTo lawful.plain w effect.0 Effect = subst (IsAnswered lawful.plain w) effect.1 (rw r.words at keeps.answered) in
@@ -140,7 +135,7 @@ module _ (s : CoreState) (w : ℕ) (lawful : IsLawful s) (below : w < length s.h
 
 -- ---- the words for it
 
-pub told_same : (w k : ℕ) (t : Told) → k ≡ w → told_as (stepped_by k t) ≡ stepped_of w t
+pub told_same : (w k : ℕ) (t : Told) → k ≡ w → stepped_by k t ≡ stepped_of w t
 told_same w k Silent same = refl
 told_same w k (Answers task Effect) same = ap tells.Effect same
 told_same w k (Answers task (Ends end)) same = ap (λ (m : ℕ). tells.Ended m end) same

@@ -25,8 +25,8 @@ use Rattle.gc_worker.specs.Held.{Held}
 use Rattle.gc_worker.specs.Law.{Heap, nobody, held_at, read, moved, WorkersStand, StepKeeps, StepsKeep, FlipsWhereTold, epoch_of, at_flip}
 use Rattle.gc_worker.specs.Turned.{Outcome, Effect, Ends, Told, Silent, Answers, Marks, turned, told}
 use Rattle.gc_worker.specs.Wanted.{wanted}
-use Rattle.collected_core.specs.declared.stepped.Stepped.{Stepped}
-use Rattle.collected_core.specs.declared.stepped.Stepped.TheVariants as tells
+use Rattle.gc_worker.specs.declared.stepped.Stepped.{Stepped}
+use Rattle.gc_worker.specs.declared.stepped.Stepped.TheVariants as tells
 use Rattle.collected_core.specs.Core.{CoreState}
 use Rattle.collected_core.specs.Event.{event_of, ready, task_of, told_outcome, stepped_of}
 use Rattle.collected_core.specs.Law.{IsOnTask, IsSteady, IsForWant, IsTold, Keeps, EventsKeep, EventsMeet, plain_after, story_by, epoch_in}

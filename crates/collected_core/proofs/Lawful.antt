@@ -17,7 +17,7 @@ use Rattle.gc_worker.proofs.Between.Beginning.{tasks_may_begin}
 use Rattle.gc_worker.proofs.Between.Opening.{heaps_open}
 use Rattle.gc_worker.proofs.Between.Readying.{readying_stands}
 use Rattle.gc_worker.proofs.Whole.{steps_keep}
-use Rattle.collected_core.specs.declared.config.Config.{Config}
+use Rattle.gc_worker.specs.declared.config.Config.{Config}
 use Rattle.collected_core.specs.Core.{CoreState, opening_core, workers_of, is_size}
 use Rattle.collected_core.specs.Event.{Event, event_of, event_by, core_after, ready, next_task, stepped_of}
 use Rattle.collected_core.specs.Law.{IsLawful, story_by}
@@ -42,11 +42,11 @@ lawful_opening code items config program size turns few = record {
   stands = opening_stands heaps_open code items config program size turns few;
 }
 
-event_none : (s : CoreState) (w : ℕ) → wanted (ready s w) ≡ None → event_of s w ≡ record { told = (event_by s.heap w (ready s w) None).told; after = s.heap }
+pub event_none : (s : CoreState) (w : ℕ) → wanted (ready s w) ≡ None → event_of s w ≡ record { told = (event_by s.heap w (ready s w) None).told; after = s.heap }
 unfolding event_of
 event_none s w e = rw e refl
 
-event_some : (s : CoreState) (w : ℕ) (q : Step) → wanted (ready s w) ≡ Some q
+pub event_some : (s : CoreState) (w : ℕ) (q : Step) → wanted (ready s w) ≡ Some q
     → event_of s w ≡ record { told = stepped_of w (told (ready s w) (reply_of q s.heap.words)); after = moved s.heap w (ready s w) q }
 unfolding event_of
 event_some s w q e = rw e refl

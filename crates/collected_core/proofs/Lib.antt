@@ -10,3 +10,6 @@ pub mod Whole
 pub mod Lawful
 pub mod Slots
 pub mod CoreSteps
+pub mod Counts
+pub mod Stepping
+pub mod Telling

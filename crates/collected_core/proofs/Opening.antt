@@ -1,5 +1,5 @@
 -- A core begins steady, for the plain state in which its program begins.
-use Rattle.std.proofs.Common.{◌≡◌, ℕ, ◌+◌, ◌<◌, ◌≤◌, ◌&&◌, Bool, true, false, nat_le, List, [], ◌∷◌, length, replicate, refl, ap, sym, subst, ◌∙◌, arith, lt-ltb}
+use Rattle.std.proofs.Common.{◌≡◌, ℕ, zero, suc, ◌+◌, ◌++◌, ◌<◌, ◌≤◌, ◌&&◌, Bool, true, false, nat_le, List, [], ◌∷◌, length, replicate, refl, ap, sym, subst, ◌∙◌, arith, lt-ltb}
 use Rattle.std.specs.Prelude.{map, IsTrue, if◌then◌else◌}
 use Rattle.std.proofs.lemmas.Bool.{leb-true}
 use Rattle.plain_state.specs.declared.value.Value.TheVariants.{Number}
@@ -10,14 +10,20 @@ use Rattle.mutator_asm.specs.Program.{IsWellFormed}
 use Rattle.plain_heap.specs.Order as order
 use Rattle.heap_state.proofs.Puts.{none≢some}
 use Rattle.space_map.specs.Spaces.{IsPageCount}
-use Rattle.heap_laws.specs.Opening.{opening_plain}
-use Rattle.gc_worker.specs.Between.{HeapsOpen, fresh_mutator, fresh_scanner}
+use Rattle.heap_state.specs.Configuration.{table}
+use Rattle.heap_state.specs.Table.{Table}
+use Rattle.heap_state.proofs.Table.Writing.{writes_tables}
+use Rattle.heap_laws.specs.Opening.{opening_plain, opening_entries}
+use Rattle.heap_laws.proofs.Opening.Heap.{entries_fit}
+use Rattle.gc_worker.specs.Between.{HeapsOpen, fresh_worker, fresh_workers, fresh_mutator, fresh_scanner}
 use Rattle.gc_worker.specs.Held.{Held}
-use Rattle.gc_worker.specs.Law.{WorkersStand, held_at}
+use Rattle.gc_worker.specs.Law.{WorkersStand, held_at, read}
+use Rattle.gc_worker.specs.Turned.{epoch_in as epoch_in_gate}
+use Rattle.gc_worker.proofs.Gate.Words.{gate_says}
 use Rattle.gc_worker.proofs.Between.Opening.{is_there}
-use Rattle.collected_core.specs.declared.config.Config.{Config}
+use Rattle.gc_worker.specs.declared.config.Config.{Config}
 use Rattle.collected_core.specs.Core.{opening_core, is_size}
-use Rattle.collected_core.specs.Law.{IsSteady}
+use Rattle.collected_core.specs.Law.{IsSteady, epoch_in}
 
 -- one for each element
 map_const : {A B : Type 0} (b : B) (xs : List A) → map (λ x. b) xs ≡ replicate (length xs) b
@@ -38,6 +44,15 @@ size_fits pages e = by_tests (nat_le 4 pages) (nat_le pages 2048) refl refl e
     by_tests true false x y e = absurd (cc)
     by_tests false b x y e = absurd (cc)
 
+-- one worker more is the next one
+pub fresh_push : (n mutators from count : ℕ) → fresh_workers n mutators from (count + 1) ≡ fresh_workers n mutators from count ++ fresh_worker n mutators (from + count) ∷ []
+unfolding fresh_workers
+fresh_push n mutators from zero = let e : from + 0 ≡ from = omega arith in rw e refl
+fresh_push n mutators from (suc count) =
+    let e : from + 1 + count ≡ from + suc count = omega arith in
+    let f : suc count + 1 ≡ suc (count + 1) = omega arith in
+    rw f (ap (λ (ks : List Held). fresh_worker n mutators from ∷ ks) (fresh_push n mutators (from + 1) count ∙ ap (λ (k : ℕ). fresh_workers n mutators (from + 1) count ++ fresh_worker n mutators k ∷ []) e))
+
 module _ (opens : HeapsOpen) (code : List (List Instr)) (items : List Item) (config : Config) (program : IsWellFormed code items) (size : IsTrue (is_size config.pages)) (turns : config.turns ≤ 10000000) (few : config.scanners ≤ 8) where
   pub opening_stands : WorkersStand (opening_core code config).heap (order.opening code) (order.opening code)
   opening_stands =
@@ -56,3 +71,12 @@ module _ (opens : HeapsOpen) (code : List (List Instr)) (items : List Item) (con
     turns_fit = turns;
     on_task = λ m l. let e = mutator_there m l in record { counted = rw e (omega arith); within = rw e (omega arith); task = λ task t. none≢some (sym (ap (λ (h : Held). h.task) e) ∙ t) };
   }
+
+  -- it begins in the first epoch
+  pub opening_epoch : epoch_in (opening_core code config).heap ≡ 0
+  opening_epoch =
+      let fit : IsPageCount config.pages = size_fits config.pages size in
+      let c = read (opening_core code config).heap in
+      let says = (writes_tables config.pages (opening_entries config.pages) (entries_fit config.pages fit)).says in
+      let e : (table c).gate.epoch ≡ 0 = ap (λ (t : Table). t.gate.epoch) says in
+      ap (epoch_in_gate 0) (gate_says c (order.opening code) opening_stands.stands) ∙ e

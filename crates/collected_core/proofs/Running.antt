@@ -14,8 +14,8 @@ use Rattle.plain_heap.proofs.Stories.{story_after-now, story_after-append}
 use Rattle.gc_worker.specs.Between.{WhatStandsIsSo}
 use Rattle.gc_worker.specs.Held.{Held}
 use Rattle.gc_worker.specs.Law.{Heap, WorkersStand, nobody, held_at}
-use Rattle.collected_core.specs.declared.stepped.Stepped.{Stepped}
-use Rattle.collected_core.specs.declared.stepped.Stepped.TheVariants.{Idle, Moved, Effect, Flipped, Ended}
+use Rattle.gc_worker.specs.declared.stepped.Stepped.{Stepped}
+use Rattle.gc_worker.specs.declared.stepped.Stepped.TheVariants.{Idle, Moved, Effect, Flipped, Ended}
 use Rattle.collected_core.specs.Core.{CoreState}
 use Rattle.collected_core.specs.Event.{core_after, event_of}
 use Rattle.collected_core.specs.Law.{IsSteady, IsTold, EventsKeep, plain_after, story_by}

@@ -1,4 +1,5 @@
 -- What holds of all events and runs, from the laws of a worker's step.
+use Rattle.std.proofs.Common.{◌≡◌, false, arith}
 use Rattle.plain_heap.specs.Order.{Story, opening}
 use Rattle.plain_heap.proofs.Stories.{story_after-now}
 use Rattle.gc_worker.proofs.Between.Beginning.{tasks_may_begin}
@@ -9,11 +10,14 @@ use Rattle.gc_worker.proofs.Between.Standing.{what_stands_is_so}
 use Rattle.gc_worker.proofs.Between.Wanting.{workers_want}
 use Rattle.gc_worker.proofs.Whole.{steps_keep}
 use Rattle.collected_core.specs.Core.{CoreState, opening_core}
-use Rattle.collected_core.specs.Law.{EventsKeep, EventsMeet}
+use Rattle.collected_core.specs.Law.{EventsKeep, EventsMeet, epoch_in}
 use Rattle.collected_core.specs.Run.{Ran, run_from}
-use Rattle.collected_core.specs.Whole.{RunsFollow}
+use Rattle.collected_core.specs.Whole.{RunsFollow, FullsFollowFlips, NoPageIsWonTwice}
 use Rattle.collected_core.proofs.Events as events
-use Rattle.collected_core.proofs.Opening.{opening_stands, opening_steady}
+use Rattle.collected_core.proofs.Opening.{opening_stands, opening_steady, opening_epoch}
+use Rattle.collected_core.proofs.Claims.{pages_are_won_once}
+use Rattle.collected_core.proofs.Fulls.{fulls_come_after_flips}
+use Rattle.gc_worker.proofs.Between.Begun.{beginnings_are_kept, full_is_found_later}
 use Rattle.collected_core.proofs.Running.{run_law, run_acts, run_full, stands_seen}
 
 pub events_keep : EventsKeep
@@ -38,3 +42,19 @@ runs_follow code items config schedule n program size turns few =
       acts = run_acts events_keep schedule 0 n s story steady stands;
       full = run_full events_keep schedule 0 n s story steady stands;
     }
+
+-- ---- pages and flips
+
+pub no_page_is_won_twice : NoPageIsWonTwice
+no_page_is_won_twice schedule at n s l =
+    pages_are_won_once steps_keep readying_stands tasks_may_begin events_keep schedule at n s (record { flip = l.flip; now = l.plain }) l.steady l.stands
+
+pub fulls_follow_flips : FullsFollowFlips
+fulls_follow_flips code items config schedule n program size turns few =
+    let s : CoreState = opening_core code config in
+    let story : Story = record { flip = opening code; now = opening code } in
+    let stands = opening_stands heaps_open code items config program size turns few in
+    let steady = opening_steady heaps_open code items config program size turns few in
+    let first : epoch_in s.heap ≡ 0 = opening_epoch heaps_open code items config program size turns few in
+    rw first at (fulls_come_after_flips steps_keep workers_go_on what_stands_is_so beginnings_are_kept full_is_found_later readying_stands tasks_may_begin events_keep schedule 0 n s story (λ m. false) steady stands
+    (λ m l no_end past earlier. absurd (omega (arith, earlier, first))))

@@ -3,7 +3,7 @@ use Rattle.std.specs.Prelude.{ℕ, ◌&&◌, Bool, nat_le, List, length}
 use Rattle.mutator_asm.specs.declared.instr.Instr.{Instr}
 use Rattle.gc_worker.specs.Between.{opening}
 use Rattle.gc_worker.specs.Law.{Heap}
-use Rattle.collected_core.specs.declared.config.Config.{Config}
+use Rattle.gc_worker.specs.declared.config.Config.{Config}
 
 -- what a core steps: the code, how many instructions a mutator may execute, and the heap with its workers
 pub record CoreState : Type 0 where

@@ -16,10 +16,8 @@ use Rattle.gc_worker.specs.Seen.{seen}
 use Rattle.gc_worker.specs.Turned.{Outcome, Effect, Ends, Told, Silent, Answers, Marks, told}
 use Rattle.gc_worker.specs.Wanted.{wanted}
 use Rattle.collected_core.specs.Core.{CoreState}
-use Rattle.gc_worker.specs.declared.stepped.Stepped as worker
-use Rattle.gc_worker.specs.declared.stepped.Stepped.TheVariants as worker_tells
-use Rattle.collected_core.specs.declared.stepped.Stepped.{Stepped}
-use Rattle.collected_core.specs.declared.stepped.Stepped.TheVariants as tells
+use Rattle.gc_worker.specs.declared.stepped.Stepped.{Stepped}
+use Rattle.gc_worker.specs.declared.stepped.Stepped.TheVariants as tells
 
 -- ---- the next task
 
@@ -72,11 +70,3 @@ event_of s w = event_by s.heap w (ready s w) (wanted (ready s w))
 -- the core after it
 abbrev pub core_after : CoreState → ℕ → CoreState
 core_after s w = record s { heap = (event_of s w).after }
-
--- what a worker's own word for a step is to a core
-abbrev pub told_as : worker.Stepped → Stepped
-told_as worker_tells.Idle = tells.Idle
-told_as worker_tells.Moved = tells.Moved
-told_as (worker_tells.Effect m) = tells.Effect m
-told_as (worker_tells.Flipped asked) = tells.Flipped asked
-told_as (worker_tells.Ended m why) = tells.Ended m why

@@ -13,8 +13,8 @@ use Rattle.gc_worker.specs.declared.task.Task.{Task}
 use Rattle.gc_worker.specs.Full.{FindsNoRoom}
 use Rattle.gc_worker.specs.Held as held
 use Rattle.gc_worker.specs.Law.{Heap, WorkersStand, held_at, read, epoch_of}
-use Rattle.collected_core.specs.declared.stepped.Stepped.{Stepped}
-use Rattle.collected_core.specs.declared.stepped.Stepped.TheVariants.{Idle, Moved, Effect, Flipped, Ended}
+use Rattle.gc_worker.specs.declared.stepped.Stepped.{Stepped}
+use Rattle.gc_worker.specs.declared.stepped.Stepped.TheVariants.{Idle, Moved, Effect, Flipped, Ended}
 use Rattle.collected_core.specs.Core.{CoreState}
 use Rattle.collected_core.specs.Event.{Event, next_task, ready, event_of, core_after}
 use Rattle.collected_core.specs.Run.{mark_of}

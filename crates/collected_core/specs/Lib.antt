@@ -1,4 +1,3 @@
-pub mod OpenError
 pub mod Core
 pub mod Readers
 pub mod Event

@@ -1,6 +1,6 @@
 -- What holds of a whole run: the plain machine, executing its order, is what the core represents in the end, and each mark of the
 -- order acts.
-use Rattle.std.specs.Prelude.{◌≡◌, ⊤, ℕ, ◌*◌, ◌≤◌, ◌<◌, List, Some, None, IsTrue}
+use Rattle.std.specs.Prelude.{◌≡◌, ⊤, false, ℕ, ◌*◌, ◌≤◌, ◌<◌, List, Some, None, IsTrue}
 use Rattle.plain_state.specs.declared.end.End.TheVariants as ends
 use Rattle.plain_state.specs.declared.sizes.TheConstants.{PAGE_WORDS}
 use Rattle.plain_state.specs.State as plain
@@ -15,10 +15,13 @@ use Rattle.plain_heap.specs.Print.{plain_seen}
 use Rattle.heap_state.specs.Represents.{Represents}
 use Rattle.gc_worker.specs.Full.{FindsNoRoom}
 use Rattle.gc_worker.specs.Law.{read}
-use Rattle.collected_core.specs.declared.config.Config.{Config}
-use Rattle.collected_core.specs.declared.stepped.Stepped.TheVariants.{Idle, Ended}
+use Rattle.gc_worker.specs.declared.config.Config.{Config}
+use Rattle.gc_worker.specs.declared.stepped.Stepped.TheVariants.{Idle, Ended}
 use Rattle.collected_core.specs.Core.{CoreState, is_size, opening_core, workers_of}
 use Rattle.collected_core.specs.Event.{core_after, event_of, ready}
+use Rattle.collected_core.specs.Claims.{AreApart, wins_from}
+use Rattle.collected_core.specs.Fulls.{EachMayCome}
+use Rattle.collected_core.specs.Law.{IsLawful}
 use Rattle.collected_core.specs.Readers.{seen_of}
 use Rattle.collected_core.specs.Run.{run_from, EachEvent}
 
@@ -59,3 +62,16 @@ RunsFollow = (code : List (List Instr)) (items : List Item) (config : Config) (s
 -- a worker that isn't there is idle, and its step changes nothing
 abbrev pub MissingWorkersAreIdle : Type 0
 MissingWorkersAreIdle = (s : CoreState) (worker : ℕ) → workers_of s ≤ worker → (Idle ≡ (event_of s worker).told) × (s ≡ core_after s worker)
+
+-- ---- laws of runs
+
+-- in the order of every run of every program, a mutator finds the heap full only where a flip came since its last step, or as many came
+-- as there can be
+abbrev pub FullsFollowFlips : Type 0
+FullsFollowFlips = (code : List (List Instr)) (items : List Item) (config : Config) (schedule : ℕ → ℕ) (n : ℕ)
+    → IsWellFormed code items → IsTrue (is_size config.pages) → config.turns ≤ 10000000 → config.scanners ≤ 8
+    → EachMayCome (λ m. false) 0 (run_from schedule 0 n (opening_core code config)).order
+
+-- in every run no page is won twice in an epoch
+abbrev pub NoPageIsWonTwice : Type 0
+NoPageIsWonTwice = (schedule : ℕ → ℕ) (at n : ℕ) (s : CoreState) → IsLawful s → AreApart (wins_from schedule at n s)

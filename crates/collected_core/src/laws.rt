@@ -1,7 +1,7 @@
 //! What holds of all events and runs. Each function here does nothing: its contract is what is proved.
 
 ghost use Rattle.collected_core.specs.Law.{EventsMeet};
-ghost use Rattle.collected_core.specs.Whole.{MissingWorkersAreIdle, RunsFollow};
+ghost use Rattle.collected_core.specs.Whole.{FullsFollowFlips, MissingWorkersAreIdle, NoPageIsWonTwice, RunsFollow};
 
 /// The event of any worker does to each plain state that the core represents what the mark of it does, and what is told of it is so.
 pub fn events_meet()
@@ -18,4 +18,14 @@ pub fn runs_follow()
 /// A worker that isn't there is idle.
 pub fn missing_workers_are_idle()
     ensures { MissingWorkersAreIdle }
+{}
+
+/// In the order of a run a mutator finds the heap full only after a flip since its last step, or in the last epoch.
+pub fn fulls_follow_flips()
+    ensures { FullsFollowFlips }
+{}
+
+/// In a run no page is won twice in an epoch.
+pub fn no_page_is_won_twice()
+    ensures { NoPageIsWonTwice }
 {}

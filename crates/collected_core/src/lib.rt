@@ -1,13 +1,16 @@
 //! The machine whose heap is collected: mutators and scanners over the words of a table, stepped in any order.
 #![tactic(auto)]
 
-mod config;
 mod laws;
 mod machine;
+mod marks;
+mod opening;
+mod readers;
 mod slot;
-mod stepped;
 
-pub use config::{Config, OpenError};
-pub use laws::{events_meet, missing_workers_are_idle, runs_follow};
+pub use gc_worker::{Config, OpenError, Stepped};
+pub use laws::{
+    events_meet, fulls_follow_flips, missing_workers_are_idle, no_page_is_won_twice, runs_follow,
+};
 pub use machine::Core;
-pub use stepped::Stepped;
+pub use marks::mark;

@@ -2,11 +2,11 @@
 
 ghost use Rattle.std.specs.Prelude.{◌≡◌, ◌<◌};
 ghost use Rattle.collected_core.specs.Core.{workers_of};
-ghost use Rattle.collected_core.specs.Event.{core_after, event_of, told_as};
+ghost use Rattle.collected_core.specs.Event.{core_after, event_of};
 
 use crate::slot::Slot;
-use crate::stepped::Stepped;
 use atom_store::{Atoms, PlainAtoms};
+use gc_worker::Stepped;
 use mutator_asm::Program;
 use space_map::Spaces;
 use std::marker::Model;
@@ -34,19 +34,6 @@ impl<'p> Model for Core<'p> {
         × IsLawful (record { code = c.program.now.code; turns = c.turns; heap = record { pages = c.spaces.pages; words = c.atoms; mutators = length c.program.now.code; workers = c.slots.items } }) };
 }
 
-/// What a worker's step is to a core.
-fn stepped(told: gc_worker::Stepped) -> Stepped
-    ensures { result ≡ told_as told }
-{
-    match told {
-        gc_worker::Stepped::Idle => Stepped::Idle,
-        gc_worker::Stepped::Moved => Stepped::Moved,
-        gc_worker::Stepped::Effect(m) => Stepped::Effect(m),
-        gc_worker::Stepped::Flipped(asked) => Stepped::Flipped(asked),
-        gc_worker::Stepped::Ended(m, end) => Stepped::Ended(m, end),
-    }
-}
-
 impl<'p> Core<'p> {
     /// One event of a worker: its next atomic step. It takes no memory.
     pub fn step(&mut self, worker: u8) -> Stepped
@@ -61,6 +48,6 @@ impl<'p> Core<'p> {
             return Stepped::Idle;
         };
         let reply = self.atoms.act(step);
-        stepped(self.slots[at].take(reply))
+        self.slots[at].take(reply)
     }
 }

@@ -349,7 +349,7 @@ module _ (count : ℕ) (x : Held) where
   accesses : (stage : AccessStage) → IsAccessing x.account x.registers x.task stage → IsAccessing z.account z.registers z.task stage
   accesses stage a = record { act = a.act; executes = executing a.act a.executes; is = a.is }
 
-  beginning : (task : Option Task) → MayBegin x.account x.registers task → MayBegin z.account z.registers task
+  pub beginning : (task : Option Task) → MayBegin x.account x.registers task → MayBegin z.account z.registers task
   beginning None may = tt
   beginning (Some (Calls instr)) call = calling instr call
   beginning (Some (Stops end)) may = may

@@ -3,7 +3,7 @@ use Rattle.std.proofs.Common.{◌≡◌, ℕ, false, is_some, nat_lt, refl, arit
 use Rattle.gc_worker.specs.declared.back.Back.{Back}
 use Rattle.gc_worker.specs.declared.back.Back.TheVariants.{ToAccess, ToPlace, ToScanner}
 use Rattle.gc_worker.specs.Fits.{Fits, FitsBack, FitsTaskBack, IsOnSideBack}
-use Rattle.gc_worker.specs.Held.{Held, header_for}
+use Rattle.gc_worker.specs.Held.{Held}
 use Rattle.gc_worker.specs.Turned.{goes_back, back_from}
 use Rattle.gc_worker.proofs.Fitting.{refit, page_count}
 use Rattle.gc_worker.proofs.Going.{places_fit}

@@ -17,7 +17,7 @@ use Rattle.plain_heap.specs.Action.{register}
 use Rattle.gc_worker.specs.Fits.{FitsStage, IsMaking}
 use Rattle.gc_worker.specs.Held.{Held, at_stage}
 use Rattle.gc_worker.specs.declared.stage.Stage.{Stage}
-use Rattle.gc_worker.specs.Turned.{Pointed, back_from, first_pointer, places, scans, served_by}
+use Rattle.gc_worker.specs.Turned.{back_from, first_pointer, places, scans, served_by}
 use Rattle.gc_worker.specs.Stepped.{served_in}
 use Rattle.gc_worker.specs.declared.back.Back.{Back}
 use Rattle.gc_worker.specs.declared.back.Back.TheVariants.{ToAccess, ToPlace, ToScanner}

@@ -1,5 +1,5 @@
 -- Workers that begin, that are given a task, or that took a reply are sound.
-use Rattle.std.proofs.Common.{◌≡◌, ℕ, ◌<◌, ◌≤◌, true, false, nat_lt, Some, sym, subst, arith, lt-ltb}
+use Rattle.std.proofs.Common.{◌≡◌, ℕ, ◌<◌, ◌≤◌, Some, sym, subst, arith, lt-ltb}
 use Rattle.std.proofs.lemmas.Bool.{le-ltb}
 use Rattle.space_map.specs.Spaces.{IsPageCount}
 use Rattle.gc_worker.specs.declared.task.Task.{Task}

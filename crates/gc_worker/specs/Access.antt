@@ -1,5 +1,5 @@
 -- The access to a record or to the board, step by step: what it wants, what a reply makes of it, and what it comes to.
-use Rattle.std.specs.Prelude.{◌≡◌, ℕ, ◌+◌, ◌*◌, ◌<◌, ◌==◌, ⊤, Bool, true, false, Option, Some, None, Result, Ok, Err, if◌then◌else◌, IsTrue}
+use Rattle.std.specs.Prelude.{◌≡◌, ℕ, ◌+◌, ◌*◌, ◌<◌, ◌==◌, ⊤, Bool, true, false, Option, Some, None, Result, Ok, Err, if◌then◌else◌}
 use Rattle.atom_store.specs.declared.reply.Reply.{Reply}
 use Rattle.atom_store.specs.declared.reply.Reply.TheVariants as replies
 use Rattle.atom_store.specs.declared.step.Step.{Step}

@@ -1,7 +1,6 @@
 -- The plain machine's values as a worker sees them: the identity of a record is its address. So an instruction's ends and action are the
 -- plain machine's own.
-use Rattle.std.specs.Prelude.{ℕ, ⊤, Bool, true, false, List, map, Option, Some, None, Result, Ok, Err, IsTrue}
-use Rattle.heap_words.specs.declared.kind.Kind.{Kind as HeaderKind}
+use Rattle.std.specs.Prelude.{ℕ, ⊤, List, map, Option, Some, None, Result, Ok}
 use Rattle.heap_words.specs.Decoded.{Decoded, NumberWord, PointerWord, HeaderWord, ForwardWord, BusyWord, Malformed, decode}
 use Rattle.heap_words.specs.Word.{number_word, pointer_word}
 use Rattle.plain_state.specs.declared.end.End.{End}
@@ -10,10 +9,8 @@ use Rattle.plain_state.specs.declared.value.Identity.{Identity}
 use Rattle.plain_state.specs.declared.value.Value.{Value}
 use Rattle.plain_state.specs.declared.value.Value.TheVariants.{Number, Reference}
 use Rattle.plain_state.specs.State.{Mutator}
-use Rattle.mutator_asm.specs.declared.instr.Instr.{Instr}
 use Rattle.plain_heap.specs.declared.action.Action.{Action}
 use Rattle.plain_heap.specs.declared.action.Action.TheVariants.{Makes}
-use Rattle.plain_heap.specs.Action.{action}
 use Rattle.heap_state.specs.Worker.{Account}
 
 abbrev pub by_address : ℕ → Identity

@@ -1,5 +1,5 @@
 -- What a traced epoch has copied is what was live at its flip.
-use Rattle.std.proofs.Common.{◌≡◌, ℕ, ◌+◌, Option, Some, sym, ap, subst, ◌∙◌, arith}
+use Rattle.std.proofs.Common.{◌≡◌, ℕ, ◌+◌, Option, sym, ap, subst, ◌∙◌, arith}
 use Rattle.std.proofs.lemmas.Option.{same_Some}
 use Rattle.plain_state.specs.State.{Plain}
 use Rattle.space_map.specs.declared.area_word.AreaWord.{AreaWord}

@@ -212,7 +212,7 @@ module _ (n : ℕ) where
 
 -- ---- the words
 
-entries_fit : (n : ℕ) → IsPageCount n → EachFits n (opening_entries n)
+pub entries_fit : (n : ℕ) → IsPageCount n → EachFits n (opening_entries n)
 entries_fit n size = (tt, ((omega arith, record { front_fits = omega arith; low_fits = omega (arith, size); owed_fits = omega arith }), ((omega arith, record { front_fits = omega arith; low_fits = omega (arith, size); owed_fits = omega arith }), ((omega arith, omega arith), tt))))
 
 pub opening_stands : OpeningStands

@@ -8,7 +8,7 @@ use Rattle.gc_worker.specs.Stepped.{IsSound, awaits, stepped_by}
 use Rattle.gc_worker.specs.Turned.{told, turned}
 use Rattle.gc_worker.specs.Wanted.{wanted}
 use Rattle.collected_core.specs.Core.{CoreState, workers_of}
-use Rattle.collected_core.specs.Event.{Event, core_after, event_of, ready, told_as}
+use Rattle.collected_core.specs.Event.{Event, core_after, event_of, ready}
 use Rattle.collected_core.specs.Law.{IsLawful}
 use Rattle.collected_core.proofs.CoreSteps.{held_sound, held_counts, ready_sound, ready_number, lawful_after, idle_event, place, takes, turned_sound, moved_event, room, told_same, state, read_held, made_ready, read_ready, idle_workers, moved_core}
 use Rattle.collected_core.proofs.machine.Core.step.Goals as goal
@@ -140,10 +140,11 @@ returns-clause-told c =
     let first = read_ready s w below c.ready.new.self c.index.result.now made c.index.ensures in
     let asked : wanted (ready s w) ≡ Some c.in-Some.step = sym (c.want.ensures.wanted ∙ ap wanted first) ∙ c.in-Some.is in
     let again = read_ready s w below c.ready.new.self c.index_mut-2.result.now made c.index_mut-2.ensures.value in
-    c.stepped.ensures ∙ (ap told_as (c.take.ensures.tells
-    ∙ (ap (λ (x : Held). stepped_by x.number (told x c.act-reply.result)) again ∙ ap (λ (r : Reply). stepped_by (ready s w).number (told (ready s w) r)) c.act-reply.ensures.reply))
+    c.take.ensures.tells
+    ∙ (ap (λ (x : Held). stepped_by x.number (told x c.act-reply.result)) again
+    ∙ (ap (λ (r : Reply). stepped_by (ready s w).number (told (ready s w) r)) c.act-reply.ensures.reply
     ∙ (told_same w (ready s w).number (told (ready s w) (reply_of c.in-Some.step s.heap.words)) (ready_number s w c.self.invariant.2 below)
-    ∙ (ap (λ (e : Event). e.told) (sym (moved_event s w c.self.invariant.2 below c.in-Some.step asked)) ∙ ap (λ (s : CoreState). (event_of s w).told) c.self.view_is)))
+    ∙ (ap (λ (e : Event). e.told) (sym (moved_event s w c.self.invariant.2 below c.in-Some.step asked)) ∙ ap (λ (s : CoreState). (event_of s w).told) c.self.view_is))))
 
 pub returns-clause-after : goal.returns-clause-after
 returns-clause-after c =
