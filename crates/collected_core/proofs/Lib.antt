@@ -8,7 +8,8 @@ pub mod Running
 pub mod Begun
 pub mod Whole
 pub mod Lawful
-pub mod Counting
+pub mod Slots
+pub mod CoreSteps
 pub mod Counts
 pub mod Stepping
 pub mod Telling

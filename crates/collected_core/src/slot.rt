@@ -1,11 +1,12 @@
 //! A worker of a core, with the count of the instructions that it has executed.
 
-ghost use Rattle.std.specs.Prelude.{◌≡◌, ◌-◌, ◌≤◌, ◌<◌, ◌^◌, IsSome, IsTrue};
+ghost use Rattle.std.specs.Prelude.{◌≡◌, ◌-◌, ◌≤◌, ◌<◌, ◌^◌, ℕ, true, IsSome, IsTrue};
 ghost use Rattle.std.specs.List.{list_all};
 ghost use Rattle.mutator_asm.specs.Program.{is_valid};
 ghost use Rattle.gc_worker.specs.Counted.{counted};
 ghost use Rattle.gc_worker.specs.Fits.{Takes};
-ghost use Rattle.gc_worker.specs.Stepped.{IsSound, stepped_by};
+ghost use Rattle.gc_worker.specs.Stepped.{IsSound, awaits, stepped_by};
+ghost use Rattle.gc_worker.specs.declared.stepped.Stepped.TheVariants.{Effect};
 ghost use Rattle.gc_worker.specs.Turned.{told, turned};
 ghost use Rattle.gc_worker.specs.Wanted.{wanted};
 ghost use Rattle.collected_core.specs.Event.{readied};
@@ -44,7 +45,7 @@ impl Slot {
         requires turns { turns ≤ 10000000 }
         requires valid { IsTrue (list_all (list_all is_valid) program.now.code) }
         requires sound { IsSound self.old }
-        requires counted { self.old.account.serial ≤ self.old.account.executed }
+        requires counted { awaits self.old ≡ true → self.old.account.serial ≤ self.old.account.executed }
         ensures { self.new ≡ readied program.now.code turns m self.old }
     {
         if self.worker.awaits() {
@@ -72,7 +73,7 @@ impl Slot {
         requires wants { IsSome (wanted self.old) }
         requires takes { Takes self.old reply }
         requires fits { IsSound (turned self.old reply) }
-        requires room { self.old.account.executed < 2 ^ 32 - 1 }
+        requires room { (m : ℕ) → stepped_by self.old.number (told self.old reply) ≡ Effect m → self.old.account.executed < 2 ^ 32 - 1 }
         ensures state { self.new ≡ turned self.old reply }
         ensures tells { result ≡ stepped_by self.old.number (told self.old reply) }
     {

@@ -1,9 +1,10 @@
-use Rattle.std.proofs.Common.{◌≡◌, ℕ, ◌+◌, sym, ap, subst, ◌∙◌}
+use Rattle.std.proofs.Common.{◌≡◌, ℕ, ◌+◌, ◌<◌, sym, ap, subst, ◌∙◌, arith}
+use Rattle.gc_worker.specs.declared.stepped.Stepped.TheVariants.{Effect}
 use Rattle.gc_worker.specs.Counted.{counted}
 use Rattle.gc_worker.specs.Held.{Held}
 use Rattle.gc_worker.specs.Stepped.{IsSound, stepped_by}
 use Rattle.gc_worker.specs.Turned.{told, turned}
-use Rattle.collected_core.proofs.Counting.{turned_sound, turned_with, tells_with, counts_effect, counts_no_other}
+use Rattle.collected_core.proofs.Slots.{turned_sound, turned_with, tells_with, counts_effect, counts_no_other}
 use Rattle.collected_core.proofs.slot.Slot.take.Goals as goal
 
 pub take-told-requires-clause-fits : goal.take-told-requires-clause-fits
@@ -32,3 +33,9 @@ returns-in_default c = record {
   tells = c.take-told.ensures.tells ∙ (tells_with c.self.inside.count c.self.inside.worker (subst IsSound (sym c.self.view_is) c.requires.sound) c.args.reply
       ∙ ap (λ (x : Held). stepped_by x.number (told x c.args.reply)) c.self.view_is);
 }
+
+pub overflow_add-self : goal.overflow_add-self
+overflow_add-self c =
+    let room = subst (λ (x : Held). (m : ℕ) → stepped_by x.number (told x c.args.reply) ≡ Effect m → x.account.executed < 4294967295) (sym c.self.view_is) c.requires.room in
+    let l = room c.in-Effect.field-0 (sym (tells_with c.self.inside.count c.self.inside.worker (subst IsSound (sym c.self.view_is) c.requires.sound) c.args.reply) ∙ (sym c.take-told.ensures.tells ∙ c.in-Effect.is)) in
+    omega (arith, l)
