@@ -21,7 +21,7 @@ use Rattle.gc_worker.specs.declared.config.Config.{Config}
 use Rattle.collected_core.specs.Core.{CoreState, opening_core, workers_of, is_size}
 use Rattle.collected_core.specs.Event.{Event, event_of, event_by, core_after, ready, next_task, stepped_of}
 use Rattle.collected_core.specs.Law.{IsLawful, story_by}
-use Rattle.collected_core.proofs.Opening.{opening_stands, opening_steady}
+use Rattle.collected_core.proofs.Begun.{opening_stands, opening_steady}
 use Rattle.collected_core.proofs.Readied.{readied_stands, looks_idle, may_begin}
 use Rattle.collected_core.proofs.Whole.{events_keep}
 

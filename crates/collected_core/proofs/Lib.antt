@@ -5,10 +5,10 @@ pub mod Claims
 pub mod Fulls
 pub mod Runs
 pub mod Running
-pub mod Opening
+pub mod Begun
 pub mod Whole
 pub mod Lawful
-pub mod Slots
+pub mod Counting
 pub mod CoreSteps
 pub mod Counts
 pub mod Stepping

@@ -14,7 +14,7 @@ use Rattle.collected_core.specs.Law.{EventsKeep, EventsMeet, epoch_in}
 use Rattle.collected_core.specs.Run.{Ran, run_from}
 use Rattle.collected_core.specs.Whole.{RunsFollow, FullsFollowFlips, NoPageIsWonTwice}
 use Rattle.collected_core.proofs.Events as events
-use Rattle.collected_core.proofs.Opening.{opening_stands, opening_steady, opening_epoch}
+use Rattle.collected_core.proofs.Begun.{opening_stands, opening_steady, opening_epoch}
 use Rattle.collected_core.proofs.Claims.{pages_are_won_once}
 use Rattle.collected_core.proofs.Fulls.{fulls_come_after_flips}
 use Rattle.gc_worker.proofs.Between.Begun.{beginnings_are_kept, full_is_found_later}

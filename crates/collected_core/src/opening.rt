@@ -53,7 +53,9 @@ fn slots(alloc: Global, spaces: Spaces, mutators: u8, count: u8) -> Result<Vec<S
 {
     let mut slots = Vec::new(alloc);
     for k in 0..count {
-        slots.push(worker(alloc, spaces, k, mutators)?)?;
+        if let Err(e) = slots.push(worker(alloc, spaces, k, mutators)?) {
+            return Err(AllocError::from(e).into());
+        }
     }
     Ok(slots)
 }
