@@ -1,7 +1,7 @@
 -- A core begins steady, for the plain state in which its program begins.
 use Rattle.std.proofs.Common.{◌≡◌, ℕ, zero, suc, ◌+◌, ◌++◌, ◌<◌, ◌≤◌, ◌&&◌, Bool, true, false, nat_le, List, [], ◌∷◌, length, replicate, refl, ap, sym, subst, ◌∙◌, arith, lt-ltb}
 use Rattle.std.specs.Prelude.{map, IsTrue, if◌then◌else◌}
-use Rattle.std.proofs.lemmas.Bool.{leb-true}
+use Rattle.std.proofs.lemmas.Bool.{leb-true, le-leb}
 use Rattle.plain_state.specs.declared.value.Value.TheVariants.{Number}
 use Rattle.plain_state.specs.State.{Plain}
 use Rattle.mutator_asm.specs.declared.instr.Instr.{Instr}
@@ -43,6 +43,9 @@ size_fits pages e = by_tests (nat_le 4 pages) (nat_le pages 2048) refl refl e
     by_tests true true x y e = (leb-true 4 pages x, leb-true pages 2048 y)
     by_tests true false x y e = absurd (cc)
     by_tests false b x y e = absurd (cc)
+
+pub size_is : (pages : ℕ) → IsPageCount pages → IsTrue (is_size pages)
+size_is pages fit = rw (le-leb 4 pages fit.0, le-leb pages 2048 fit.1) refl
 
 -- one worker more is the next one
 pub fresh_push : (n mutators from count : ℕ) → fresh_workers n mutators from (count + 1) ≡ fresh_workers n mutators from count ++ fresh_worker n mutators (from + count) ∷ []

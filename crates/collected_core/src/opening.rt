@@ -46,7 +46,7 @@ fn worker(alloc: Global, spaces: Spaces, k: u8, mutators: u8) -> Result<Slot, No
 }
 
 /// All workers, the mutators first.
-fn slots(alloc: Global, spaces: Spaces, mutators: u8, count: u8) -> Result<Vec<Slot>, OpenError>
+fn slots(alloc: Global, spaces: Spaces, mutators: u8, count: u8) -> Result<Vec<Slot>, NoMemory>
     requires few { mutators ≤ 16 }
     requires all { count ≤ 24 }
     ensures { IfOk result (λ slots. slots.items ≡ fresh_workers spaces.pages mutators 0 count) }
