@@ -13,3 +13,4 @@ pub mod CoreSteps
 pub mod Counts
 pub mod Stepping
 pub mod Telling
+pub mod CoreReads
