@@ -32,7 +32,7 @@ use Rattle.collected_core.specs.Core.{CoreState}
 use Rattle.collected_core.specs.Event.{Event, core_after, event_of, next_task, readied, ready, stepped_of, task_of}
 use Rattle.collected_core.specs.Law.{IsLawful}
 use Rattle.collected_core.proofs.Readied.{Due, Begins, Rests, Ready, due, readied_stands, ready_task, ready_account}
-use Rattle.collected_core.proofs.Slots.{idle_by}
+use Rattle.collected_core.proofs.Counting.{idle_by}
 use Rattle.collected_core.proofs.Whole.{events_keep}
 
 -- a worker that fits a heap is sound

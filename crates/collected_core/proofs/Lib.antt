@@ -8,8 +8,9 @@ pub mod Running
 pub mod Begun
 pub mod Whole
 pub mod Lawful
-pub mod Slots
+pub mod Counting
 pub mod CoreSteps
 pub mod Counts
 pub mod Stepping
 pub mod Telling
+pub mod CoreReads

@@ -5,7 +5,7 @@ use Rattle.mutator_asm.specs.Program.{is_valid}
 use Rattle.mutator_asm.proofs.Programs.{valid_at}
 use Rattle.gc_worker.specs.Held.{Held}
 use Rattle.gc_worker.specs.Stepped.{IsSound, awaits}
-use Rattle.collected_core.proofs.Slots.{idle_by, call_by, sound_apart}
+use Rattle.collected_core.proofs.Counting.{idle_by, call_by, sound_apart}
 use Rattle.collected_core.proofs.slot.Slot.ready.Goals as goal
 
 pub begin_end-requires-clause-idle : goal.begin_end-requires-clause-idle

@@ -4,7 +4,7 @@ use Rattle.gc_worker.specs.Counted.{counted}
 use Rattle.gc_worker.specs.Held.{Held}
 use Rattle.gc_worker.specs.Stepped.{IsSound, stepped_by}
 use Rattle.gc_worker.specs.Turned.{told, turned}
-use Rattle.collected_core.proofs.Slots.{turned_sound, turned_with, tells_with, counts_effect, counts_no_other}
+use Rattle.collected_core.proofs.Counting.{turned_sound, turned_with, tells_with, counts_effect, counts_no_other}
 use Rattle.collected_core.proofs.slot.Slot.take.Goals as goal
 
 pub take-told-requires-clause-fits : goal.take-told-requires-clause-fits
