@@ -1,5 +1,5 @@
 -- What the readers of a core read of one worker.
-use Rattle.std.proofs.Common.{◌≡◌, ◌≢◌, ℕ, ◌+◌, ◌<◌, ◌≤◌, Bool, cond, List, [], ◌∷◌, length, get_or, slice_get, Option, Some, None, refl, ap, sym, ◌∙◌, arith}
+use Rattle.std.proofs.Common.{◌≡◌, ◌≢◌, ℕ, ◌+◌, ◌<◌, ◌≤◌, Bool, cond, List, length, get_or, slice_get, Option, Some, None, ap, sym, ◌∙◌, arith}
 use Rattle.std.proofs.lemmas.Bool.{eq-eqb, ne_eqb}
 use Rattle.space_map.specs.declared.area_word.AreaWord.{AreaWord}
 use Rattle.space_map.specs.declared.gate_word.GateWord.{GateWord}
@@ -10,10 +10,11 @@ use Rattle.space_map.specs.Table.{Row, IsRow, Gate, Traced, Area, place_of}
 use Rattle.heap_state.specs.Table.{word_in}
 use Rattle.heap_state.proofs.Table.Places.{word_in-row}
 use Rattle.gc_worker.specs.Turned.{epoch_in}
-use Rattle.std.specs.Prelude.{◌&&◌, map, take}
+use Rattle.std.specs.Prelude.{take}
 use Rattle.std.specs.List.{list_all}
 use Rattle.std.specs.Option.{is_some, option_map}
 use Rattle.std.proofs.lemmas.List.{get_or_default}
+use Rattle.std.proofs.lemmas.List.Folds.{list_all-map}
 use Rattle.plain_state.specs.declared.end.End.{End}
 use Rattle.plain_heap.specs.Print.{Seen}
 use Rattle.gc_worker.specs.Held.{Held}
@@ -71,10 +72,5 @@ module _ (s : CoreState) (words : List ℕ) (words_are : words ≡ s.heap.words)
 
 -- ---- ends
 
--- what holds of each made item
-list_all_made : {X Y : Type 0} (f : X → Y) (p : Y → Bool) (xs : List X) → list_all p (map f xs) ≡ list_all (λ x. p (f x)) xs
-list_all_made f p [] = refl
-list_all_made f p (x ∷ xs) = ap (λ (b : Bool). p (f x) && b) (list_all_made f p xs)
-
 pub ends_seen : (s : CoreState) → list_all (λ (x : Held). is_some x.account.end) (take s.heap.mutators s.heap.workers) ≡ all_ended s
-ends_seen s = sym (list_all_made (λ (x : Held). record { printed = x.account.printed; end = x.account.end }) (λ (k : Seen). is_some k.end) (take s.heap.mutators s.heap.workers))
+ends_seen s = sym (list_all-map (λ (k : Seen). is_some k.end) (λ (x : Held). record { printed = x.account.printed; end = x.account.end }) (take s.heap.mutators s.heap.workers))

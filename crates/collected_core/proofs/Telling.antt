@@ -1,7 +1,9 @@
 -- What the readers of a core tell, place by place.
-use Rattle.std.proofs.Common.{◌≡◌, ℕ, ◌<◌, ◌≤◌, List, length, Option, Some, None, slice_get, get_or, refl, ap, sym, ◌∙◌, arith}
+use Rattle.std.proofs.Common.{◌≡◌, ◌≢◌, ℕ, ◌+◌, ◌<◌, ◌≤◌, List, length, Option, Some, None, slice_get, get_or, refl, ap, sym, ◌∙◌, arith}
 use Rattle.std.specs.Prelude.{map, take}
 use Rattle.std.specs.Option.{option_map}
+use Rattle.std.specs.Prelude.{slice_index}
+use Rattle.std.proofs.lemmas.Bool.{lt-ltb, eq-eqb, ne_eqb}
 use Rattle.std.proofs.lemmas.List.{get_or-take, length-take-le, length-map}
 use Rattle.std.proofs.lemmas.Option.{slice_get-map, slice_get-get_or}
 use Rattle.plain_heap.specs.Print.{Seen}
@@ -19,7 +21,15 @@ use Rattle.gc_worker.specs.Knows.{knows, copy_at, copy_in}
 use Rattle.gc_worker.specs.Stepped.{header_kept, place_kept}
 use Rattle.gc_worker.specs.Law.{nobody, held_at}
 use Rattle.collected_core.specs.Core.{CoreState, workers_of}
-use Rattle.collected_core.specs.Readers.{mutators_in, seen_of, registers_in, kept_in}
+use Rattle.space_map.specs.declared.area_word.AreaWord.{AreaWord}
+use Rattle.space_map.specs.declared.gate_word.GateWord.{GateWord}
+use Rattle.space_map.specs.AreaWord.{decode_area}
+use Rattle.space_map.specs.GateWord.{decode_gate}
+use Rattle.space_map.specs.Spaces.{to_space}
+use Rattle.space_map.specs.Table.{Gate, Traced, Area, place_of}
+use Rattle.heap_state.specs.Table.{word_in}
+use Rattle.gc_worker.specs.Law.{epoch_of}
+use Rattle.collected_core.specs.Readers.{mutators_in, seen_of, registers_in, kept_in, cycles_of, live_of}
 
 abbrev seen_in : Held → Seen
 seen_in x = record { printed = x.account.printed; end = x.account.end }
@@ -87,3 +97,37 @@ stage_kept Gone = refl
 pub kept_told : (s : CoreState) (w : ℕ) → w < workers_of s
     → slice_get (kept_in s) w ≡ Some (record { header = header_kept (held_at s.heap w).stage; place = place_kept (held_at s.heap w).stage })
 kept_told s w below = kept_there s w below ∙ ap (λ (k : Kept). Some k) (stage_kept (held_at s.heap w).stage)
+
+-- ---- the epoch, and what was copied in it
+
+pub gate_epoch : (n : ℕ) (words : List ℕ) (g : GateWord) → decode_gate (slice_index words (place_of n Gate)) ≡ Some g → g.epoch ≡ epoch_of n words
+unfolding word_in
+gate_epoch n words g e = rw e refl
+
+pub gate_none : (n : ℕ) (words : List ℕ) → decode_gate (slice_index words (place_of n Gate)) ≡ None → 0 ≡ epoch_of n words
+unfolding word_in
+gate_none n words e = rw e refl
+
+module _ (s : CoreState) (epoch : ℕ) (is : epoch ≡ cycles_of s) where
+  abbrev n : ℕ
+  n = s.heap.pages
+
+  abbrev words : List ℕ
+  words = s.heap.words
+
+  traced_word : word_in n words Traced ≡ slice_index words (place_of n Traced)
+  unfolding word_in
+  traced_word = refl
+
+  area_word : word_in n words (Area (to_space epoch)) ≡ slice_index words (place_of n (Area (to_space epoch)))
+  unfolding word_in
+  area_word = let l : to_space epoch < 2 = omega arith in rw (lt-ltb (to_space epoch) 2 l) refl
+
+  -- the epoch isn't traced
+  pub live_not : slice_index words (place_of n Traced) ≢ epoch + 1 → None ≡ live_of s
+  live_not d = rw (← is, traced_word, ne_eqb (slice_index words (place_of n Traced)) (epoch + 1) d) refl
+
+  -- it is, and this is its area
+  pub live_by : (o : Option AreaWord) → slice_index words (place_of n Traced) ≡ epoch + 1 → decode_area (slice_index words (place_of n (Area (to_space epoch)))) ≡ o
+      → option_map (λ (a : AreaWord). a.front) o ≡ live_of s
+  live_by o t a = rw (← is, traced_word, eq-eqb (slice_index words (place_of n Traced)) (epoch + 1) t, area_word, a) refl
