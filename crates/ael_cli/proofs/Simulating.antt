@@ -5,10 +5,10 @@ use Rattle.mutator_asm.specs.declared.instr.Instr.{Instr}
 use Rattle.mutator_asm.specs.declared.item.Item.{Item}
 use Rattle.plain_heap.specs.declared.mark.Mark.{Mark}
 use Rattle.plain_heap.specs.Print.{lines_seen, order_line, plain_seen}
-use Rattle.collected_core.specs.Core.{CoreState}
-use Rattle.collected_core.specs.Readers.{seen_of}
-use Rattle.collected_core.specs.Run.{Ran, all_ended}
-use Rattle.collected_core.specs.Whole.{Follows}
+use Rattle.gc_core.specs.Core.{CoreState}
+use Rattle.gc_core.specs.Readers.{seen_of}
+use Rattle.gc_core.specs.Run.{Ran, all_ended}
+use Rattle.gc_core.specs.Whole.{Follows}
 use Rattle.ael_cli.specs.declared.status.Status.{Status}
 use Rattle.ael_cli.specs.declared.status.Status.TheVariants.{Done, Ended, StepsOut}
 use Rattle.ael_cli.specs.declared.options.SimOptions.{SimOptions}

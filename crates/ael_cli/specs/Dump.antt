@@ -3,8 +3,8 @@ use Rattle.std.specs.Prelude.{ℕ, ◌-◌, false, List, [], ◌∷◌, ◌++◌
 use Rattle.std.specs.Fmt.{digits}
 use Rattle.std.specs.List.{flat_map}
 use Rattle.heap_state.specs.Kept.{Kept}
-use Rattle.collected_core.specs.Core.{CoreState}
-use Rattle.collected_core.specs.Readers.{registers_in, kept_in, cycles_of, live_of}
+use Rattle.gc_core.specs.Core.{CoreState}
+use Rattle.gc_core.specs.Readers.{registers_in, kept_in, cycles_of, live_of}
 
 -- ---- cycles
 

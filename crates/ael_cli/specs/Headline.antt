@@ -8,7 +8,7 @@ use Rattle.plain_state.specs.State.{Mutator}
 use Rattle.plain_heap.specs.Order.{opening, plain}
 use Rattle.plain_heap.specs.Print.{lines_seen, print_of, seen_in}
 use Rattle.plain_heap.specs.Alone.{IsAsAlone, shares_nothing}
-use Rattle.collected_core.specs.Whole.{EachActs}
+use Rattle.gc_core.specs.Whole.{EachActs}
 use Rattle.ael_cli.specs.declared.job.Job.{Job}
 use Rattle.ael_cli.specs.declared.job.Job.TheVariants.{Asm, Sim}
 use Rattle.ael_cli.specs.declared.options.SimOptions.{SimOptions}

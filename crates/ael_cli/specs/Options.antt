@@ -1,7 +1,7 @@
 -- The options of a simulation, by the rows of what was given.
 use Rattle.std.specs.Prelude.{◌≤◌, IsTrue, List, [], ◌∷◌, codes}
 use Rattle.clap.specs.Walk.{Row, Text}
-use Rattle.collected_core.specs.Core.{is_size}
+use Rattle.gc_core.specs.Core.{is_size}
 use Rattle.simple_commands.specs.Options.{number_given}
 use Rattle.simple_commands.specs.Readers.{number_of, was_given}
 use Rattle.simple_commands.specs.declared.options.Numbers.{Numbers}

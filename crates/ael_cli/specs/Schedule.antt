@@ -4,7 +4,7 @@ use Rattle.std.specs.Fn.{iterate}
 use Rattle.std.specs.List.{flat_map}
 use Rattle.rand_xoshiro.specs.SplitMix64.{mix_u64, next_state}
 use Rattle.mutator_asm.specs.declared.item.Item.{Item}
-use Rattle.collected_core.specs.Run.{in_turn}
+use Rattle.gc_core.specs.Run.{in_turn}
 
 -- by a seed: the next word of SplitMix64, whose state is the seed at first, modulo the number of workers
 abbrev pub drawn : ℕ → ℕ → ℕ → ℕ

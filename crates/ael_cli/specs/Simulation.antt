@@ -7,9 +7,9 @@ use Rattle.plain_heap.specs.declared.mark.Mark.{Mark}
 use Rattle.plain_heap.specs.Order.{opening, plain}
 use Rattle.plain_heap.specs.Print.{print_of, order_line, plain_seen}
 use Rattle.gc_worker.specs.declared.config.Config.{Config}
-use Rattle.collected_core.specs.Core.{CoreState, opening_core, workers_of}
-use Rattle.collected_core.specs.Run.{Ran, run_from, EachEvent}
-use Rattle.collected_core.specs.Whole.{EachActs, IsFull}
+use Rattle.gc_core.specs.Core.{CoreState, opening_core, workers_of}
+use Rattle.gc_core.specs.Run.{Ran, run_from, EachEvent}
+use Rattle.gc_core.specs.Whole.{EachActs, IsFull}
 use Rattle.ael_cli.specs.declared.options.SimOptions.{SimOptions}
 use Rattle.ael_cli.specs.declared.status.Status.{Status}
 use Rattle.ael_cli.specs.Dump.{cycles_line, dump_text}

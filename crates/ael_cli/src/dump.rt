@@ -2,10 +2,10 @@
 
 ghost use Rattle.std.specs.Prelude.{◌≡◌, ◌++◌, OnOk, string_bytes};
 ghost use Rattle.std.specs.List.{flat_map};
-ghost use Rattle.collected_core.specs.Readers.{kept_in, registers_in};
+ghost use Rattle.gc_core.specs.Readers.{kept_in, registers_in};
 ghost use Rattle.ael_cli.specs.Dump.{dump_head, dump_text, kept_line, table_lines, word_text, words_line};
 
-use collected_core::Core;
+use gc_core::Core;
 use plain_heap::NoMemory;
 
 /// Adds the first line: how many pages a space has, how many mutators there are, and how many

@@ -7,7 +7,7 @@ ghost use Rattle.ael_cli.specs.Simulation.{flag_lines};
 
 use crate::dump::push_dump;
 use crate::options::SimOptions;
-use collected_core::Core;
+use gc_core::Core;
 use plain_heap::{Mark, NoMemory, push_order};
 
 /// Adds the line of the order, where it is asked for.

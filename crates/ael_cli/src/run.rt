@@ -4,14 +4,14 @@ ghost use Rattle.std.specs.Prelude.{◌≡◌, ◌<◌, ◌++◌, IfOk, IsTrue, 
 ghost use Rattle.std.specs.List.{list_all};
 ghost use Rattle.std.specs.Option.{option_to_list};
 ghost use Rattle.mutator_asm.specs.Program.{is_item};
-ghost use Rattle.collected_core.specs.Core.{workers_of};
-ghost use Rattle.collected_core.specs.Event.{event_of, core_after};
-ghost use Rattle.collected_core.specs.Run.{run_from, mark_of};
+ghost use Rattle.gc_core.specs.Core.{workers_of};
+ghost use Rattle.gc_core.specs.Event.{event_of, core_after};
+ghost use Rattle.gc_core.specs.Run.{run_from, mark_of};
 ghost use Rattle.ael_cli.specs.Schedule.{schedule_of};
 
 use crate::options::SimOptions;
 use crate::scheduler::Scheduler;
-use collected_core::{Core, Stepped, mark, missing_workers_are_idle};
+use gc_core::{Core, Stepped, mark, missing_workers_are_idle};
 use mutator_asm::Item;
 use plain_heap::Mark;
 use std::alloc::{AllocError, Global};

@@ -2,8 +2,8 @@
 
 ghost use Rattle.std.specs.Prelude.{◌≡◌, ◌<◌, ◌++◌, IfOk, OnOk, map, string_bytes};
 ghost use Rattle.std.specs.List.{list_all};
-ghost use Rattle.collected_core.specs.Core.{opening_core, workers_of};
-ghost use Rattle.collected_core.specs.Readers.{seen_of};
+ghost use Rattle.gc_core.specs.Core.{opening_core, workers_of};
+ghost use Rattle.gc_core.specs.Readers.{seen_of};
 ghost use Rattle.ael_cli.specs.Options.{AreInRange};
 ghost use Rattle.plain_heap.specs.Print.{lines_seen};
 ghost use Rattle.ael_cli.specs.Seen.{is_halt, has_halted, status_seen};
@@ -14,7 +14,7 @@ use crate::flags::push_flags;
 use crate::options::SimOptions;
 use crate::run::run;
 use crate::status::Status;
-use collected_core::{Config, Core, OpenError, runs_follow};
+use gc_core::{Config, Core, OpenError, runs_follow};
 use mutator_asm::Program;
 use plain_heap::{End, NoMemory, push_lines};
 use std::alloc::Global;

@@ -3,7 +3,7 @@
 ghost use Rattle.std.specs.Prelude.{◌≡◌};
 
 use crate::reading::ReadError;
-use collected_core::OpenError;
+use gc_core::OpenError;
 use mutator_asm::AsmError;
 use plain_heap::NoMemory;
 use std::alloc::Global;

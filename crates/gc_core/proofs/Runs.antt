@@ -2,7 +2,7 @@
 use Rattle.std.proofs.Common.{◌≡◌, ℕ, ◌+◌, ◌-◌, ◌<◌, ◌≤◌, List, [], ◌++◌, true, false, refl, sym, ◌∙◌, append_assoc, append-nil, arith, zero, suc}
 use Rattle.std.specs.Option.{option_to_list}
 use Rattle.plain_heap.specs.declared.mark.Mark.{Mark}
-use Rattle.gc_core.specs.Configuration.{CoreState}
+use Rattle.gc_core.specs.Core.{CoreState}
 use Rattle.gc_core.specs.Event.{event_of, core_after}
 use Rattle.gc_core.specs.Run.{Ran, run_from, all_ended, after_event, mark_of}
 

@@ -1,87 +1,60 @@
--- What holds of whole runs: each mark acts, and what is seen of the core is what is seen of the
--- plain machine.
-use Rattle.std.proofs.Common.{◌≡◌, ℕ, zero, suc, ◌+◌, Bool, true, false, List, [], ◌∷◌, length, refl, arith}
-use Rattle.std.specs.Prelude.{map, Some, slice_get}
-use Rattle.std.specs.Option.{option_to_list}
-use Rattle.plain_state.specs.declared.end.End.{End}
-use Rattle.plain_state.specs.declared.end.End.TheVariants as ends
-use Rattle.plain_state.specs.State as plain
-use Rattle.mutator_asm.specs.declared.instr.Instr.{Instr}
-use Rattle.plain_heap.specs.Order.{state_after}
-use Rattle.gc_core.specs.declared.stepped.Stepped.{Stepped}
-use Rattle.gc_core.specs.declared.stepped.Stepped.TheVariants.{Idle, Moved, Effect, Flipped, Ended}
-use Rattle.gc_core.specs.Configuration.{Mutator, Configuration, CoreState}
-use Rattle.gc_core.specs.Event.{event_of, core_after}
-use Rattle.gc_core.specs.Law.{IsTold}
-use Rattle.gc_core.specs.Represents.{Represents}
-use Rattle.gc_core.specs.Run.{run_from, all_ended, mark_of}
-use Rattle.gc_core.specs.Steady.{IsSteady}
-use Rattle.gc_core.specs.Whole.{Acts, EachActs, seen_of}
-use Rattle.plain_heap.specs.Print.{Seen, plain_seen}
-use Rattle.plain_heap.proofs.Marks.{EachMark-append}
-use Rattle.gc_core.proofs.Law.{event_law}
-use Rattle.gc_core.proofs.Steady.{event_keeps}
+-- What holds of all events and runs, from the laws of a worker's step.
+use Rattle.std.proofs.Common.{◌≡◌, false, arith}
+use Rattle.plain_heap.specs.Order.{Story, opening}
+use Rattle.plain_heap.proofs.Stories.{story_after-now}
+use Rattle.gc_worker.proofs.Between.Beginning.{tasks_may_begin}
+use Rattle.gc_worker.proofs.Between.GoingOn.{workers_go_on}
+use Rattle.gc_worker.proofs.Between.Opening.{heaps_open}
+use Rattle.gc_worker.proofs.Between.Readying.{readying_stands}
+use Rattle.gc_worker.proofs.Between.Standing.{what_stands_is_so}
+use Rattle.gc_worker.proofs.Between.Wanting.{workers_want}
+use Rattle.gc_worker.proofs.Whole.{steps_keep}
+use Rattle.gc_core.specs.Core.{CoreState, opening_core}
+use Rattle.gc_core.specs.Law.{EventsKeep, EventsMeet, epoch_in}
+use Rattle.gc_core.specs.Run.{Ran, run_from}
+use Rattle.gc_core.specs.Whole.{RunsFollow, FullsFollowFlips, NoPageIsWonTwice}
+use Rattle.gc_core.proofs.Events as events
+use Rattle.gc_core.proofs.Begun.{opening_stands, opening_steady, opening_epoch}
+use Rattle.gc_core.proofs.Claims.{pages_are_won_once}
+use Rattle.gc_core.proofs.Fulls.{fulls_come_after_flips}
+use Rattle.gc_worker.proofs.Between.Begun.{beginnings_are_kept, full_is_found_later}
+use Rattle.gc_core.proofs.Running.{run_law, run_acts, run_full, stands_seen}
 
--- ---- marks
+pub events_keep : EventsKeep
+events_keep = events.events_keep steps_keep readying_stands tasks_may_begin workers_go_on workers_want what_stands_is_so
 
--- the mark of an end acts
-end_acts : (code : List (List Instr)) (turns : ℕ) (c : Configuration) (w : ℕ) (s : plain.Plain) (after : Configuration) (m : ℕ) (why : End)
-    → IsTold code turns c w s after (Ended m why) → EachActs code turns s (option_to_list (mark_of (Ended m why)))
-end_acts code turns c w s after m ends.Halt t = (t.1, tt)
-end_acts code turns c w s after m ends.NotPointer t = (t.1, tt)
-end_acts code turns c w s after m ends.NotNumber t = (t.1, tt)
-end_acts code turns c w s after m ends.OutOfRange t = (t.1, tt)
-end_acts code turns c w s after m ends.IntoRaw t = (t.1, tt)
-end_acts code turns c w s after m ends.ZeroDivisor t = (t.1, tt)
-end_acts code turns c w s after m ends.JumpOut t = (t.1, tt)
-end_acts code turns c w s after m ends.TurnsOut t = (t.1, tt)
-end_acts code turns c w s after m ends.OutputFull t = (t.1, tt)
-end_acts code turns c w s after m (ends.HeapFull asked room live) t = ((t.1, t.3.0, t.3.1, t.3.2), tt)
+pub events_meet : EventsMeet
+events_meet = events.events_meet steps_keep readying_stands tasks_may_begin workers_go_on workers_want what_stands_is_so
 
--- the mark of whatever is told acts
-told_acts : (code : List (List Instr)) (turns : ℕ) (c : Configuration) (w : ℕ) (s : plain.Plain) (after : Configuration) (told : Stepped)
-    → IsTold code turns c w s after told → EachActs code turns s (option_to_list (mark_of told))
-told_acts code turns c w s after Idle t = tt
-told_acts code turns c w s after Moved t = absurd t
-told_acts code turns c w s after (Flipped asked) t = absurd t
-told_acts code turns c w s after (Effect m) t = (t.1, tt)
-told_acts code turns c w s after (Ended m why) t = end_acts code turns c w s after m why t
+pub runs_follow : RunsFollow
+runs_follow code items config schedule n program size turns few =
+    let s : CoreState = opening_core code config in
+    let story : Story = record { flip = opening code; now = opening code } in
+    let stands = opening_stands heaps_open code items config program size turns few in
+    let steady = opening_steady heaps_open code items config program size turns few in
+    let r : Ran = run_from schedule 0 n s in
+    let law = run_law events_keep schedule 0 n s story steady stands in
+    let now = story_after-now code config.turns story r.order in
+    let all = what_stands_is_so r.last.heap _ _ law.stands in
+    record {
+      represents = rw now at all.sound.represents;
+      seen = rw now at (stands_seen what_stands_is_so r.last _ _ law.stands);
+      acts = run_acts events_keep schedule 0 n s story steady stands;
+      full = run_full events_keep schedule 0 n s story steady stands;
+    }
 
-acts_as : (schedule : ℕ → ℕ) (at n : ℕ) (s : CoreState) (p : plain.Plain) (b : Bool) → all_ended s ≡ b
-    → EachActs s.code s.turns p (option_to_list (mark_of (event_of s (schedule at)).told))
-    → EachActs s.code s.turns (state_after s.code s.turns p (option_to_list (mark_of (event_of s (schedule at)).told))) (run_from schedule (at + 1) n (core_after s (schedule at))).order
-    → EachActs s.code s.turns p (run_from schedule at (suc n) s).order
-unfolding run_from
-acts_as schedule at n s p true is now rest = rw is tt
-acts_as schedule at n s p false is now rest = rw is
-    (EachMark-append (Acts s.code s.turns) s.code s.turns p (option_to_list (mark_of (event_of s (schedule at)).told)) (run_from schedule (at + 1) n (core_after s (schedule at))).order now rest)
+-- ---- pages and flips
 
--- each mark of a run's order acts
-pub run_acts : (schedule : ℕ → ℕ) (at n : ℕ) (s : CoreState) (p : plain.Plain) → IsSteady s.code s.turns s.configuration → Represents s.configuration p
-    → EachActs s.code s.turns p (run_from schedule at n s).order
-unfolding run_from
-run_acts schedule at zero s p steady represents = tt
-run_acts schedule at (suc n) s p steady represents =
-    let meets = event_law s.code s.turns s.configuration (schedule at) p steady represents in
-    acts_as schedule at n s p (all_ended s) refl
-    (told_acts s.code s.turns s.configuration (schedule at) p (event_of s (schedule at)).after (event_of s (schedule at)).told meets.told)
-    (run_acts schedule (at + 1) n (core_after s (schedule at)) (state_after s.code s.turns p (option_to_list (mark_of (event_of s (schedule at)).told)))
-    (event_keeps s.code s.turns s.configuration (schedule at) steady) meets.represents)
+pub no_page_is_won_twice : NoPageIsWonTwice
+no_page_is_won_twice schedule at n s l =
+    pages_are_won_once steps_keep readying_stands tasks_may_begin events_keep schedule at n s (record { flip = l.flip; now = l.plain }) l.steady l.stands
 
--- ---- what is seen
-
-same_seen : (ks : List Mutator) (ls : List plain.Mutator) → length ks ≡ length ls
-    → ((m : ℕ) (k : Mutator) (l : plain.Mutator) → slice_get ks m ≡ Some k → slice_get ls m ≡ Some l → (k.printed ≡ l.printed) × (k.end ≡ l.end))
-    → map (λ k. let seen : Seen = record { printed = k.printed; end = k.end } in seen) ks ≡ map (λ l. let seen : Seen = record { printed = l.printed; end = l.end } in seen) ls
-same_seen [] [] as_many each = refl
-same_seen [] (l ∷ ls) as_many each = absurd (omega (arith, as_many))
-same_seen (k ∷ ks) [] as_many each = absurd (omega (arith, as_many))
-same_seen (k ∷ ks) (l ∷ ls) as_many each =
-    let first = each 0 k l refl refl in
-    let rest = same_seen ks ls (omega (arith, as_many)) (λ m k' l' a b. each (suc m) k' l' a b) in
-    rw (first.0, first.1, rest)
-
--- what is seen of a configuration is what is seen of the plain state that it represents
-pub represents_seen : (c : Configuration) (s : plain.Plain) → Represents c s → seen_of c ≡ plain_seen s
-represents_seen c s r = same_seen c.mutators s.mutators r.by.as_many
-    (λ m k l is_k is_l. (((r.by.mutators m k l is_k is_l).printed), ((r.by.mutators m k l is_k is_l).end)))
+pub fulls_follow_flips : FullsFollowFlips
+fulls_follow_flips code items config schedule n program size turns few =
+    let s : CoreState = opening_core code config in
+    let story : Story = record { flip = opening code; now = opening code } in
+    let stands = opening_stands heaps_open code items config program size turns few in
+    let steady = opening_steady heaps_open code items config program size turns few in
+    let first : epoch_in s.heap ≡ 0 = opening_epoch heaps_open code items config program size turns few in
+    rw first at (fulls_come_after_flips steps_keep workers_go_on what_stands_is_so beginnings_are_kept full_is_found_later readying_stands tasks_may_begin events_keep schedule 0 n s story (λ m. false) steady stands
+    (λ m l no_end past earlier. absurd (omega (arith, earlier, first))))

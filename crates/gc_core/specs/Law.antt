@@ -1,57 +1,97 @@
--- The law of an event: it does to the represented plain state what the mark of it does, and what is
--- told of it is what the plain machine has.
-use Rattle.std.specs.Prelude.{◌≡◌, ◌≢◌, ⊤, ℕ, ◌*◌, ◌<◌, List, Some, None}
+-- The law of an event: it does to the plain state what the mark of it does, and what is told of it is what the plain machine has.
+use Rattle.std.specs.Prelude.{◌≡◌, ◌≢◌, ⊤, ℕ, ◌+◌, ◌<◌, ◌≤◌, length, Some, None, IsTrue}
+use Rattle.std.specs.List.{list_all}
 use Rattle.std.specs.Option.{option_to_list}
 use Rattle.plain_state.specs.declared.end.End.{End}
 use Rattle.plain_state.specs.declared.end.End.TheVariants as ends
-use Rattle.plain_state.specs.declared.sizes.TheConstants.{PAGE_WORDS}
 use Rattle.plain_state.specs.State.{Plain}
-use Rattle.mutator_asm.specs.declared.instr.Instr.{Instr}
+use Rattle.mutator_asm.specs.Program.{is_valid}
 use Rattle.plain_heap.specs.Step.{asked_by}
-use Rattle.plain_heap.specs.Order.{state_after, end_of}
-use Rattle.gc_core.specs.declared.stepped.Stepped.{Stepped}
-use Rattle.gc_core.specs.declared.stepped.Stepped.TheVariants.{Idle, Moved, Effect, Flipped, Ended}
-use Rattle.gc_core.specs.Configuration.{Configuration}
-use Rattle.gc_core.specs.Event.{Event}
-use Rattle.gc_core.specs.Represents.{Represents}
+use Rattle.plain_heap.specs.Order.{Story, state_after, story_after, end_of}
+use Rattle.heap_state.specs.Represents.{Represents}
+use Rattle.gc_worker.specs.declared.task.Task.{Task}
+use Rattle.gc_worker.specs.Full.{FindsNoRoom}
+use Rattle.gc_worker.specs.Held as held
+use Rattle.gc_worker.specs.Law.{Heap, WorkersStand, held_at, read, epoch_of}
+use Rattle.gc_worker.specs.declared.stepped.Stepped.{Stepped}
+use Rattle.gc_worker.specs.declared.stepped.Stepped.TheVariants.{Idle, Moved, Effect, Flipped, Ended}
+use Rattle.gc_core.specs.Core.{CoreState}
+use Rattle.gc_core.specs.Event.{Event, next_task, ready, event_of, core_after}
 use Rattle.gc_core.specs.Run.{mark_of}
-use Rattle.gc_core.specs.Steady.{IsSteady}
+
+-- ---- what a core keeps beside the plain state
+
+-- A mutator made a record by an instruction each, and executed no more than it may; and the task that it has begun is its next one.
+pub record IsOnTask (s : CoreState) (m : ℕ) : Type 0 where
+  pub counted : (held_at s.heap m).account.serial ≤ (held_at s.heap m).account.executed
+  pub within : (held_at s.heap m).account.executed ≤ s.turns
+  pub task : (t : Task) → (held_at s.heap m).task ≡ Some t → t ≡ next_task s.code s.turns m (held_at s.heap m)
+
+-- there is a mutator for each section of valid code, and each is on its task
+pub record IsSteady (s : CoreState) : Type 0 where
+  pub valid : IsTrue (list_all (list_all is_valid) s.code)
+  pub sections : length s.code ≡ s.heap.mutators
+  pub turns_fit : s.turns ≤ 10000000
+  pub on_task : (m : ℕ) → m < s.heap.mutators → IsOnTask s m
+
+-- it is steady, and its heap stands for some plain state
+pub record IsLawful (s : CoreState) : Type 0 where
+  pub steady : IsSteady s
+  pub plain : Plain
+  pub flip : Plain
+  pub stands : WorkersStand s.heap plain flip
+
+-- ---- an event
 
 -- the plain state after what is told of an event
-abbrev pub plain_after : List (List Instr) → ℕ → Plain → Stepped → Plain
-plain_after code turns s told = state_after code turns s (option_to_list (mark_of told))
+abbrev pub plain_after : CoreState → Plain → Stepped → Plain
+plain_after s p told = state_after s.code s.turns p (option_to_list (mark_of told))
 
--- an end for want of room comes where the next step of mutator m asks for more than there is
-abbrev pub IsForWant : List (List Instr) → ℕ → Plain → ℕ → End → Type 0
-IsForWant code turns s m (ends.HeapFull asked room live) = (asked_by code turns s m ≡ Some asked) × (room < PAGE_WORDS * asked) × (live ≡ 0)
-IsForWant code turns s m ends.Halt = ⊤
-IsForWant code turns s m ends.NotPointer = ⊤
-IsForWant code turns s m ends.NotNumber = ⊤
-IsForWant code turns s m ends.OutOfRange = ⊤
-IsForWant code turns s m ends.IntoRaw = ⊤
-IsForWant code turns s m ends.ZeroDivisor = ⊤
-IsForWant code turns s m ends.JumpOut = ⊤
-IsForWant code turns s m ends.TurnsOut = ⊤
-IsForWant code turns s m ends.OutputFull = ⊤
+-- the story after it
+abbrev pub story_by : CoreState → Story → Stepped → Story
+story_by s story told = story_after s.code s.turns story (option_to_list (mark_of told))
 
--- What is told of an event of worker w is so: an idle worker has no instruction to execute, and
--- nothing changed. An effect or an end is of mutator w, which had no end, and has just the end
--- that is told.
-abbrev pub IsTold : List (List Instr) → ℕ → Configuration → ℕ → Plain → Configuration → Stepped → Type 0
-IsTold code turns c w s after Idle = (after ≡ c) × (end_of s w ≢ Some None)
-IsTold code turns c w s after Moved = ⊥
-IsTold code turns c w s after (Flipped asked) = ⊥
-IsTold code turns c w s after (Effect m) = (m ≡ w) × (end_of s m ≡ Some None) × (end_of (plain_after code turns s (Effect m)) m ≡ Some None)
-IsTold code turns c w s after (Ended m why) =
-    (m ≡ w) × (end_of s m ≡ Some None) × (end_of (plain_after code turns s (Ended m why)) m ≡ Some (Some why)) × IsForWant code turns s m why
+-- An end for want of room comes where the next step of mutator m asks for so many pages, and the worker finds no room for them.
+abbrev pub IsForWant : CoreState → Plain → ℕ → End → Type 0
+IsForWant s p m (ends.HeapFull asked room live) = (asked_by s.code s.turns p m ≡ Some asked) × FindsNoRoom s.heap.pages s.heap.words (ready s m) asked room live
+IsForWant s p m ends.Halt = ⊤
+IsForWant s p m ends.NotPointer = ⊤
+IsForWant s p m ends.NotNumber = ⊤
+IsForWant s p m ends.OutOfRange = ⊤
+IsForWant s p m ends.IntoRaw = ⊤
+IsForWant s p m ends.ZeroDivisor = ⊤
+IsForWant s p m ends.JumpOut = ⊤
+IsForWant s p m ends.TurnsOut = ⊤
+IsForWant s p m ends.OutputFull = ⊤
 
--- the event e of worker w, from the configuration c that represents s, meets the law
-pub record Meets (code : List (List Instr)) (turns : ℕ) (c : Configuration) (w : ℕ) (s : Plain) (e : Event) : Type 0 where
-  pub represents : Represents e.after (plain_after code turns s e.told)
-  pub told : IsTold code turns c w s e.after e.told
+-- The epoch that the gate of the core's table says.
+abbrev pub epoch_in : Heap → ℕ
+epoch_in h = epoch_of h.pages h.words
 
--- what a core keeps in this code: it is steady, and represents some plain state
-pub record IsLawful (code : List (List Instr)) (turns : ℕ) (c : Configuration) : Type 0 where
-  pub steady : IsSteady code turns c
-  pub plain : Plain
-  pub represents : Represents c plain
+-- What is told of an event of worker w is so: an idle worker has its end, or is no mutator, and nothing changed. An effect or
+-- an end is of mutator w, which had no end, and has just the end that is told. A flip is for the pages that the worker's task asks
+-- for, and comes into the next epoch; nothing else changes the epoch.
+abbrev pub IsTold : CoreState → ℕ → Plain → Heap → Stepped → Type 0
+IsTold s w p after Idle = (after ≡ s.heap) × (end_of p w ≢ Some None)
+IsTold s w p after Moved = epoch_in after ≡ epoch_in s.heap
+IsTold s w p after (Flipped asked) = (asked ≡ held.asked_by (ready s w)) × (epoch_in after ≡ epoch_in s.heap + 1)
+IsTold s w p after (Effect m) = (m ≡ w) × (end_of p m ≡ Some None) × (end_of (plain_after s p (Effect m)) m ≡ Some None) × (epoch_in after ≡ epoch_in s.heap)
+IsTold s w p after (Ended m why) =
+    (m ≡ w) × (end_of p m ≡ Some None) × (end_of (plain_after s p (Ended m why)) m ≡ Some (Some why)) × IsForWant s p m why × (epoch_in after ≡ epoch_in s.heap)
+
+-- The event of worker w, from a core that stands for a story: it stands for the story after what is told, which is so.
+pub record Keeps (s : CoreState) (w : ℕ) (story : Story) : Type 0 where
+  pub steady : IsSteady (core_after s w)
+  pub stands : WorkersStand (event_of s w).after (story_by s story (event_of s w).told).now (story_by s story (event_of s w).told).flip
+  pub told : IsTold s w story.now (event_of s w).after (event_of s w).told
+
+abbrev pub EventsKeep : Type 0
+EventsKeep = (s : CoreState) (w : ℕ) (story : Story) → IsSteady s → WorkersStand s.heap story.now story.flip → Keeps s w story
+
+-- The event e of worker w, from a core that represents p, meets the law.
+pub record Meets (s : CoreState) (w : ℕ) (p : Plain) (e : Event) : Type 0 where
+  pub represents : Represents (read e.after) (plain_after s p e.told)
+  pub told : IsTold s w p e.after e.told
+
+abbrev pub EventsMeet : Type 0
+EventsMeet = (s : CoreState) (w : ℕ) (p : Plain) → IsLawful s → Represents (read s.heap) p → Meets s w p (event_of s w)

@@ -1,11 +1,8 @@
-pub mod Configuration
+pub mod Core
+pub mod Readers
 pub mod Event
-pub mod Law
-pub mod Outcome
-pub mod Sound
-pub mod Steady
-pub mod Represents
 pub mod Run
+pub mod Law
+pub mod Claims
+pub mod Fulls
 pub mod Whole
-pub mod Lone
-pub mod OpenError

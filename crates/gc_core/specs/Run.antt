@@ -1,15 +1,16 @@
 -- A whole run: one event after another by a schedule, and the order of what happened.
-use Rattle.std.specs.Prelude.{ℕ, ◌+◌, ◌%◌, Bool, List, [], ◌++◌, Option, Some, None, if◌then◌else◌, zero, suc}
+use Rattle.std.specs.Prelude.{ℕ, ◌+◌, ◌%◌, Bool, true, false, List, [], ◌++◌, ⊤, Option, Some, None, if◌then◌else◌, zero, suc}
 use Rattle.std.specs.Option.{is_some, option_to_list}
 use Rattle.std.specs.List.{list_all}
 use Rattle.plain_state.specs.declared.end.End.{End}
 use Rattle.plain_state.specs.declared.end.End.TheVariants as ends
 use Rattle.plain_heap.specs.declared.mark.Mark.{Mark}
 use Rattle.plain_heap.specs.declared.mark.Mark.TheVariants as marks
-use Rattle.gc_core.specs.declared.stepped.Stepped.{Stepped}
-use Rattle.gc_core.specs.declared.stepped.Stepped.TheVariants.{Idle, Moved, Effect, Flipped, Ended}
-use Rattle.gc_core.specs.Configuration.{CoreState}
+use Rattle.gc_worker.specs.declared.stepped.Stepped.{Stepped}
+use Rattle.gc_worker.specs.declared.stepped.Stepped.TheVariants.{Idle, Moved, Effect, Flipped, Ended}
+use Rattle.gc_core.specs.Core.{CoreState}
 use Rattle.gc_core.specs.Event.{event_of, core_after}
+use Rattle.gc_core.specs.Readers.{seen_of}
 
 -- the mark of an end that mutator m got
 abbrev pub end_mark : ℕ → End → Mark
@@ -34,7 +35,7 @@ mark_of (Ended m why) = Some (end_mark m why)
 
 -- whether every mutator has its end
 abbrev pub all_ended : CoreState → Bool
-all_ended s = list_all (λ k. is_some k.end) s.configuration.mutators
+all_ended s = list_all (λ k. is_some k.end) (seen_of s)
 
 -- what a run comes to: the core in the end, and the marks of its events in order
 pub record Ran : Type 0 where
@@ -56,3 +57,12 @@ run_from schedule at (suc n) s =
 -- the workers in turn
 abbrev pub in_turn : ℕ → ℕ → ℕ
 in_turn workers at = at % workers
+
+abbrev pub Unless : Bool → Type 0 → Type 0
+Unless true rest = ⊤
+Unless false rest = rest
+
+-- each event of that run is so, by the core before it and the worker
+unfoldable pub EachEvent : (CoreState → ℕ → Type 0) → (ℕ → ℕ) → ℕ → ℕ → CoreState → Type 0
+EachEvent IsSo schedule at zero s = ⊤
+EachEvent IsSo schedule at (suc n) s = Unless (all_ended s) (IsSo s (schedule at) × EachEvent IsSo schedule (at + 1) n (core_after s (schedule at)))

@@ -1,6 +1,7 @@
--- What holds of a whole run: the plain machine, executing its order, is what the core represents
--- in the end, and each mark of the order acts.
-use Rattle.std.specs.Prelude.{◌≡◌, ℕ, ◌*◌, ◌≤◌, ◌<◌, List, map, Some, None, IsTrue}
+-- What holds of a whole run: the plain machine, executing its order, is what the core represents in the end, and each mark of the
+-- order acts.
+use Rattle.std.specs.Prelude.{◌≡◌, ⊤, false, ℕ, ◌*◌, ◌≤◌, ◌<◌, List, Some, None, IsTrue}
+use Rattle.plain_state.specs.declared.end.End.TheVariants as ends
 use Rattle.plain_state.specs.declared.sizes.TheConstants.{PAGE_WORDS}
 use Rattle.plain_state.specs.State as plain
 use Rattle.mutator_asm.specs.declared.instr.Instr.{Instr}
@@ -10,41 +11,67 @@ use Rattle.plain_heap.specs.declared.mark.Mark.{Mark}
 use Rattle.plain_heap.specs.declared.mark.Mark.TheVariants.{Step, Flip, Full}
 use Rattle.plain_heap.specs.Step.{asked_by}
 use Rattle.plain_heap.specs.Order.{opening, plain, end_of, EachMark}
-use Rattle.plain_heap.specs.Print.{Seen, plain_seen}
-use Rattle.gc_core.specs.declared.config.Config.{Config}
-use Rattle.gc_core.specs.Configuration.{Configuration, CoreState, is_size, opening_core, workers_of}
-use Rattle.gc_core.specs.Event.{core_after, event_of}
-use Rattle.gc_core.specs.declared.stepped.Stepped.TheVariants.{Idle}
-use Rattle.gc_core.specs.Represents.{Represents}
-use Rattle.gc_core.specs.Run.{Ran, run_from}
+use Rattle.plain_heap.specs.Print.{plain_seen}
+use Rattle.heap_state.specs.Represents.{Represents}
+use Rattle.gc_worker.specs.Full.{FindsNoRoom}
+use Rattle.gc_worker.specs.Law.{read}
+use Rattle.gc_worker.specs.declared.config.Config.{Config}
+use Rattle.gc_worker.specs.declared.stepped.Stepped.TheVariants.{Idle, Ended}
+use Rattle.gc_core.specs.Core.{CoreState, is_size, opening_core, workers_of}
+use Rattle.gc_core.specs.Event.{core_after, event_of, ready}
+use Rattle.gc_core.specs.Claims.{AreApart, wins_from}
+use Rattle.gc_core.specs.Fulls.{EachMayCome}
+use Rattle.gc_core.specs.Law.{IsLawful}
+use Rattle.gc_core.specs.Readers.{seen_of}
+use Rattle.gc_core.specs.Run.{run_from, EachEvent}
 
--- A mark acts: it is of a mutator that had no end. An end for want of room comes only where the
--- mutator's next step asks for more than there is. Nothing was copied, and there is no flip yet.
+-- ---- the order
+
+-- A mark acts: it is of a mutator that had no end. An end for want of room comes only where the mutator's next step asks for more
+-- than there is. A flip changes nothing.
 abbrev pub Acts : List (List Instr) → ℕ → plain.Plain → Mark → Type 0
 Acts code turns s (Step m) = end_of s m ≡ Some None
-Acts code turns s (Flip asked) = ⊥
-Acts code turns s (Full m asked room live) = (end_of s m ≡ Some None) × (asked_by code turns s m ≡ Some asked) × (room < PAGE_WORDS * asked) × (live ≡ 0)
+Acts code turns s (Flip asked) = ⊤
+Acts code turns s (Full m asked room live) = (end_of s m ≡ Some None) × (asked_by code turns s m ≡ Some asked) × (room < PAGE_WORDS * asked)
 
 -- each mark of an order acts on the state that the marks before it leave
 abbrev pub EachActs : List (List Instr) → ℕ → plain.Plain → List Mark → Type 0
 EachActs code turns s order = EachMark (Acts code turns) code turns s order
 
--- what is seen of the core's mutators
-abbrev pub seen_of : Configuration → List Seen
-seen_of c = map (λ k. record { printed = k.printed; end = k.end }) c.mutators
+-- ---- heap full
 
--- a run of a program by turns: the core represents the plain machine that executed the run's order
-pub record Follows (code : List (List Instr)) (turns : ℕ) (r : Ran) : Type 0 where
-  pub represents : Represents r.last.configuration (plain code turns r.order)
-  pub seen : seen_of r.last.configuration ≡ plain_seen (plain code turns r.order)
-  pub acts : EachActs code turns (opening code) r.order
+-- where the event of a worker is its end for want of room, its epoch is traced and has no room for the record, and no flip can help
+abbrev pub IsFull : CoreState → ℕ → Type 0
+IsFull s w = (asked room live : ℕ) → (event_of s w).told ≡ Ended w (ends.HeapFull asked room live) → FindsNoRoom s.heap.pages s.heap.words (ready s w) asked room live
+
+-- ---- a run
+
+-- a run of a program by turns from its opening: the core represents the plain machine that executed the run's order
+pub record Follows (code : List (List Instr)) (turns : ℕ) (schedule : ℕ → ℕ) (n : ℕ) (s : CoreState) : Type 0 where
+  pub represents : Represents (read (run_from schedule 0 n s).last.heap) (plain code turns (run_from schedule 0 n s).order)
+  pub seen : seen_of (run_from schedule 0 n s).last ≡ plain_seen (plain code turns (run_from schedule 0 n s).order)
+  pub acts : EachActs code turns (opening code) (run_from schedule 0 n s).order
+  pub full : EachEvent IsFull schedule 0 n s
 
 -- every run of every program, by any schedule and for any number of steps
 abbrev pub RunsFollow : Type 0
 RunsFollow = (code : List (List Instr)) (items : List Item) (config : Config) (schedule : ℕ → ℕ) (n : ℕ)
-    → IsWellFormed code items → IsTrue (is_size config.pages) → config.turns ≤ 10000000
-    → Follows code config.turns (run_from schedule 0 n (opening_core code config))
+    → IsWellFormed code items → IsTrue (is_size config.pages) → config.turns ≤ 10000000 → config.scanners ≤ 8
+    → Follows code config.turns schedule n (opening_core code config)
 
 -- a worker that isn't there is idle, and its step changes nothing
 abbrev pub MissingWorkersAreIdle : Type 0
 MissingWorkersAreIdle = (s : CoreState) (worker : ℕ) → workers_of s ≤ worker → (Idle ≡ (event_of s worker).told) × (s ≡ core_after s worker)
+
+-- ---- laws of runs
+
+-- in the order of every run of every program, a mutator finds the heap full only where a flip came since its last step, or as many came
+-- as there can be
+abbrev pub FullsFollowFlips : Type 0
+FullsFollowFlips = (code : List (List Instr)) (items : List Item) (config : Config) (schedule : ℕ → ℕ) (n : ℕ)
+    → IsWellFormed code items → IsTrue (is_size config.pages) → config.turns ≤ 10000000 → config.scanners ≤ 8
+    → EachMayCome (λ m. false) 0 (run_from schedule 0 n (opening_core code config)).order
+
+-- in every run no page is won twice in an epoch
+abbrev pub NoPageIsWonTwice : Type 0
+NoPageIsWonTwice = (schedule : ℕ → ℕ) (at n : ℕ) (s : CoreState) → IsLawful s → AreApart (wins_from schedule at n s)

@@ -1,24 +1,16 @@
-//! The machine whose heap will be collected: mutators over words, stepped in any order.
+//! The machine whose heap is collected: mutators and scanners over the words of a table, stepped in any order.
 #![tactic(auto)]
 
-mod board;
-mod config;
-mod header;
-mod instructions;
-mod jumps;
 mod laws;
 mod machine;
-mod mutator;
-mod numbers;
-mod records;
-mod run;
-mod space;
-mod stepped;
-mod turn;
-mod values;
+mod marks;
+mod opening;
+mod readers;
+mod slot;
 
-pub use config::{Config, OpenError};
-pub use laws::{lone_mutators_go_on, missing_workers_are_idle, runs_are_plain_runs, runs_follow};
+pub use gc_worker::{Config, OpenError, Stepped};
+pub use laws::{
+    events_meet, fulls_follow_flips, missing_workers_are_idle, no_page_is_won_twice, runs_follow,
+};
 pub use machine::Core;
-pub use run::Run;
-pub use stepped::Stepped;
+pub use marks::mark;

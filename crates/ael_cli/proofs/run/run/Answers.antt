@@ -1,7 +1,7 @@
 use Rattle.std.proofs.Common.{◌≡◌, ◌+◌, sym, ap, ◌∙◌, arith}
-use Rattle.collected_core.specs.Core.{workers_of}
+use Rattle.gc_core.specs.Core.{workers_of}
 use Rattle.ael_cli.specs.Schedule.{schedule_of}
-use Rattle.collected_core.proofs.Runs.{comes_on, comes_on_order, came_over, came_out, came_over_order, came_out_order, comes_all, comes_all_order}
+use Rattle.gc_core.proofs.Runs.{comes_on, comes_on_order, came_over, came_out, came_over_order, came_out_order, comes_all, comes_all_order}
 use Rattle.ael_cli.proofs.run.run.Goals as goal
 use Rattle.ael_cli.proofs.run.run.Goals.{else-loop-test, then-loop-test+then-all_ended}
 

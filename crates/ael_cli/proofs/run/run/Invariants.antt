@@ -1,9 +1,9 @@
 use Rattle.std.proofs.Common.{◌≡◌, ◌+◌, ℕ, true}
-use Rattle.collected_core.specs.Core.{workers_of}
-use Rattle.collected_core.specs.Run.{run_from}
+use Rattle.gc_core.specs.Core.{workers_of}
+use Rattle.gc_core.specs.Run.{run_from}
 use Rattle.ael_cli.specs.Schedule.{schedule_of}
 use Rattle.ael_cli.specs.Scheduler.{to_come}
-use Rattle.collected_core.proofs.Runs.{ComesTo, ComesToOrder}
+use Rattle.gc_core.proofs.Runs.{ComesTo, ComesToOrder}
 use Rattle.ael_cli.proofs.run.run.Given as goal
 
 abbrev pub invariant-loop : goal.invariant-loop

@@ -1,5 +1,5 @@
 use Rattle.std.proofs.Common.{◌≤◌, arith}
-use Rattle.collected_core.specs.Core.{workers_of}
+use Rattle.gc_core.specs.Core.{workers_of}
 use Rattle.ael_cli.proofs.run.step.Goals as goal
 
 pub returns-else-worker-workers-clause-told : goal.returns-else-worker-workers-clause-told

@@ -1,4 +1,4 @@
-use Rattle.collected_core.specs.Readers.{seen_of}
+use Rattle.gc_core.specs.Readers.{seen_of}
 use Rattle.ael_cli.proofs.Seeing.{HaltsBelow}
 use Rattle.ael_cli.proofs.sim.all_halted.Given as goal
 

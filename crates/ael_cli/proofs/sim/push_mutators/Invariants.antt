@@ -1,6 +1,6 @@
 use Rattle.std.proofs.Common.{◌++◌}
 use Rattle.std.specs.Prelude.{string_bytes}
-use Rattle.collected_core.specs.Readers.{seen_of}
+use Rattle.gc_core.specs.Readers.{seen_of}
 use Rattle.plain_heap.specs.Print.{lines_seen}
 use Rattle.ael_cli.proofs.Seeing.{Tells}
 use Rattle.ael_cli.proofs.sim.push_mutators.Given as goal

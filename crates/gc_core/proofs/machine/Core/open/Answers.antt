@@ -1,39 +1,30 @@
-use Rattle.std.proofs.Common.{◌≡◌, length, sym, ap, ◌∙◌, subst, arith}
-use Rattle.std.specs.Prelude.{map, vec_len}
-use Rattle.std.proofs.lemmas.List.{length-replicate}
-use Rattle.plain_heap.specs.Order.{opening as plain_opening}
-use Rattle.gc_core.specs.Configuration.{fresh, opening}
-use Rattle.gc_core.specs.Law.{IsLawful}
-use Rattle.gc_core.specs.Represents.{Represents}
-use Rattle.gc_core.proofs.Events.{map-const}
-use Rattle.gc_core.proofs.Opening.{opening_steady, opening_represents}
+use Rattle.std.proofs.Common.{◌≡◌, ◌+◌, length, refl, ap, ◌∙◌, arith}
+use Rattle.gc_worker.proofs.Between.Opening.{many}
+use Rattle.gc_core.proofs.Begun.{size_is}
+use Rattle.gc_core.proofs.Lawful.{lawful_opening}
 use Rattle.gc_core.proofs.machine.Core.open.Goals as goal
 
-is_opening : (c : goal.In_ok-mutators)
-    → opening c.args.program.now.code c.args.config.now.pages ≡ record { space = c.in_ok-space.space; mutators = c.in_ok-mutators.mutators.items }
-is_opening c =
-    let mutators : c.in_ok-mutators.mutators.items ≡ map (λ section. fresh) c.args.program.now.code =
-    c.in_ok-mutators.ensures ∙ (rw c.len.ensures (sym (map-const fresh c.args.program.now.code))) in
-    let space = c.in_ok-space.ensures in
-    cc
+all_there : (c : goal.In_ok-slots) → length c.in_ok-slots.slots.items ≡ length c.args.program.now.code + c.args.config.now.scanners
+all_there c =
+    ap length c.in_ok-slots.ensures
+    ∙ many c.in_ok-spaces.spaces.pages c.len-mutators.result 0 (c.len-mutators.result + c.args.config.now.scanners)
+    ∙ ap (λ n. n + c.args.config.now.scanners) c.len-mutators.ensures
 
-pub returns-clause-opened : goal.returns-clause-opened
-returns-clause-opened c = let opened = is_opening c in cc
-
-pub returns-clause-represents : goal.returns-clause-represents
-returns-clause-represents c =
-    subst (λ t. Represents t (plain_opening c.args.program.now.code)) (is_opening c) (opening_represents c.args.program.now.code c.args.config.now.pages)
+pub returns-clause-workers : goal.returns-clause-workers
+returns-clause-workers c = all_there c
 
 pub invariant_of-result : goal.invariant_of-result
 invariant_of-result c =
-    let sections : vec_len c.in_ok-mutators.mutators ≡ length c.args.program.now.code =
-    c.in_ok-mutators.mutators.ok.0 ∙ ap length c.in_ok-mutators.ensures ∙ length-replicate c.len.result fresh ∙ c.len.ensures in (
-      sections,
-      omega (arith, sections, c.args.program.now.well_formed.few_sections),
-      c.requires.scanners,
-      subst (IsLawful c.args.program.now.code c.args.config.now.turns) (is_opening c) (record {
-        steady = opening_steady c.args.program.now.code c.args.config.now.pages c.args.config.now.turns c.args.program.now.well_formed.instrs c.if-config-gt2048.false c.requires.turns.1;
-        plain = plain_opening c.args.program.now.code;
-        represents = opening_represents c.args.program.now.code c.args.config.now.pages;
-      }),
+    let same = c.in_ok-spaces.ensures.pages in
+    let words = c.in_ok-atoms.ensures in
+    let slots = c.in_ok-slots.ensures in
+    let len = c.len-mutators.ensures in
+    let all = all_there c in
+    let vec = c.in_ok-slots.slots.ok.0 in
+    let program = c.args.program.now.well_formed in
+    let few = program.few_sections in
+    let lawful = lawful_opening c.args.program.now.code c.args.program.now.schedule c.args.config.now program (size_is c.args.config.now.pages (c.in_ok-spaces.ensures.refused_exactly_outside.0 refl)) c.requires.turns.1 c.requires.scanners in (
+      omega (arith, vec, all, few, c.requires.scanners),
+      omega (arith, vec, all),
+      rw (words, slots, len, same) lawful,
     )

@@ -1,5 +1,0 @@
-use Rattle.collected_core.proofs.Whole.{events_meet}
-use Rattle.collected_core.proofs.laws.events_meet.Goals as goal
-
-pub returns : goal.returns
-returns c = events_meet

@@ -1,5 +1,0 @@
-use Rattle.collected_core.proofs.Whole.{no_page_is_won_twice}
-use Rattle.collected_core.proofs.laws.no_page_is_won_twice.Goals as goal
-
-pub returns : goal.returns
-returns c = no_page_is_won_twice

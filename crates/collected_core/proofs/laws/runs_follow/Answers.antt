@@ -1,5 +1,0 @@
-use Rattle.collected_core.proofs.Whole.{runs_follow}
-use Rattle.collected_core.proofs.laws.runs_follow.Goals as goal
-
-pub returns : goal.returns
-returns c = runs_follow

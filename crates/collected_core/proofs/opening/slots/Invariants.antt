@@ -1,7 +1,0 @@
--- the workers so far
-use Rattle.std.proofs.Common.{◌≡◌}
-use Rattle.gc_worker.specs.Between.{fresh_workers}
-use Rattle.collected_core.proofs.opening.slots.Given as goal
-
-abbrev pub invariant-loop-k : goal.invariant-loop-k
-invariant-loop-k l = l.slots.items ≡ fresh_workers l.spaces.pages l.mutators 0 l.k

@@ -1,0 +1,5 @@
+use Rattle.gc_core.proofs.Whole.{events_meet}
+use Rattle.gc_core.proofs.laws.events_meet.Goals as goal
+
+pub returns : goal.returns
+returns c = events_meet

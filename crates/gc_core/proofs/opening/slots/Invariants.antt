@@ -1,0 +1,7 @@
+-- the workers so far
+use Rattle.std.proofs.Common.{◌≡◌}
+use Rattle.gc_worker.specs.Between.{fresh_workers}
+use Rattle.gc_core.proofs.opening.slots.Given as goal
+
+abbrev pub invariant-loop-k : goal.invariant-loop-k
+invariant-loop-k l = l.slots.items ≡ fresh_workers l.spaces.pages l.mutators 0 l.k

@@ -1,0 +1,85 @@
+//! How a core is opened.
+
+ghost use Rattle.std.specs.Prelude.{◌≡◌, ◌+◌, ◌≤◌, ◌<◌, ◌↔◌, length, IfOk, IsErrOf, IsTrue, not};
+ghost use Rattle.heap_state.specs.Entries.{written};
+ghost use Rattle.heap_laws.specs.Opening.{opening_entries};
+ghost use Rattle.gc_worker.specs.Between.{fresh_worker, fresh_workers};
+ghost use Rattle.gc_core.specs.Core.{opening_core, workers_of, is_size};
+
+use crate::machine::Core;
+use crate::slot::Slot;
+use atom_store::{Atoms, NoMemory, PlainAtoms, Step};
+use gc_worker::{Config, OpenError, Worker};
+use mmu_model::unprotect;
+use mutator_asm::Program;
+use space_map::{AreaWord, PAGE_WORDS, Spaces};
+use std::alloc::{AllocError, Global};
+
+/// The words before the first step: both spaces are empty, the epoch is traced, and the board is open.
+fn words(alloc: Global, spaces: Spaces) -> Result<PlainAtoms, NoMemory>
+    ensures { IfOk result (λ atoms. atoms ≡ written spaces.pages (opening_entries spaces.pages)) }
+{
+    let pages = spaces.pages();
+    let area = AreaWord {
+        front: 0,
+        low: PAGE_WORDS * pages,
+        owed: 0,
+    };
+    let mut atoms = PlainAtoms::new(alloc, spaces.table_len())?;
+    atoms.act(Step::Store(spaces.page_place(spaces.board_page()), unprotect(0)));
+    atoms.act(Step::Store(spaces.area_place(1), area.pack()));
+    atoms.act(Step::Store(spaces.area_place(0), area.pack()));
+    atoms.act(Step::Store(spaces.traced_place(), 1));
+    Ok(atoms)
+}
+
+/// Worker `k` before its first step.
+fn worker(alloc: Global, spaces: Spaces, k: u8, mutators: u8) -> Result<Slot, NoMemory>
+    requires few { mutators ≤ 16 }
+    requires all { k ≤ 23 }
+    ensures { IfOk result (λ slot. slot ≡ fresh_worker spaces.pages mutators k) }
+{
+    if k < mutators {
+        return Ok(Slot::new(Worker::mutator(alloc, spaces, k, mutators)?));
+    }
+    Ok(Slot::new(Worker::scanner(alloc, spaces, k, mutators)))
+}
+
+/// All workers, the mutators first.
+fn slots(alloc: Global, spaces: Spaces, mutators: u8, count: u8) -> Result<Vec<Slot>, NoMemory>
+    requires few { mutators ≤ 16 }
+    requires all { count ≤ 24 }
+    ensures { IfOk result (λ slots. slots.items ≡ fresh_workers spaces.pages mutators 0 count) }
+{
+    let mut slots = Vec::new(alloc);
+    for k in 0..count {
+        if let Err(e) = slots.push(worker(alloc, spaces, k, mutators)?) {
+            return Err(AllocError::from(e).into());
+        }
+    }
+    Ok(slots)
+}
+
+impl<'p> Core<'p> {
+    /// A core in which nobody has made a step. `BadPages` comes exactly for fewer than 4 pages or more than 2048. The words
+    /// and the room for the most numbers of each mutator are taken here; no later call takes memory.
+    pub fn open(alloc: Global, program: &'p Program, config: &Config) -> Result<Core<'p>, OpenError>
+        requires scanners { config.now.scanners ≤ 8 }
+        requires turns { (1 ≤ config.now.turns) × (config.now.turns ≤ 10000000) }
+        ensures opened { IfOk result (λ c. c ≡ opening_core program.now.code config.now) }
+        ensures workers { IfOk result (λ c. workers_of c ≡ length program.now.code + config.now.scanners) }
+        ensures bad_pages { IsErrOf result OpenError.BadPages ↔ IsTrue (not (is_size config.now.pages)) }
+    {
+        let spaces = Spaces::new(config.pages)?;
+        let atoms = words(alloc, spaces)?;
+        let mutators = program.code.len() as u8;
+        let slots = slots(alloc, spaces, mutators, mutators + config.scanners)?;
+        Ok(Core {
+            program,
+            turns: config.turns,
+            spaces,
+            atoms,
+            slots,
+        })
+    }
+}

@@ -1,0 +1,148 @@
+//! What a core tells of itself. Nothing here takes memory.
+
+ghost use Rattle.std.specs.Prelude.{◌≡◌, ◌<◌, ◌≤◌, length, Some, option_map, slice_get};
+ghost use Rattle.gc_worker.specs.Stepped.{header_kept, place_kept};
+ghost use Rattle.gc_worker.specs.Wanted.{wanted};
+ghost use Rattle.gc_core.specs.Core.{workers_of};
+ghost use Rattle.gc_core.specs.Event.{ready};
+ghost use Rattle.gc_core.specs.Readers.{seen_of, registers_in, kept_in, cycles_of, live_of};
+ghost use Rattle.gc_core.specs.Run.{all_ended};
+
+use crate::machine::Core;
+use crate::slot::Slot;
+use atom_store::Step;
+use plain_heap::End;
+use plain_state::REGISTERS;
+use space_map::{AreaWord, GateWord};
+
+impl Slot {
+    pub(crate) fn regs(&self) -> [u64; REGISTERS]
+        ensures { result ≡ self.now.registers }
+    {
+        self.worker.regs()
+    }
+
+    pub(crate) fn outputs(&self) -> &[u64]
+        ensures { result.now ≡ self.now.account.printed }
+    {
+        self.worker.outputs()
+    }
+
+    pub(crate) fn ended(&self) -> Option<End>
+        ensures { result ≡ self.now.account.end }
+    {
+        self.worker.ended()
+    }
+
+    pub(crate) fn kept(&self) -> (u64, u64)
+        ensures header { result.0 ≡ header_kept self.now.stage }
+        ensures place { result.1 ≡ place_kept self.now.stage }
+    {
+        self.worker.kept()
+    }
+}
+
+impl<'p> Core<'p> {
+    /// How many workers there are: the mutators, numbered from 0, then the scanners.
+    pub fn workers(&self) -> u8
+        ensures exact { result ≡ workers_of self.now }
+        ensures kept { result ≡ length (kept_in self.now) }
+    {
+        self.slots.len() as u8
+    }
+
+    /// How many mutators there are.
+    pub fn mutators(&self) -> usize
+        ensures exact { result ≡ length (seen_of self.now) }
+        ensures registers { result ≡ length (registers_in self.now) }
+        ensures small { result ≤ 16 }
+    {
+        self.program.code.len()
+    }
+
+    /// The pages of a space.
+    pub fn pages(&self) -> u32
+        ensures { result ≡ self.now.heap.pages }
+    {
+        self.spaces.pages()
+    }
+
+    /// A worker's next step, where its event is not idle.
+    pub fn want(&self, worker: u8) -> Option<Step>
+        requires { worker < workers_of self.now }
+        ensures { result ≡ wanted (ready self.now worker) }
+    {
+        self.slots[worker as usize].want()
+    }
+
+    /// Whether every mutator has its end.
+    pub fn all_ended(&self) -> bool
+        ensures { result ≡ all_ended self.now }
+    {
+        self.slots[..self.program.code.len()]
+            .iter()
+            .all(|slot| slot.ended().is_some())
+    }
+
+    /// The words that the workers share.
+    pub fn words(&self) -> &[u64]
+        ensures { result.now ≡ self.now.heap.words }
+    {
+        self.atoms.words()
+    }
+
+    /// The words in a mutator's registers.
+    pub fn regs(&self, m: u8) -> [u64; REGISTERS]
+        requires { m < length (seen_of self.now) }
+        ensures { slice_get (registers_in self.now) m ≡ Some result }
+    {
+        self.slots[m as usize].regs()
+    }
+
+    /// The header that a worker keeps while it copies a record, and the address that it has reserved and one more; 0 for none.
+    pub fn kept(&self, w: u8) -> (u64, u64)
+        requires { w < workers_of self.now }
+        ensures { slice_get (kept_in self.now) w ≡ Some (record { header = result.0; place = result.1 }) }
+    {
+        self.slots[w as usize].kept()
+    }
+
+    /// The numbers that a mutator has printed.
+    pub fn outputs(&self, m: u8) -> &[u64]
+        requires { m < length (seen_of self.now) }
+        ensures { option_map (λ k. k.printed) (slice_get (seen_of self.now) m) ≡ Some result.now }
+    {
+        self.slots[m as usize].outputs()
+    }
+
+    /// A mutator's end, where it has one.
+    pub fn ended(&self, m: u8) -> Option<End>
+        requires { m < length (seen_of self.now) }
+        ensures { option_map (λ k. k.end) (slice_get (seen_of self.now) m) ≡ Some result }
+    {
+        self.slots[m as usize].ended()
+    }
+
+    /// How often the spaces were exchanged, which is the epoch.
+    pub fn cycles(&self) -> u32
+        ensures { result ≡ cycles_of self.now }
+    {
+        match GateWord::read(self.atoms.words()[self.spaces.gate_place()]) {
+            Some(gate) => gate.epoch,
+            None => 0,
+        }
+    }
+
+    /// The words copied in this epoch, where it is traced.
+    pub fn live_words(&self) -> Option<u64>
+        ensures { result ≡ live_of self.now }
+    {
+        let epoch = self.cycles();
+        let words = self.atoms.words();
+        if words[self.spaces.traced_place()] != u64::from(epoch) + 1 {
+            return None;
+        }
+        let place = self.spaces.area_place(self.spaces.to_space(epoch));
+        Some(u64::from(AreaWord::read(words[place])?.front))
+    }
+}
