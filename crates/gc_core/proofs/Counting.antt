@@ -1,5 +1,5 @@
 -- A worker that awaits a task may be given its next one.
-use Rattle.std.proofs.Common.{◌≡◌, ℕ, ◌+◌, ◌^◌, ◌<◌, ◌≤◌, Bool, true, false, nat_lt, Option, Some, None, List, refl, ap, sym, subst, ◌∙◌, arith, ltb-true}
+use Rattle.std.proofs.Common.{◌≡◌, ℕ, ◌+◌, ◌≤◌, true, false, nat_lt, Option, Some, None, List, refl, ap, sym, subst, ◌∙◌, arith, ltb-true}
 use Rattle.std.specs.Option.{is_some}
 use Rattle.std.specs.Prelude.{IsTrue}
 use Rattle.plain_state.specs.declared.end.End.{End}

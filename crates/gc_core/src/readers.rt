@@ -1,6 +1,8 @@
 //! What a core tells of itself. Nothing here takes memory.
 
 ghost use Rattle.std.specs.Prelude.{◌≡◌, ◌<◌, ◌≤◌, length, Some, option_map, slice_get};
+ghost use Rattle.std.specs.List.{list_all};
+ghost use Rattle.std.specs.Option.{is_some};
 ghost use Rattle.gc_worker.specs.Stepped.{header_kept, place_kept};
 ghost use Rattle.gc_worker.specs.Wanted.{wanted};
 ghost use Rattle.gc_core.specs.Core.{workers_of};
@@ -42,6 +44,13 @@ impl Slot {
     }
 }
 
+/// Whether all of these have their ends.
+fn have_ended(slots: &[Slot]) -> bool
+    ensures { result ≡ list_all (λ x. is_some x.account.end) slots.now }
+{
+    slots.iter().all(|slot| slot.ended().is_some())
+}
+
 impl<'p> Core<'p> {
     /// How many workers there are: the mutators, numbered from 0, then the scanners.
     pub fn workers(&self) -> u8
@@ -79,9 +88,7 @@ impl<'p> Core<'p> {
     pub fn all_ended(&self) -> bool
         ensures { result ≡ all_ended self.now }
     {
-        self.slots[..self.program.code.len()]
-            .iter()
-            .all(|slot| slot.ended().is_some())
+        have_ended(&self.slots[..self.program.code.len()])
     }
 
     /// The words that the workers share.

@@ -1,4 +1,18 @@
+use Rattle.std.proofs.Common.{ℕ, List, Bool, length, ap, ◌∙◌}
+use Rattle.std.specs.Prelude.{take}
+use Rattle.std.specs.List.{list_all}
+use Rattle.std.specs.Option.{is_some}
+use Rattle.gc_worker.specs.Held.{Held}
+use Rattle.gc_core.specs.Run.{all_ended}
+use Rattle.gc_core.proofs.CoreReads.{ends_seen}
+use Rattle.gc_core.proofs.CoreSteps.{state}
 use Rattle.gc_core.proofs.machine.Core.all_ended.Goals as goal
 
+abbrev ended : Held → Bool
+ended x = is_some x.account.end
+
 pub returns : goal.returns
-returns c = let a = c.all.ensures in let r = a.ran in let u = a.runs in let p = a.progress in let i = c.iter.ensures in let x = i.rest in let t = c.iter.result in ?
+returns c =
+    c.have_ended.ensures ∙ (ap (λ (n : ℕ). list_all ended (take n c.deref.result.now)) c.len.ensures
+    ∙ (ap (λ (xs : List Held). list_all ended (take (length c.self.inside.program.now.code) xs)) c.deref.ensures.value
+    ∙ (ends_seen (state c.self.inside.program.now.code c.self.inside.turns c.self.inside.spaces.pages c.self.inside.atoms c.self.inside.slots.items) ∙ ap all_ended c.self.view_is)))

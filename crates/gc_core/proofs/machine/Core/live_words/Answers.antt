@@ -1,29 +1,34 @@
-use Rattle.std.proofs.Common.{◌≡◌, length, Some, None, sym, ap, ◌∙◌}
+use Rattle.std.proofs.Common.{◌≡◌, ℕ, ◌+◌, Some, ap, sym, ◌∙◌}
+use Rattle.std.specs.Option.{option_map}
 use Rattle.space_map.specs.declared.area_word.AreaWord.{AreaWord}
-use Rattle.gc_core.specs.Core.{CoreState}
+use Rattle.space_map.specs.Spaces.{to_space}
+use Rattle.space_map.specs.Table.{Area, place_of}
 use Rattle.gc_core.specs.Readers.{cycles_of, live_of}
-use Rattle.gc_core.proofs.Telling.{live_not, live_by}
+use Rattle.gc_core.proofs.CoreReads.{untraced, traced}
+use Rattle.gc_core.proofs.CoreSteps.{state}
 use Rattle.gc_core.proofs.machine.Core.live_words.Goals as goal
 
 pub returns-then-words-traced_place : goal.returns-then-words-traced_place
 returns-then-words-traced_place c =
-    let i = c.self.inside in
-    let v : CoreState = record { code = i.program.now.code; turns = i.turns; heap = record { pages = i.spaces.pages; words = i.atoms; mutators = length i.program.now.code; workers = i.slots.items } } in
-    let test = rw (c.words-words.ensures, c.traced_place.ensures.place, c.from.ensures) at c.if-words-traced_place.true in
-    live_not v c.cycles-epoch.result (c.cycles-epoch.ensures ∙ sym (ap cycles_of c.self.view_is)) test ∙ ap live_of c.self.view_is
+    let s = state c.self.inside.program.now.code c.self.inside.turns c.self.inside.spaces.pages c.self.inside.atoms c.self.inside.slots.items in
+    let cycles : c.cycles-epoch.result ≡ cycles_of s = c.cycles-epoch.ensures ∙ sym (ap cycles_of c.self.view_is) in
+    sym (untraced s c.words-words.result.now c.words-words.ensures c.traced_place.result c.traced_place.ensures.place
+    (λ same. c.if-words-traced_place.true (same ∙ ap (λ (n : ℕ). n + 1) (sym (c.from.ensures ∙ cycles))))) ∙ ap live_of c.self.view_is
 
 pub returns-in_err-read : goal.returns-in_err-read
 returns-in_err-read c =
-    let i = c.self.inside in
-    let v : CoreState = record { code = i.program.now.code; turns = i.turns; heap = record { pages = i.spaces.pages; words = i.atoms; mutators = length i.program.now.code; workers = i.slots.items } } in
-    let test = rw (c.words-words.ensures, c.traced_place.ensures.place, c.from.ensures) at c.if-words-traced_place.false in
-    let read = rw (c.words-words.ensures, c.area_place-place.ensures.place, c.to_space.ensures.space) at (sym c.read.ensures.decoded ∙ c.in_err-read.was) in
-    c.from_residual.ensures ∙ live_by v c.cycles-epoch.result (c.cycles-epoch.ensures ∙ sym (ap cycles_of c.self.view_is)) None test read ∙ ap live_of c.self.view_is
+    let s = state c.self.inside.program.now.code c.self.inside.turns c.self.inside.spaces.pages c.self.inside.atoms c.self.inside.slots.items in
+    let cycles : c.cycles-epoch.result ≡ cycles_of s = c.cycles-epoch.ensures ∙ sym (ap cycles_of c.self.view_is) in
+    let is_traced = c.if-words-traced_place.false ∙ ap (λ (n : ℕ). n + 1) (c.from.ensures ∙ cycles) in
+    let space = c.area_place-place.ensures.place ∙ ap (λ (n : ℕ). place_of c.self.inside.spaces.pages (Area n)) (c.to_space.ensures.space ∙ ap to_space cycles) in
+    let live = traced s c.words-words.result.now c.words-words.ensures c.traced_place.result c.traced_place.ensures.place is_traced c.area_place-place.result space c.read.result c.read.ensures.decoded in
+    c.from_residual.ensures ∙ (sym (live ∙ ap (option_map (λ (area : AreaWord). area.front)) c.in_err-read.was) ∙ ap live_of c.self.view_is)
 
 pub returns : goal.returns
 returns c =
-    let i = c.self.inside in
-    let v : CoreState = record { code = i.program.now.code; turns = i.turns; heap = record { pages = i.spaces.pages; words = i.atoms; mutators = length i.program.now.code; workers = i.slots.items } } in
-    let test = rw (c.words-words.ensures, c.traced_place.ensures.place, c.from.ensures) at c.if-words-traced_place.false in
-    let read = rw (c.words-words.ensures, c.area_place-place.ensures.place, c.to_space.ensures.space) at (sym c.read.ensures.decoded ∙ c.in_ok-read.was) in
-    rw c.from-2.ensures (live_by v c.cycles-epoch.result (c.cycles-epoch.ensures ∙ sym (ap cycles_of c.self.view_is)) (Some c.in_ok-read.field-0) test read ∙ ap live_of c.self.view_is)
+    let s = state c.self.inside.program.now.code c.self.inside.turns c.self.inside.spaces.pages c.self.inside.atoms c.self.inside.slots.items in
+    let cycles : c.cycles-epoch.result ≡ cycles_of s = c.cycles-epoch.ensures ∙ sym (ap cycles_of c.self.view_is) in
+    let is_traced = c.if-words-traced_place.false ∙ ap (λ (n : ℕ). n + 1) (c.from.ensures ∙ cycles) in
+    let space = c.area_place-place.ensures.place ∙ ap (λ (n : ℕ). place_of c.self.inside.spaces.pages (Area n)) (c.to_space.ensures.space ∙ ap to_space cycles) in
+    let live = traced s c.words-words.result.now c.words-words.ensures c.traced_place.result c.traced_place.ensures.place is_traced c.area_place-place.result space c.read.result c.read.ensures.decoded in
+    ap (λ (n : ℕ). Some n) c.from-2.ensures ∙ (sym (live ∙ ap (option_map (λ (area : AreaWord). area.front)) c.in_ok-read.was) ∙ ap live_of c.self.view_is)
