@@ -21,7 +21,7 @@ begin-requires-clause-may_begin c =
     let few = subst (λ (x : Held). awaits x ≡ true → x.account.serial ≤ x.account.executed) (sym c.self.view_is) c.requires.counted (sym c.awaits.ensures ∙ c.if-awaits.true) in
     call_by c.self.inside.worker.account c.self.inside.worker.registers c.in-Some.instr
     (subst (λ (o : Option Instr). IfSome o (λ i. IsTrue (is_valid i))) (sym c.instr.ensures ∙ c.in-Some.is) (valid_at c.args.program.now.code c.args.m c.pc.result c.requires.valid))
-    (omega (arith, few, c.if-turns-self.false, c.requires.turns))
+    (omega arith)
 
 pub begin_end-requires-in-None-clause-idle : goal.begin_end-requires-in-None-clause-idle
 begin_end-requires-in-None-clause-idle c =
