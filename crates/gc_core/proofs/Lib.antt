@@ -7,6 +7,7 @@ pub mod Runs
 pub mod Running
 pub mod Begun
 pub mod Whole
+pub mod Cycles
 pub mod Lawful
 pub mod Counting
 pub mod CoreSteps

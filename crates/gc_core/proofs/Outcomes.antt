@@ -98,7 +98,7 @@ module _ (code : List (List Instr)) (turns : ℕ) (p : Plain) (m : ℕ) (q : Mut
 
   -- ---- its task
 
-  asks : (instr : Instr) (asked : ℕ) → fetch code turns m q ≡ Ok instr → option_map pages_of (new_record q instr) ≡ Some asked → asked_by code turns p m ≡ Some asked
+  pub asks : (instr : Instr) (asked : ℕ) → fetch code turns m q ≡ Ok instr → option_map pages_of (new_record q instr) ≡ Some asked → asked_by code turns p m ≡ Some asked
   unfolding asked_by action
   asks instr asked e may = rw (is, running, e) may
 

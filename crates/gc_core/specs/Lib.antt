@@ -6,3 +6,5 @@ pub mod Law
 pub mod Claims
 pub mod Fulls
 pub mod Whole
+pub mod Cycles
+pub mod Needs

@@ -1,6 +1,8 @@
 //! What holds of all events and runs. Each function here does nothing: its contract is what is proved.
 
+ghost use Rattle.gc_core.specs.Cycles.{CyclesKeepWhatIsLive, FullHeapsAreFilled, InstructionsFlipOnce};
 ghost use Rattle.gc_core.specs.Law.{EventsMeet};
+ghost use Rattle.gc_core.specs.Needs.{ClaimsAreForRecords, LargeHeapsAreNeverFull, LoneFullsFollowTheirFlips, LoneHeapsAreNeverFull, OrdersFillTheSpace};
 ghost use Rattle.gc_core.specs.Whole.{FullsFollowFlips, MissingWorkersAreIdle, NoPageIsWonTwice, RunsFollow};
 
 /// The event of any worker does to each plain state that the core represents what the mark of it does, and what is told of it is so.
@@ -28,4 +30,31 @@ pub fn fulls_follow_flips()
 /// In a run no page is won twice in an epoch.
 pub fn no_page_is_won_twice()
     ensures { NoPageIsWonTwice }
+{}
+
+/// Where the epoch of a run's core is traced, what was copied in it is what was reachable at the last flip of the order, each record once,
+/// and so many words are told as live.
+pub fn cycles_keep_what_is_live()
+    ensures { CyclesKeepWhatIsLive }
+{}
+
+/// Where a run tells that the heap is full, what was live at the last flip, the words claimed since then and the room that is left are all
+/// words of the space; and what was claimed are pages of records made since then, or of such that other mutators are making.
+pub fn full_heaps_are_filled()
+    ensures filled { FullHeapsAreFilled }
+    ensures for_records { ClaimsAreForRecords }
+    ensures orders { OrdersFillTheSpace }
+{}
+
+/// In a run a mutator flips at most once for an instruction; and with one mutator the heap is full right after a flip, or in the last epoch.
+pub fn instructions_flip_once()
+    ensures once { InstructionsFlipOnce }
+    ensures lone { LoneFullsFollowTheirFlips }
+{}
+
+/// A heap is never full in which, after each front of the run's order, the next record fits beside what was live at the last flip and all
+/// records made since then or being made. With one mutator it is enough that the record fits beside what is live.
+pub fn large_heaps_are_never_full()
+    ensures large { LargeHeapsAreNeverFull }
+    ensures lone { LoneHeapsAreNeverFull }
 {}

@@ -118,7 +118,7 @@ traced_pages_are_open h p o st traced page of_epoch = open_by h p o st traced pa
 
 -- ---- flips
 
-abbrev NoMark : Told → Type 0
+abbrev pub NoMark : Told → Type 0
 NoMark Silent = ⊤
 NoMark (Answers task outcome) = ⊤
 NoMark (Marks asked) = ⊥
@@ -178,7 +178,7 @@ places_unmarked x (Finished (Full s)) = full_unmarked x s s.traced
 places_unmarked x More = tt
 
 -- who flips is at a flip
-flips_at : (x : Held) (reply : Reply) (asked : ℕ) (stage : Stage) → told_at x stage reply ≡ Marks asked → (f : Flipping) × (stage ≡ Flips f)
+pub flips_at : (x : Held) (reply : Reply) (asked : ℕ) (stage : Stage) → told_at x stage reply ≡ Marks asked → (f : Flipping) × (stage ≡ Flips f)
 flips_at x reply asked (Flips f) e = (f, refl)
 flips_at x reply asked Looks e = absurd (subst NoMark e (looks_unmarked x reply))
 flips_at x reply asked (Accesses a) e = absurd (subst NoMark e (accesses_unmarked x.task (access.told a reply)))
