@@ -1,0 +1,4 @@
+pub mod Bound
+pub mod Tracing
+pub mod Traced
+pub mod Stepping
