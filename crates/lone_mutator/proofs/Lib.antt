@@ -2,3 +2,5 @@ pub mod Bound
 pub mod Tracing
 pub mod Traced
 pub mod Stepping
+pub mod Alone
+pub mod Going
