@@ -4,3 +4,4 @@ pub mod Traced
 pub mod Stepping
 pub mod Alone
 pub mod Going
+pub mod Passing
