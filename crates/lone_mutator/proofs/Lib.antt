@@ -5,3 +5,4 @@ pub mod Stepping
 pub mod Alone
 pub mod Going
 pub mod Passing
+pub mod Flipping
