@@ -6,3 +6,4 @@ pub mod Alone
 pub mod Going
 pub mod Passing
 pub mod Flipping
+pub mod Looking
