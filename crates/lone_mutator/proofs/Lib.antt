@@ -1,9 +1,15 @@
 pub mod Bound
 pub mod Tracing
 pub mod Traced
+pub mod Steps
 pub mod Stepping
 pub mod Alone
+pub mod OneWorker
 pub mod Going
+pub mod Backs
 pub mod Passing
 pub mod Flipping
 pub mod Looking
+pub mod Copying
+pub mod Serving
+pub mod Scanning

@@ -1,5 +1,5 @@
 -- What is still to be paid for an epoch's tracing: when it falls, and how much it is at most.
-use Rattle.std.proofs.Common.{◌≡◌, ◌≢◌, ℕ, zero, suc, ◌+◌, ◌-◌, ◌*◌, ◌%◌, ◌<◌, ◌≤◌, ◌⊎◌, inl, inr, Bool, true, false, cond, nat_eq, refl, sym, ap, ◌∙◌, arith, ⊎_elim}
+use Rattle.std.proofs.Common.{◌≡◌, ◌≢◌, ℕ, zero, suc, ◌+◌, ◌-◌, ◌*◌, ◌%◌, ◌<◌, ◌≤◌, ◌⊎◌, inl, inr, refl, sym, ap, ◌∙◌, arith, ⊎_elim}
 use Rattle.std.proofs.lemmas.Bool.{eq-eqb, ne_eqb, cases_eq}
 use Rattle.std.proofs.Math.Nat.{mul-le-mul_left}
 use Rattle.space_map.specs.declared.page_word.PageWord.{PageWord}
@@ -7,7 +7,7 @@ use Rattle.space_map.specs.declared.spaces.TheConstants.{PAGE_WORDS}
 use Rattle.space_map.specs.PageWord.{age_of}
 use Rattle.space_map.specs.Spaces.{board_page, to_space}
 use Rattle.heap_state.specs.Functions.{put, sum_below}
-use Rattle.heap_state.proofs.Puts.{put_at, put_other, sum_below-same, sum_below-change}
+use Rattle.heap_state.proofs.Puts.{put_at, put_other, sum_below-change}
 use Rattle.lone_mutator.specs.Bound.{round_cost, page_cost, longest_tracing}
 use Rattle.lone_mutator.specs.Tracing.{waits, unclaimed, tracing_left, tracing_due}
 

@@ -1,0 +1,3 @@
+pub mod Lowering
+pub mod Reading
+pub mod Going
