@@ -13,3 +13,4 @@ pub mod Looking
 pub mod Copying
 pub mod Serving
 pub mod Scanning
+pub mod Placing
