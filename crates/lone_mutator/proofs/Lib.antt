@@ -14,3 +14,4 @@ pub mod Copying
 pub mod Serving
 pub mod Scanning
 pub mod Placing
+pub mod Accessing
