@@ -1,3 +1,4 @@
 pub mod Lowering
 pub mod Reading
 pub mod Going
+pub mod Scanned
