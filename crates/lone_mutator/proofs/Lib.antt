@@ -15,3 +15,4 @@ pub mod Serving
 pub mod Scanning
 pub mod Placing
 pub mod Accessing
+pub mod Executing
