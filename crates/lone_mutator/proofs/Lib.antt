@@ -16,3 +16,4 @@ pub mod Scanning
 pub mod Placing
 pub mod Accessing
 pub mod Executing
+pub mod Whole
