@@ -10,3 +10,5 @@ pub mod Backs
 pub mod Copying
 pub mod Serving
 pub mod Scanning
+pub mod Opening
+pub mod Beginning
