@@ -17,3 +17,5 @@ pub mod Placing
 pub mod Accessing
 pub mod Executing
 pub mod Whole
+pub mod Opening
+pub mod Beginning

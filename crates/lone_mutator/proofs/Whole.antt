@@ -1,12 +1,11 @@
 -- The law of a step of a lone mutator, from those of the stages.
-use Rattle.std.proofs.Common.{◌≡◌, ℕ, ◌+◌, ◌*◌, ◌<◌, ◌≤◌, length, false, Option, Some, None, refl, sym, ap, subst, ◌∙◌, arith, get_or-set_same, length-set}
+use Rattle.std.proofs.Common.{◌≡◌, ◌+◌, ◌<◌, length, false, Some, None, refl, sym, ap, subst, ◌∙◌, arith, get_or-set_same, length-set}
 use Rattle.std.proofs.lemmas.List.{length-map}
 use Rattle.plain_state.specs.State.{Plain}
 use Rattle.atom_store.specs.declared.reply.Reply.{Reply}
 use Rattle.atom_store.specs.declared.step.Step.{Step}
 use Rattle.atom_store.specs.Step.{reply_of}
 use Rattle.space_map.specs.Spaces.{to_space}
-use Rattle.gate_core.specs.declared.flip_stage.FlipStage.{FlipStage}
 use Rattle.gate_core.specs.declared.gate_stage.GateStage.{GateStage}
 use Rattle.gate_core.specs.declared.gate_stage.GateStage.TheVariants as gate_stage
 use Rattle.gate_core.specs.Flip.{Flipping}
@@ -31,12 +30,13 @@ use Rattle.gc_worker.proofs.Between.Standing.{what_stands_is_so}
 use Rattle.gc_worker.proofs.Eras.{span_is}
 use Rattle.gc_worker.proofs.Members.{member}
 use Rattle.gc_worker.proofs.Whole.{steps_keep}
-use Rattle.lone_mutator.specs.Bound.{longest_tracing, most_steps, whole_cost}
+use Rattle.lone_mutator.specs.Bound.{most_steps, whole_cost}
 use Rattle.lone_mutator.specs.Law.{AfterStep, IsAlone, Lowers, LowersWhereTold, LoneStepsLower, StepsLower}
-use Rattle.lone_mutator.specs.Lone.{IsLone, NobodyElseAnnounces, Remembers, StageStands, announces, potential}
+use Rattle.lone_mutator.specs.Lone.{IsLone, NobodyElseAnnounces, Remembers, StageStands, potential}
 use Rattle.lone_mutator.specs.Potential.{due_in, potential_at, potential_in}
 use Rattle.lone_mutator.proofs.Accessing.Stages.{accesses}
 use Rattle.lone_mutator.proofs.Bound.{costs_lt_most}
+use Rattle.lone_mutator.proofs.Copying.Registers.{forwards}
 use Rattle.lone_mutator.proofs.Copying.Scanned.{evacuates}
 use Rattle.lone_mutator.proofs.Executing.{ends_not, executes_nothing, executes_one}
 use Rattle.lone_mutator.proofs.Flipping.{flips_by}
@@ -67,7 +67,7 @@ module _ (c : Configuration) (p : Plain) (s : Stands c p) (x : Held) where
   by_stage Looks busy a = looks c p s x a busy
   by_stage (Passes g after) busy a = passes g after g.stage a
   by_stage (Flips f) busy a = flips f a
-  by_stage (Forwards w) busy a = ?
+  by_stage (Forwards w) busy a = forwards c p s x w a
   by_stage (Accesses z) busy a = accesses c p s x z a
   by_stage (Places z) busy a = places c p s x z a
   by_stage (Serves d back) busy a = serves c p s x d back a
@@ -163,8 +163,7 @@ module _ (h : Heap) (p o : Plain) (x : Held) (q : Step) (st : WorkersStand h p o
       let stands = subst (λ (t : Told). WorkersStand later (after_told p 0 t) (at_flip p o t)) is keeps.stands in
       let one = executes_one h later p so lone.alone lone.alone task answered (what_stands_is_so later (after_told p 0 (Answers task Effect)) o stands) in
       let looks = (goes.answers task Effect is).after in
-      let cost = look_costs (after_told p 0 (Answers task Effect)) o stands in
-      (
+      let cost = look_costs (after_told p 0 (Answers task Effect)) o stands in (
         is_lone one.no_end (at_look looks quiet),
         (let after = ap (potential_in h.pages (table (read later))) held in let stage = ap (potential_at h.pages (table (read later)) y) looks in omega (arith, after, stage, cost)),
         one.one_more,
