@@ -3,7 +3,7 @@
 ghost use Rattle.gc_worker.specs.Law.{StepsKeep, FlipsAreWon, PlacesFit, RegistersLeadBack};
 ghost use Rattle.gc_worker.specs.Between.{HeapsOpen, ReadyingStands, TasksMayBegin, WorkersGoOn, WorkersWant, WhatStandsIsSo, AnswersLeaveTheOthers};
 ghost use Rattle.gc_worker.specs.Begun.{BeginningsAreKept, FullIsFoundLater};
-ghost use Rattle.gc_worker.specs.Claims.{TracedPagesAreOpen, FlipsAreOfTraced};
+ghost use Rattle.gc_worker.specs.Claims.{TracedPagesAreOpen, FlipsAreOfTraced, PagesAreOpenedByClaims, LowRisesAtFlips, CopiedPagesAreBelowLow};
 ghost use Rattle.gc_worker.specs.Copied.{CopiedWasLive, FullTellsLive};
 ghost use Rattle.gc_worker.specs.Cycles.{LowFallsByClaims, ClaimsAreSetAside, SetAsideIsForRecords, FlipsAreFirst, FlipsStayFirst, CallsGoOn};
 ghost use Rattle.gc_worker.specs.FullTold.{FullIsTold};
@@ -87,6 +87,14 @@ pub fn full_is_told()
 pub fn traced_pages_are_open()
     ensures opened { TracedPagesAreOpen }
     ensures flips { FlipsAreOfTraced }
+{}
+
+/// A page for copies gets a word of the epoch by a claim and no other way: where its word is of the gate's epoch after a step, it was
+/// before, in the same epoch, or the step won the page. LOW, below which these pages lie, rises at a flip alone.
+pub fn pages_are_opened_by_claims()
+    ensures opened { PagesAreOpenedByClaims }
+    ensures low { LowRisesAtFlips }
+    ensures copied { CopiedPagesAreBelowLow }
 {}
 
 /// A worker with another count of its mutator's instructions wants, tells and becomes the same, and is as sound.
