@@ -1,5 +1,5 @@
 -- What a core's step needs of its worker, and what it leaves.
-use Rattle.std.proofs.Common.{◌≡◌, ℕ, ◌<◌, ◌≤◌, Bool, true, false, nat_le, List, length, set, get_or, Some, None, Err, refl, ap, sym, subst, ◌∙◌, arith, leb-false, get_or-set_same}
+use Rattle.std.proofs.Common.{◌≡◌, ℕ, ◌<◌, ◌≤◌, Bool, true, false, nat_le, List, length, set, get_or, Option, Some, None, Err, refl, ap, sym, subst, ◌∙◌, arith, leb-false, get_or-set_same}
 use Rattle.std.specs.Option.{ok_or}
 use Rattle.std.specs.Prelude.{if◌then◌else◌}
 use Rattle.std.proofs.lemmas.List.{get_or_default, set-get_or, set-set}
@@ -19,6 +19,7 @@ use Rattle.gc_worker.specs.Fits.{Fits}
 use Rattle.gc_worker.specs.Held.{Held}
 use Rattle.heap_state.specs.Worker.{Account}
 use Rattle.gc_worker.specs.Law.{StepKeeps, held_at, nobody}
+use Rattle.gc_worker.specs.Made.{AllowsStep, MayMake, made, made_by}
 use Rattle.gc_worker.specs.Stepped.{IsSound, awaits, stepped_by}
 use Rattle.gc_worker.specs.Turned.{Told, Silent, Answers, Marks, Effect, Ends, told, turned}
 use Rattle.gc_worker.specs.Wanted.{wanted, wanted_at}
@@ -29,11 +30,11 @@ use Rattle.gc_worker.proofs.Between.Standing.{what_stands_is_so}
 use Rattle.gc_worker.proofs.Whole.{steps_keep}
 use Rattle.gc_worker.specs.declared.stepped.Stepped.TheVariants as tells
 use Rattle.gc_core.specs.Core.{CoreState}
-use Rattle.gc_core.specs.Event.{Event, core_after, next_task, readied, ready, task_of}
+use Rattle.gc_core.specs.Event.{Event, core_after, event_of, next_task, readied, ready, task_of}
 use Rattle.gc_core.specs.Law.{IsLawful}
 use Rattle.gc_core.proofs.Readied.{Due, Begins, Rests, Ready, due, readied_stands, ready_task, ready_account}
 use Rattle.gc_core.proofs.Counting.{idle_by}
-use Rattle.gc_core.proofs.Lawful.{event_some, makes, ready_fits}
+use Rattle.gc_core.proofs.Lawful.{event_none, event_some, makes, ready_fits}
 
 -- a worker that fits a heap is sound
 sound_by : (n mutators k : ℕ) (x : Held) → Fits n mutators k x → IsSound x
@@ -79,9 +80,6 @@ module _ (s : CoreState) (w : ℕ) (lawful : IsLawful s) (below : w < length s.h
 
   pub ready_sound : IsSound y
   ready_sound = sound_by s.heap.pages s.heap.mutators w y fits
-
-  pub ready_number : y.number ≡ w
-  ready_number = fits.number
 
   -- ---- a step
 
@@ -152,3 +150,50 @@ module _ (s : CoreState) (w : ℕ) (lawful : IsLawful s) (below : w < length s.h
       ap (λ (ws : List Held). record s { heap = record s.heap { words = words; workers = ws } }) (set-set s.heap.workers w new z ∙ ap (set s.heap.workers w) z_is)
       ∙ (ap (λ (l : List ℕ). record s { heap = record s.heap { words = l; workers = set s.heap.workers w (turned (ready s w) (reply_of q s.heap.words)) } }) words_is
       ∙ ap (λ (e : Event). record s { heap = e.after }) (sym (event_some s w q asked)))
+
+-- ---- the worker's own step
+
+module _ (s : CoreState) (w : ℕ) (lawful : IsLawful s) (below : w < length s.heap.workers) where
+  abbrev worker : Held
+  worker = ready s w
+
+  abbrev words : List ℕ
+  words = s.heap.words
+
+  -- it may make its step
+  pub may_make : MayMake worker words
+  may_make = by_step (wanted worker) refl
+    where
+      by_step : (o : Option Step) → wanted worker ≡ o → AllowsStep worker words o
+      by_step None none = tt
+      by_step (Some q) asked = let m = makes s w q lawful below asked in record { place = m.place; takes = m.takes; fits = turned_sound s w lawful below q asked }
+
+  pub made_room : (m : ℕ) → (made worker words).told ≡ tells.Effect m → worker.account.executed < 4294967295
+  made_room m is = by_step (wanted worker) refl is
+    where
+      by_step : (o : Option Step) → wanted worker ≡ o → (made_by worker words o).told ≡ tells.Effect m → worker.account.executed < 4294967295
+      by_step None none is = absurd (cc)
+      by_step (Some q) asked is = room s w lawful below q asked m is
+
+  -- what is told of it is told of the event
+  pub made_told : (made worker words).told ≡ (event_of s w).told
+  made_told = by_step (wanted worker) refl
+    where
+      by_step : (o : Option Step) → wanted worker ≡ o → (made_by worker words o).told ≡ (event_of s w).told
+      by_step None none = sym (ap (λ (e : Event). e.told) (event_none s w none))
+      by_step (Some q) asked =
+          ap (λ (k : ℕ). stepped_by k (told worker (reply_of q words))) (ready_fits s w lawful below).number
+          ∙ ap (λ (e : Event). e.told) (sym (event_some s w q asked))
+
+  -- the core after it
+  pub made_core : (new z : Held) (after : List ℕ) → new ≡ worker → z ≡ (made worker words).held → after ≡ (made worker words).words
+      → record { code = s.code; turns = s.turns; heap = record { pages = s.heap.pages; words = after; mutators = s.heap.mutators; workers = set (set s.heap.workers w new) w z } } ≡ core_after s w
+  made_core new z after new_is z_is after_is = by_step (wanted worker) refl z_is after_is
+    where
+      by_step : (o : Option Step) → wanted worker ≡ o → z ≡ (made_by worker words o).held → after ≡ (made_by worker words o).words
+          → record { code = s.code; turns = s.turns; heap = record { pages = s.heap.pages; words = after; mutators = s.heap.mutators; workers = set (set s.heap.workers w new) w z } } ≡ core_after s w
+      by_step None none z_is after_is =
+          ap (λ (ws : List Held). record s { heap = record s.heap { words = after; workers = ws } }) (set-set s.heap.workers w new z ∙ idle_workers s w below z z_is none)
+          ∙ (ap (λ (l : List ℕ). record s { heap = record s.heap { words = l } }) after_is
+          ∙ sym (ap (λ (e : Event). record s { heap = e.after }) (event_none s w none)))
+      by_step (Some q) asked z_is after_is = moved_core s w lawful below q asked new z after z_is after_is

@@ -18,3 +18,4 @@ pub mod Represented
 pub mod FullTold
 pub mod Stepped
 pub mod Counted
+pub mod Made

@@ -62,6 +62,7 @@ impl State {
     }
 
     /// Prints a number, for which there is room.
+    #[inline(never)]
     pub fn print(&mut self, number: u64) -> Stepped
         requires is_mutator { nat_lt self.old.number self.old.mutators ≡ true }
         requires few { length self.old.account.printed < MOST_PRINTED }
@@ -73,6 +74,7 @@ impl State {
     }
 
     /// The mutator has its end, and leaves.
+    #[inline(never)]
     pub fn end_with(&mut self, end: End) -> Stepped
         ensures state { self.new ≡ uncounted (ended self.old end) }
         ensures tells { result ≡ Stepped.Ended self.old.number end }

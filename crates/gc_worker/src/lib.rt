@@ -21,6 +21,7 @@ mod forwarding_register;
 mod instructions;
 mod laws;
 mod looking;
+mod on_words;
 mod open_error;
 mod passing;
 mod record_access;
