@@ -32,7 +32,8 @@ use Rattle.gc_worker.specs.declared.config.Config.{Config}
 use Rattle.gc_worker.proofs.Areas.{area_says, is_space}
 use Rattle.gc_core.specs.Core.{CoreState, is_size, opening_core}
 use Rattle.gc_core.specs.Cycles.{IsFilled, claims_after, claims_next}
-use Rattle.gc_core.specs.Event.{core_after, event_of, readied, ready, stepped_of}
+use Rattle.gc_worker.specs.Stepped.{stepped_by}
+use Rattle.gc_core.specs.Event.{core_after, event_of, readied, ready}
 use Rattle.gc_core.specs.Law.{IsSteady}
 use Rattle.gc_core.proofs.Begun.{opening_epoch, opening_stands, size_fits}
 use Rattle.gc_core.proofs.Readied.{Ready, readied_stands}
@@ -50,7 +51,7 @@ module _ (n : ℕ) (s : CoreState) (w claims : ℕ) (fills : Fills n s claims) w
   idle_fills none = record { pages = rw none fills.pages; low = rw none (let l = fills.low in omega (arith, l)) }
 
   -- a flip empties the space, and nothing else but a claim changes LOW
-  by_told : (t : Told) (later : List ℕ) (more : ℕ) → LowGoes s.heap.pages s.heap.words later more t → low_of s.heap.pages later + claims_after claims more (stepped_of w t) ≡ PAGE_WORDS * n
+  by_told : (t : Told) (later : List ℕ) (more : ℕ) → LowGoes s.heap.pages s.heap.words later more t → low_of s.heap.pages later + claims_after claims more (stepped_by w t) ≡ PAGE_WORDS * n
   by_told Silent later more goes = let l = fills.low in omega (arith, goes, l)
   by_told (Answers task Effect) later more goes = let l = fills.low in omega (arith, goes, l)
   by_told (Answers task (Ends why)) later more goes = let l = fills.low in omega (arith, goes, l)

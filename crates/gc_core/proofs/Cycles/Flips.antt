@@ -30,7 +30,8 @@ use Rattle.gc_worker.proofs.Between.Opening.{is_there, many}
 use Rattle.gc_worker.proofs.Gate.Resuming.{end_none}
 use Rattle.gc_core.specs.Core.{CoreState, opening_core}
 use Rattle.gc_core.specs.Cycles.{flips_after, flips_next}
-use Rattle.gc_core.specs.Event.{core_after, event_of, readied, ready, stepped_of}
+use Rattle.gc_worker.specs.Stepped.{stepped_by}
+use Rattle.gc_core.specs.Event.{core_after, event_of, readied, ready}
 use Rattle.gc_core.specs.Law.{IsSteady, epoch_in}
 use Rattle.gc_core.proofs.Fulls.{ready_as, at_look, had_no_end}
 use Rattle.gc_core.proofs.Readied.{Due, Begins, Rests, Ready, due, ready_account, readied_stands}
@@ -269,7 +270,7 @@ module _ (law : StepsKeep) (goes : WorkersGoOn) (so : WhatStandsIsSo) (begun : B
         (omega (arith, none), λ some. on same (subst IsNoAnswer (sym e) tt) in_call early)
     flipped false is = (holds.once, stays_in (λ same. let f = eq-eqb w m same in let g = sym f ∙ is in absurd (cc)))
 
-  by_told : (t : Told) → told y reply ≡ t → So (stepped_of w t)
+  by_told : (t : Told) → told y reply ≡ t → So (stepped_by w t)
   by_told Silent e = silent e
   by_told (Answers task Effect) e = answered (w == m) refl
   by_told (Answers task (Ends why)) e = answered (w == m) refl

@@ -27,7 +27,8 @@ use Rattle.gc_worker.specs.declared.stepped.Stepped.{Stepped}
 use Rattle.gc_worker.specs.declared.stepped.Stepped.TheVariants as tells
 use Rattle.gc_core.specs.Core.{CoreState}
 use Rattle.gc_core.specs.Cycles.{claims_after, claims_next}
-use Rattle.gc_core.specs.Event.{core_after, event_of, next_task, readied, ready, stepped_of, task_of}
+use Rattle.gc_worker.specs.Stepped.{stepped_by}
+use Rattle.gc_core.specs.Event.{core_after, event_of, next_task, readied, ready, task_of}
 use Rattle.gc_core.specs.Law.{IsSteady}
 use Rattle.gc_core.specs.Needs.{being_made, made_after, pages_next}
 use Rattle.gc_core.specs.Run.{mark_of}
@@ -128,7 +129,7 @@ module _ (s : CoreState) (w : ℕ) (story : Story) (claims made : ℕ) (covers :
     at_end why none (IsStep e c) = subst (λ (mark : Mark). claims + more ≤ PAGE_WORDS * made_after s.code s.turns story made (option_to_list (Some mark)) + later) (sym e) (omega (arith, covers, changes, none))
     at_end why none (IsFull asked room live e) = rw e (omega (arith, covers, changes, none))
 
-    by_told : (y z : Held) → set_aside y ≡ was → set_aside z ≡ now → (t : Told) → SetsAside y more z t → Then (stepped_of w t)
+    by_told : (y z : Held) → set_aside y ≡ was → set_aside z ≡ now → (t : Told) → SetsAside y more z t → Then (stepped_by w t)
     by_told y z y_is z_is Silent sets = omega (arith, covers, changes, sets, y_is, z_is)
     by_told y z y_is z_is (Answers task Effect) sets = omega (arith, covers, changes, sets, aside, same)
     by_told y z y_is z_is (Answers task (Ends why)) sets = at_end why (omega (arith, sets, y_is)) (sort w why)
@@ -185,7 +186,7 @@ module _ (sets : ClaimsAreSetAside) (so : WhatStandsIsSo) (records : SetAsideIsF
   module _ (s : CoreState) (w : ℕ) (story : Story) (steady : IsSteady s) (stands : WorkersStand s.heap story.now story.flip) (m : ℕ) (why : End)
       (ended : (event_of s w).told ≡ tells.Ended m why) where
     -- who ends has nothing set aside
-    none_by : (y z : Held) (more : ℕ) (t : Told) → SetsAside y more z t → stepped_of w t ≡ tells.Ended m why → set_aside y ≡ 0
+    none_by : (y z : Held) (more : ℕ) (t : Told) → SetsAside y more z t → stepped_by w t ≡ tells.Ended m why → set_aside y ≡ 0
     none_by y z more Silent law is = absurd (let e = is in cc)
     none_by y z more (Answers task Effect) law is = absurd (let e = is in cc)
     none_by y z more (Answers task (Ends other)) law is = omega (arith, law)
