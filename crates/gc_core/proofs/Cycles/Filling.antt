@@ -32,8 +32,8 @@ use Rattle.gc_worker.specs.declared.config.Config.{Config}
 use Rattle.gc_worker.proofs.Areas.{area_says, is_space}
 use Rattle.gc_core.specs.Core.{CoreState, is_size, opening_core}
 use Rattle.gc_core.specs.Cycles.{IsFilled, claims_after, claims_next}
-use Rattle.gc_core.specs.Event.{core_after, event_of, readied, ready}
 use Rattle.gc_worker.specs.Stepped.{stepped_by}
+use Rattle.gc_core.specs.Event.{core_after, event_of, readied, ready}
 use Rattle.gc_core.specs.Law.{IsSteady}
 use Rattle.gc_core.proofs.Begun.{opening_epoch, opening_stands, size_fits}
 use Rattle.gc_core.proofs.Readied.{Ready, readied_stands}

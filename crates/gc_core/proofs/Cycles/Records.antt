@@ -27,8 +27,8 @@ use Rattle.gc_worker.specs.declared.stepped.Stepped.{Stepped}
 use Rattle.gc_worker.specs.declared.stepped.Stepped.TheVariants as tells
 use Rattle.gc_core.specs.Core.{CoreState}
 use Rattle.gc_core.specs.Cycles.{claims_after, claims_next}
-use Rattle.gc_core.specs.Event.{core_after, event_of, next_task, readied, ready, task_of}
 use Rattle.gc_worker.specs.Stepped.{stepped_by}
+use Rattle.gc_core.specs.Event.{core_after, event_of, next_task, readied, ready, task_of}
 use Rattle.gc_core.specs.Law.{IsSteady}
 use Rattle.gc_core.specs.Needs.{being_made, made_after, pages_next}
 use Rattle.gc_core.specs.Run.{mark_of}
