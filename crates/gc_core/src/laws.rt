@@ -1,7 +1,7 @@
 //! What holds of all events and runs. Each function here does nothing: its contract is what is proved.
 
 ghost use Rattle.gc_core.specs.Law.{EventsMeet};
-ghost use Rattle.gc_core.specs.Whole.{FullsFollowFlips, MissingWorkersAreIdle, NoPageIsWonTwice, RunsFollow};
+ghost use Rattle.gc_core.specs.Whole.{CopiedPagesAreWonOnce, FlipsAreOfTracedCores, FullsFollowFlips, MissingWorkersAreIdle, NoPageIsWonTwice, RunsFollow};
 
 /// The event of any worker does to each plain state that the core represents what the mark of it does, and what is told of it is so.
 pub fn events_meet()
@@ -28,4 +28,11 @@ pub fn fulls_follow_flips()
 /// In a run no page is won twice in an epoch.
 pub fn no_page_is_won_twice()
     ensures { NoPageIsWonTwice }
+{}
+
+/// In each epoch after the first the pages that are open for copies, or being scanned, were won in the run, each exactly once. Once the
+/// epoch is traced, the board and all pages into which records were copied are open, and were won so; and no event flips before.
+pub fn copied_pages_are_won_once()
+    ensures won { CopiedPagesAreWonOnce }
+    ensures flips { FlipsAreOfTracedCores }
 {}
