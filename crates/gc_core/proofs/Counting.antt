@@ -57,9 +57,6 @@ call_by account registers instr valid few = record { valid = valid; serial = λ 
 pub sound_apart : (count : ℕ) (x : Held) → IsSound (counted count x) → IsSound x
 sound_apart count x sound = (counted_fit x.layout.pages x.mutators x.number count x).0 sound
 
-pub sound_with : (count : ℕ) (x : Held) → IsSound x → IsSound (counted count x)
-sound_with count x sound = (counted_fit x.layout.pages x.mutators x.number count x).1 sound
-
 module _ (count : ℕ) (x : Held) (sound : IsSound (counted count x)) where
   apart : CountsApart count x
   apart = counts_are_apart x.layout.pages x.mutators x.number count x (sound_apart count x sound)

@@ -29,7 +29,8 @@ use Rattle.gc_worker.specs.Turned.{Outcome, Effect, Ends, Told, Silent, Answers,
 use Rattle.gc_worker.specs.Wanted.{wanted}
 use Rattle.heap_state.specs.Worker.{Account, is_running}
 use Rattle.gc_core.specs.Core.{CoreState}
-use Rattle.gc_core.specs.Event.{core_after, event_of, readied, ready, stepped_of}
+use Rattle.gc_core.specs.Event.{core_after, event_of, readied, ready}
+use Rattle.gc_worker.specs.Stepped.{stepped_by}
 use Rattle.gc_core.specs.Fulls.{since_by, flips_by, MayCome, EachMayCome, AreSince, FullsComeAfterFlips}
 use Rattle.gc_core.specs.Law.{EventsKeep, IsSteady, story_by, epoch_in}
 use Rattle.gc_core.specs.Run.{Ran, after_event, all_ended, end_mark, mark_of, run_from}
@@ -215,7 +216,7 @@ module _ (law : StepsKeep) (goes : WorkersGoOn) (so : WhatStandsIsSo) (begun : B
           (λ (last : y.epoch ≡ 2 ^ 32 - 1). inr (epoch_is ∙ last))
           found.no_flip
 
-  leaves_by : (t : Told) → told y reply ≡ t → Leaves since s after (mark_of (stepped_of w t))
+  leaves_by : (t : Told) → told y reply ≡ t → Leaves since s after (mark_of (stepped_by w t))
   leaves_by Silent e = record { may = tt; flips = sym (no_flip Silent e); are = stays since (no_flip Silent e) (λ m other. refl) own }
   leaves_by (Marks asked) e =
       let f = no_flip (Marks asked) e in

@@ -11,7 +11,5 @@ pub mod Whole
 pub mod Lawful
 pub mod Counting
 pub mod CoreSteps
-pub mod Counts
-pub mod Stepping
 pub mod Telling
 pub mod CoreReads

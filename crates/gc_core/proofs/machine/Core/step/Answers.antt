@@ -10,7 +10,8 @@ use Rattle.gc_worker.specs.Wanted.{wanted}
 use Rattle.gc_core.specs.Core.{CoreState, workers_of}
 use Rattle.gc_core.specs.Event.{Event, core_after, event_of, ready}
 use Rattle.gc_core.specs.Law.{IsLawful}
-use Rattle.gc_core.proofs.CoreSteps.{held_sound, held_counts, ready_sound, ready_number, lawful_after, idle_event, place, takes, turned_sound, moved_event, room, told_same, state, read_held, made_ready, read_ready, idle_workers, moved_core}
+use Rattle.gc_core.proofs.CoreSteps.{held_sound, held_counts, ready_sound, ready_number, turned_sound, room, state, read_held, made_ready, read_ready, idle_workers, moved_core}
+use Rattle.gc_core.proofs.Lawful.{event_none, event_some, lawful_after, makes}
 use Rattle.gc_core.proofs.machine.Core.step.Goals as goal
 
 -- ---- the worker is made ready
@@ -49,7 +50,7 @@ returns-in_default-clause-told c =
     let made = made_ready s w below c.index_mut.result.now c.ready.new.self c.index_mut.ensures.value c.ready.ensures in
     let first = read_ready s w below c.ready.new.self c.index.result.now made c.index.ensures in
     let none : wanted (ready s w) ≡ None = sym (c.want.ensures.wanted ∙ ap wanted first) ∙ c.in_default.is in
-    sym (ap (λ (e : Event). e.told) (idle_event s w c.self.invariant.2 below none)) ∙ ap (λ (s : CoreState). (event_of s w).told) c.self.view_is
+    sym (ap (λ (e : Event). e.told) (event_none s w none)) ∙ ap (λ (s : CoreState). (event_of s w).told) c.self.view_is
 
 pub returns-in_default-clause-after : goal.returns-in_default-clause-after
 returns-in_default-clause-after c =
@@ -60,7 +61,7 @@ returns-in_default-clause-after c =
     let first = read_ready s w below c.ready.new.self c.index.result.now made c.index.ensures in
     let none : wanted (ready s w) ≡ None = sym (c.want.ensures.wanted ∙ ap wanted first) ∙ c.in_default.is in
     ap (λ (ws : List Held). state s.code s.turns s.heap.pages s.heap.words ws) (idle_workers s w below c.ready.new.self made none)
-    ∙ (sym (ap (λ (e : Event). record s { heap = e.after }) (idle_event s w c.self.invariant.2 below none)) ∙ ap (λ (s : CoreState). core_after s w) c.self.view_is)
+    ∙ (sym (ap (λ (e : Event). record s { heap = e.after }) (event_none s w none)) ∙ ap (λ (s : CoreState). core_after s w) c.self.view_is)
 
 -- ---- it makes a step
 
@@ -72,7 +73,7 @@ act-reply-requires c =
     let made = made_ready s w below c.index_mut.result.now c.ready.new.self c.index_mut.ensures.value c.ready.ensures in
     let first = read_ready s w below c.ready.new.self c.index.result.now made c.index.ensures in
     let asked : wanted (ready s w) ≡ Some c.in-Some.step = sym (c.want.ensures.wanted ∙ ap wanted first) ∙ c.in-Some.is in
-    place s w c.self.invariant.2 below c.in-Some.step asked
+    (makes s w c.in-Some.step c.self.invariant.2 below asked).place
 
 pub take-requires-clause-sound : goal.take-requires-clause-sound
 take-requires-clause-sound c =
@@ -93,7 +94,7 @@ take-requires-clause-takes c =
     let asked : wanted (ready s w) ≡ Some c.in-Some.step = sym (c.want.ensures.wanted ∙ ap wanted first) ∙ c.in-Some.is in
     let again = read_ready s w below c.ready.new.self c.index_mut-2.result.now made c.index_mut-2.ensures.value in
     subst (λ (r : Reply). Takes c.index_mut-2.result.now r) (sym c.act-reply.ensures.reply)
-    (subst (λ (x : Held). Takes x (reply_of c.in-Some.step s.heap.words)) (sym again) (takes s w c.self.invariant.2 below c.in-Some.step asked))
+    (subst (λ (x : Held). Takes x (reply_of c.in-Some.step s.heap.words)) (sym again) (makes s w c.in-Some.step c.self.invariant.2 below asked).takes)
 
 pub take-requires-clause-fits : goal.take-requires-clause-fits
 take-requires-clause-fits c =
@@ -129,7 +130,7 @@ invariant_of-self-2 c =
     let asked : wanted (ready s w) ≡ Some c.in-Some.step = sym (c.want.ensures.wanted ∙ ap wanted first) ∙ c.in-Some.is in
     let again = read_ready s w below c.ready.new.self c.index_mut-2.result.now made c.index_mut-2.ensures.value in
     let z_is = c.take.ensures.state ∙ (ap (λ (x : Held). turned x c.act-reply.result) again ∙ ap (turned (ready s w)) c.act-reply.ensures.reply) in
-    (c.self.invariant.0, c.self.invariant.1, subst IsLawful (sym (moved_core s w c.self.invariant.2 below c.in-Some.step asked c.ready.new.self c.take.new.self c.act-reply.new.self z_is c.act-reply.ensures.words)) (lawful_after s w c.self.invariant.2 below))
+    (c.self.invariant.0, c.self.invariant.1, subst IsLawful (sym (moved_core s w c.self.invariant.2 below c.in-Some.step asked c.ready.new.self c.take.new.self c.act-reply.new.self z_is c.act-reply.ensures.words)) (lawful_after s w c.self.invariant.2))
 
 pub returns-clause-told : goal.returns-clause-told
 returns-clause-told c =
@@ -143,8 +144,8 @@ returns-clause-told c =
     c.take.ensures.tells
     ∙ (ap (λ (x : Held). stepped_by x.number (told x c.act-reply.result)) again
     ∙ (ap (λ (r : Reply). stepped_by (ready s w).number (told (ready s w) r)) c.act-reply.ensures.reply
-    ∙ (told_same w (ready s w).number (told (ready s w) (reply_of c.in-Some.step s.heap.words)) (ready_number s w c.self.invariant.2 below)
-    ∙ (ap (λ (e : Event). e.told) (sym (moved_event s w c.self.invariant.2 below c.in-Some.step asked)) ∙ ap (λ (s : CoreState). (event_of s w).told) c.self.view_is))))
+    ∙ (ap (λ (k : ℕ). stepped_by k (told (ready s w) (reply_of c.in-Some.step s.heap.words))) (ready_number s w c.self.invariant.2 below)
+    ∙ (ap (λ (e : Event). e.told) (sym (event_some s w c.in-Some.step asked)) ∙ ap (λ (s : CoreState). (event_of s w).told) c.self.view_is))))
 
 pub returns-clause-after : goal.returns-clause-after
 returns-clause-after c =
