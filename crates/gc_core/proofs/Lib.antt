@@ -2,6 +2,7 @@ pub mod Outcomes
 pub mod Readied
 pub mod Events
 pub mod Claims
+pub mod Copied
 pub mod Fulls
 pub mod Runs
 pub mod Running

@@ -3,7 +3,7 @@
 ghost use Rattle.gc_core.specs.Cycles.{CyclesKeepWhatIsLive, FullHeapsAreFilled, InstructionsFlipOnce};
 ghost use Rattle.gc_core.specs.Law.{EventsMeet};
 ghost use Rattle.gc_core.specs.Needs.{ClaimsAreForRecords, LargeHeapsAreNeverFull, LoneFullsFollowTheirFlips, LoneHeapsAreNeverFull, OrdersFillTheSpace};
-ghost use Rattle.gc_core.specs.Whole.{FullsFollowFlips, MissingWorkersAreIdle, NoPageIsWonTwice, RunsFollow};
+ghost use Rattle.gc_core.specs.Whole.{CopiedPagesAreWonOnce, FlipsAreOfTracedCores, FullsFollowFlips, MissingWorkersAreIdle, NoPageIsWonTwice, RunsFollow};
 
 /// The event of any worker does to each plain state that the core represents what the mark of it does, and what is told of it is so.
 pub fn events_meet()
@@ -57,4 +57,11 @@ pub fn instructions_flip_once()
 pub fn large_heaps_are_never_full()
     ensures large { LargeHeapsAreNeverFull }
     ensures lone { LoneHeapsAreNeverFull }
+{}
+
+/// In each epoch after the first the pages that are open for copies, or being scanned, were won in the run, each exactly once. Once the
+/// epoch is traced, the board and all pages into which records were copied are open, and were won so; and no event flips before.
+pub fn copied_pages_are_won_once()
+    ensures won { CopiedPagesAreWonOnce }
+    ensures flips { FlipsAreOfTracedCores }
 {}
