@@ -7,8 +7,14 @@ pub mod Alone
 pub mod OneWorker
 pub mod Going
 pub mod Backs
+pub mod Passing
+pub mod Flipping
+pub mod Looking
 pub mod Copying
 pub mod Serving
 pub mod Scanning
 pub mod Opening
 pub mod Beginning
+pub mod Placing
+pub mod Accessing
+pub mod Executing

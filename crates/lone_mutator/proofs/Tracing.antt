@@ -123,7 +123,7 @@ module _ (n e traced owed : ℕ) (page : ℕ → PageWord) where
   unfolding tracing_left
   left_untraced other = rw (ne_eqb traced (e + 1) other) refl
 
-  due_still : traced ≢ e + 1 → tracing_due n e traced owed page ≡ page_cost n * unclaimed n e page + 4 * owed + round_cost n
+  pub due_still : traced ≢ e + 1 → tracing_due n e traced owed page ≡ page_cost n * unclaimed n e page + 4 * owed + round_cost n
   unfolding tracing_due
   due_still other = rw (ne_eqb traced (e + 1) other) refl
 

@@ -37,10 +37,10 @@ GateStands t (Exchanges gate) = t.gate ≡ gate
 GateStands t Loads = ⊤
 GateStands t (Ended result) = ⊤
 
--- a stopped mutator goes on with an allocation, whose instruction began before the last flip
-pub record GoesOnPlacing (t : Table) (x : Held) (after : After) : Type 0 where
+-- a stopped mutator goes on with an allocation, whose instruction began before the gate's epoch
+pub record GoesOnPlacing (epoch begun : ℕ) (after : After) : Type 0 where
   pub places : after ≡ afters.Places
-  pub earlier : x.begun < t.gate.epoch
+  pub earlier : begun < epoch
 
 -- it stops for its own flip alone
 abbrev pub PassageStands : Table → Held → Passage → After → Type 0
@@ -48,8 +48,8 @@ PassageStands t x Look after = ⊥
 PassageStands t x Attach after = ⊤
 PassageStands t x Park after = ⊥
 PassageStands t x Request after = ⊤
-PassageStands t x (Resume epoch) after = GoesOnPlacing t x after
-PassageStands t x Forwarded after = GoesOnPlacing t x after
+PassageStands t x (Resume epoch) after = GoesOnPlacing t.gate.epoch x.begun after
+PassageStands t x Forwarded after = GoesOnPlacing t.gate.epoch x.begun after
 PassageStands t x Leave after = ⊥
 
 -- the board's word is as it was read
@@ -79,7 +79,7 @@ abbrev pub StageStands : Table → Held → Stage → Type 0
 StageStands t x Looks = ⊤
 StageStands t x (Passes g after) = PassageStands t x g.passage after × GateStands t g.stage
 StageStands t x (Flips f) = ⊤
-StageStands t x (Forwards w) = GoesOnPlacing t x w.after × CopyStands t w.evac w.evac.stage
+StageStands t x (Forwards w) = GoesOnPlacing t.gate.epoch x.begun w.after × CopyStands t w.evac w.evac.stage
 StageStands t x (Accesses a) = AccessStands t a.spaces a.stage
 StageStands t x (Places p) = PlaceStands t p p.stage
 StageStands t x (Serves d back) = RoundStands (era_of t) (memory_of t) d × BackStands back
