@@ -15,37 +15,8 @@ use Rattle.lone_mutator.specs.Law.{LoneTasksBegin}
 use Rattle.lone_mutator.specs.Lone.{GoesOnPlacing, IsLone, PassageStands, Remembers, StageStands, potential}
 use Rattle.lone_mutator.specs.Potential.{potential_in, potential_at}
 
-module _ (t : Table) (x : Held) (task : Task) where
-  abbrev y : Held
-  y = with_task x task
-
-  same_placing : (after : After) → GoesOnPlacing t x after → GoesOnPlacing t y after
-  same_placing after is = record { places = is.places; earlier = is.earlier }
-
-  same_passage : (passage : Passage) (after : After) → PassageStands t x passage after → PassageStands t y passage after
-  same_passage Look after is = is
-  same_passage Attach after is = is
-  same_passage Park after is = is
-  same_passage Request after is = is
-  same_passage (Resume epoch) after is = same_placing after is
-  same_passage Forwarded after is = same_placing after is
-  same_passage Leave after is = is
-
-  same_stage : (stage : Stage) → StageStands t x stage → StageStands t y stage
-  same_stage Looks is = is
-  same_stage (Passes g after) is = (same_passage g.passage after is.0, is.1)
-  same_stage (Flips f) is = is
-  same_stage (Forwards w) is = (same_placing w.after is.0, is.1)
-  same_stage (Accesses a) is = is
-  same_stage (Places p) is = is
-  same_stage (Serves d back) is = is
-  same_stage (Scans s back) is = is
-  same_stage (Evacuates v s back) is = is
-  same_stage (Opens o s back) is = is
-  same_stage Gone is = is
-
-  same_memory : Remembers t x → Remembers t y
-  same_memory is = record { began = is.began; quiet = is.quiet; stands = same_stage x.stage is.stands }
+same_memory : (t : Table) (x : Held) (task : Task) → Remembers t x → Remembers t (with_task x task)
+same_memory t x task is = record { began = is.began; quiet = is.quiet; stands = is.stands }
 
 module _ (h : Heap) (task : Task) (lone : IsLone h) where
   abbrev given : Held

@@ -74,15 +74,12 @@ module _ (c : Configuration) (p : Plain) (s : Stands c p) (y : Held) (w : Forwar
     less = pays_due c.pages t after v (at stage) alone.untraced goes
 
     -- its instruction began before the last flip, as before
-    placing : (z : Held) → z.begun ≡ y.begun → GoesOnPlacing after z w.after
-    placing z begun = record {
-      places = a.remembers.stands.0.places;
-      earlier = (let e = a.remembers.stands.0.earlier in let g = ap (λ g. g.epoch) goes.gate in omega (arith, e, g, begun));
-    }
+    placing : GoesOnPlacing after.gate.epoch y.begun w.after
+    placing = record { places = a.remembers.stands.0.places; earlier = (let e = a.remembers.stands.0.earlier in let g = ap (λ g. g.epoch) goes.gate in omega (arith, e, g)) }
 
     goes_on : Lowers c.pages t after x (at_stage y (Forwards (with_evac w (at stage))))
     goes_on = record {
-      remembers = record { began = a.remembers.began; quiet = goes.quiet; stands = (placing (at_stage y (Forwards (with_evac w (at stage)))) refl, goes.stands) };
+      remembers = record { began = a.remembers.began; quiet = goes.quiet; stands = (placing, goes.stands) };
       falls = (let fewer = less in omega (arith, fewer));
     }
 
@@ -92,11 +89,11 @@ module _ (c : Configuration) (p : Plain) (s : Stands c p) (y : Held) (w : Forwar
 
     next_by : (o : Option Pointed) → Found copied.registers (8 - (w.register + 1)) (w.register + 1) o → Lowers c.pages t after x (at_stage copied (forwards_it copied w.after o))
     next_by None (Nowhere none) = record {
-      remembers = record { began = a.remembers.began; quiet = goes.quiet; stands = (placing after (Ended to) goes (at_stage copied (forwards_it copied w.after None)) refl, tt) };
+      remembers = record { began = a.remembers.began; quiet = goes.quiet; stands = (placing after (Ended to) goes, tt) };
       falls = (let fewer = less after (Ended to) goes in omega (arith, fewer));
     }
     next_by (Some q) (There r addr from below is none) = record {
-      remembers = record { began = a.remembers.began; quiet = goes.quiet; stands = (placing after (Ended to) goes (at_stage copied (forwards_it copied w.after (Some q))) refl, tt) };
+      remembers = record { began = a.remembers.began; quiet = goes.quiet; stands = (placing after (Ended to) goes, tt) };
       falls = (let fewer = less after (Ended to) goes in omega (arith, fewer, from, below));
     }
 
