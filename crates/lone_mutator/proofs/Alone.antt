@@ -1,6 +1,5 @@
 -- What the gate counts where there is one mutator and no other worker.
-use Rattle.std.proofs.Common.{◌≡◌, ◌≢◌, ℕ, ◌+◌, ◌<◌, ◌==◌, ◌&&◌, Bool, true, false, Some, refl, sym, ap, subst, ◌∙◌, arith}
-use Rattle.std.specs.Prelude.{not}
+use Rattle.std.proofs.Common.{◌≡◌, ◌≢◌, ℕ, ◌+◌, ◌==◌, ◌&&◌, Bool, true, false, refl, ap, subst, ◌∙◌, arith}
 use Rattle.std.proofs.lemmas.Bool.{ne_eqb, eq-eqb}
 use Rattle.plain_state.specs.State.{Plain}
 use Rattle.space_map.specs.declared.gate_word.GateWord.{GateWord}
@@ -8,7 +7,6 @@ use Rattle.gate_core.specs.Gate.{is_clear}
 use Rattle.heap_state.specs.Configuration.{Configuration, Stands, table, era, memory, team}
 use Rattle.heap_state.specs.Functions.{sum_below, count_one}
 use Rattle.heap_state.specs.Inductive as inductive
-use Rattle.heap_state.specs.Parts.Knowledge.{Timely}
 use Rattle.heap_state.specs.Worker.{Worker, is_live, is_running, is_flipper, is_late}
 use Rattle.gc_worker.specs.Held.{Held}
 use Rattle.gc_worker.specs.Knows.{knows}

@@ -1,28 +1,28 @@
 -- The flip by a lone mutator: the gate is still, and the exchange is won.
-use Rattle.std.proofs.Common.{◌≡◌, ℕ, ◌+◌, ◌*◌, ◌^◌, ◌<◌, ◌≤◌, Bool, true, false, cond, Option, Some, None, nat_lt, refl, sym, ap, subst, ◌∙◌, arith}
+use Rattle.std.proofs.Common.{◌≡◌, ℕ, ◌+◌, ◌≤◌, true, cond, Option, Some, nat_lt, refl, sym, ap, subst, ◌∙◌, arith}
 use Rattle.std.proofs.lemmas.Bool.{eq-eqb, lt-ltb}
 use Rattle.std.proofs.lemmas.Option.{same_Some}
 use Rattle.plain_state.specs.State.{Plain}
-use Rattle.atom_store.specs.declared.reply.Reply.TheVariants.{Value, Done, Won}
+use Rattle.atom_store.specs.declared.reply.Reply.TheVariants.{Won}
 use Rattle.atom_store.specs.declared.step.Step.TheVariants.{Load, Store, Exchange}
 use Rattle.space_map.specs.declared.area_word.AreaWord.{AreaWord}
 use Rattle.space_map.specs.declared.gate_word.GateWord.{GateWord}
 use Rattle.space_map.specs.AreaWord.{encode_area}
-use Rattle.space_map.specs.GateWord.{GateFits, encode_gate}
-use Rattle.space_map.specs.Spaces.{Layout, to_space}
+use Rattle.space_map.specs.GateWord.{encode_gate}
+use Rattle.space_map.specs.Spaces.{to_space}
 use Rattle.space_map.specs.Table.{Gate, Area, place_of}
 use Rattle.gate_core.specs.declared.flip_stage.FlipStage.{FlipStage}
 use Rattle.gate_core.specs.declared.flip_stage.FlipStage.TheVariants.{LoadsGate, LoadsArea, StoresArea, Exchanges, Ended}
 use Rattle.gate_core.specs.declared.flipped.Flipped.TheVariants.{NotYet}
 use Rattle.gate_core.specs.declared.reset.Reset as resets
 use Rattle.gate_core.specs.Flip.{Flipping, area_reset, gate_flipped, is_still, looked, read_area, told_at}
-use Rattle.heap_state.specs.Configuration.{Configuration, Stands, table, era}
+use Rattle.heap_state.specs.Configuration.{Configuration, Stands, table}
 use Rattle.heap_state.specs.Entries.{AreaIs, GateIs}
 use Rattle.heap_state.specs.Table.{Table}
 use Rattle.gc_worker.specs.declared.stage.Stage.TheVariants.{Flips}
 use Rattle.gc_worker.specs.Held.{Held, at_stage}
 use Rattle.gc_worker.specs.Turned.{told_flip, turned, turned_flip}
-use Rattle.gc_worker.proofs.Areas.{area_now, area_says, is_space}
+use Rattle.gc_worker.proofs.Areas.{area_says, is_space}
 use Rattle.gc_worker.proofs.Flip.Flipping.{unmoved}
 use Rattle.gc_worker.proofs.Gate.Words.{gate_now, gate_says}
 use Rattle.lone_mutator.specs.Bound.{longest_tracing}

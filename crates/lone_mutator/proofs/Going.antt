@@ -1,5 +1,5 @@
 -- Where a mutator goes on that stopped or made a round: it has no more to pay than what it went back to was said to cost.
-use Rattle.std.proofs.Common.{◌≡◌, ℕ, ◌+◌, ◌≤◌, Bool, true, false, cond, Option, Some, None, nat_le, refl, sym, subst, arith}
+use Rattle.std.proofs.Common.{ℕ, ◌+◌, ◌≤◌, Bool, true, false, cond, Option, Some, nat_le, sym, subst, arith}
 use Rattle.record_layout.specs.declared.header.Header.{Header}
 use Rattle.space_map.specs.Spaces.{Layout}
 use Rattle.alloc_end.specs.declared.place_stage.PlaceStage.TheVariants.{LoadsTraced, StoresHeader}
@@ -7,7 +7,7 @@ use Rattle.alloc_end.specs.declared.place_stage.PlaceStage.{PlaceStage}
 use Rattle.alloc_end.specs.Place as place
 use Rattle.heap_state.specs.Table.{Table}
 use Rattle.gc_worker.specs.declared.access_stage.AccessStage.{AccessStage}
-use Rattle.gc_worker.specs.declared.access_stage.AccessStage.TheVariants.{LooksAtRecord, LoadsHeader, LooksAtField, LoadsField, StoresField, LooksAtBoard, LoadsBoard, StoresBoard, LoadsForSwap, SwapsBoard}
+use Rattle.gc_worker.specs.declared.access_stage.AccessStage.TheVariants.{SwapsBoard}
 use Rattle.gc_worker.specs.declared.back.Back.{Back}
 use Rattle.gc_worker.specs.declared.back.Back.TheVariants.{ToAccess, ToPlace, ToScanner}
 use Rattle.gc_worker.specs.declared.stage.Stage.TheVariants.{Places}
@@ -16,8 +16,8 @@ use Rattle.gc_worker.specs.Held.{Held, at_stage, header_for, run_of}
 use Rattle.gc_worker.specs.Turned.{places, back_from}
 use Rattle.gc_worker.proofs.Making.{header_made, header_is}
 use Rattle.lone_mutator.specs.Bound.{longest_placing}
-use Rattle.lone_mutator.specs.Lone.{AccessStands, BackStands, IsLook, NobodyElseAnnounces, PlaceStands, Remembers}
-use Rattle.lone_mutator.specs.Potential.{back_left, due_in, flip_left, place_left, potential_in}
+use Rattle.lone_mutator.specs.Lone.{AccessStands, BackStands, IsLook, NobodyElseAnnounces, Remembers}
+use Rattle.lone_mutator.specs.Potential.{back_left, due_in, flip_left, potential_in}
 
 -- the mutator remembers what is so, and has to pay no more than this
 pub record GoesAt (n : ℕ) (t : Table) (y : Held) (cost : ℕ) : Type 0 where

@@ -13,8 +13,9 @@ pub mod Looking
 pub mod Copying
 pub mod Serving
 pub mod Scanning
-pub mod Opening
-pub mod Beginning
 pub mod Placing
 pub mod Accessing
 pub mod Executing
+pub mod Whole
+pub mod Opening
+pub mod Beginning

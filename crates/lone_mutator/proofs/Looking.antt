@@ -1,5 +1,5 @@
 -- The look that begins an instruction of a lone mutator: nobody requests a flip, and its task begins.
-use Rattle.std.proofs.Common.{◌≡◌, ℕ, ◌+◌, ◌<◌, ◌≤◌, Bool, true, false, cond, Option, Some, None, Result, Ok, Err, nat_lt, refl, sym, ap, subst, ◌∙◌, arith}
+use Rattle.std.proofs.Common.{◌≡◌, ℕ, ◌≤◌, Bool, true, false, cond, Option, Some, None, Result, Ok, Err, nat_lt, refl, sym, ap, subst, arith}
 use Rattle.plain_state.specs.declared.end.End.{End}
 use Rattle.plain_state.specs.declared.kind.Kind.{Kind}
 use Rattle.plain_state.specs.State.{Plain}
@@ -11,10 +11,9 @@ use Rattle.atom_store.specs.declared.step.Step.TheVariants.{Load}
 use Rattle.space_map.specs.declared.gate_word.GateWord.{GateWord}
 use Rattle.space_map.specs.Table.{Gate, place_of}
 use Rattle.heap_state.specs.Configuration.{Configuration, Stands, table}
-use Rattle.gc_worker.specs.declared.access_stage.AccessStage.{AccessStage}
 use Rattle.gc_worker.specs.declared.after.After.TheVariants as afters
 use Rattle.gate_core.specs.declared.passage.Passage.TheVariants.{Park}
-use Rattle.gc_worker.specs.declared.stage.Stage.TheVariants.{Looks, Accesses}
+use Rattle.gc_worker.specs.declared.stage.Stage.TheVariants.{Looks}
 use Rattle.gc_worker.specs.declared.task.Task.{Task}
 use Rattle.gc_worker.specs.declared.task.Task.TheVariants.{Calls, Stops}
 use Rattle.gc_worker.specs.Fits.{FitsCall, IsMaking, MayBegin}
@@ -22,11 +21,10 @@ use Rattle.gc_worker.specs.Held.{Held, at_stage}
 use Rattle.gc_worker.specs.Seen.{seen}
 use Rattle.gc_worker.specs.Stepped.{awaits_at}
 use Rattle.gc_worker.specs.Turned.{Silent, acted, acts, begins, looked_by, passes, started, told_acted, told_action, told_gate, told_start}
-use Rattle.gc_worker.proofs.Gate.Words.{gate_now, gate_says}
-use Rattle.lone_mutator.specs.Bound.{flip_cost, longest_placing, whole_cost}
+use Rattle.gc_worker.proofs.Gate.Words.{gate_says}
+use Rattle.lone_mutator.specs.Bound.{flip_cost}
 use Rattle.lone_mutator.specs.Law.{IsAlone, LowersWhereTold, StepsLower}
-use Rattle.lone_mutator.specs.Lone.{NobodyElseAnnounces}
-use Rattle.lone_mutator.specs.Potential.{due_in, flip_left, potential_in}
+use Rattle.lone_mutator.specs.Potential.{flip_left}
 use Rattle.lone_mutator.proofs.Alone.{no_request}
 use Rattle.lone_mutator.proofs.Going.{goes_placing}
 use Rattle.lone_mutator.proofs.Stepping.{loads, wants}

@@ -1,10 +1,10 @@
 -- The passages of the gate by a lone mutator: each is allowed, and each exchange is won.
-use Rattle.std.proofs.Common.{◌≡◌, ◌≢◌, ℕ, ◌+◌, ◌-◌, ◌*◌, ◌^◌, ◌<◌, ◌≤◌, ◌==◌, ◌&&◌, Bool, true, false, cond, Option, Some, None, nat_lt, refl, sym, ap, subst, ◌∙◌, arith, ⊎_elim}
+use Rattle.std.proofs.Common.{◌≡◌, ◌≢◌, ℕ, ◌+◌, ◌<◌, ◌≤◌, ◌==◌, ◌&&◌, Bool, true, false, cond, Option, Some, None, nat_lt, refl, sym, ap, subst, ◌∙◌, arith, ⊎_elim}
 use Rattle.std.specs.Prelude.{not}
-use Rattle.std.proofs.lemmas.Bool.{eq-eqb, ne_eqb, lt-ltb, cases_eq}
+use Rattle.std.proofs.lemmas.Bool.{eq-eqb, ne_eqb, lt-ltb}
 use Rattle.std.proofs.lemmas.Bool.Decides.{nat_tests}
 use Rattle.plain_state.specs.State.{Plain}
-use Rattle.atom_store.specs.declared.reply.Reply.TheVariants.{Value, Won}
+use Rattle.atom_store.specs.declared.reply.Reply.TheVariants.{Won}
 use Rattle.atom_store.specs.declared.step.Step.TheVariants.{Load, Exchange}
 use Rattle.space_map.specs.declared.gate_word.GateWord.{GateWord}
 use Rattle.space_map.specs.GateWord.{GateFits, encode_gate, decode_gate}
@@ -17,11 +17,9 @@ use Rattle.gate_core.specs.declared.passage.Passage.{Passage}
 use Rattle.gate_core.specs.declared.passage.Passage.TheVariants.{Look, Attach, Park, Request, Resume, Forwarded, Leave}
 use Rattle.gate_core.specs.declared.passed.Passed.TheVariants.{NotYet}
 use Rattle.gate_core.specs.Gate.{allows, allowed, gate_after, is_clear, looked, told_at}
-use Rattle.gate_core.specs.Soundness.{MayPass}
-use Rattle.heap_state.specs.Configuration.{Configuration, Stands, table, era}
+use Rattle.heap_state.specs.Configuration.{Configuration, Stands, table}
 use Rattle.heap_state.specs.Entries.{GateIs}
 use Rattle.heap_state.specs.Table.{Table}
-use Rattle.heap_state.specs.Theorems.Rows.{SpellsTable}
 use Rattle.heap_state.proofs.Table.Spelled.{spelled}
 use Rattle.gc_worker.specs.declared.after.After.{After}
 use Rattle.gc_worker.specs.declared.after.After.TheVariants as afters
@@ -35,9 +33,9 @@ use Rattle.gc_worker.proofs.Gate.Words.{gate_now, gate_says}
 use Rattle.lone_mutator.specs.Bound.{longest_placing}
 use Rattle.lone_mutator.specs.Potential.{due_in, flip_left, potential_in}
 use Rattle.lone_mutator.specs.Law.{IsAlone, Lowers, StepsLower}
-use Rattle.lone_mutator.proofs.Alone.{is_clear_so, knowing, no_request, none_behind, none_live, present}
+use Rattle.lone_mutator.proofs.Alone.{is_clear_so, knowing, no_request, none_behind, none_live}
 use Rattle.lone_mutator.proofs.Going.{GoesAt, goes_placing}
-use Rattle.lone_mutator.proofs.Stepping.{Owes, exchanges, loads, wants}
+use Rattle.lone_mutator.proofs.Stepping.{exchanges, loads, wants}
 
 same_so : (own epoch : ℕ) → own ≡ epoch → nat_lt own epoch ≡ false
 same_so own epoch now = grind (arith, nat_tests)

@@ -1,10 +1,10 @@
 -- What holds of the steps of a lone mutator: none is in vain.
-use Rattle.std.specs.Prelude.{◌≡◌, ℕ, ◌+◌, ◌<◌, ◌≤◌, ⊤, false, length, Option, Some, None}
+use Rattle.std.specs.Prelude.{◌≡◌, ℕ, ◌+◌, ◌<◌, ⊤, false, length, Some, None}
 use Rattle.plain_state.specs.State.{Plain}
 use Rattle.atom_store.specs.declared.step.Step.{Step}
 use Rattle.atom_store.specs.Step.{words_after, reply_of}
 use Rattle.space_map.specs.Spaces.{IsPageCount}
-use Rattle.heap_state.specs.Configuration.{Configuration, Stands, table}
+use Rattle.heap_state.specs.Configuration.{Configuration, table}
 use Rattle.heap_state.specs.Table.{Table, table_of}
 use Rattle.gc_worker.specs.declared.task.Task.{Task}
 use Rattle.gc_worker.specs.Between.{opening, with_task, with_worker}

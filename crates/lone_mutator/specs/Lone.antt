@@ -14,7 +14,7 @@ use Rattle.heap_state.specs.Configuration.{table}
 use Rattle.heap_state.specs.Era.{era_of, memory_of}
 use Rattle.heap_state.specs.Table.{Table}
 use Rattle.gc_worker.specs.declared.access_stage.AccessStage.{AccessStage}
-use Rattle.gc_worker.specs.declared.access_stage.AccessStage.TheVariants.{LooksAtRecord, LoadsHeader, LooksAtField, LoadsField, StoresField, LooksAtBoard, LoadsBoard, StoresBoard, LoadsForSwap, SwapsBoard}
+use Rattle.gc_worker.specs.declared.access_stage.AccessStage.TheVariants.{LooksAtRecord, LooksAtField, LooksAtBoard, SwapsBoard}
 use Rattle.gc_worker.specs.declared.after.After.{After}
 use Rattle.gc_worker.specs.declared.after.After.TheVariants as afters
 use Rattle.gc_worker.specs.declared.back.Back.{Back}

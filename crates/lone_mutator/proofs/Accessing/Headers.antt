@@ -1,5 +1,5 @@
 -- The load of a header by a lone mutator: it is one, and the access goes on by it or is done.
-use Rattle.std.proofs.Common.{◌≡◌, ℕ, ◌+◌, ◌-◌, ◌*◌, ◌<◌, ◌≤◌, ◌==◌, Bool, true, false, cond, Result, Ok, Err, Some, refl, sym, ap, subst, ◌∙◌, arith}
+use Rattle.std.proofs.Common.{◌≡◌, ℕ, ◌-◌, ◌==◌, Bool, true, false, cond, Result, Ok, Err, Some, sym, ap, subst, ◌∙◌, arith}
 use Rattle.heap_words.specs.Decoded.{decode}
 use Rattle.heap_words.specs.Word.{number_word}
 use Rattle.plain_state.specs.declared.end.End.{End}
@@ -10,7 +10,7 @@ use Rattle.atom_store.specs.declared.step.Step.TheVariants.{Load}
 use Rattle.atom_store.specs.declared.reply.Reply.TheVariants as replies
 use Rattle.space_map.specs.Spaces.{page_of}
 use Rattle.space_map.specs.Table.{HeapWord, place_of}
-use Rattle.heap_state.specs.Configuration.{Configuration, Stands, table, era, memory}
+use Rattle.heap_state.specs.Configuration.{Configuration, Stands, table}
 use Rattle.heap_state.specs.Ghost.{header_kind}
 use Rattle.heap_state.specs.Table.{word_in}
 use Rattle.gc_worker.specs.declared.access_stage.AccessStage.TheVariants.{LoadsHeader, LooksAtField, LoadsField, StoresField}

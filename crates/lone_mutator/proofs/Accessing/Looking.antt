@@ -1,5 +1,5 @@
 -- The looks at a page by a lone mutator: it is open, or the epoch isn't traced and a round is made for it.
-use Rattle.std.proofs.Common.{◌≡◌, ◌≢◌, ℕ, ◌+◌, ◌*◌, ◌/◌, ◌<◌, ◌≤◌, ◌⊎◌, inl, inr, ◌==◌, Bool, true, false, Option, Some, None, refl, sym, ap, subst, ◌∙◌, arith}
+use Rattle.std.proofs.Common.{◌≡◌, ◌≢◌, ℕ, ◌+◌, ◌*◌, ◌<◌, ◌≤◌, ◌⊎◌, inl, inr, ◌==◌, Bool, true, false, Some, refl, sym, ap, subst, ◌∙◌, arith}
 use Rattle.std.proofs.lemmas.Bool.{eqb-true, eq-eqb}
 use Rattle.plain_state.specs.State.{Plain}
 use Rattle.plain_state.specs.declared.value.Value.TheVariants.{Reference}
@@ -13,7 +13,6 @@ use Rattle.space_map.specs.PageWord.{age_of}
 use Rattle.space_map.specs.Spaces.{board_page, page_of, to_space}
 use Rattle.space_map.specs.Table.{Page, place_of}
 use Rattle.mmu_model.specs.Access.{access_of}
-use Rattle.fault_duty.specs.declared.caller.Caller.TheVariants as callers
 use Rattle.heap_state.specs.Configuration.{Configuration, Stands, table, era, memory, team}
 use Rattle.heap_state.specs.Worker.{Worker}
 use Rattle.heap_state.specs.Parts.Knowledge as parts

@@ -1,5 +1,5 @@
 -- What an access of a lone mutator comes to, or where it goes on.
-use Rattle.std.proofs.Common.{◌≡◌, ℕ, ◌+◌, ◌<◌, false, Option, Some, sym, subst, arith}
+use Rattle.std.proofs.Common.{ℕ, ◌<◌, false, Option, sym, subst, arith}
 use Rattle.plain_state.specs.declared.end.End.{End}
 use Rattle.plain_state.specs.State.{Plain}
 use Rattle.heap_state.specs.Configuration.{Configuration, Stands, table}

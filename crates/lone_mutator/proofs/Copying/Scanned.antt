@@ -1,5 +1,5 @@
 -- A copy that a lone mutator makes for a word that it scans.
-use Rattle.std.proofs.Common.{◌≡◌, ℕ, ◌+◌, ◌<◌, ◌≤◌, None, Some, refl, sym, ap, subst, ◌∙◌, arith}
+use Rattle.std.proofs.Common.{◌≡◌, ℕ, refl, ap, ◌∙◌, arith}
 use Rattle.plain_state.specs.State.{Plain}
 use Rattle.atom_store.specs.Step.{words_after, reply_of}
 use Rattle.heap_words.specs.Decoded.{decode}

@@ -1,9 +1,8 @@
 -- An allocation by a lone mutator looks at the area: it claims pages, makes a round, requests a flip, or finds the heap full.
-use Rattle.std.proofs.Common.{◌≡◌, ◌≢◌, ℕ, ◌+◌, ◌-◌, ◌*◌, ◌/◌, ◌^◌, ◌<◌, ◌≤◌, ◌==◌, ◌||◌, Bool, true, false, cond, Option, Some, None, nat_lt, refl, sym, ap, subst, ◌∙◌, arith, ⊎_elim}
-use Rattle.std.proofs.lemmas.Bool.{eq-eqb, ne_eqb, cases_eq}
+use Rattle.std.proofs.Common.{◌≡◌, ◌≢◌, ℕ, ◌+◌, ◌-◌, ◌^◌, ◌≤◌, ◌==◌, ◌||◌, Bool, true, false, cond, Option, Some, nat_lt, refl, sym, ap, subst, ◌∙◌, arith, ⊎_elim}
+use Rattle.std.proofs.lemmas.Bool.{eq-eqb, cases_eq}
 use Rattle.plain_state.specs.State.{Plain}
 use Rattle.record_layout.specs.declared.header.Header.{Header}
-use Rattle.atom_store.specs.declared.reply.Reply.TheVariants.{Value, Won}
 use Rattle.atom_store.specs.declared.step.Step.TheVariants.{Load, Exchange}
 use Rattle.space_map.specs.declared.area_word.AreaWord.{AreaWord}
 use Rattle.space_map.specs.declared.page_word.PageWord.{PageWord}
@@ -13,12 +12,10 @@ use Rattle.space_map.specs.Table.{Traced, Area, place_of}
 use Rattle.alloc_end.specs.declared.allocated.Allocated.TheVariants.{Full}
 use Rattle.alloc_end.specs.declared.fitting.Fitting.{Fitting}
 use Rattle.alloc_end.specs.declared.place_stage.PlaceStage.{PlaceStage}
-use Rattle.alloc_end.specs.declared.place_stage.PlaceStage.TheVariants.{LoadsTraced, LoadsArea, ExchangesArea, StoresZero, OpensPage, StoresHeader, Ended}
+use Rattle.alloc_end.specs.declared.place_stage.PlaceStage.TheVariants.{LoadsTraced, LoadsArea, ExchangesArea, Ended}
 use Rattle.alloc_end.specs.declared.run.Run.{Run}
 use Rattle.alloc_end.specs.declared.shortage.Shortage.{Shortage}
 use Rattle.alloc_end.specs.Place.{Placing, area_after, fits, kept_room, looked_at_area, pages_for, shortage, size_of, told_at, words_for}
-use Rattle.alloc_end.specs.Place as place
-use Rattle.fault_duty.specs.declared.caller.Caller.TheVariants as callers
 use Rattle.gate_core.specs.declared.passage.Passage.TheVariants.{Request}
 use Rattle.heap_state.specs.Configuration.{Configuration, Stands, table}
 use Rattle.heap_state.specs.Entries.{AreaIs}
@@ -30,13 +27,13 @@ use Rattle.gc_worker.specs.declared.after.After.TheVariants as afters
 use Rattle.gc_worker.specs.declared.stage.Stage.TheVariants.{Places}
 use Rattle.gc_worker.specs.declared.task.Task.{Task}
 use Rattle.gc_worker.specs.Held.{Held, at_stage}
-use Rattle.gc_worker.specs.Turned.{Silent, end_of, ended, full_by, is_full, passes, told_end, told_full, told_place, turned, turned_place}
-use Rattle.gc_worker.proofs.Areas.{area_now, area_says, is_space}
+use Rattle.gc_worker.specs.Turned.{Silent, end_of, ended, full_by, is_full, passes, told_end, told_full, told_place, turned_place}
+use Rattle.gc_worker.proofs.Areas.{area_says, is_space}
 use Rattle.gc_worker.proofs.Rounds.Words.{traced_now, traced_word}
-use Rattle.lone_mutator.specs.Bound.{flip_cost, longest_placing, longest_tracing}
+use Rattle.lone_mutator.specs.Bound.{flip_cost}
 use Rattle.lone_mutator.specs.Law.{IsAlone, Lowers, LowersWhereTold, StepsLower}
 use Rattle.lone_mutator.specs.Lone.{PlaceStands}
-use Rattle.lone_mutator.specs.Potential.{due_in, flip_left, left_in}
+use Rattle.lone_mutator.specs.Potential.{due_in, flip_left}
 use Rattle.lone_mutator.specs.Tracing.{tracing_due}
 use Rattle.lone_mutator.proofs.Alone.{present}
 use Rattle.lone_mutator.proofs.Stepping.{exchanges, loads, wants}

@@ -1,6 +1,5 @@
 -- Pages claimed by a lone mutator are cleared and opened, and its record's header is stored.
-use Rattle.std.proofs.Common.{◌≡◌, ℕ, ◌+◌, ◌-◌, ◌*◌, ◌/◌, ◌^◌, ◌<◌, ◌≤◌, Bool, true, false, cond, Option, Some, None, nat_lt, refl, sym, ap, subst, ◌∙◌, arith}
-use Rattle.std.proofs.lemmas.Bool.{ltb-true, ltb-false}
+use Rattle.std.proofs.Common.{◌≡◌, ℕ, ◌+◌, ◌≤◌, Bool, true, false, cond, Option, Some, nat_lt, refl, sym, ap, subst, arith}
 use Rattle.plain_state.specs.State.{Plain}
 use Rattle.record_layout.specs.declared.header.Header.{Header}
 use Rattle.record_layout.specs.Layout.{header_says}

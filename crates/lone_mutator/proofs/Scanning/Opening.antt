@@ -1,5 +1,5 @@
 -- A lone mutator opens a page that was scanned, and goes back: what is due before a round is paid.
-use Rattle.std.proofs.Common.{◌≡◌, ℕ, ◌+◌, ◌<◌, ◌≤◌, Some, refl, sym, ap, subst, ◌∙◌, arith}
+use Rattle.std.proofs.Common.{◌≡◌, ◌+◌, ◌≤◌, Some, ap, ◌∙◌, arith}
 use Rattle.plain_state.specs.State.{Plain}
 use Rattle.atom_store.specs.declared.step.Step.TheVariants.{Store}
 use Rattle.space_map.specs.declared.page_word.PageWord.TheVariants.{Open}

@@ -4,12 +4,11 @@ use Rattle.std.specs.Prelude.{is_some}
 use Rattle.std.proofs.lemmas.Option.{same_Some}
 use Rattle.plain_state.specs.State.{Plain}
 use Rattle.atom_store.specs.declared.reply.Reply.TheVariants.{Value, Done}
-use Rattle.atom_store.specs.declared.step.Step.{Step}
 use Rattle.atom_store.specs.declared.step.Step.TheVariants.{Load, Store}
 use Rattle.heap_words.specs.Decoded.{decode}
 use Rattle.heap_words.specs.FirstWords.{is_header}
 use Rattle.heap_words.specs.Word.{pointer_word}
-use Rattle.space_map.specs.Spaces.{Layout, first_word, to_space}
+use Rattle.space_map.specs.Spaces.{Layout, to_space}
 use Rattle.space_map.specs.Table.{Row, IsRow, Area, Cross, HeapWord, place_of}
 use Rattle.page_scan.specs.declared.asked.Asked.{Asked}
 use Rattle.page_scan.specs.declared.scan_stage.ScanStage.{ScanStage}
@@ -19,7 +18,6 @@ use Rattle.page_scan.specs.declared.spot.Spot.{Spot}
 use Rattle.page_scan.specs.declared.spot.Spot.TheVariants.{OnBoard, InRecord}
 use Rattle.page_scan.specs.Left.{advances}
 use Rattle.page_scan.specs.Scanning.{Scanning, address_of}
-use Rattle.page_scan.specs.Scanning as scanning
 use Rattle.page_scan.specs.Soundness.{IsOnPage}
 use Rattle.heap_state.specs.Configuration.{Configuration, Stands, table, era, memory, team}
 use Rattle.heap_state.specs.Entries.{WordIs, with_entry}

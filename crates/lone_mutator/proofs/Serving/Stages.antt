@@ -1,8 +1,7 @@
 -- A round of a lone mutator, at each stage of which what is still to be paid falls.
-use Rattle.std.proofs.Common.{◌≡◌, ◌≢◌, ℕ, ◌+◌, ◌<◌, ◌≤◌, Some, refl, sym, ap, subst, ◌∙◌, arith}
+use Rattle.std.proofs.Common.{◌≡◌, ℕ, ◌+◌, ◌≤◌, Some, refl, sym, ap, ◌∙◌, arith}
 use Rattle.plain_state.specs.State.{Plain}
 use Rattle.atom_store.specs.declared.step.Step.TheVariants.{Exchange}
-use Rattle.atom_store.specs.declared.reply.Reply.TheVariants.{Won}
 use Rattle.space_map.specs.Spaces.{to_space}
 use Rattle.space_map.specs.Table.{Traced, place_of}
 use Rattle.page_slots.specs.declared.claim_stage.ClaimStage.{ClaimStage}
@@ -11,13 +10,13 @@ use Rattle.page_slots.specs.Claim.{Claiming}
 use Rattle.fault_duty.specs.declared.duty_stage.DutyStage.{DutyStage}
 use Rattle.fault_duty.specs.declared.duty_stage.DutyStage.TheVariants.{LoadsGate, LoadsTraced, LoadsWanted, LoadsFrontFor, LoadsFront, LoadsPage, Claims, EndGate, EndArea, EndPage, EndFilling, EndAreaAgain, Traces, Ended}
 use Rattle.fault_duty.specs.Duty.{Round}
-use Rattle.heap_state.specs.Configuration.{Configuration, Stands, table, era, memory}
+use Rattle.heap_state.specs.Configuration.{Configuration, Stands, table}
 use Rattle.heap_state.specs.Entries.{Entry, TracedIs, with_entry}
 use Rattle.heap_state.specs.Table.{Table}
 use Rattle.gc_worker.specs.declared.back.Back.{Back}
 use Rattle.gc_worker.specs.declared.stage.Stage.TheVariants.{Serves}
 use Rattle.gc_worker.specs.Held.{Held, at_stage}
-use Rattle.gc_worker.specs.Turned.{back_from, turned}
+use Rattle.gc_worker.specs.Turned.{back_from}
 use Rattle.gc_worker.proofs.Rounds.Going.{at, done, same_pages}
 use Rattle.gc_worker.proofs.Rounds.Words.{traced_now, traced_word}
 use Rattle.lone_mutator.specs.Law.{Lowers, IsAlone, StepsLower}

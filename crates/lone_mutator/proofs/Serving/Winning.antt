@@ -1,10 +1,10 @@
 -- A claim of a lone mutator is won: the page's scan and the next round are paid by the page, which is then claimed.
-use Rattle.std.proofs.Common.{◌≡◌, ◌≢◌, ℕ, ◌+◌, ◌*◌, ◌/◌, ◌<◌, ◌≤◌, ◌⊎◌, inl, inr, ⊎_elim, Bool, true, false, cond, nat_eq, Some, None, refl, sym, ap, subst, ◌∙◌, arith}
+use Rattle.std.proofs.Common.{◌≡◌, ℕ, ◌+◌, ◌*◌, ◌/◌, ◌<◌, ◌≤◌, inl, inr, ⊎_elim, Bool, true, false, cond, nat_eq, Some, refl, sym, ap, subst, ◌∙◌, arith}
 use Rattle.plain_state.specs.State.{Plain}
 use Rattle.atom_store.specs.declared.step.Step.TheVariants.{Exchange}
 use Rattle.atom_store.specs.declared.reply.Reply.TheVariants.{Won}
 use Rattle.space_map.specs.declared.page_word.PageWord.TheVariants.{Scanning}
-use Rattle.space_map.specs.PageWord.{encode_page, decode_page, age_of}
+use Rattle.space_map.specs.PageWord.{encode_page, age_of}
 use Rattle.space_map.specs.Spaces.{Layout, board_page, first_word, to_space}
 use Rattle.space_map.specs.Table.{Page, place_of}
 use Rattle.space_map.proofs.PageWords.{encode_page-decode_page}
