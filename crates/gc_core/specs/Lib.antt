@@ -6,3 +6,4 @@ pub mod Law
 pub mod Claims
 pub mod Fulls
 pub mod Whole
+pub mod Lone
