@@ -14,3 +14,4 @@ pub mod Counting
 pub mod CoreSteps
 pub mod Telling
 pub mod CoreReads
+pub mod Lone

@@ -8,3 +8,4 @@ pub mod Fulls
 pub mod Whole
 pub mod Cycles
 pub mod Needs
+pub mod Lone

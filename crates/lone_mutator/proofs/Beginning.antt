@@ -1,5 +1,5 @@
 -- A task that is given to a lone mutator changes nothing of what it remembers or has to pay.
-use Rattle.std.proofs.Common.{◌≡◌, sym, ap, subst, ◌∙◌, arith, get_or-set_same, length-set}
+use Rattle.std.proofs.Common.{◌≡◌, ℕ, ◌<◌, length, Some, refl, sym, ap, subst, ◌∙◌, arith, set, get_or-set_same, length-set}
 use Rattle.gate_core.specs.declared.passage.Passage.{Passage}
 use Rattle.gate_core.specs.declared.passage.Passage.TheVariants.{Look, Attach, Park, Request, Resume, Forwarded, Leave}
 use Rattle.heap_state.specs.Configuration.{table}
@@ -12,37 +12,11 @@ use Rattle.gc_worker.specs.Between.{with_task, with_worker}
 use Rattle.gc_worker.specs.Held.{Held}
 use Rattle.gc_worker.specs.Law.{Heap, held_at, nobody, read}
 use Rattle.lone_mutator.specs.Law.{LoneTasksBegin}
-use Rattle.lone_mutator.specs.Lone.{IsLone, PassageStands, Remembers, StageStands, potential}
-use Rattle.lone_mutator.specs.Potential.{potential_in}
+use Rattle.lone_mutator.specs.Lone.{GoesOnPlacing, IsLone, PassageStands, Remembers, StageStands, potential}
+use Rattle.lone_mutator.specs.Potential.{potential_in, potential_at}
 
-module _ (t : Table) (x : Held) (task : Task) where
-  abbrev y : Held
-  y = with_task x task
-
-  same_passage : (passage : Passage) (after : After) → PassageStands t x passage after → PassageStands t y passage after
-  same_passage Look after is = is
-  same_passage Attach after is = is
-  same_passage Park after is = is
-  same_passage Request after is = is
-  same_passage (Resume epoch) after is = is
-  same_passage Forwarded after is = is
-  same_passage Leave after is = is
-
-  same_stage : (stage : Stage) → StageStands t x stage → StageStands t y stage
-  same_stage Looks is = is
-  same_stage (Passes g after) is = (same_passage g.passage after is.0, is.1)
-  same_stage (Flips f) is = is
-  same_stage (Forwards w) is = (is.0, is.1)
-  same_stage (Accesses a) is = is
-  same_stage (Places p) is = is
-  same_stage (Serves d back) is = is
-  same_stage (Scans s back) is = is
-  same_stage (Evacuates v s back) is = is
-  same_stage (Opens o s back) is = is
-  same_stage Gone is = is
-
-  same_memory : Remembers t x → Remembers t y
-  same_memory is = record { began = is.began; quiet = is.quiet; stands = same_stage x.stage is.stands }
+same_memory : (t : Table) (x : Held) (task : Task) → Remembers t x → Remembers t (with_task x task)
+same_memory t x task is = record { began = is.began; quiet = is.quiet; stands = is.stands }
 
 module _ (h : Heap) (task : Task) (lone : IsLone h) where
   abbrev given : Held

@@ -1,5 +1,6 @@
 -- The look that begins an instruction of a lone mutator: nobody requests a flip, and its task begins.
-use Rattle.std.proofs.Common.{◌≡◌, ℕ, ◌≤◌, Bool, true, false, cond, Option, Some, None, Result, Ok, Err, nat_lt, refl, sym, ap, subst, arith}
+use Rattle.std.proofs.Common.{◌≡◌, ℕ, ◌≤◌, Bool, true, false, cond, Option, Some, None, Result, Ok, Err, nat_lt, refl, sym, ap, subst, arith, ⊎_elim}
+use Rattle.std.proofs.lemmas.Bool.{cases_Bool}
 use Rattle.plain_state.specs.declared.end.End.{End}
 use Rattle.plain_state.specs.declared.kind.Kind.{Kind}
 use Rattle.plain_state.specs.State.{Plain}
@@ -30,11 +31,10 @@ use Rattle.lone_mutator.proofs.Going.{goes_placing}
 use Rattle.lone_mutator.proofs.Stepping.{loads, wants}
 
 pub flip_left-le : (n : ℕ) (x : Held) → flip_left n x ≤ flip_cost n
-flip_left-le n x = by_test (nat_lt x.begun x.epoch)
-  where
-    by_test : (b : Bool) → cond b 0 (flip_cost n) ≤ flip_cost n
-    by_test true = omega arith
-    by_test false = omega arith
+flip_left-le n x = ⊎_elim
+    (λ (e : nat_lt x.begun x.epoch ≡ true). rw e (omega arith))
+    (λ (e : nat_lt x.begun x.epoch ≡ false). rw e (omega arith))
+    (cases_Bool (nat_lt x.begun x.epoch))
 
 module _ (c : Configuration) (p : Plain) (s : Stands c p) (y : Held) where
   abbrev x : Held

@@ -20,7 +20,7 @@ use Rattle.lone_mutator.specs.Potential.{potential_in}
 
 -- ---- one step, by what the table says
 
--- The mutator x becomes y: it remembers what is so, is of no earlier epoch, and has less to pay.
+-- the mutator x becomes y: what it remembers is so, and it has less to pay
 pub record Lowers (n : ℕ) (before after : Table) (x y : Held) : Type 0 where
   pub remembers : Remembers after y
   pub falls : potential_in n after y < potential_in n before x

@@ -1,5 +1,5 @@
 -- A copy that a lone mutator makes for a register: five steps of each register that follows are paid by it.
-use Rattle.std.proofs.Common.{◌≡◌, ℕ, ◌+◌, ◌-◌, ◌<◌, true, Option, None, Some, refl, ap, ◌∙◌, arith}
+use Rattle.std.proofs.Common.{◌≡◌, ℕ, ◌+◌, ◌-◌, ◌*◌, ◌<◌, ◌≤◌, true, Option, None, Some, refl, sym, ap, subst, ◌∙◌, arith}
 use Rattle.std.proofs.lemmas.Bool.{eqb-true}
 use Rattle.plain_state.specs.State.{Plain}
 use Rattle.atom_store.specs.Step.{words_after, reply_of}
@@ -75,10 +75,7 @@ module _ (c : Configuration) (p : Plain) (s : Stands c p) (y : Held) (w : Forwar
 
     -- its instruction began before the last flip, as before
     placing : GoesOnPlacing after.gate.epoch y.begun w.after
-    placing = record {
-      places = a.remembers.stands.0.places;
-      earlier = (let e = a.remembers.stands.0.earlier in let g = ap (λ g. g.epoch) goes.gate in omega (arith, e, g));
-    }
+    placing = record { places = a.remembers.stands.0.places; earlier = (let e = a.remembers.stands.0.earlier in let g = ap (λ g. g.epoch) goes.gate in omega (arith, e, g)) }
 
     goes_on : Lowers c.pages t after x (at_stage y (Forwards (with_evac w (at stage))))
     goes_on = record {
