@@ -2,6 +2,7 @@
 
 ghost use Rattle.gc_core.specs.Cycles.{CyclesKeepWhatIsLive, FullHeapsAreFilled, InstructionsFlipOnce};
 ghost use Rattle.gc_core.specs.Law.{EventsMeet};
+ghost use Rattle.gc_core.specs.Lone.{LoneMutatorsGoOn};
 ghost use Rattle.gc_core.specs.Needs.{ClaimsAreForRecords, LargeHeapsAreNeverFull, LoneFullsFollowTheirFlips, LoneHeapsAreNeverFull, OrdersFillTheSpace};
 ghost use Rattle.gc_core.specs.Whole.{CopiedPagesAreWonOnce, FlipsAreOfTracedCores, FullsFollowFlips, MissingWorkersAreIdle, NoPageIsWonTwice, RunsFollow};
 
@@ -64,4 +65,10 @@ pub fn large_heaps_are_never_full()
 pub fn copied_pages_are_won_once()
     ensures won { CopiedPagesAreWonOnce }
     ensures flips { FlipsAreOfTracedCores }
+{}
+
+/// A mutator that has the core to itself gets on: in any number of steps it comes to its end, or has executed an instruction for each time
+/// that the most steps of one are in them.
+pub fn lone_mutators_go_on()
+    ensures { LoneMutatorsGoOn }
 {}
