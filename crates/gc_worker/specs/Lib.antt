@@ -12,6 +12,7 @@ pub mod Law
 pub mod Between
 pub mod Copied
 pub mod Claims
+pub mod Past
 pub mod Cycles
 pub mod Begun
 pub mod Represented

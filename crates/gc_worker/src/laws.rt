@@ -7,6 +7,7 @@ ghost use Rattle.gc_worker.specs.Claims.{TracedPagesAreOpen, FlipsAreOfTraced, P
 ghost use Rattle.gc_worker.specs.Copied.{CopiedWasLive, FullTellsLive};
 ghost use Rattle.gc_worker.specs.Cycles.{LowFallsByClaims, ClaimsAreSetAside, SetAsideIsForRecords, FlipsAreFirst, FlipsStayFirst, CallsGoOn};
 ghost use Rattle.gc_worker.specs.FullTold.{FullIsTold};
+ghost use Rattle.gc_worker.specs.Past.{PastClaimsAreLost, PastMarksAreLost, PagesAreWonNow};
 ghost use Rattle.gc_worker.specs.Counted.{CountedFit, CountsAreApart};
 ghost use Rattle.gc_worker.specs.Represented.{RepresentedWorkersStand};
 
@@ -95,6 +96,14 @@ pub fn pages_are_opened_by_claims()
     ensures opened { PagesAreOpenedByClaims }
     ensures low { LowRisesAtFlips }
     ensures copied { CopiedPagesAreBelowLow }
+{}
+
+/// The exchange of a worker that slept past a flip is lost, as its round's epoch is past: that of the word of the page that it claims, and
+/// that of TRACED. No word changes, and the round ends with nothing done. So a page is won in the gate's epoch alone.
+pub fn exchanges_of_past_epochs_are_lost()
+    ensures pages { PastClaimsAreLost }
+    ensures traced { PastMarksAreLost }
+    ensures won { PagesAreWonNow }
 {}
 
 /// A worker with another count of its mutator's instructions wants, tells and becomes the same, and is as sound.
