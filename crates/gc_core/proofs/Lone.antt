@@ -1,8 +1,7 @@
 -- A run of one mutator gets on: each of its steps is paid, and an instruction pays for no more than the most steps of one.
-use Rattle.std.proofs.Common.{◌≡◌, ℕ, zero, suc, ◌+◌, ◌*◌, ◌/◌, ◌<◌, ◌≤◌, ◌⊎◌, inl, inr, Bool, true, false, ◌&&◌, List, [], ◌∷◌, length, Option, Some, None, refl, sym, ap, subst, ◌∙◌, arith, set, get_or-set_same, length-set, set-set}
+use Rattle.std.proofs.Common.{◌≡◌, ℕ, zero, suc, ◌+◌, ◌*◌, ◌/◌, ◌<◌, ◌≤◌, ◌⊎◌, inl, inr, Bool, true, false, ◌&&◌, List, [], ◌∷◌, length, Option, Some, None, refl, sym, ap, subst, ◌∙◌, arith, get_or-set_same, set-set}
 use Rattle.std.specs.Prelude.{is_some, nat_lt, IsTrue}
 use Rattle.std.proofs.Math.Nat.{div-lt_iff_lt-mul}
-use Rattle.plain_state.specs.declared.end.End.{End}
 use Rattle.plain_state.specs.State.{Plain}
 use Rattle.atom_store.specs.declared.step.Step.{Step}
 use Rattle.atom_store.specs.Step.{words_after, reply_of}
@@ -24,10 +23,11 @@ use Rattle.gc_worker.proofs.Between.Beginning.{tasks_may_begin}
 use Rattle.gc_worker.proofs.Between.Readying.{readying_stands}
 use Rattle.gc_worker.proofs.Between.Wanting.{workers_want}
 use Rattle.lone_mutator.specs.Bound.{most_steps}
-use Rattle.lone_mutator.specs.Law.{AfterStep, LoneStepsLower}
+use Rattle.lone_mutator.specs.Law.{AfterStep}
 use Rattle.lone_mutator.specs.Lone.{IsLone, potential}
 use Rattle.lone_mutator.proofs.Beginning.{tasks_begin}
 use Rattle.lone_mutator.proofs.Opening.{heaps_open}
+use Rattle.lone_mutator.proofs.Whole.{lone_steps_lower}
 use Rattle.gc_core.specs.Core.{CoreState, opening_core, is_size}
 use Rattle.gc_core.specs.Event.{Event, event_of, core_after, ready, next_task}
 use Rattle.gc_core.specs.Law.{IsLawful}
@@ -139,7 +139,7 @@ data Went (s : CoreState) (h : Heap) : Type 0 where
   GoesOn : IsLone h → potential h + 1 + most_steps s.heap.pages * executed_by s 0 ≤ potential s.heap + most_steps s.heap.pages * (held_at h 0).account.executed → Went s h
   Stops : is_some (held_at h 0).account.end ≡ true → Went s h
 
-module _ (lower : LoneStepsLower) (s : CoreState) (l : IsLawful s) (r : IsReady s l.plain l.flip) where
+module _ (s : CoreState) (l : IsLawful s) (r : IsReady s l.plain l.flip) where
   was : (held_at r.heap 0).account.executed ≡ executed_by s 0
   was = ap (λ (z : Held). z.account.executed) r.holds ∙ r.counted
 
@@ -156,7 +156,7 @@ module _ (lower : LoneStepsLower) (s : CoreState) (l : IsLawful s) (r : IsReady 
   went_of : (o : Option Step) → wanted (ready s 0) ≡ o → Went s (event_of s 0).after
   went_of None none = absurd (wants_some r.heap l.plain l.flip r.stands r.lone (ap wanted r.holds ∙ none))
   went_of (Some q) asks =
-      let after = lower r.heap l.plain l.flip (ready s 0) q r.stands r.lone r.holds r.has_task asks in
+      let after = lone_steps_lower r.heap l.plain l.flip (ready s 0) q r.stands r.lone r.holds r.has_task asks in
       let same : moved r.heap 0 (ready s 0) q ≡ (event_of s 0).after = r.moves (ready s 0) q ∙ sym (ap (λ (e : Event). e.after) (event_some s 0 q asks)) in
       subst (Went s) same (went_by (moved r.heap 0 (ready s 0) q) (told (ready s 0) (reply_of q r.heap.words)) after)
 
@@ -171,7 +171,7 @@ adds_up n most most_then before after executed then last same one others = let r
 abbrev Paces : (steps : ℕ) → (s last : CoreState) → Type 0
 Paces steps s last = (has_end last 0 ≡ true) ⊎ (steps + most_steps s.heap.pages * executed_by s 0 ≤ potential s.heap + most_steps s.heap.pages * executed_by last 0)
 
-module _ (lower : LoneStepsLower) (schedule : ℕ → ℕ) (alone : (at : ℕ) → schedule at ≡ 0) where
+module _ (schedule : ℕ → ℕ) (alone : (at : ℕ) → schedule at ≡ 0) where
   run_ends : (n at : ℕ) (s : CoreState) → all_ended s ≡ true → (run_from schedule at n s).last ≡ s
   unfolding run_from
   run_ends zero at s ended = refl
@@ -206,7 +206,7 @@ module _ (lower : LoneStepsLower) (schedule : ℕ → ℕ) (alone : (at : ℕ) �
       unfolding run_from
       steps_so =
           let running : all_ended s ≡ false = ended_is s lone ∙ ap is_some lone.no_end in
-          rw (running, alone at) (by_step (went_of lower s l (is_ready s l lone) (wanted (ready s 0)) refl))
+          rw (running, alone at) (by_step (went_of s l (is_ready s l lone) (wanted (ready s 0)) refl))
 
   paces : (n at : ℕ) (s : CoreState) → IsLawful s → IsLone s.heap → Paces n s (run_from schedule at n s).last
   unfolding run_from
@@ -224,7 +224,7 @@ first_executed : (n : ℕ) → (held_at (opening n 1 0) 0).account.executed ≡ 
 unfolding fresh_workers
 first_executed n = refl
 
-module _ (lower : LoneStepsLower) (section : List Instr) (items : List Item) (config : Config) (program : IsWellFormed (section ∷ []) items) (size : IsTrue (is_size config.pages))
+module _ (section : List Instr) (items : List Item) (config : Config) (program : IsWellFormed (section ∷ []) items) (size : IsTrue (is_size config.pages))
     (turns : config.turns ≤ 10000000) (none : config.scanners ≡ 0) where
   abbrev first : CoreState
   first = opening_core (section ∷ []) config
@@ -243,9 +243,9 @@ module _ (lower : LoneStepsLower) (section : List Instr) (items : List Item) (co
       let all = rw zero_first at paid in
       inr (pace (most_steps config.pages) steps (executed_by last 0) (omega (arith, few)) (omega (arith, few, all)))
 
-pub lone_mutators_go_on : LoneStepsLower → LoneMutatorsGoOn
-lone_mutators_go_on lower section items config schedule steps program size turns none alone =
-    keeps_pace lower section items config program size turns none steps (run_from schedule 0 steps (opening_core (section ∷ []) config)).last
-    (paces lower schedule alone steps 0 (opening_core (section ∷ []) config)
+pub lone_mutators_go_on : LoneMutatorsGoOn
+lone_mutators_go_on section items config schedule steps program size turns none alone =
+    keeps_pace section items config program size turns none steps (run_from schedule 0 steps (opening_core (section ∷ []) config)).last
+    (paces schedule alone steps 0 (opening_core (section ∷ []) config)
     (lawful_opening (section ∷ []) items config program size turns (omega (arith, none)))
-    (begins lower section items config program size turns none).0)
+    (begins section items config program size turns none).0)

@@ -1,6 +1,7 @@
 //! What holds of all events and runs. Each function here does nothing: its contract is what is proved.
 
 ghost use Rattle.gc_core.specs.Law.{EventsMeet};
+ghost use Rattle.gc_core.specs.Lone.{LoneMutatorsGoOn};
 ghost use Rattle.gc_core.specs.Whole.{FullsFollowFlips, MissingWorkersAreIdle, NoPageIsWonTwice, RunsFollow};
 
 /// The event of any worker does to each plain state that the core represents what the mark of it does, and what is told of it is so.
@@ -28,4 +29,10 @@ pub fn fulls_follow_flips()
 /// In a run no page is won twice in an epoch.
 pub fn no_page_is_won_twice()
     ensures { NoPageIsWonTwice }
+{}
+
+/// A mutator that has the core to itself gets on: in any number of steps it comes to its end, or has executed an instruction for each time
+/// that the most steps of one are in them.
+pub fn lone_mutators_go_on()
+    ensures { LoneMutatorsGoOn }
 {}

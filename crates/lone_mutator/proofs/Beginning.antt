@@ -1,19 +1,14 @@
 -- A task that is given to a lone mutator changes nothing of what it remembers or has to pay.
-use Rattle.std.proofs.Common.{◌≡◌, ℕ, ◌<◌, length, Some, refl, sym, ap, subst, ◌∙◌, arith, set, get_or-set_same, length-set}
-use Rattle.gate_core.specs.declared.passage.Passage.{Passage}
-use Rattle.gate_core.specs.declared.passage.Passage.TheVariants.{Look, Attach, Park, Request, Resume, Forwarded, Leave}
+use Rattle.std.proofs.Common.{◌≡◌, sym, ap, subst, ◌∙◌, arith, get_or-set_same, length-set}
 use Rattle.heap_state.specs.Configuration.{table}
 use Rattle.heap_state.specs.Table.{Table}
-use Rattle.gc_worker.specs.declared.after.After.{After}
-use Rattle.gc_worker.specs.declared.stage.Stage.{Stage}
-use Rattle.gc_worker.specs.declared.stage.Stage.TheVariants.{Looks, Passes, Flips, Forwards, Accesses, Places, Serves, Scans, Evacuates, Opens, Gone}
 use Rattle.gc_worker.specs.declared.task.Task.{Task}
 use Rattle.gc_worker.specs.Between.{with_task, with_worker}
 use Rattle.gc_worker.specs.Held.{Held}
 use Rattle.gc_worker.specs.Law.{Heap, held_at, nobody, read}
 use Rattle.lone_mutator.specs.Law.{LoneTasksBegin}
-use Rattle.lone_mutator.specs.Lone.{GoesOnPlacing, IsLone, PassageStands, Remembers, StageStands, potential}
-use Rattle.lone_mutator.specs.Potential.{potential_in, potential_at}
+use Rattle.lone_mutator.specs.Lone.{IsLone, Remembers, potential}
+use Rattle.lone_mutator.specs.Potential.{potential_in}
 
 same_memory : (t : Table) (x : Held) (task : Task) → Remembers t x → Remembers t (with_task x task)
 same_memory t x task is = record { began = is.began; quiet = is.quiet; stands = is.stands }
