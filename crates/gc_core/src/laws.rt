@@ -1,7 +1,7 @@
 //! What holds of all events and runs. Each function here does nothing: its contract is what is proved.
 
 ghost use Rattle.gc_core.specs.Law.{EventsMeet};
-ghost use Rattle.gc_core.specs.Lone.{LoneMutatorsGoOn};
+ghost use Rattle.gc_core.specs.Lone.{LoneMutatorsGoOn, LoneRunsEnd};
 ghost use Rattle.gc_core.specs.Whole.{FullsFollowFlips, MissingWorkersAreIdle, NoPageIsWonTwice, RunsFollow};
 
 /// The event of any worker does to each plain state that the core represents what the mark of it does, and what is told of it is so.
@@ -35,4 +35,9 @@ pub fn no_page_is_won_twice()
 /// that the most steps of one are in them.
 pub fn lone_mutators_go_on()
     ensures { LoneMutatorsGoOn }
+{}
+
+/// It has its end after as many steps as the instructions for which it has turns, and one more, can take.
+pub fn lone_runs_end()
+    ensures { LoneRunsEnd }
 {}

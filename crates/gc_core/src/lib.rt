@@ -10,7 +10,7 @@ mod slot;
 
 pub use gc_worker::{Config, OpenError, Stepped};
 pub use laws::{
-    events_meet, fulls_follow_flips, lone_mutators_go_on, missing_workers_are_idle,
+    events_meet, fulls_follow_flips, lone_mutators_go_on, lone_runs_end, missing_workers_are_idle,
     no_page_is_won_twice, runs_follow,
 };
 pub use machine::Core;
