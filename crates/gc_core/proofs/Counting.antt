@@ -23,7 +23,7 @@ use Rattle.gc_worker.specs.Made.{AllowsStep, MayMake, made, made_by}
 use Rattle.gc_worker.specs.Wanted.{wanted}
 use Rattle.gc_worker.proofs.Counting.{counted_fit, counts_are_apart}
 
-at_look : (stage : Stage) (task : Option Task) → awaits_at stage task ≡ true → (stage ≡ Looks) × (task ≡ None)
+pub at_look : (stage : Stage) (task : Option Task) → awaits_at stage task ≡ true → (stage ≡ Looks) × (task ≡ None)
 at_look Looks None is = (refl, refl)
 at_look Looks (Some task) is = absurd (cc)
 at_look (Passes g after) task is = absurd (cc)

@@ -15,3 +15,4 @@ pub mod CoreSteps
 pub mod Telling
 pub mod CoreReads
 pub mod Lone
+pub mod LoneEnds

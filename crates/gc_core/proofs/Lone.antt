@@ -34,7 +34,8 @@ use Rattle.gc_core.specs.Law.{IsLawful}
 use Rattle.gc_core.specs.Lone.{has_end, executed_by, KeepsPace, LoneMutatorsGoOn}
 use Rattle.gc_core.specs.Run.{all_ended, run_from}
 use Rattle.gc_core.proofs.Begun.{size_fits}
-use Rattle.gc_core.proofs.Counts.{awaiting, readied_awaits, readied_rests}
+use Rattle.gc_core.proofs.Counting.{at_look}
+use Rattle.gc_core.proofs.Readied.{readied_awaits, readied_rests}
 use Rattle.gc_core.proofs.Lawful.{event_none, event_some, lawful_after, lawful_opening, may_be_given, workers_after}
 
 -- ---- its end
@@ -86,7 +87,7 @@ module _ (s : CoreState) (l : IsLawful s) (lone : IsLone s.heap) where
   ready_by : (b : Bool) → awaits x ≡ b → IsReady s l.plain l.flip
   ready_by true waits =
       let is = readied_awaits s.code s.turns 0 x waits in
-      let at = awaiting x waits in
+      let at = at_look x.stage x.task waits in
       let may = may_be_given s 0 l below at.0 at.1 in
       let begins = tasks_begin s.heap task lone in
       record {

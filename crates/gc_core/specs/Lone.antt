@@ -1,5 +1,5 @@
 -- That a run of one mutator gets on, where no other worker is.
-use Rattle.std.specs.Prelude.{◌≡◌, ℕ, ◌/◌, ◌≤◌, ◌⊎◌, Bool, true, List, [], ◌∷◌, is_some, IsTrue}
+use Rattle.std.specs.Prelude.{◌≡◌, ℕ, ◌+◌, ◌*◌, ◌/◌, ◌≤◌, ◌⊎◌, Bool, true, List, [], ◌∷◌, is_some, IsTrue}
 use Rattle.mutator_asm.specs.declared.instr.Instr.{Instr}
 use Rattle.mutator_asm.specs.declared.item.Item.{Item}
 use Rattle.mutator_asm.specs.Program.{IsWellFormed}
@@ -26,3 +26,9 @@ abbrev pub LoneMutatorsGoOn : Type 0
 LoneMutatorsGoOn = (section : List Instr) (items : List Item) (config : Config) (schedule : ℕ → ℕ) (steps : ℕ)
     → IsWellFormed (section ∷ []) items → IsTrue (is_size config.pages) → config.turns ≤ 10000000 → config.scanners ≡ 0 → ((at : ℕ) → schedule at ≡ 0)
     → KeepsPace config.pages steps (run_from schedule 0 steps (opening_core (section ∷ []) config)).last
+
+-- with turns for so many instructions it has its end after so many steps
+abbrev pub LoneRunsEnd : Type 0
+LoneRunsEnd = (section : List Instr) (items : List Item) (config : Config) (schedule : ℕ → ℕ) (steps : ℕ)
+    → IsWellFormed (section ∷ []) items → IsTrue (is_size config.pages) → config.turns ≤ 10000000 → config.scanners ≡ 0 → ((at : ℕ) → schedule at ≡ 0)
+    → (config.turns + 1) * most_steps config.pages ≤ steps → has_end (run_from schedule 0 steps (opening_core (section ∷ []) config)).last 0 ≡ true

@@ -2,7 +2,7 @@
 
 ghost use Rattle.gc_core.specs.Cycles.{CyclesKeepWhatIsLive, FullHeapsAreFilled, InstructionsFlipOnce};
 ghost use Rattle.gc_core.specs.Law.{EventsMeet};
-ghost use Rattle.gc_core.specs.Lone.{LoneMutatorsGoOn};
+ghost use Rattle.gc_core.specs.Lone.{LoneMutatorsGoOn, LoneRunsEnd};
 ghost use Rattle.gc_core.specs.Needs.{ClaimsAreForRecords, LargeHeapsAreNeverFull, LoneFullsFollowTheirFlips, LoneHeapsAreNeverFull, OrdersFillTheSpace};
 ghost use Rattle.gc_core.specs.Whole.{CopiedPagesAreWonOnce, FlipsAreOfTracedCores, FullsFollowFlips, MissingWorkersAreIdle, NoPageIsWonTwice, RunsFollow};
 
@@ -71,4 +71,9 @@ pub fn copied_pages_are_won_once()
 /// that the most steps of one are in them.
 pub fn lone_mutators_go_on()
     ensures { LoneMutatorsGoOn }
+{}
+
+/// It has its end after as many steps as the instructions for which it has turns, and one more, can take.
+pub fn lone_runs_end()
+    ensures { LoneRunsEnd }
 {}
