@@ -1,6 +1,7 @@
 -- A run of one mutator gets on: each of its steps is paid, and an instruction pays for no more than the most steps of one.
-use Rattle.std.proofs.Common.{◌≡◌, ℕ, zero, suc, ◌+◌, ◌*◌, ◌/◌, ◌<◌, ◌≤◌, ◌⊎◌, inl, inr, Bool, true, false, ◌&&◌, List, [], ◌∷◌, length, Option, Some, None, refl, sym, ap, subst, ◌∙◌, arith, get_or-set_same, set-set}
+use Rattle.std.proofs.Common.{◌≡◌, ℕ, zero, suc, ◌+◌, ◌*◌, ◌/◌, ◌<◌, ◌≤◌, ◌⊎◌, inl, inr, Bool, true, false, List, [], ◌∷◌, length, Option, Some, None, refl, sym, ap, subst, ◌∙◌, arith, get_or-set_same, set-set}
 use Rattle.std.specs.Prelude.{is_some, nat_lt, IsTrue}
+use Rattle.std.proofs.Math.Bool.{and-true}
 use Rattle.std.proofs.Math.Nat.{div-lt_iff_lt-mul}
 use Rattle.plain_state.specs.State.{Plain}
 use Rattle.atom_store.specs.declared.step.Step.{Step}
@@ -43,11 +44,7 @@ use Rattle.gc_core.proofs.Lawful.{event_none, event_some, lawful_after, lawful_o
 -- where it is the only worker, all have ended exactly where it has
 ended_by : (workers : List Held) → length workers ≡ 1 → (s : CoreState) → s.heap.mutators ≡ 1 → s.heap.workers ≡ workers → all_ended s ≡ has_end s 0
 ended_by [] one s alone are = absurd (omega (arith, one))
-ended_by (x ∷ []) one s alone are = rw (alone, are) (by_end (is_some x.account.end))
-  where
-    by_end : (b : Bool) → (b && true) ≡ b
-    by_end true = refl
-    by_end false = refl
+ended_by (x ∷ []) one s alone are = rw (alone, are) (and-true (is_some x.account.end))
 ended_by (x ∷ y ∷ rest) one s alone are = absurd (omega (arith, one))
 
 pub ended_is : (s : CoreState) → IsLone s.heap → all_ended s ≡ has_end s 0

@@ -23,7 +23,7 @@ uncounted : (b : Bool) → count_one b ≡ 0 → b ≡ false
 uncounted true is = absurd (omega (arith, is))
 uncounted false is = refl
 
-and_false : (b c : Bool) → c ≡ false → b && c ≡ false
+pub and_false : (b c : Bool) → c ≡ false → b && c ≡ false
 and_false true c is = is
 and_false false c is = refl
 

@@ -1,5 +1,5 @@
 -- The passages of the gate by a lone mutator: each is allowed, and each exchange is won.
-use Rattle.std.proofs.Common.{◌≡◌, ◌≢◌, ℕ, ◌+◌, ◌<◌, ◌≤◌, ◌==◌, ◌&&◌, Bool, true, false, cond, Option, Some, None, nat_lt, refl, sym, ap, subst, ◌∙◌, arith, ⊎_elim}
+use Rattle.std.proofs.Common.{◌≡◌, ◌≢◌, ℕ, ◌+◌, ◌<◌, ◌≤◌, ◌==◌, true, false, cond, Option, Some, None, nat_lt, refl, sym, ap, subst, ◌∙◌, arith, ⊎_elim}
 use Rattle.std.specs.Prelude.{not}
 use Rattle.std.proofs.lemmas.Bool.{eq-eqb, ne_eqb, lt-ltb}
 use Rattle.std.proofs.lemmas.Bool.Decides.{nat_tests}
@@ -33,16 +33,12 @@ use Rattle.gc_worker.proofs.Gate.Words.{gate_now, gate_says}
 use Rattle.lone_mutator.specs.Bound.{longest_placing}
 use Rattle.lone_mutator.specs.Potential.{due_in, flip_left, potential_in}
 use Rattle.lone_mutator.specs.Law.{IsAlone, Lowers, StepsLower}
-use Rattle.lone_mutator.proofs.Alone.{is_clear_so, knowing, no_request, none_behind, none_live}
+use Rattle.lone_mutator.proofs.Alone.{and_false, is_clear_so, knowing, no_request, none_behind, none_live}
 use Rattle.lone_mutator.proofs.Going.{GoesAt, goes_placing}
 use Rattle.lone_mutator.proofs.Stepping.{exchanges, loads, wants}
 
 same_so : (own epoch : ℕ) → own ≡ epoch → nat_lt own epoch ≡ false
 same_so own epoch now = grind (arith, nat_tests)
-
-and_not : (b c : Bool) → c ≡ false → b && c ≡ false
-and_not true c is = is
-and_not false c is = refl
 
 lt_by : (a b cost : ℕ) → a ≤ cost → cost < b → a < b
 lt_by a b cost within below = omega (arith, within, below)
@@ -115,7 +111,7 @@ module _ (c : Configuration) (p : Plain) (s : Stands c p) (y : Held) (l : Layout
     resumes_late before =
         let late : nat_lt y.epoch g.epoch ≡ true = lt-ltb y.epoch g.epoch (omega (arith, before)) in
         let other : g.epoch ≢ epoch = (λ same. let own = a.is.fits.stage.passage in omega (arith, same, own, before)) in
-        let test : allows (Resume epoch) g ≡ false = and_not (is_clear g) (g.epoch == epoch) (ne_eqb g.epoch epoch other) in
+        let test : allows (Resume epoch) g ≡ false = and_false (is_clear g) (g.epoch == epoch) (ne_eqb g.epoch epoch other) in
         let Stops : Option GateWord → Type 0 = (λ o. Lowers c.pages (table c) (table c) x (at_stage x (cond (nat_lt y.epoch (epoch_in y.epoch o)) (forwards_it x after (first_pointer y.registers 8 0)) (passes x (Resume y.epoch) after)))) in
         let falls : Stops (Some g) = rw late (forwards_falls late (first_pointer y.registers 8 0)) in
         loads_by (Resume epoch) a (rw test (subst Stops (sym (gate_says c p s)) falls))

@@ -1,5 +1,5 @@
 -- What is still to be paid for an epoch's tracing: when it falls, and how much it is at most.
-use Rattle.std.proofs.Common.{◌≡◌, ◌≢◌, ℕ, zero, suc, ◌+◌, ◌-◌, ◌*◌, ◌%◌, ◌<◌, ◌≤◌, ◌⊎◌, inl, inr, refl, sym, ap, ◌∙◌, arith, ⊎_elim}
+use Rattle.std.proofs.Common.{◌≡◌, ◌≢◌, ℕ, zero, suc, ◌+◌, ◌-◌, ◌*◌, ◌<◌, ◌≤◌, ◌⊎◌, inl, inr, refl, sym, ap, ◌∙◌, arith, ⊎_elim}
 use Rattle.std.proofs.lemmas.Bool.{eq-eqb, ne_eqb, cases_eq}
 use Rattle.std.proofs.Math.Nat.{mul-le-mul_left}
 use Rattle.space_map.specs.declared.page_word.PageWord.{PageWord}
@@ -57,11 +57,6 @@ unclaimed-le n e page =
 -- the page is the board, or one of the epoch's space
 abbrev pub IsToBeTraced : (n e p : ℕ) → Type 0
 IsToBeTraced n e p = (p ≡ board_page n) ⊎ ((n * to_space e ≤ p) × (p < n * to_space e + n))
-
-below_board : (n e i : ℕ) → i < n → n * to_space e + i < board_page n
-below_board n e i l =
-    let one : n * (e % 2) ≤ n * 1 = mul-le-mul_left n (let rest : e % 2 < 2 = omega arith in omega arith) in
-    omega (arith, one, l)
 
 module _ (n e p : ℕ) (w : PageWord) (page : ℕ → PageWord) (new : age_of w ≡ e + 1) where
   abbrev after : ℕ → PageWord
@@ -130,12 +125,6 @@ module _ (n e traced owed : ℕ) (page : ℕ → PageWord) where
   -- a round is paid for where the epoch isn't traced
   pub due_untraced : traced ≢ e + 1 → tracing_due n e traced owed page ≡ tracing_left n e traced owed page + round_cost n
   due_untraced other = rw (left_untraced other, due_still other) refl
-
-  pub left_le_due : tracing_left n e traced owed page ≤ tracing_due n e traced owed page
-  left_le_due = ⊎_elim
-      (λ (is : traced ≡ e + 1). rw (left_traced is) (omega arith))
-      (λ (other : traced ≢ e + 1). rw (due_untraced other) (omega arith))
-      (cases_eq traced (e + 1))
 
   pub due_le_left : tracing_due n e traced owed page ≤ tracing_left n e traced owed page + round_cost n
   due_le_left = ⊎_elim

@@ -12,10 +12,10 @@ use Rattle.heap_words.specs.Decoded.{Decoded, NumberWord, PointerWord, HeaderWor
 use Rattle.heap_words.specs.FirstWords.{is_header, is_forward}
 use Rattle.heap_words.specs.Word.{forward_word, busy_word}
 use Rattle.space_map.specs.declared.area_word.AreaWord.{AreaWord}
-use Rattle.space_map.specs.AreaWord.{AreaFits, area_in, decode_area, encode_area}
+use Rattle.space_map.specs.AreaWord.{AreaFits, encode_area}
 use Rattle.space_map.specs.Spaces.{to_space}
 use Rattle.space_map.specs.Table.{Row, Area, HeapWord, IsRow, place_of}
-use Rattle.space_map.proofs.AreaWords.{decode_area-short, encode_area-area_in}
+use Rattle.space_map.proofs.AreaWords.{encode_area-area_in}
 use Rattle.forwarding.specs.declared.kept_header.KeptHeader.{KeptHeader}
 use Rattle.forwarding.specs.declared.loaded_word.LoadedWord.{LoadedWord}
 use Rattle.forwarding.specs.declared.reserved.Reserved.{Reserved}
@@ -28,6 +28,8 @@ use Rattle.heap_state.specs.Configuration.{Configuration, Stands, table}
 use Rattle.heap_state.specs.Entries.{Entry, EntryFits, AreaIs, CrossIs, WordIs, AnnounceIs, with_entry, row_of, word_of}
 use Rattle.heap_state.specs.Table.{Table, table_of, word_in}
 use Rattle.heap_state.proofs.Puts.{put_at, put_other}
+use Rattle.gc_worker.proofs.Areas.{area_says, area_word, is_space}
+use Rattle.gc_worker.proofs.Scan.Headers.{heap_word}
 use Rattle.lone_mutator.specs.Copies.{CopyStands, copy_left}
 use Rattle.lone_mutator.specs.Lone.{is_announced, NobodyElseAnnounces}
 use Rattle.lone_mutator.specs.Potential.{left_in, due_in}
@@ -87,9 +89,8 @@ module _ (c : Configuration) (p : Plain) (s : Stands c p) (u : Evacuation) where
   abbrev word : ℕ
   word = word_in c.pages c.words (HeapWord u.addr)
 
-  heap_word : t.heap u.addr ≡ word
-  unfolding table_of
-  heap_word = refl
+  read : t.heap u.addr ≡ word
+  read = heap_word c u.addr
 
   neither : {A : Type 0} (d : Decoded) → is_header d ≡ false → is_forward d ≡ false → IsFirstWord d → A
   neither d no_header no_forward (inl head) = absurd (let e = sym no_header ∙ head in cc)
@@ -97,7 +98,7 @@ module _ (c : Configuration) (p : Plain) (s : Stands c p) (u : Evacuation) where
 
   by_first : CopyIsAlone c (at LoadsHeader) → (d : Decoded) → decode word ≡ d → IsFirstWord d → Goes LoadsHeader t (Value word)
   by_first a (HeaderWord kind len serial mutator) is first =
-      plain LoadsHeader a t (TakesHeader (record { word = word; len = len })) (Value word) (ap (λ d. at (by_first_word word d)) is) refl refl refl a.quiet heap_word (omega arith)
+      plain LoadsHeader a t (TakesHeader (record { word = word; len = len })) (Value word) (ap (λ d. at (by_first_word word d)) is) refl refl refl a.quiet read (omega arith)
   by_first a (ForwardWord len to) is first = plain LoadsHeader a t (Ended to) (Value word) (ap (λ d. at (by_first_word word d)) is) refl refl refl a.quiet tt (omega arith)
   by_first a (BusyWord len worker) is first = neither (BusyWord len worker) refl refl first
   by_first a (NumberWord m) is first = neither (NumberWord m) refl refl first
@@ -129,11 +130,11 @@ module _ (c : Configuration) (p : Plain) (s : Stands c p) (u : Evacuation) where
 
   loads_header : Owes LoadsHeader
   loads_header a = loads_it LoadsHeader a (HeapWord u.addr) (let l = a.sound.addr in let n = a.pages in omega (arith, l, n)) refl
-      (by_first a (decode word) refl (subst (λ w. IsFirstWord (decode w)) heap_word (a.meets refl)))
+      (by_first a (decode word) refl (subst (λ w. IsFirstWord (decode w)) read (a.meets refl)))
 
   takes_header : (kept : KeptHeader) → Owes (TakesHeader kept)
   takes_header kept a = exchanges_it (TakesHeader kept) a (WordIs u.addr (busy_word kept.len u.worker)) kept.word (let l = a.sound.addr in let n = a.pages in omega (arith, l, n))
-      (sym heap_word ∙ a.stands) refl
+      (sym read ∙ a.stands) refl
       (plain (TakesHeader kept) a (with_entry (WordIs u.addr (busy_word kept.len u.worker)) t) (LoadsArea kept) Won refl refl refl refl a.quiet tt (omega arith))
 
   -- ---- the area
@@ -144,19 +145,9 @@ module _ (c : Configuration) (p : Plain) (s : Stands c p) (u : Evacuation) where
   abbrev area : AreaWord
   area = t.area space
 
-  is_space : space < 2
-  is_space = omega arith
-
-  area_word : area ≡ area_in (word_in c.pages c.words (Area space))
-  unfolding table_of
-  area_word = refl
-
-  area_says : decode_area (word_in c.pages c.words (Area space)) ≡ Some area
-  area_says = decode_area-short (word_in c.pages c.words (Area space)) (s.formed.areas space is_space) ∙ ap Some (sym area_word)
-
   loads_area : (kept : KeptHeader) → Owes (LoadsArea kept)
-  loads_area kept a = loads_it (LoadsArea kept) a (Area space) is_space refl
-      (plain (LoadsArea kept) a t (Announces kept area) (Value _) (ap (λ o. at (by_area kept o)) area_says) refl refl refl a.quiet refl (omega arith))
+  loads_area kept a = loads_it (LoadsArea kept) a (Area space) (is_space u.epoch) refl
+      (plain (LoadsArea kept) a t (Announces kept area) (Value _) (ap (λ o. at (by_area kept o)) (area_says c p s space (is_space u.epoch))) refl refl refl a.quiet refl (omega arith))
 
   announces : (kept : KeptHeader) (read : AreaWord) → Owes (Announces kept read)
   announces kept read a = stores_it (Announces kept read) a (AnnounceIs u.worker (front_of u.layout u.epoch read + 1)) a.sound.worker refl
@@ -191,10 +182,10 @@ module _ (c : Configuration) (p : Plain) (s : Stands c p) (u : Evacuation) where
         rw (now, before) (left_reserved n t.gate.epoch t.traced read.owed t.page (size_of kept) a.untraced room)
 
     area_stands : word_in c.pages c.words (Area space) ≡ encode_area read
-    area_stands = sym (encode_area-area_in (word_in c.pages c.words (Area space))) ∙ (ap encode_area (sym area_word) ∙ ap encode_area a.stands)
+    area_stands = sym (encode_area-area_in (word_in c.pages c.words (Area space))) ∙ (ap encode_area (sym (area_word c space)) ∙ ap encode_area a.stands)
 
     pub reserves : (r : Step) → wanted (at (Reserves kept read)) ≡ Some r → HoldsBy c p s (Goes (Reserves kept read)) r
-    reserves = exchanges_it (Reserves kept read) a (AreaIs space past) (encode_area read) (is_space, past_fits) area_stands refl (record {
+    reserves = exchanges_it (Reserves kept read) a (AreaIs space past) (encode_area read) (is_space u.epoch, past_fits) area_stands refl (record {
       stands = tt;
       quiet = a.quiet;
       gate = refl;

@@ -1,7 +1,7 @@
 -- What a scan has left goes down with each step, by six where it asks for a copy.
 use Rattle.std.proofs.Common.{◌≡◌, ℕ, ◌+◌, ◌-◌, ◌*◌, ◌<◌, ◌≤◌, Bool, true, false, cond, nat_eq, nat_lt, max, Option, Some, None, refl, arith}
 use Rattle.std.specs.Prelude.{is_some}
-use Rattle.std.proofs.lemmas.Bool.{ne_eqb}
+use Rattle.std.proofs.lemmas.Bool.{ne_eqb, cond_both}
 use Rattle.std.proofs.lemmas.Bool.Decides.{nat_tests}
 use Rattle.atom_store.specs.declared.reply.Reply.{Reply}
 use Rattle.atom_store.specs.declared.reply.Reply.TheVariants.{Value, Done}
@@ -66,11 +66,6 @@ by_word-cost l p e in_place spot Malformed fits = passed-lt l p in_place spot fi
 
 -- ---- a header
 
--- what a test chooses has a property if either choice has it where it is made
-by_test : (P : ScanStage → Type 0) (b : Bool) (x y : ScanStage) → (b ≡ true → P x) → (b ≡ false → P y) → P (cond b x y)
-by_test P true x y then otherwise = then refl
-by_test P false x y then otherwise = otherwise refl
-
 scan_end-page : (l : Layout) (p : ℕ) → p < board_page l.pages → scan_end l p ≡ first_word (p + 1)
 scan_end-page l p low = let other = ne_eqb p (board_page l.pages) (λ (e : p ≡ board_page l.pages). absurd (omega (arith, low, e))) in rw other refl
 
@@ -78,20 +73,20 @@ scan_end-page l p low = let other = ne_eqb p (board_page l.pages) (λ (e : p ≡
 goes_on-cost : (end page : ℕ) (in_place : Bool) (r : ScannedRecord) (x from : ℕ) → from ≤ x → from ≤ r.next → cost end (goes_on page in_place r x) ≤ 7 * (end - from)
 goes_on-cost end page in_place r x from low next =
     let P : (ScanStage → Type 0) = (λ (stage : ScanStage). cost end stage ≤ 7 * (end - from)) in
-    by_test P (nat_lt x r.fields_end) _ _
-    (λ _. by_test P (nat_lt x (first_word (page + 1))) _ _ (λ _. omega (arith, low)) (λ _. omega arith))
-    (λ _. by_test P (nat_lt r.next (first_word (page + 1))) _ _
-    (λ _. by_test P in_place (LoadsFront r) (LoadsNext r) (λ _. omega (arith, next)) (λ _. omega (arith, next))) (λ _. omega arith))
+    cond_both (nat_lt x r.fields_end) _ _ P
+    (λ _. cond_both (nat_lt x (first_word (page + 1))) _ _ P (λ _. omega (arith, low)) (λ _. omega arith))
+    (λ _. cond_both (nat_lt r.next (first_word (page + 1))) _ _ P
+    (λ _. cond_both in_place (LoadsFront r) (LoadsNext r) P (λ _. omega (arith, next)) (λ _. omega (arith, next))) (λ _. omega arith))
 
 -- on a page it is no more than what a page has
 entered-cost : (n page end : ℕ) (in_place : Bool) (r : ScannedRecord) (x : ℕ) → end ≡ first_word (page + 1) → FitsStage n page (goes_on page in_place r x)
     → cost end (goes_on page in_place r x) ≤ 448
 entered-cost n page end in_place r x is =
     let P : (ScanStage → Type 0) = (λ (stage : ScanStage). FitsStage n page stage → cost end stage ≤ 448) in
-    by_test P (nat_lt x r.fields_end) _ _
-    (λ _. by_test P (nat_lt x (first_word (page + 1))) _ _ (λ _ fits. let low = fits.2 in omega (arith, low, is)) (λ _ fits. omega arith))
-    (λ _. by_test P (nat_lt r.next (first_word (page + 1))) _ _
-    (λ _. by_test P in_place (LoadsFront r) (LoadsNext r) (λ _ fits. let low = fits.2 in omega (arith, low, is)) (λ _ fits. let low = fits.2 in omega (arith, low, is)))
+    cond_both (nat_lt x r.fields_end) _ _ P
+    (λ _. cond_both (nat_lt x (first_word (page + 1))) _ _ P (λ _ fits. let low = fits.2 in omega (arith, low, is)) (λ _ fits. omega arith))
+    (λ _. cond_both (nat_lt r.next (first_word (page + 1))) _ _ P
+    (λ _. cond_both in_place (LoadsFront r) (LoadsNext r) P (λ _ fits. let low = fits.2 in omega (arith, low, is)) (λ _ fits. let low = fits.2 in omega (arith, low, is)))
     (λ _ fits. omega arith))
 
 first_field-pos : (kind : Kind) → 1 ≤ first_field (said_kind kind 0)
@@ -108,7 +103,7 @@ next-cost end page in_place at kind len inside =
 
 area-cost : (l : Layout) (e end : ℕ) (r : ScannedRecord) (o : Option AreaWord) → is_some o ≡ true → r.next < end → cost end (by_area l e r o) < 7 * (end - r.next)
 area-cost l e end r (Some area) some inside =
-    by_test (λ (stage : ScanStage). cost end stage < 7 * (end - r.next)) (nat_eq _ r.next) _ (LoadsNext r) (λ _. omega (arith, inside)) (λ _. omega (arith, inside))
+    cond_both (nat_eq _ r.next) _ (LoadsNext r) (λ (stage : ScanStage). cost end stage < 7 * (end - r.next)) (λ _. omega (arith, inside)) (λ _. omega (arith, inside))
 area-cost l e end r None some inside = absurd (cc)
 
 first-cost : (l : Layout) (p : ℕ) (in_place : Bool) (at : ℕ) (d : Decoded) → p < board_page l.pages → is_header d ≡ true
@@ -134,7 +129,7 @@ header-cost end page in_place r Malformed inside head = absurd (cc)
 stored-cost : (l : Layout) (p : ℕ) (in_place : Bool) (spot : Spot) → IsOnPage l.pages p spot
     → cost (scan_end l p) (passes p in_place spot) < 7 * (scan_end l p - address_of spot - 1) + 1
 stored-cost l p in_place (OnBoard x) fits =
-    by_test (λ (stage : ScanStage). cost (scan_end l p) stage < 7 * (scan_end l p - x - 1) + 1) (nat_lt (x + 1) (first_word p + board_words)) (LoadsWord (OnBoard (x + 1))) _
+    cond_both (nat_lt (x + 1) (first_word p + board_words)) (LoadsWord (OnBoard (x + 1))) _ (λ (stage : ScanStage). cost (scan_end l p) stage < 7 * (scan_end l p - x - 1) + 1)
     (λ _. omega arith) (λ _. omega arith)
 stored-cost l p in_place (InRecord r x) fits =
     let order = fits.0 in

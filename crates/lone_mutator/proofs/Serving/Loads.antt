@@ -1,5 +1,5 @@
 -- The loads of a round by a lone mutator: each takes it on.
-use Rattle.std.proofs.Common.{◌≡◌, ℕ, ◌*◌, ◌<◌, ◌≤◌, Option, Some, refl, sym, ap, subst, ◌∙◌, arith}
+use Rattle.std.proofs.Common.{◌≡◌, ℕ, ◌*◌, ◌≤◌, Option, Some, refl, sym, ap, subst, ◌∙◌, arith}
 use Rattle.plain_state.specs.State.{Plain}
 use Rattle.atom_store.specs.declared.reply.Reply.TheVariants.{Value}
 use Rattle.space_map.specs.declared.area_word.AreaWord.{AreaWord}
@@ -57,9 +57,6 @@ module _ (c : Configuration) (p : Plain) (s : Stands c p) (y : Held) (d : Round)
 
     front : duty.front_of (round_at z) area ≡ (memory c).front
     front = (front_for c p s 0 y d back z a.is known_epoch).now (worker_now c p s y d back z a)
-
-    says_area : (row : ℕ) → row ≡ space → row < 2
-    says_area row is = rw is (is_space d.epoch)
 
     in_table : (page : ℕ) → page ≤ board_page d.layout.pages → page ≤ 2 * c.pages
     in_table page few = let n = same_pages c p s 0 y d back z a.is in omega (arith, few, n)
