@@ -124,6 +124,7 @@ orders_fill_the_space code items config schedule n program size turns few =
 pub large_heaps_are_never_full : LargeHeapsAreNeverFull
 large_heaps_are_never_full code items config schedule n program size turns few =
     large_is_never_full config.pages code config.turns (run_of code config schedule n).order (orders_fill_the_space code items config schedule n program size turns few)
+    (fulls_follow_flips code items config schedule n program size turns few)
 
 pub lone_fulls_follow_their_flips : LoneFullsFollowTheirFlips
 lone_fulls_follow_their_flips code items config schedule n program size turns few one front rest m asked room live is below =
