@@ -44,6 +44,7 @@ fn step(core: &mut Core, worker: u8) -> Stepped
 
 /// Steps the workers that the schedule names until every mutator has its end, or for so many steps.
 /// Each position of the schedule counts as a step. The order is kept only where it is asked for.
+#[inline(never)]
 pub fn run(
     alloc: Global,
     core: &mut Core,
