@@ -14,3 +14,4 @@ pub mod Counts
 pub mod Stepping
 pub mod Telling
 pub mod CoreReads
+pub mod Ending
