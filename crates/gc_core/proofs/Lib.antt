@@ -16,3 +16,4 @@ pub mod Telling
 pub mod CoreReads
 pub mod Lone
 pub mod LoneEnds
+pub mod Ending
