@@ -116,6 +116,14 @@ fn calls_give_what_they_should(rt: HostRuntime) -> Result<(), Fail> {
     Ok(())
 }
 
+#[test]
+fn a_lone_mutator_sees_no_scanners(rt: HostRuntime) -> Result<(), Fail> {
+    for words in ["|sim ", "|sim --scanners 0 ", "|sim --scanners 8 "] {
+        check_rows(&rt, &collecting::LONE.replace(rt.alloc(), "|sim ", words)?)?;
+    }
+    Ok(())
+}
+
 /// A text of one instruction, with spaces before its last line end.
 const LENGTHS: &str = "\
 1048562| |the longest input|sim|.mutator/halt@/|0: halt/||0

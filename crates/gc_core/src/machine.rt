@@ -5,7 +5,7 @@ ghost use Rattle.gc_core.specs.Core.{workers_of};
 ghost use Rattle.gc_core.specs.Event.{core_after, event_of};
 
 use crate::slot::Slot;
-use atom_store::{Atoms, PlainAtoms};
+use atom_store::PlainAtoms;
 use gc_worker::Stepped;
 use mutator_asm::Program;
 use space_map::Spaces;
@@ -44,10 +44,6 @@ impl<'p> Core<'p> {
     {
         let at = worker as usize;
         self.slots[at].ready(self.program, self.turns, worker);
-        let Some(step) = self.slots[at].want() else {
-            return Stepped::Idle;
-        };
-        let reply = self.atoms.act(step);
-        self.slots[at].take(reply)
+        self.slots[at].step(&mut self.atoms)
     }
 }
