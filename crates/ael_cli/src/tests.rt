@@ -2,6 +2,7 @@
 
 mod collecting;
 mod dumps;
+mod failing;
 mod files;
 mod instructions;
 mod listings;
