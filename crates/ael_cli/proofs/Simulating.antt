@@ -6,6 +6,7 @@ use Rattle.mutator_asm.specs.declared.item.Item.{Item}
 use Rattle.plain_heap.specs.declared.mark.Mark.{Mark}
 use Rattle.plain_heap.specs.Print.{lines_seen, order_line, plain_seen}
 use Rattle.gc_core.specs.Core.{CoreState}
+use Rattle.gc_core.specs.Dumped.{dumped}
 use Rattle.gc_core.specs.Readers.{seen_of}
 use Rattle.gc_core.specs.Run.{Ran, all_ended}
 use Rattle.gc_core.specs.Whole.{Follows}
@@ -29,7 +30,7 @@ went_otherwise s over halts = rw (over, halts)
 -- the order is needed only where it is printed
 flag_lines-same : (options : SimOptions) (order : List Mark) (ran : Ran) → (options.order ≡ true → order ≡ ran.order)
     → flag_lines options (record { last = ran.last; order = order }) ≡ flag_lines options ran
-flag_lines-same options order ran kept = ap (λ line. line ++ cond options.cycles (cycles_line ran.last) [] ++ cond options.dump (dump_text ran.last) []) (by_flag options.order kept) where
+flag_lines-same options order ran kept = ap (λ line. line ++ cond options.cycles (cycles_line ran.last) [] ++ cond options.dump (dump_text (dumped ran.last)) []) (by_flag options.order kept) where
   by_flag : (b : Bool) → (b ≡ true → order ≡ ran.order) → cond b (order_line order) [] ≡ cond b (order_line ran.order) []
   by_flag true same = ap order_line (same refl)
   by_flag false same = refl
@@ -46,4 +47,5 @@ simulated options program items last order output status follows is_last kept pr
       went = went ∙ ap status_seen seen;
       acts = follows.acts;
       full = follows.full;
+      dump = follows.dump;
     }

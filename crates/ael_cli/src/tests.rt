@@ -1,5 +1,6 @@
 //! The program's answers, over sources and sinks in memory and over a file.
 
+mod benches;
 mod collecting;
 mod dumps;
 mod failing;
@@ -148,6 +149,7 @@ const ENDS: &str = "\
 2|1000|1000|the read of the end fails|sim|.mutator/li r1 7/new r0 2/st r0 1 r1/ld r2 r0 1/out r2/halt/||ael: read fault/|5
 2|1000|1000|the read of the end of a listing fails|asm|.mutator/halt/||ael: read fault/|5
 1|1000|1000|the first read fails|sim|||ael: read fault/|5
+1|1000|1000|a benchmark reads nothing|bench 3 1||0: 8/0: halt/1: 8/1: halt/2: 8/2: halt/3: 8/3: halt/cycles 0 live 0/||0
 0|1|1000|no room for the output|sim|.mutator/halt/|0|ael: write fault/|6
 0|1000|0|no room for the usage|||||6
 0|1000|5|some room for the usage||||usage|6

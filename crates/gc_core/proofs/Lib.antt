@@ -1,5 +1,6 @@
 pub mod Outcomes
 pub mod Readied
+pub mod Dumping
 pub mod Events
 pub mod Claims
 pub mod Fulls

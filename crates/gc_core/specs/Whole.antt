@@ -12,12 +12,13 @@ use Rattle.plain_heap.specs.declared.mark.Mark.TheVariants.{Step, Flip, Full}
 use Rattle.plain_heap.specs.Step.{asked_by}
 use Rattle.plain_heap.specs.Order.{opening, plain, end_of, EachMark}
 use Rattle.plain_heap.specs.Print.{plain_seen}
-use Rattle.heap_state.specs.Represents.{Represents}
+use Rattle.heap_state.specs.Represents.{DumpRepresents, Represents}
 use Rattle.gc_worker.specs.Full.{FindsNoRoom}
 use Rattle.gc_worker.specs.Law.{read}
 use Rattle.gc_worker.specs.declared.config.Config.{Config}
 use Rattle.gc_worker.specs.declared.stepped.Stepped.TheVariants.{Idle, Ended}
 use Rattle.gc_core.specs.Core.{CoreState, is_size, opening_core, workers_of}
+use Rattle.gc_core.specs.Dumped.{dump_said, dumped}
 use Rattle.gc_core.specs.Event.{core_after, event_of, ready}
 use Rattle.gc_core.specs.Claims.{AreApart, wins_from}
 use Rattle.gc_core.specs.Fulls.{EachMayCome}
@@ -46,9 +47,11 @@ IsFull s w = (asked room live : ℕ) → (event_of s w).told ≡ Ended w (ends.H
 
 -- ---- a run
 
--- a run of a program by turns from its opening: the core represents the plain machine that executed the run's order
+-- A run of a program by turns from its opening: the core represents the plain machine that executed the run's order, and so does what a
+-- dump tells of it.
 pub record Follows (code : List (List Instr)) (turns : ℕ) (schedule : ℕ → ℕ) (n : ℕ) (s : CoreState) : Type 0 where
   pub represents : Represents (read (run_from schedule 0 n s).last.heap) (plain code turns (run_from schedule 0 n s).order)
+  pub dump : DumpRepresents (dump_said (dumped (run_from schedule 0 n s).last)) (plain code turns (run_from schedule 0 n s).order)
   pub seen : seen_of (run_from schedule 0 n s).last ≡ plain_seen (plain code turns (run_from schedule 0 n s).order)
   pub acts : EachActs code turns (opening code) (run_from schedule 0 n s).order
   pub full : EachEvent IsFull schedule 0 n s
