@@ -3,6 +3,7 @@
 mod benches;
 mod collecting;
 mod dumps;
+mod failing;
 mod files;
 mod instructions;
 mod listings;

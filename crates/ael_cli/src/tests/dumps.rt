@@ -1,6 +1,7 @@
 //! The dump of a run.
 
 use super::{AMPLE, FIRST, call};
+use std::alloc::Global;
 use std::test::Fail;
 
 /// The lines of the dump that aren't a word 0, by their numbers from 1.
@@ -29,13 +30,19 @@ fn dump_line(number: usize) -> &'static str {
     }
 }
 
-#[test]
-fn a_dump_has_each_word(rt: HostRuntime) -> Result<(), Fail> {
-    let mut wanted = String::from_str(rt.alloc(), "0: 7\n0: halt\n")?;
+/// These lines, and those of the dump behind them.
+pub fn with_dump(alloc: Global, lines: &str) -> Result<String, Fail> {
+    let mut wanted = String::from_str(alloc, lines)?;
     for number in 1..=636 {
         wanted.push_str(dump_line(number))?;
         wanted.push('\n')?;
     }
+    Ok(wanted)
+}
+
+#[test]
+fn a_dump_has_each_word(rt: HostRuntime) -> Result<(), Fail> {
+    let wanted = with_dump(rt.alloc(), "0: 7\n0: halt\n")?;
     let found = call(&rt, "sim --pages 4 --scanners 0 --dump", FIRST, AMPLE)?;
     found.check("a dump", wanted.as_bytes(), b"", 0)
 }
