@@ -12,7 +12,8 @@ use Rattle.gc_worker.proofs.Between.Standing.{what_stands_is_so}
 use Rattle.gc_worker.proofs.Between.Wanting.{workers_want}
 use Rattle.gc_worker.proofs.Whole.{steps_keep}
 use Rattle.gc_core.specs.Core.{CoreState, opening_core}
-use Rattle.gc_core.specs.Law.{EventsKeep, EventsMeet, epoch_in}
+use Rattle.gc_worker.specs.Claims.{epoch_in}
+use Rattle.gc_core.specs.Law.{EventsKeep, EventsMeet}
 use Rattle.gc_core.specs.Run.{Ran, run_from}
 use Rattle.gc_core.specs.Whole.{RunsFollow, FullsFollowFlips, NoPageIsWonTwice, CopiedPagesAreWonOnce, FlipsAreOfTracedCores}
 use Rattle.gc_core.proofs.Events as events

@@ -6,7 +6,8 @@ use Rattle.plain_heap.specs.Order.{Story}
 use Rattle.gc_worker.specs.Begun.{IsPastLook}
 use Rattle.gc_worker.specs.Law.{WorkersStand, held_at}
 use Rattle.gc_core.specs.Core.{CoreState}
-use Rattle.gc_core.specs.Law.{IsSteady, epoch_in}
+use Rattle.gc_worker.specs.Claims.{epoch_in}
+use Rattle.gc_core.specs.Law.{IsSteady}
 use Rattle.gc_core.specs.Run.{run_from}
 
 -- ---- an order

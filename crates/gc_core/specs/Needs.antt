@@ -12,7 +12,8 @@ use Rattle.plain_heap.specs.Step.{asked_by}
 use Rattle.heap_state.specs.Functions.{sum_below}
 use Rattle.heap_state.specs.Reachable.{IsLive}
 use Rattle.gc_worker.specs.declared.stepped.Stepped.TheVariants.{Ended}
-use Rattle.gc_core.specs.Cycles.{InEveryRun, run_of, story_of, claims_of}
+use Rattle.gc_core.specs.Run.{InEveryRun, run_of}
+use Rattle.gc_core.specs.Cycles.{story_of, claims_of}
 use Rattle.gc_core.specs.Event.{event_of}
 use Rattle.gc_core.specs.Fulls.{flips_in, since_in}
 
