@@ -38,6 +38,7 @@ impl<'p> Model for Core<'p> {
 
 impl<'p> Core<'p> {
     /// One event of a worker: its next atomic step. It takes no memory.
+    #[inline(always)]
     pub fn step(&mut self, worker: u8) -> Stepped
         requires { worker < workers_of self.old }
         ensures told { result ≡ (event_of self.old worker).told }
