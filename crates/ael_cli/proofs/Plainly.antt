@@ -132,6 +132,7 @@ module _ (one : MeansOneProgram) (no_fault : HasNoFault) (call : Call) (a : IsAn
         acts = d.1.acts;
         full = d.1.full;
         dump = d.1.dump;
+        collected = d.1.collected;
       }
 
   pub prints_listing : MeansWellFormed → ListsText → PrintsListing call

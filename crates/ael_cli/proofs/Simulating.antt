@@ -15,7 +15,7 @@ use Rattle.ael_cli.specs.declared.status.Status.TheVariants.{Done, Ended, StepsO
 use Rattle.ael_cli.specs.declared.options.SimOptions.{SimOptions}
 use Rattle.ael_cli.specs.Dump.{cycles_line, dump_text}
 use Rattle.ael_cli.specs.Seen.{has_halted, status_seen}
-use Rattle.ael_cli.specs.Simulation.{core_of, scheduled, run_of, order_of, plain_of, flag_lines, IsSimulated}
+use Rattle.ael_cli.specs.Simulation.{core_of, scheduled, run_of, order_of, plain_of, flag_lines, IsCollected, IsSimulated}
 
 -- how a run went
 pub went_out : (s : CoreState) → all_ended s ≡ false → StepsOut ≡ status_seen (seen_of s)
@@ -36,11 +36,11 @@ flag_lines-same options order ran kept = ap (λ line. line ++ cond options.cycle
   by_flag false same = refl
 
 pub simulated : (options : SimOptions) (program : List (List Instr)) (items : List Item) (last : CoreState) (order : List Mark) (output : List ℕ) (status : Status)
-    → Follows program options.turns (scheduled options program items) options.steps (core_of options program) → last ≡ (run_of options program items).last → (options.order ≡ true → order ≡ order_of options program items)
+    → Follows program options.turns (scheduled options program items) options.steps (core_of options program) → IsCollected options program items → last ≡ (run_of options program items).last → (options.order ≡ true → order ≡ order_of options program items)
     → output ≡ lines_seen 0 (seen_of last) ++ flag_lines options (record { last = last; order = order })
     → status ≡ status_seen (seen_of last)
     → IsSimulated options program items output status
-simulated options program items last order output status follows is_last kept printed went =
+simulated options program items last order output status follows collected is_last kept printed went =
     let seen : seen_of last ≡ plain_seen (plain_of options program items) = ap seen_of is_last ∙ follows.seen in
     record {
       prints = printed ∙ rw (seen, is_last, flag_lines-same options order (run_of options program items) kept) refl;
@@ -48,4 +48,5 @@ simulated options program items last order output status follows is_last kept pr
       acts = follows.acts;
       full = follows.full;
       dump = follows.dump;
+      collected = collected;
     }

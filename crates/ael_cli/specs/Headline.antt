@@ -19,7 +19,7 @@ use Rattle.ael_cli.specs.Call.{Call}
 use Rattle.ael_cli.specs.Dump.{IsTrueDump}
 use Rattle.ael_cli.specs.Emits.{Emits}
 use Rattle.ael_cli.specs.Jobs.{run_by, task_of}
-use Rattle.ael_cli.specs.Simulation.{flag_lines, order_of, run_of, IsFullWithoutRoom}
+use Rattle.ael_cli.specs.Simulation.{flag_lines, order_of, run_of, IsCollected, IsFullWithoutRoom}
 use Rattle.ael_cli.specs.Status.{code_of}
 use Rattle.ael_cli.specs.Stream.{Grows}
 use Rattle.ael_cli.specs.Success.{GoesWell, Succeeds}
@@ -57,6 +57,7 @@ pub record IsPlainlyPrinted (call : Call) (options : SimOptions) (program : List
   pub acts : EachActs program options.turns (opening program) (order_of options program items)
   pub full : IsFullWithoutRoom options program items
   pub dump : IsTrueDump (run_of options program items).last (plain program options.turns (order_of options program items))
+  pub collected : IsCollected options program items
 
 -- the headline in one sentence: where `sim` or `bench` succeeds, it prints what the plain machine prints
 abbrev pub PrintsPlainly : Call → Type 0

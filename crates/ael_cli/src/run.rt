@@ -1,12 +1,13 @@
 //! A run of a core by a schedule.
 
-ghost use Rattle.std.specs.Prelude.{◌≡◌, ◌<◌, ◌++◌, IfOk, IsTrue, OnOk, true};
+ghost use Rattle.std.specs.Prelude.{◌≡◌, ◌≢◌, ◌<◌, ◌++◌, ℕ, IfOk, IsTrue, OnOk, true, false};
 ghost use Rattle.std.specs.List.{list_all};
 ghost use Rattle.std.specs.Option.{option_to_list};
+ghost use Rattle.plain_state.specs.declared.end.End.{End};
 ghost use Rattle.mutator_asm.specs.Program.{is_item};
 ghost use Rattle.gc_core.specs.Core.{workers_of};
 ghost use Rattle.gc_core.specs.Event.{event_of, core_after};
-ghost use Rattle.gc_core.specs.Run.{run_from, mark_of};
+ghost use Rattle.gc_core.specs.Run.{all_ended, run_from, mark_of};
 ghost use Rattle.ael_cli.specs.Schedule.{schedule_of};
 
 use crate::options::SimOptions;
@@ -32,6 +33,7 @@ fn note(order: &mut Vec<Mark>, keep: bool, stepped: Stepped) -> Result<(), Alloc
 fn step(core: &mut Core, worker: u8) -> Stepped
     ensures told { result ≡ (event_of core.old worker).told }
     ensures after { core.new ≡ core_after core.old worker }
+    ensures ends_are_told { ((m : ℕ) (why : End) → result ≢ Stepped.Ended m why) → all_ended core.new ≡ all_ended core.old }
     ensures workers { workers_of core.new ≡ workers_of core.old }
 {
     if worker < core.workers() {
@@ -42,8 +44,20 @@ fn step(core: &mut Core, worker: u8) -> Stepped
     }
 }
 
+/// Whether every mutator has its end after a step of which this is told: before it one had none.
+fn is_over(core: &Core, told: Stepped) -> bool
+    requires { ((m : ℕ) (why : End) → told ≢ Stepped.Ended m why) → all_ended core.now ≡ false }
+    ensures { result ≡ all_ended core.now }
+{
+    match told {
+        Stepped::Ended(..) => core.all_ended(),
+        Stepped::Idle | Stepped::Moved | Stepped::Effect(_) | Stepped::Flipped(_) => false,
+    }
+}
+
 /// Steps the workers that the schedule names until every mutator has its end, or for so many steps.
 /// Each position of the schedule counts as a step. The order is kept only where it is asked for.
+#[inline(never)]
 pub fn run(
     alloc: Global,
     core: &mut Core,
@@ -58,12 +72,14 @@ pub fn run(
 {
     let mut order = Vec::new(alloc);
     let mut scheduler = Scheduler::new(options.seed, items, core.workers());
+    let mut over = core.all_ended();
     for _ in 0..options.steps {
-        if core.all_ended() {
+        if over {
             break;
         }
         let stepped = step(core, scheduler.next());
         note(&mut order, options.order, stepped)?;
+        over = is_over(core, stepped);
     }
     Ok(order)
 }

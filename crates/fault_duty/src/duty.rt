@@ -134,6 +134,14 @@ impl Duty {
         ensures lowers { IsTrue (advances self.old reply) → left self.new < left self.old }
     {
         let _pages = self.spaces.pages();
+        self.go_on(reply);
+        self.tell()
+    }
+
+    fn go_on(&mut self, reply: Reply)
+        requires { IsSoundRound (taken self.old reply) }
+        ensures { self.new ≡ taken self.old reply }
+    {
         match reply {
             Reply::Value(word) => self.read(word),
             Reply::Won | Reply::Lost(_) | Reply::Done => self.hear(reply),
@@ -141,10 +149,9 @@ impl Duty {
     }
 
     /// Takes the word that was loaded.
-    fn read(&mut self, word: u64) -> Turn<RoundEnd>
+    fn read(&mut self, word: u64)
         requires { IsSoundRound (taken self.old (Reply.Value word)) }
-        ensures state { self.new ≡ taken self.old (Reply.Value word) }
-        ensures tells { result ≡ told self.new }
+        ensures { self.new ≡ taken self.old (Reply.Value word) }
     {
         match self.stage {
             DutyStage::LoadsGate => self.look_at_gate(word),
@@ -159,28 +166,27 @@ impl Duty {
             DutyStage::EndPage(look, page) => self.end_at_page(look, page, word),
             DutyStage::EndFilling(look) => self.end_at_filling(look, word),
             DutyStage::EndAreaAgain(look, filling) => self.end_at_area_again(look, filling, word),
-            DutyStage::Traces(_) | DutyStage::Ended(_) => self.tell(),
+            DutyStage::Traces(_) | DutyStage::Ended(_) => {}
         }
     }
 
     /// Takes what became of an exchange.
-    fn hear(&mut self, reply: Reply) -> Turn<RoundEnd>
+    fn hear(&mut self, reply: Reply)
         requires { (word : ℕ) → reply ≢ Reply.Value word }
-        ensures state { self.new ≡ taken self.old reply }
-        ensures tells { result ≡ told self.new }
+        ensures { self.new ≡ taken self.old reply }
     {
         match self.stage {
             DutyStage::Claims(_) => self.go_on_claiming(reply),
             DutyStage::Traces(_) => match reply {
                 Reply::Won => self.end(RoundEnd::Marked),
                 Reply::Lost(word) => self.end(RoundEnd::NothingNow(word)),
-                Reply::Value(_) | Reply::Done => Turn::More,
+                Reply::Value(_) | Reply::Done => {}
             },
-            _ => self.tell(),
+            _ => {}
         }
     }
 
-    /// Stays where it is.
+    /// What it tells of itself at this stage.
     fn tell(&self) -> Turn<RoundEnd>
         ensures { result ≡ told self.now }
     {
@@ -191,22 +197,18 @@ impl Duty {
     }
 
     /// Goes on to a stage that has a next step.
-    fn go_to(&mut self, stage: DutyStage) -> Turn<RoundEnd>
+    fn go_to(&mut self, stage: DutyStage)
         requires fits { FitsDutyStage self.old stage }
         requires going { IsRoundGoing stage }
-        ensures state { self.new ≡ at_stage self.old stage }
-        ensures tells { result ≡ More }
+        ensures { self.new ≡ at_stage self.old stage }
     {
         self.stage = stage;
-        Turn::More
     }
 
-    fn end(&mut self, outcome: RoundEnd) -> Turn<RoundEnd>
-        ensures state { self.new ≡ at_stage self.old (DutyStage.Ended outcome) }
-        ensures tells { result ≡ Finished outcome }
+    fn end(&mut self, outcome: RoundEnd)
+        ensures { self.new ≡ at_stage self.old (DutyStage.Ended outcome) }
     {
         self.stage = DutyStage::Ended(outcome);
-        Turn::Finished(outcome)
     }
 
     // ---- pages, in the epoch of the round

@@ -36,7 +36,7 @@ opens_so code = λ i. record {
   mutators = sym (map_const order.fresh code) i;
 }
 
-size_fits : (pages : ℕ) → IsTrue (is_size pages) → IsPageCount pages
+pub size_fits : (pages : ℕ) → IsTrue (is_size pages) → IsPageCount pages
 size_fits pages e = by_tests (nat_le 4 pages) (nat_le pages 2048) refl refl e
   where
     by_tests : (a b : Bool) → nat_le 4 pages ≡ a → nat_le pages 2048 ≡ b → (a && b) ≡ true → IsPageCount pages

@@ -17,9 +17,13 @@ use Rattle.gc_worker.specs.Stepped.{IsSound, awaits, awaits_at, stepped_by, unco
 use Rattle.gc_worker.specs.declared.stepped.Stepped.TheVariants as steps
 use Rattle.gc_worker.specs.Turned.{Told, Silent, Answers, Marks, Effect, Ends, told, turned}
 use Rattle.atom_store.specs.declared.reply.Reply.{Reply}
+use Rattle.atom_store.specs.declared.step.Step.{Step}
+use Rattle.atom_store.specs.Step.{reply_of}
+use Rattle.gc_worker.specs.Made.{AllowsStep, MayMake, made, made_by}
+use Rattle.gc_worker.specs.Wanted.{wanted}
 use Rattle.gc_worker.proofs.Counting.{counted_fit, counts_are_apart}
 
-at_look : (stage : Stage) (task : Option Task) → awaits_at stage task ≡ true → (stage ≡ Looks) × (task ≡ None)
+pub at_look : (stage : Stage) (task : Option Task) → awaits_at stage task ≡ true → (stage ≡ Looks) × (task ≡ None)
 at_look Looks None is = (refl, refl)
 at_look Looks (Some task) is = absurd (cc)
 at_look (Passes g after) task is = absurd (cc)
@@ -57,34 +61,75 @@ call_by account registers instr valid few = record { valid = valid; serial = λ 
 pub sound_apart : (count : ℕ) (x : Held) → IsSound (counted count x) → IsSound x
 sound_apart count x sound = (counted_fit x.layout.pages x.mutators x.number count x).0 sound
 
-pub sound_with : (count : ℕ) (x : Held) → IsSound x → IsSound (counted count x)
-sound_with count x sound = (counted_fit x.layout.pages x.mutators x.number count x).1 sound
-
 module _ (count : ℕ) (x : Held) (sound : IsSound (counted count x)) where
   apart : CountsApart count x
   apart = counts_are_apart x.layout.pages x.mutators x.number count x (sound_apart count x sound)
 
   -- what it becomes is sound
-  pub turned_sound : (reply : Reply) → IsSound (turned (counted count x) reply) → IsSound (turned x reply)
+  turned_sound : (reply : Reply) → IsSound (turned (counted count x) reply) → IsSound (turned x reply)
   turned_sound reply is = sound_apart (count_after count (told x reply)) (turned x reply) (subst IsSound (apart.turns reply) is)
 
   -- and with its new count it is that
-  pub turned_with : (reply : Reply) (now : ℕ) → now ≡ count_after count (told x reply) → counted now (uncounted (turned x reply)) ≡ turned (counted count x) reply
+  turned_with : (reply : Reply) (now : ℕ) → now ≡ count_after count (told x reply) → counted now (uncounted (turned x reply)) ≡ turned (counted count x) reply
   turned_with reply now is = ap (λ (n : ℕ). counted n (turned x reply)) is ∙ sym (apart.turns reply)
 
-  pub tells_with : (reply : Reply) → stepped_by x.number (told x reply) ≡ stepped_by x.number (told (counted count x) reply)
+  tells_with : (reply : Reply) → stepped_by x.number (told x reply) ≡ stepped_by x.number (told (counted count x) reply)
   tells_with reply = ap (stepped_by x.number) (sym (apart.tells reply))
 
 -- an effect is counted
-pub counts_effect : (k m count : ℕ) (t : Told) → stepped_by k t ≡ steps.Effect m → count + 1 ≡ count_after count t
+counts_effect : (k m count : ℕ) (t : Told) → stepped_by k t ≡ steps.Effect m → count + 1 ≡ count_after count t
 counts_effect k m count (Answers task Effect) is = refl
 counts_effect k m count (Answers task (Ends end)) is = absurd (cc)
 counts_effect k m count Silent is = absurd (cc)
 counts_effect k m count (Marks asked) is = absurd (cc)
 
 -- and nothing else is
-pub counts_no_other : (k count : ℕ) (t : Told) → ((m : ℕ) → stepped_by k t ≡ steps.Effect m → ⊥) → count ≡ count_after count t
+counts_no_other : (k count : ℕ) (t : Told) → ((m : ℕ) → stepped_by k t ≡ steps.Effect m → ⊥) → count ≡ count_after count t
 counts_no_other k count (Answers task Effect) other = absurd (other k refl)
 counts_no_other k count (Answers task (Ends end)) other = refl
 counts_no_other k count Silent other = refl
 counts_no_other k count (Marks asked) other = refl
+
+-- ---- its step with the count beside it
+
+module _ (count : ℕ) (x : Held) (sound : IsSound (counted count x)) (words : List ℕ) where
+  abbrev y : Held
+  y = counted count x
+
+  wants : wanted y ≡ wanted x
+  wants = (apart count x sound).wants
+
+  pub may_apart : MayMake y words → MayMake x words
+  may_apart may = by_step (wanted x) (subst (AllowsStep y words) wants may)
+    where
+      by_step : (o : Option Step) → AllowsStep y words o → AllowsStep x words o
+      by_step None may = tt
+      by_step (Some q) may = record { place = may.place; takes = may.takes; fits = turned_sound count x sound (reply_of q words) may.fits }
+
+  pub words_apart : (made x words).words ≡ (made y words).words
+  words_apart = by_step (wanted x) ∙ ap (λ (o : Option Step). (made_by y words o).words) (sym wants)
+    where
+      by_step : (o : Option Step) → (made_by x words o).words ≡ (made_by y words o).words
+      by_step None = refl
+      by_step (Some q) = refl
+
+  pub told_apart : (made x words).told ≡ (made y words).told
+  told_apart = by_step (wanted x) ∙ ap (λ (o : Option Step). (made_by y words o).told) (sym wants)
+    where
+      by_step : (o : Option Step) → (made_by x words o).told ≡ (made_by y words o).told
+      by_step None = refl
+      by_step (Some q) = tells_with count x sound (reply_of q words)
+
+  pub made_effect : (m : ℕ) → (made x words).told ≡ steps.Effect m → counted (count + 1) (uncounted (made x words).held) ≡ (made y words).held
+  made_effect m is = by_step (wanted x) is ∙ ap (λ (o : Option Step). (made_by y words o).held) (sym wants)
+    where
+      by_step : (o : Option Step) → (made_by x words o).told ≡ steps.Effect m → counted (count + 1) (uncounted (made_by x words o).held) ≡ (made_by y words o).held
+      by_step None is = absurd (cc)
+      by_step (Some q) is = turned_with count x sound (reply_of q words) (count + 1) (counts_effect x.number m count (told x (reply_of q words)) is)
+
+  pub made_other : ((m : ℕ) → (made x words).told ≡ steps.Effect m → ⊥) → counted count (uncounted (made x words).held) ≡ (made y words).held
+  made_other other = by_step (wanted x) other ∙ ap (λ (o : Option Step). (made_by y words o).held) (sym wants)
+    where
+      by_step : (o : Option Step) → ((m : ℕ) → (made_by x words o).told ≡ steps.Effect m → ⊥) → counted count (uncounted (made_by x words o).held) ≡ (made_by y words o).held
+      by_step None other = refl
+      by_step (Some q) other = turned_with count x sound (reply_of q words) count (counts_no_other x.number count (told x (reply_of q words)) other)

@@ -1,19 +1,19 @@
 -- What is told of a core by its readers represents the plain state that the core represents.
 use Rattle.std.proofs.Common.{◌≡◌, ℕ, ◌<◌, ◌≤◌, List, [], length, get_or, sym, ap, subst, ◌∙◌, arith}
-use Rattle.std.proofs.lemmas.List.{get_or-map}
-use Rattle.std.proofs.lemmas.Option.{get_or_from_slice_get, slice_get_within}
+use Rattle.std.proofs.lemmas.List.{get_or-map, get_or-take, length-map, length-take-le}
+use Rattle.std.proofs.lemmas.Option.{slice_get_within}
 use Rattle.plain_state.specs.State as plain
 use Rattle.plain_state.specs.declared.kind.Kind.{Kind}
 use Rattle.heap_state.specs.Dump.{Dump, dump_of}
 use Rattle.heap_state.specs.Represents.{DumpRepresents, RegisterShows, RecordShows, IsOwn, HasOwn, LeadsToRecord, denoted_in_dump}
 use Rattle.heap_state.specs.Walk.{Walked}
 use Rattle.heap_state.specs.Worker.{Scanner, Worker, fresh}
+use Rattle.gc_worker.specs.Held.{Held}
 use Rattle.gc_worker.specs.Knows.{knows}
 use Rattle.gc_worker.specs.Law.{held_at, nobody, read}
 use Rattle.gc_core.specs.Core.{CoreState, workers_of}
 use Rattle.gc_core.specs.Dumped.{dumped, dump_said, register_told}
-use Rattle.gc_core.specs.Readers.{registers_in}
-use Rattle.gc_core.proofs.Telling.{registers_length, registers_there}
+use Rattle.gc_core.specs.Readers.{mutators_in, registers_in}
 
 -- ---- other registers beside the same table
 
@@ -64,10 +64,21 @@ module _ (d : Dump) (p : plain.Plain) (mutators : ℕ) (registers : ℕ → ℕ 
 
 -- ---- the registers of a core
 
+abbrev registers_of : Held → List ℕ
+registers_of x = x.registers
+
+registers_length : (s : CoreState) → s.heap.mutators ≤ workers_of s → length (registers_in s) ≡ s.heap.mutators
+registers_length s enough = length-map (mutators_in s) registers_of ∙ length-take-le s.heap.mutators s.heap.workers enough
+
+registers_at : (s : CoreState) (m : ℕ) → s.heap.mutators ≤ workers_of s → m < s.heap.mutators → get_or (registers_in s) m [] ≡ (held_at s.heap m).registers
+registers_at s m enough few =
+    let there : m < length (mutators_in s) = omega (arith, few, length-take-le s.heap.mutators s.heap.workers enough) in
+    get_or-map registers_of (mutators_in s) m nobody [] there ∙ ap registers_of (get_or-take s.heap.mutators s.heap.workers m nobody few)
+
 register_is : (s : CoreState) (m j : ℕ) → s.heap.mutators ≤ workers_of s → m < s.heap.mutators → register_told (registers_in s) m j ≡ (dump_of (read s.heap)).registers m j
 register_is s m j enough few =
     let there : m < length s.heap.workers = omega (arith, enough, few) in
-    ap (λ (rs : List ℕ). get_or rs j 0) (get_or_from_slice_get (registers_in s) m (held_at s.heap m).registers [] (registers_there s enough m few))
+    ap (λ (rs : List ℕ). get_or rs j 0) (registers_at s m enough few)
     ∙ sym (ap (λ (x : Worker). x.registers j) (get_or-map knows s.heap.workers m nobody (fresh Scanner) there))
 
 pub told_represents : (s : CoreState) (p : plain.Plain) → s.heap.mutators ≤ workers_of s → DumpRepresents (dump_of (read s.heap)) p → DumpRepresents (dump_said (dumped s)) p

@@ -23,6 +23,15 @@ flips_by flips (marks.Step j) = flips
 flips_by flips (marks.Flip asked) = flips + 1
 flips_by flips (marks.Full j asked room live) = flips
 
+-- the same after marks
+abbrev pub since_in : (ℕ → Bool) → List Mark → ℕ → Bool
+since_in since [] = since
+since_in since (mark ∷ marks) = since_in (since_by since mark) marks
+
+abbrev pub flips_in : ℕ → List Mark → ℕ
+flips_in flips [] = flips
+flips_in flips (mark ∷ marks) = flips_in (flips_by flips mark) marks
+
 -- a mutator finds the heap full where a flip came since its last step, or as many as there can be
 abbrev pub MayCome : (ℕ → Bool) → ℕ → Mark → Type 0
 MayCome since flips (marks.Step j) = ⊤

@@ -7,3 +7,6 @@ pub mod Law
 pub mod Claims
 pub mod Fulls
 pub mod Whole
+pub mod Cycles
+pub mod Needs
+pub mod Lone

@@ -13,16 +13,17 @@ use Rattle.plain_heap.specs.Step.{asked_by}
 use Rattle.plain_heap.specs.Order.{opening, plain, end_of, EachMark}
 use Rattle.plain_heap.specs.Print.{plain_seen}
 use Rattle.heap_state.specs.Represents.{DumpRepresents, Represents}
+use Rattle.gc_worker.specs.Copied.{IsTraced}
 use Rattle.gc_worker.specs.Full.{FindsNoRoom}
 use Rattle.gc_worker.specs.Law.{read}
 use Rattle.gc_worker.specs.declared.config.Config.{Config}
-use Rattle.gc_worker.specs.declared.stepped.Stepped.TheVariants.{Idle, Ended}
+use Rattle.gc_worker.specs.declared.stepped.Stepped.TheVariants.{Idle, Flipped, Ended}
 use Rattle.gc_core.specs.Core.{CoreState, is_size, opening_core, workers_of}
 use Rattle.gc_core.specs.Dumped.{dump_said, dumped}
 use Rattle.gc_core.specs.Event.{core_after, event_of, ready}
-use Rattle.gc_core.specs.Claims.{AreApart, wins_from}
+use Rattle.gc_core.specs.Claims.{AreApart, PagesAreWon, wins_from}
 use Rattle.gc_core.specs.Fulls.{EachMayCome}
-use Rattle.gc_core.specs.Law.{IsLawful}
+use Rattle.gc_core.specs.Law.{IsLawful, epoch_in}
 use Rattle.gc_core.specs.Readers.{seen_of}
 use Rattle.gc_core.specs.Run.{run_from, EachEvent}
 
@@ -78,3 +79,15 @@ FullsFollowFlips = (code : List (List Instr)) (items : List Item) (config : Conf
 -- in every run no page is won twice in an epoch
 abbrev pub NoPageIsWonTwice : Type 0
 NoPageIsWonTwice = (schedule : ℕ → ℕ) (at n : ℕ) (s : CoreState) → IsLawful s → AreApart (wins_from schedule at n s)
+
+-- in every run of every program, in each epoch after the first, in which nothing is copied, the pages that are open for copies were won,
+-- each exactly once; once the epoch is traced the board and all pages into which records were copied are among them
+abbrev pub CopiedPagesAreWonOnce : Type 0
+CopiedPagesAreWonOnce = (code : List (List Instr)) (items : List Item) (config : Config) (schedule : ℕ → ℕ) (n : ℕ)
+    → IsWellFormed code items → IsTrue (is_size config.pages) → config.turns ≤ 10000000 → config.scanners ≤ 8
+    → 0 < epoch_in (run_from schedule 0 n (opening_core code config)).last.heap
+    → PagesAreWon (wins_from schedule 0 n (opening_core code config)) (run_from schedule 0 n (opening_core code config)).last.heap
+
+-- and no event flips out of an epoch that isn't traced
+abbrev pub FlipsAreOfTracedCores : Type 0
+FlipsAreOfTracedCores = (s : CoreState) (w asked : ℕ) → IsLawful s → (event_of s w).told ≡ Flipped asked → IsTraced s.heap

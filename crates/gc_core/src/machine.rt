@@ -1,11 +1,13 @@
 //! A core: the workers and the words that they share, stepped by whoever has the schedule.
 
-ghost use Rattle.std.specs.Prelude.{◌≡◌, ◌<◌};
+ghost use Rattle.std.specs.Prelude.{◌≡◌, ◌≢◌, ◌<◌, ℕ};
+ghost use Rattle.plain_state.specs.declared.end.End.{End};
 ghost use Rattle.gc_core.specs.Core.{workers_of};
 ghost use Rattle.gc_core.specs.Event.{core_after, event_of};
+ghost use Rattle.gc_core.specs.Run.{all_ended};
 
 use crate::slot::Slot;
-use atom_store::{Atoms, PlainAtoms};
+use atom_store::PlainAtoms;
 use gc_worker::Stepped;
 use mutator_asm::Program;
 use space_map::Spaces;
@@ -40,14 +42,11 @@ impl<'p> Core<'p> {
         requires { worker < workers_of self.old }
         ensures told { result ≡ (event_of self.old worker).told }
         ensures after { self.new ≡ core_after self.old worker }
+        ensures ends_are_told { ((m : ℕ) (why : End) → result ≢ Stepped.Ended m why) → all_ended self.new ≡ all_ended self.old }
         ensures workers { workers_of self.new ≡ workers_of self.old }
     {
         let at = worker as usize;
         self.slots[at].ready(self.program, self.turns, worker);
-        let Some(step) = self.slots[at].want() else {
-            return Stepped::Idle;
-        };
-        let reply = self.atoms.act(step);
-        self.slots[at].take(reply)
+        self.slots[at].step(&mut self.atoms)
     }
 }

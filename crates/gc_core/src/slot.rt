@@ -1,17 +1,16 @@
 //! A worker of a core, with the count of the instructions that it has executed.
 
-ghost use Rattle.std.specs.Prelude.{◌≡◌, ◌-◌, ◌≤◌, ◌<◌, ◌^◌, ℕ, true, IsSome, IsTrue};
+ghost use Rattle.std.specs.Prelude.{◌≡◌, ◌-◌, ◌≤◌, ◌<◌, ◌^◌, ℕ, true, IsTrue};
 ghost use Rattle.std.specs.List.{list_all};
 ghost use Rattle.mutator_asm.specs.Program.{is_valid};
 ghost use Rattle.gc_worker.specs.Counted.{counted};
-ghost use Rattle.gc_worker.specs.Fits.{Takes};
-ghost use Rattle.gc_worker.specs.Stepped.{IsSound, awaits, stepped_by};
+ghost use Rattle.gc_worker.specs.Made.{MayMake, made};
+ghost use Rattle.gc_worker.specs.Stepped.{IsSound, awaits};
 ghost use Rattle.gc_worker.specs.declared.stepped.Stepped.TheVariants.{Effect};
-ghost use Rattle.gc_worker.specs.Turned.{told, turned};
 ghost use Rattle.gc_worker.specs.Wanted.{wanted};
 ghost use Rattle.gc_core.specs.Event.{readied};
 
-use atom_store::{Reply, Step};
+use atom_store::{PlainAtoms, Step};
 use gc_worker::{Stepped, Worker};
 use mutator_asm::Program;
 use plain_heap::End;
@@ -67,17 +66,16 @@ impl Slot {
         self.worker.want()
     }
 
-    /// Takes the reply to it.
-    pub fn take(&mut self, reply: Reply) -> Stepped
+    /// Makes it on these words, where there is one.
+    pub fn step(&mut self, on: &mut PlainAtoms) -> Stepped
         requires sound { IsSound self.old }
-        requires wants { IsSome (wanted self.old) }
-        requires takes { Takes self.old reply }
-        requires fits { IsSound (turned self.old reply) }
-        requires room { (m : ℕ) → stepped_by self.old.number (told self.old reply) ≡ Effect m → self.old.account.executed < 2 ^ 32 - 1 }
-        ensures state { self.new ≡ turned self.old reply }
-        ensures tells { result ≡ stepped_by self.old.number (told self.old reply) }
+        requires may { MayMake self.old on.old }
+        requires room { (m : ℕ) → (made self.old on.old).told ≡ Effect m → self.old.account.executed < 2 ^ 32 - 1 }
+        ensures state { self.new ≡ (made self.old on.old).held }
+        ensures words { on.new ≡ (made self.old on.old).words }
+        ensures tells { result ≡ (made self.old on.old).told }
     {
-        let told = self.worker.take(reply);
+        let told = self.worker.step(on);
         if let Stepped::Effect(_) = told {
             self.count += 1;
         }

@@ -1,12 +1,15 @@
 -- Workers that begin, that are given a task, or that took a reply are sound.
-use Rattle.std.proofs.Common.{◌≡◌, ℕ, ◌<◌, ◌≤◌, Some, sym, subst, arith, lt-ltb}
+use Rattle.std.proofs.Common.{◌≡◌, ℕ, ◌<◌, ◌≤◌, List, Option, Some, None, sym, subst, arith, lt-ltb}
 use Rattle.std.proofs.lemmas.Bool.{le-ltb}
 use Rattle.space_map.specs.Spaces.{IsPageCount}
+use Rattle.atom_store.specs.declared.step.Step.{Step}
 use Rattle.gc_worker.specs.declared.task.Task.{Task}
 use Rattle.gc_worker.specs.Between.{IsIdle, fresh_mutator, fresh_scanner, with_task}
 use Rattle.gc_worker.specs.Fits.{MayBegin}
 use Rattle.gc_worker.specs.Held.{Held}
+use Rattle.gc_worker.specs.Made.{AllowsStep, MayMake, made, made_by}
 use Rattle.gc_worker.specs.Stepped.{IsSound, uncounted}
+use Rattle.gc_worker.specs.Wanted.{wanted}
 use Rattle.gc_worker.proofs.Between.Beginning.{tasks_may_begin}
 use Rattle.gc_worker.proofs.Between.Opening.{mutator_fits, scanner_fits}
 use Rattle.gc_worker.proofs.Counting.{counted_fit}
@@ -24,3 +27,10 @@ begun_are_sound x y task is sound idle may =
 
 pub uncounted_are_sound : (x y : Held) → y ≡ uncounted x → IsSound x → IsSound y
 uncounted_are_sound x y is sound = subst IsSound (sym is) ((counted_fit x.layout.pages x.mutators x.number 0 x).1 sound)
+
+pub made_are_sound : (x y : Held) (words : List ℕ) → y ≡ uncounted (made x words).held → IsSound x → MayMake x words → IsSound y
+made_are_sound x y words is sound may = uncounted_are_sound (made x words).held y is (by_step (wanted x) may)
+  where
+    by_step : (step : Option Step) → AllowsStep x words step → IsSound (made_by x words step).held
+    by_step None may = sound
+    by_step (Some q) may = may.fits

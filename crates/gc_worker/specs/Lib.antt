@@ -12,8 +12,11 @@ pub mod Law
 pub mod Between
 pub mod Copied
 pub mod Claims
+pub mod Past
+pub mod Cycles
 pub mod Begun
 pub mod Represented
 pub mod FullTold
 pub mod Stepped
 pub mod Counted
+pub mod Made

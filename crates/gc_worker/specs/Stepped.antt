@@ -23,6 +23,7 @@ use Rattle.forwarding.specs.Keeping.{kept_word, reserved_word}
 use Rattle.fault_duty.specs.declared.round_end.RoundEnd.{RoundEnd}
 use Rattle.fault_duty.specs.declared.round_end.RoundEnd.TheVariants.{ScanPage, ScanInPlace, Marked, AllLeft, NothingNow}
 use Rattle.gc_worker.specs.declared.back.Back.{Back}
+use Rattle.gc_worker.specs.declared.back.Back.TheVariants.{ToScanner}
 use Rattle.gc_worker.specs.Held.{Held, at_stage}
 use Rattle.gc_worker.specs.Seen.{seen}
 use Rattle.gc_worker.specs.Turned as turned
@@ -127,6 +128,11 @@ IsOpening _ = ⊥
 -- a register and where it leads
 abbrev pub pointed : ℕ × ℕ → turned.Pointed
 pointed p = record { register = p.0; addr = p.1 }
+
+-- what the worker goes back to after its round
+abbrev pub back_at : Stage → Back
+back_at (Serves d back) = back
+back_at _ = ToScanner
 
 -- what a round of this epoch comes to
 abbrev pub served_in : Held → (epoch : ℕ) → Back → RoundEnd → Held

@@ -1,4 +1,4 @@
-ghost use Rattle.std.specs.Prelude.{◌≡◌, ◌^◌, ◌<◌, ◌≤◌, IsTrue};
+ghost use Rattle.std.specs.Prelude.{◌≡◌, ◌≢◌, ◌^◌, ◌<◌, ◌≤◌, ℕ, IsTrue};
 ghost use Rattle.atom_store.specs.Step.{place_in};
 ghost use Rattle.heap_words.specs.Decoded.{decode};
 ghost use Rattle.mmu_model.specs.Access.{access_of};
@@ -69,30 +69,56 @@ impl Access {
         ensures tells { result ≡ told self.old reply }
         ensures lowers { result ≡ Turn.More → IsTrue (advances_at self.old.stage reply) → left self.new < left self.old }
     {
+        match reply {
+            Reply::Value(word) => self.read(word),
+            Reply::Won | Reply::Lost(_) | Reply::Done => self.hear(reply),
+        }
+    }
+
+    /// Takes the word that was loaded.
+    fn read(&mut self, word: u64) -> Turn<Accessed>
+        requires sound { IsSoundAccess self.old }
+        requires takes { Takes self.old.stage (Reply.Value word) }
+        ensures state { self.new ≡ taken self.old (Reply.Value word) }
+        ensures tells { result ≡ told self.old (Reply.Value word) }
+        ensures lowers { result ≡ Turn.More → IsTrue (advances_at self.old.stage (Reply.Value word)) → left self.new < left self.old }
+    {
         let spaces = self.spaces;
-        match (self.stage, reply) {
-            (AccessStage::LooksAtRecord(r), Reply::Value(word)) => {
+        match self.stage {
+            AccessStage::LooksAtRecord(r) => {
                 self.look(spaces.page_of(r.at), word, AccessStage::LoadsHeader(r))
             }
-            (AccessStage::LoadsHeader(r), Reply::Value(word)) => self.read_header(r, word),
-            (AccessStage::LooksAtField(f, usage), Reply::Value(word)) => {
+            AccessStage::LoadsHeader(r) => self.read_header(r, word),
+            AccessStage::LooksAtField(f, usage) => {
                 let _pages = spaces.pages();
                 self.look(spaces.page_of(f.at + f.word), word, using_field(f, usage))
             }
-            (AccessStage::LoadsField(f, into), Reply::Value(word)) => {
+            AccessStage::LoadsField(f, into) => {
                 Turn::Finished(Accessed::Brings(into, held(f.role, word)))
             }
-            (AccessStage::LooksAtBoard(b), Reply::Value(word)) => {
+            AccessStage::LooksAtBoard(b) => {
                 self.look(spaces.board_page(), word, using_board(b.word, b.usage))
             }
-            (AccessStage::LoadsBoard(_, into), Reply::Value(word)) => {
-                Turn::Finished(Accessed::Brings(into, word))
-            }
+            AccessStage::LoadsBoard(_, into) => Turn::Finished(Accessed::Brings(into, word)),
+            AccessStage::LoadsForSwap(s) => self.go_to(AccessStage::SwapsBoard(s, word)),
+            AccessStage::StoresField(..)
+            | AccessStage::StoresBoard(..)
+            | AccessStage::SwapsBoard(..) => Turn::More,
+        }
+    }
+
+    /// Takes what became of a store or an exchange.
+    fn hear(&mut self, reply: Reply) -> Turn<Accessed>
+        requires sound { IsSoundAccess self.old }
+        requires takes { Takes self.old.stage reply }
+        requires no_word { (word : ℕ) → reply ≢ Reply.Value word }
+        ensures state { self.new ≡ taken self.old reply }
+        ensures tells { result ≡ told self.old reply }
+        ensures lowers { result ≡ Turn.More → IsTrue (advances_at self.old.stage reply) → left self.new < left self.old }
+    {
+        match (self.stage, reply) {
             (AccessStage::StoresField(..) | AccessStage::StoresBoard(..), Reply::Done) => {
                 Turn::Finished(Accessed::Stored)
-            }
-            (AccessStage::LoadsForSwap(s), Reply::Value(word)) => {
-                self.go_to(AccessStage::SwapsBoard(s, word))
             }
             (AccessStage::SwapsBoard(s, old), Reply::Won) => {
                 Turn::Finished(Accessed::Brings(s.into, old))

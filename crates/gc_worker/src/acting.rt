@@ -24,18 +24,19 @@ use plain_heap::Action;
 use plain_state::{End, Identity};
 
 impl State {
-    /// The mutator goes on at an instruction, and has answered its task.
-    pub fn jump(&mut self, target: u64) -> Stepped
+    /// The mutator goes on at an instruction, and has answered its task. It looks at the gate already.
+    fn jump(&mut self, target: u64) -> Stepped
+        requires at { self.old.stage ≡ Stage.Looks }
         ensures state { self.new ≡ uncounted (jumped self.old target) }
         ensures tells { result ≡ Stepped.Effect self.old.number }
     {
         self.counter = target;
         self.due = Due::Nothing;
-        self.stage = Stage::Looks;
         Stepped::Effect(self.number)
     }
 
     pub fn go_on(&mut self) -> Stepped
+        requires at { self.old.stage ≡ Stage.Looks }
         ensures state { self.new ≡ uncounted (went_on self.old) }
         ensures tells { result ≡ Stepped.Effect self.old.number }
     {
@@ -54,6 +55,7 @@ impl State {
 
     /// A register gets a word, and the mutator goes on with the next instruction.
     pub fn load(&mut self, into: u8, word: u64) -> Stepped
+        requires at { self.old.stage ≡ Stage.Looks }
         ensures state { self.new ≡ uncounted (loads self.old into word) }
         ensures tells { result ≡ Stepped.Effect self.old.number }
     {
@@ -62,7 +64,9 @@ impl State {
     }
 
     /// Prints a number, for which there is room.
+    #[inline(never)]
     pub fn print(&mut self, number: u64) -> Stepped
+        requires at { self.old.stage ≡ Stage.Looks }
         requires is_mutator { nat_lt self.old.number self.old.mutators ≡ true }
         requires few { length self.old.account.printed < MOST_PRINTED }
         ensures state { self.new ≡ uncounted (prints self.old number) }
@@ -73,6 +77,7 @@ impl State {
     }
 
     /// The mutator has its end, and leaves.
+    #[inline(never)]
     pub fn end_with(&mut self, end: End) -> Stepped
         ensures state { self.new ≡ uncounted (ended self.old end) }
         ensures tells { result ≡ Stepped.Ended self.old.number end }
@@ -101,6 +106,7 @@ impl State {
 
     /// What the registers said is done.
     pub fn act(&mut self, action: Action) -> Stepped
+        requires at { self.old.stage ≡ Stage.Looks }
         requires is_mutator { nat_lt self.old.number self.old.mutators ≡ true }
         requires fits { FitsAction (length self.old.account.printed) action }
         requires after { FitsStage (acts self.old action) (acts self.old action).stage }

@@ -95,12 +95,10 @@ impl State {
         let Stage::Places(place) = &mut self.stage else {
             unreachable!()
         };
-        let before = *place;
         let Turn::Finished(allocated) = place.take(reply) else {
             return Stepped::Moved;
         };
         let run = place.run();
-        self.stage = Stage::Places(before);
         match allocated {
             Allocated::Placed(at) => self.has_placed(run, at),
             Allocated::Full(shortage) => self.has_no_room(shortage),
@@ -115,6 +113,7 @@ impl State {
         ensures tells { result ≡ stepped_by self.old.number (told_effect self.old.task) }
     {
         self.run = Some(run);
+        self.stage = Stage::Looks;
         match self.action(self.instr) {
             Ok(Action::Makes(_, into, _)) => {
                 self.serial += 1;

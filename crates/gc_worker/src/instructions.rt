@@ -97,6 +97,7 @@ impl State {
     }
 
     /// `add`, `sub`, `mul`, `div`, `rem` and `lt`, each `rd ra rb`
+    #[inline(always)]
     fn compute(&self, operation: Operation, d: u8, a: u8, b: u8) -> Result<Action, End>
         ensures exact { result ≡ computes operation (seen_by self.now) d a b }
         ensures fits { IfOk result (FitsAction (length self.now.account.printed)) }
@@ -146,6 +147,7 @@ impl State {
 
     /// What an instruction does, as far as the registers tell.
     #[tactic(auto, unfolding(plain_heap::specs::Action::action))]
+    #[inline(always)]
     pub fn action(&self, instr: Instr) -> Result<Action, End>
         ensures exact { result ≡ action (seen_by self.now) instr }
         ensures fits { IsTrue (is_valid instr) → IfOk result (FitsAction (length self.now.account.printed)) }

@@ -36,6 +36,7 @@ impl State {
     }
 
     fn looked(&mut self, word: u64) -> Stepped
+        requires at { self.old.stage ≡ Stage.Looks }
         requires is_mutator { nat_lt self.old.number self.old.mutators ≡ true }
         requires may_begin { MayBegin self.old.account self.old.registers self.old.task }
         requires after { FitsStage (looked_by self.old (decode_gate word)) (looked_by self.old (decode_gate word)).stage }
@@ -55,6 +56,7 @@ impl State {
 
     /// The task begins, if there is one.
     fn start(&mut self) -> Stepped
+        requires at { self.old.stage ≡ Stage.Looks }
         requires is_mutator { nat_lt self.old.number self.old.mutators ≡ true }
         requires may_begin { MayBegin self.old.account self.old.registers self.old.task }
         requires after { FitsStage (started self.old self.old.task) (started self.old self.old.task).stage }
@@ -62,10 +64,7 @@ impl State {
         ensures tells { result ≡ stepped_by self.old.number (told_start self.old self.old.task) }
     {
         match self.due {
-            Due::Nothing => {
-                self.stage = Stage::Looks;
-                Stepped::Moved
-            }
+            Due::Nothing => Stepped::Moved,
             Due::Call => {
                 self.begun = self.epoch;
                 self.execute(self.instr)
@@ -78,6 +77,7 @@ impl State {
     }
 
     fn execute(&mut self, instr: Instr) -> Stepped
+        requires at { self.old.stage ≡ Stage.Looks }
         requires is_mutator { nat_lt self.old.number self.old.mutators ≡ true }
         requires valid { IsTrue (is_valid instr) }
         requires after { FitsStage (acted self.old (action (seen_by self.old) instr)) (acted self.old (action (seen_by self.old) instr)).stage }

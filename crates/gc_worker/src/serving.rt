@@ -3,7 +3,7 @@
 ghost use Rattle.std.specs.Prelude.{◌≡◌, ◌≤◌};
 ghost use Rattle.space_map.specs.Spaces.{board_page};
 ghost use Rattle.gc_worker.specs.Fits.{FitsStage, Takes};
-ghost use Rattle.gc_worker.specs.Stepped.{IsAtAccess, IsEvacuating, IsOpening, IsScanning, IsServing, IsSound, served_in, stepped_by, uncounted};
+ghost use Rattle.gc_worker.specs.Stepped.{IsAtAccess, IsEvacuating, IsOpening, IsScanning, IsServing, IsSound, back_at, served_in, stepped_by, uncounted};
 ghost use Rattle.gc_worker.specs.Turned.{back_from, goes_back, scans, told, turned};
 
 use crate::accessed::Accessed;
@@ -38,8 +38,14 @@ impl State {
                 self.stage = Stage::Serves(duty, Back::ToAccess(access));
                 Stepped::Moved
             }
-            Turn::Finished(Accessed::Brings(into, word)) => self.load(into, word),
-            Turn::Finished(Accessed::Stored) => self.go_on(),
+            Turn::Finished(Accessed::Brings(into, word)) => {
+                self.stage = Stage::Looks;
+                self.load(into, word)
+            }
+            Turn::Finished(Accessed::Stored) => {
+                self.stage = Stage::Looks;
+                self.go_on()
+            }
             Turn::Finished(Accessed::Fails(why)) => self.end_with(why),
         }
     }
@@ -54,54 +60,63 @@ impl State {
         ensures state { self.new ≡ uncounted (turned self.old reply) }
         ensures tells { result ≡ stepped_by self.old.number (told self.old reply) }
     {
-        let Stage::Serves(duty, back) = &mut self.stage else {
+        let Stage::Serves(duty, _) = &mut self.stage else {
             unreachable!()
         };
         if let Turn::Finished(end) = duty.take(reply) {
-            let (epoch, back) = (duty.epoch(), *back);
-            self.has_served(epoch, back, end);
+            let epoch = duty.epoch();
+            self.has_served(epoch, end);
         }
         Stepped::Moved
     }
 
     /// What a round of an epoch comes to.
-    fn has_served(&mut self, epoch: u32, back: Back, end: RoundEnd)
-        requires { FitsStage (served_in self.old epoch back end) (served_in self.old epoch back end).stage }
-        ensures { self.new ≡ served_in self.old epoch back end }
+    fn has_served(&mut self, epoch: u32, end: RoundEnd)
+        requires at { IsServing self.old.stage }
+        requires fits { FitsStage (served_in self.old epoch (back_at self.old.stage) end) (served_in self.old epoch (back_at self.old.stage) end).stage }
+        ensures { self.new ≡ served_in self.old epoch (back_at self.old.stage) end }
     {
         match end {
-            RoundEnd::ScanPage(page) => self.scan_page(epoch, page, false, back),
-            RoundEnd::ScanInPlace(page) => self.scan_page(epoch, page, true, back),
-            RoundEnd::Marked | RoundEnd::NothingNow(_) => self.go_back(epoch, back),
+            RoundEnd::ScanPage(page) => self.scan_page(epoch, page, false),
+            RoundEnd::ScanInPlace(page) => self.scan_page(epoch, page, true),
+            RoundEnd::Marked | RoundEnd::NothingNow(_) => self.go_back(epoch),
             RoundEnd::AllLeft(_) => self.stage = Stage::Gone,
         }
     }
 
     /// A page was claimed: its scan begins, in the epoch of the round.
-    fn scan_page(&mut self, epoch: u32, page: u32, in_place: bool, back: Back)
-        requires { page ≤ board_page self.old.layout.pages }
-        ensures { self.new ≡ scans (record self.old { epoch = epoch }) page in_place back }
+    fn scan_page(&mut self, epoch: u32, page: u32, in_place: bool)
+        requires at { IsServing self.old.stage }
+        requires page { page ≤ board_page self.old.layout.pages }
+        ensures { self.new ≡ scans (record self.old { epoch = epoch }) page in_place (back_at self.old.stage) }
     {
+        let Stage::Serves(_, back) = self.stage else {
+            unreachable!()
+        };
         self.epoch = epoch;
         let scan = Scan::new(self.spaces, page, epoch, in_place);
         self.stage = Stage::Scans(scan, back);
     }
 
-    /// The worker goes on where it was before the round, in this epoch.
-    fn go_back(&mut self, epoch: u32, back: Back)
-        requires { FitsStage (back_from (record self.old { epoch = epoch }) back) (goes_back (record self.old { epoch = epoch }) back) }
-        ensures { self.new ≡ back_from (record self.old { epoch = epoch }) back }
-    {
-        self.come_to(epoch);
-        self.return_to(back);
-    }
-
-    fn come_to(&mut self, epoch: u32)
-        ensures { self.new ≡ record self.old { epoch = epoch } }
+    /// The worker goes on where it was before the round, in this epoch. A scanner's next round begins in the place of this one.
+    #[tactic(auto, using(crate::proofs::Reading::placing_fits))]
+    fn go_back(&mut self, epoch: u32)
+        requires at { IsServing self.old.stage }
+        requires fits { FitsStage (back_from (record self.old { epoch = epoch }) (back_at self.old.stage)) (goes_back (record self.old { epoch = epoch }) (back_at self.old.stage)) }
+        ensures { self.new ≡ back_from (record self.old { epoch = epoch }) (back_at self.old.stage) }
     {
         self.epoch = epoch;
+        let Stage::Serves(duty, back) = &mut self.stage else {
+            unreachable!()
+        };
+        match *back {
+            Back::ToAccess(access) => self.stage = Stage::Accesses(access),
+            Back::ToPlace => self.stage = self.placing(),
+            Back::ToScanner => *duty = Duty::scanner(self.spaces, self.number, self.mutators),
+        }
     }
 
+    /// The worker goes on where it was before the round.
     #[tactic(auto, using(crate::proofs::Reading::placing_fits))]
     fn return_to(&mut self, back: Back)
         requires { FitsStage (back_from self.old back) (goes_back self.old back) }
@@ -180,7 +195,7 @@ impl State {
         if let Turn::Finished(_) = open.take(reply) {
             let back = *back;
             self.stage = before;
-            self.go_back(self.epoch, back);
+            self.return_to(back);
         }
         Stepped::Moved
     }

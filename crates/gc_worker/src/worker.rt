@@ -4,6 +4,7 @@ ghost use Rattle.space_map.specs.Table.{table_length};
 ghost use Rattle.gc_worker.specs.declared.task.Task.TheVariants.{Calls, Stops};
 ghost use Rattle.gc_worker.specs.Between.{IsIdle, fresh_mutator, fresh_scanner, with_task};
 ghost use Rattle.gc_worker.specs.Fits.{MayBegin, MayStop, Takes};
+ghost use Rattle.gc_worker.specs.Made.{MayMake, made};
 ghost use Rattle.gc_worker.specs.Stepped.{IsSound, awaits, header_kept, place_kept, stepped_by, uncounted};
 ghost use Rattle.gc_worker.specs.Turned.{told, turned};
 ghost use Rattle.gc_worker.specs.Wanted.{wanted};
@@ -12,7 +13,7 @@ use crate::due::Due;
 use crate::stage::Stage;
 use crate::state::State;
 use crate::stepped::Stepped;
-use atom_store::{NoMemory, Reply, Step};
+use atom_store::{NoMemory, PlainAtoms, Reply, Step};
 use mutator_asm::Instr;
 use plain_state::{End, MOST_PRINTED, REGISTERS};
 use space_map::Spaces;
@@ -83,6 +84,16 @@ impl Worker {
         ensures tells { result ≡ stepped_by self.old.number (told self.old reply) }
     {
         self.state.take(reply)
+    }
+
+    /// Makes the next step on these words, where it has one; it is the same as to take the reply to what it wants.
+    pub fn step(&mut self, on: &mut PlainAtoms) -> Stepped
+        requires may { MayMake self.old on.old }
+        ensures state { self.new ≡ uncounted (made self.old on.old).held }
+        ensures words { on.new ≡ (made self.old on.old).words }
+        ensures tells { result ≡ (made self.old on.old).told }
+    {
+        self.state.step(on)
     }
 
     /// Whether it looks at the gate, and has no task.

@@ -23,10 +23,9 @@ use page_slots::{Claim, Claimed};
 use space_map::{AreaWord, GateWord, PageWord};
 
 impl Duty {
-    pub(super) fn look_at_gate(&mut self, word: u64) -> Turn<RoundEnd>
+    pub(super) fn look_at_gate(&mut self, word: u64)
         requires { IsSoundRound (round.looked_at_gate self.old word (decode_gate word)) }
-        ensures state { self.new ≡ round.looked_at_gate self.old word (decode_gate word) }
-        ensures tells { result ≡ told self.new }
+        ensures { self.new ≡ round.looked_at_gate self.old word (decode_gate word) }
     {
         let Some(gate) = GateWord::read(word) else {
             return self.go_to(DutyStage::LoadsGate);
@@ -37,17 +36,15 @@ impl Duty {
             Caller::Scans(_) => {
                 self.epoch = gate.epoch;
                 self.stage = DutyStage::LoadsTraced(hindrance);
-                Turn::More
             }
             _ if gate.epoch == self.epoch => self.go_to(DutyStage::LoadsTraced(hindrance)),
             _ => self.end(RoundEnd::NothingNow(word)),
         }
     }
 
-    pub(super) fn look_at_traced(&mut self, hindrance: Option<u64>, word: u64) -> Turn<RoundEnd>
+    pub(super) fn look_at_traced(&mut self, hindrance: Option<u64>, word: u64)
         requires { IsSoundRound (at_stage self.old (round.looked_at_traced self.old hindrance word)) }
-        ensures state { self.new ≡ at_stage self.old (round.looked_at_traced self.old hindrance word) }
-        ensures tells { result ≡ told self.new }
+        ensures { self.new ≡ at_stage self.old (round.looked_at_traced self.old hindrance word) }
     {
         if word == u64::from(self.epoch) + 1 {
             return self.end(RoundEnd::NothingNow(word));
@@ -62,10 +59,9 @@ impl Duty {
         }
     }
 
-    pub(super) fn look_at_wanted(&mut self, seen: Findings, page: u32, word: u64) -> Turn<RoundEnd>
+    pub(super) fn look_at_wanted(&mut self, seen: Findings, page: u32, word: u64)
         requires { IsSoundRound (at_stage self.old (round.looked_at_wanted self.old seen page word (decode_page word))) }
-        ensures state { self.new ≡ at_stage self.old (round.looked_at_wanted self.old seen page word (decode_page word)) }
-        ensures tells { result ≡ told self.new }
+        ensures { self.new ≡ at_stage self.old (round.looked_at_wanted self.old seen page word (decode_page word)) }
     {
         let Some(says) = read(word) else {
             return self.go_to(DutyStage::LoadsWanted(seen, page));
@@ -82,16 +78,10 @@ impl Duty {
         }
     }
 
-    pub(super) fn find_front_for(
-        &mut self,
-        seen: Findings,
-        wanted: WantedPage,
-        word: u64,
-    ) -> Turn<RoundEnd>
+    pub(super) fn find_front_for(&mut self, seen: Findings, wanted: WantedPage, word: u64)
         requires page { wanted.page ≤ board_page self.old.layout.pages }
         requires allowed { IsSoundRound (at_stage self.old (round.found_front_for self.old seen wanted (decode_area word))) }
-        ensures state { self.new ≡ at_stage self.old (round.found_front_for self.old seen wanted (decode_area word)) }
-        ensures tells { result ≡ told self.new }
+        ensures { self.new ≡ at_stage self.old (round.found_front_for self.old seen wanted (decode_area word)) }
     {
         let Some(area) = AreaWord::read(word) else {
             return self.go_to(DutyStage::LoadsFrontFor(seen, wanted));
@@ -103,24 +93,22 @@ impl Duty {
         }
     }
 
-    pub(super) fn find_front(&mut self, seen: Findings, word: u64) -> Turn<RoundEnd>
+    pub(super) fn find_front(&mut self, seen: Findings, word: u64)
         requires { IsSoundRound (at_stage self.old (round.found_front self.old seen (decode_area word))) }
-        ensures state { self.new ≡ at_stage self.old (round.found_front self.old seen (decode_area word)) }
-        ensures tells { result ≡ told self.new }
+        ensures { self.new ≡ at_stage self.old (round.found_front self.old seen (decode_area word)) }
     {
         let Some(area) = AreaWord::read(word) else {
             return self.go_to(DutyStage::LoadsFront(seen));
         };
         let front = self.front_of(area);
         let board = self.spaces.board_page();
-        self.go_to(DutyStage::LoadsPage(Choice { seen, front }, board))
+        self.go_to(DutyStage::LoadsPage(Choice { seen, front }, board));
     }
 
-    pub(super) fn look_at_page(&mut self, choice: Choice, page: u32, word: u64) -> Turn<RoundEnd>
+    pub(super) fn look_at_page(&mut self, choice: Choice, page: u32, word: u64)
         requires page { page ≤ board_page self.old.layout.pages }
         requires allowed { IsSoundRound (at_stage self.old (round.looked_at_page self.old choice page word (decode_page word))) }
-        ensures state { self.new ≡ at_stage self.old (round.looked_at_page self.old choice page word (decode_page word)) }
-        ensures tells { result ≡ told self.new }
+        ensures { self.new ≡ at_stage self.old (round.looked_at_page self.old choice page word (decode_page word)) }
     {
         let Some(says) = read(word) else {
             return self.go_to(DutyStage::LoadsPage(choice, page));
@@ -141,11 +129,10 @@ impl Duty {
     }
 
     /// Goes on behind a page that is not to be claimed.
-    fn pass(&mut self, choice: Choice, page: u32) -> Turn<RoundEnd>
+    fn pass(&mut self, choice: Choice, page: u32)
         requires page { page ≤ board_page self.old.layout.pages }
         requires allowed { IsSoundRound (at_stage self.old (round.passed_by self.old choice page)) }
-        ensures state { self.new ≡ at_stage self.old (round.passed_by self.old choice page) }
-        ensures tells { result ≡ told self.new }
+        ensures { self.new ≡ at_stage self.old (round.passed_by self.old choice page) }
     {
         let next = self.page_after(page);
         if is_full(choice.front, next) {
@@ -158,10 +145,9 @@ impl Duty {
     }
 
     /// Claims a page whose word says this, if that is of an earlier epoch.
-    pub(super) fn claim(&mut self, page: u32, says: PageWord, in_place: bool) -> Turn<RoundEnd>
+    pub(super) fn claim(&mut self, page: u32, says: PageWord, in_place: bool)
         requires { IsSoundRound (at_stage self.old (round.claimed_by self.old page says in_place (round.state_of says self.old.epoch))) }
-        ensures state { self.new ≡ at_stage self.old (round.claimed_by self.old page says in_place (round.state_of says self.old.epoch)) }
-        ensures tells { result ≡ told self.new }
+        ensures { self.new ≡ at_stage self.old (round.claimed_by self.old page says in_place (round.state_of says self.old.epoch)) }
     {
         if self.state_of(says) != PageState::Waits {
             return self.end(RoundEnd::NothingNow(pack(says)));
@@ -170,21 +156,16 @@ impl Duty {
         self.go_to(DutyStage::Claims(claim))
     }
 
-    pub(super) fn go_on_claiming(&mut self, reply: Reply) -> Turn<RoundEnd>
+    pub(super) fn go_on_claiming(&mut self, reply: Reply)
         requires { IsClaiming self.old.stage }
-        ensures state { self.new ≡ taken self.old reply }
-        ensures tells { result ≡ told self.new }
+        ensures { self.new ≡ taken self.old reply }
     {
         let DutyStage::Claims(claim) = &mut self.stage else {
             unreachable!();
         };
-        match claim.take(reply) {
-            Turn::More => Turn::More,
-            Turn::Finished(claimed) => {
-                let outcome = round_end(claim, claimed);
-                self.stage = DutyStage::Ended(outcome);
-                Turn::Finished(outcome)
-            }
+        if let Turn::Finished(claimed) = claim.take(reply) {
+            let outcome = round_end(claim, claimed);
+            self.stage = DutyStage::Ended(outcome);
         }
     }
 }

@@ -14,15 +14,13 @@ use crate::duty_stage::DutyStage;
 use crate::end_look::EndLook;
 use crate::page_state::PageState;
 use crate::round_end::RoundEnd;
-use atom_store::Turn;
 use mmu_model::{read, unprotect};
 use space_map::{AreaWord, GateWord, PAGE_WORDS, PageWord};
 
 impl Duty {
-    pub(super) fn end_at_gate(&mut self, traced: u64, word: u64) -> Turn<RoundEnd>
+    pub(super) fn end_at_gate(&mut self, traced: u64, word: u64)
         requires { IsSoundRound (at_stage self.old (round.ended_gate self.old traced word (decode_gate word))) }
-        ensures state { self.new ≡ at_stage self.old (round.ended_gate self.old traced word (decode_gate word)) }
-        ensures tells { result ≡ told self.new }
+        ensures { self.new ≡ at_stage self.old (round.ended_gate self.old traced word (decode_gate word)) }
     {
         match GateWord::read(word) {
             Some(gate) if gate.epoch == self.epoch && gate.behind == 0 => {
@@ -33,10 +31,9 @@ impl Duty {
         }
     }
 
-    pub(super) fn end_at_area(&mut self, traced: u64, word: u64) -> Turn<RoundEnd>
+    pub(super) fn end_at_area(&mut self, traced: u64, word: u64)
         requires { IsSoundRound (at_stage self.old (round.ended_area self.old traced (decode_area word))) }
-        ensures state { self.new ≡ at_stage self.old (round.ended_area self.old traced (decode_area word)) }
-        ensures tells { result ≡ told self.new }
+        ensures { self.new ≡ at_stage self.old (round.ended_area self.old traced (decode_area word)) }
     {
         let Some(area) = AreaWord::read(word) else {
             return self.go_to(DutyStage::EndArea(traced));
@@ -46,11 +43,10 @@ impl Duty {
         self.go_to(DutyStage::EndPage(EndLook { traced, front }, board))
     }
 
-    pub(super) fn end_at_page(&mut self, look: EndLook, page: u32, word: u64) -> Turn<RoundEnd>
+    pub(super) fn end_at_page(&mut self, look: EndLook, page: u32, word: u64)
         requires page { page ≤ board_page self.old.layout.pages }
         requires allowed { IsSoundRound (at_stage self.old (round.ended_page self.old look page word)) }
-        ensures state { self.new ≡ at_stage self.old (round.ended_page self.old look page word) }
-        ensures tells { result ≡ told self.new }
+        ensures { self.new ≡ at_stage self.old (round.ended_page self.old look page word) }
     {
         if word != unprotect(self.epoch) {
             return self.end(RoundEnd::NothingNow(word));
@@ -65,10 +61,9 @@ impl Duty {
         }
     }
 
-    pub(super) fn end_at_filling(&mut self, look: EndLook, word: u64) -> Turn<RoundEnd>
+    pub(super) fn end_at_filling(&mut self, look: EndLook, word: u64)
         requires { IsSoundRound (at_stage self.old (round.looked_at_filling self.old look word (decode_page word))) }
-        ensures state { self.new ≡ at_stage self.old (round.looked_at_filling self.old look word (decode_page word)) }
-        ensures tells { result ≡ told self.new }
+        ensures { self.new ≡ at_stage self.old (round.looked_at_filling self.old look word (decode_page word)) }
     {
         let Some(says) = read(word) else {
             return self.go_to(DutyStage::EndFilling(look));
@@ -81,15 +76,9 @@ impl Duty {
         }
     }
 
-    pub(super) fn end_at_area_again(
-        &mut self,
-        look: EndLook,
-        filling: PageWord,
-        word: u64,
-    ) -> Turn<RoundEnd>
+    pub(super) fn end_at_area_again(&mut self, look: EndLook, filling: PageWord, word: u64)
         requires { IsSoundRound (at_stage self.old (round.ended_area_again self.old look filling word (decode_area word))) }
-        ensures state { self.new ≡ at_stage self.old (round.ended_area_again self.old look filling word (decode_area word)) }
-        ensures tells { result ≡ told self.new }
+        ensures { self.new ≡ at_stage self.old (round.ended_area_again self.old look filling word (decode_area word)) }
     {
         let Some(area) = AreaWord::read(word) else {
             return self.go_to(DutyStage::EndAreaAgain(look, filling));

@@ -1,6 +1,6 @@
 use Rattle.std.proofs.Common.{◌≡◌, ◌+◌, ℕ, true}
 use Rattle.gc_core.specs.Core.{workers_of}
-use Rattle.gc_core.specs.Run.{run_from}
+use Rattle.gc_core.specs.Run.{all_ended, run_from}
 use Rattle.ael_cli.specs.Schedule.{schedule_of}
 use Rattle.ael_cli.specs.Scheduler.{to_come}
 use Rattle.gc_core.proofs.Runs.{ComesTo, ComesToOrder}
@@ -13,6 +13,7 @@ invariant-loop l =
     let all = run_from schedule 0 steps l.fn.core in
     record {
       names : (at : ℕ) → to_come l.scheduler at ≡ schedule (l.counter + at);
+      over : l.over ≡ all_ended l.core;
       core : ComesTo schedule l.counter steps l.core all;
       order : l.options.order ≡ true → ComesToOrder schedule l.counter steps l.core l.order.items all;
     }
