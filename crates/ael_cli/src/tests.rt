@@ -153,6 +153,7 @@ const ENDS: &str = "\
 0|1|1000|no room for the output|sim|.mutator/halt/|0|ael: write fault/|6
 0|1000|0|no room for the usage|||||6
 0|1000|5|some room for the usage||||usage|6
+2|1000|4|a read fails, and err too|sim|.mutator/halt/||ael:|6
 0|1000|10|some room for a text's fault|sim|.mutator/foo/||ael: line |6
 0|3|7|both sinks fail|sim|.mutator/li r1 7/new r0 2/st r0 1 r1/ld r2 r0 1/out r2/halt/|0: |ael: wr|6
 0|3|17|out fails, and err has just enough room|sim|.mutator/li r1 7/new r0 2/st r0 1 r1/ld r2 r0 1/out r2/halt/|0: |ael: write fault/|6";
@@ -173,24 +174,6 @@ fn ends_that_fail_are_told(rt: HostRuntime) -> Result<(), Fail> {
         Row::read(rt.alloc(), row)?.check(&rt, limits)?;
     }
     Ok(())
-}
-
-/// Where out has no room for all, it holds what it has room for.
-fn check_fronts(rt: &HostRuntime, words: &str, text: &str, whole: &[u8]) -> Result<(), Fail> {
-    for out in 0..whole.len() {
-        let found = call(rt, words, text, Limits { out, ..AMPLE })?;
-        found.check(words, &whole[..out], b"ael: write fault\n", 6)?;
-    }
-    let out = whole.len();
-    call(rt, words, text, Limits { out, ..AMPLE })?.check(words, whole, b"", 0)
-}
-
-#[test]
-fn failed_writes_leave_a_front(rt: HostRuntime) -> Result<(), Fail> {
-    let printed = b"0: 7\n0: halt\norder 0 0 0 0 0 0\n";
-    check_fronts(&rt, "sim --order", FIRST, printed)?;
-    let listing = b".schedule 0\n.mutator\nL0: jmp L0\n";
-    check_fronts(&rt, "asm", ".schedule 0\n.mutator\nl: jmp l\n", listing)
 }
 
 #[test]

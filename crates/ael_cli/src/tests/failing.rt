@@ -1,89 +1,56 @@
-//! Reads and writes that fail at each place of a run.
+//! Reads and writes that fail at each place of a call.
 
-use super::dumps::with_dump;
-use super::{AMPLE, FIRST, Limits, call, check_fronts};
+use super::dumps::dump_lines;
+use super::rows::Row;
+use super::{AMPLE, Limits, call};
 use std::test::Fail;
 
-/// A run with all that a core tells of its heap.
-const WORDS: &str = "sim --pages 4 --scanners 0 --cycles --dump";
+/// How often the call reads stands before each row. The lines of a dump stand in the place of @, and two buffers
+/// of spaces in that of #.
+const ROWS: &str = "\
+4|the order of a long text|sim --order|#.mutator/li r1 7/new r0 2/st r0 1 r1/ld r2 r0 1/out r2/halt/|0: 7/0: halt/order 0 0 0 0 0 0/||0
+2|a listing|asm|.schedule 0/.mutator/l: jmp l/|.schedule 0/.mutator/L0: jmp L0/||0
+2|a dump|sim --pages 4 --scanners 0 --cycles --dump|.mutator/li r1 7/new r0 2/st r0 1 r1/ld r2 r0 1/out r2/halt/|0: 7/0: halt/cycles 0 live 0/@||0
+2|an end that isn't halt|sim --cycles|.mutator/|0: jump out/cycles 0 live 0/||3
+2|steps that run out|sim --cycles --steps 1|.mutator/|0: stopped/cycles 0 live 0/|ael: steps out/|4
+2|a refused text|sim --cycles --dump|.mutator/foo/||ael: line 2: error 1: unknown instruction/|1
+1|an empty input|sim --cycles --dump|||ael: line 1: error 5: no mutator/|1
+0|the benchmark|bench 3 1||0: 8/0: halt/1: 8/1: halt/2: 8/2: halt/3: 8/3: halt/cycles 0 live 0/||0
+0|no seed|bench 3|||usage: ael asm, sim, run, concord or bench/|2";
 
-/// What it prints before the dump, where its text is the first one.
-const LINES: &str = "0: 7\n0: halt\ncycles 0 live 0\n";
-
-/// The reads up to the last fail in turn, and after them none is left to fail.
-fn check_reads(
-    rt: &HostRuntime,
-    words: &str,
-    text: &str,
-    reads: u64,
-    out: &[u8],
-) -> Result<(), Fail> {
+/// Each read fails in turn, and then out and err have room for each front of what they get.
+fn check_ends(rt: &HostRuntime, row: &Row, reads: u64) -> Result<(), Fail> {
     for read in 1..=reads {
-        let found = call(rt, words, text, Limits { read, ..AMPLE })?;
-        found.check(words, b"", b"ael: read fault\n", 5)?;
+        let found = call(rt, row.words, &row.text, Limits { read, ..AMPLE })?;
+        found.check(row.name, b"", b"ael: read fault\n", 5)?;
     }
-    let read = reads.saturating_add(1);
-    call(rt, words, text, Limits { read, ..AMPLE })?.check(words, out, b"", 0)
-}
-
-/// A buffer has room for 4096 bytes.
-#[test]
-fn each_read_may_fail(rt: HostRuntime) -> Result<(), Fail> {
-    let alloc = rt.alloc();
-    let printed = with_dump(alloc, LINES)?;
-    check_reads(&rt, WORDS, FIRST, 2, printed.as_bytes())?;
-    let mut long = " ".repeat(alloc, 8192)?;
-    long.push_str("\n")?;
-    long.push_str(FIRST)?;
-    check_reads(&rt, WORDS, &long, 4, printed.as_bytes())
-}
-
-#[test]
-fn each_byte_of_a_dump_may_be_the_last(rt: HostRuntime) -> Result<(), Fail> {
-    let printed = with_dump(rt.alloc(), LINES)?;
-    check_fronts(&rt, WORDS, FIRST, printed.as_bytes())
-}
-
-/// Where err has no room for all of the line, it holds what it has room for. Out is as it would be.
-fn check_lines(
-    rt: &HostRuntime,
-    words: &str,
-    text: &str,
-    limits: Limits,
-    out: &[u8],
-    line: &[u8],
-) -> Result<(), Fail> {
+    let (all, line) = (row.out.as_bytes(), row.err.as_bytes());
+    for out in 0..all.len() {
+        let found = call(rt, row.words, &row.text, Limits { out, ..AMPLE })?;
+        found.check(row.name, &all[..out], b"ael: write fault\n", 6)?;
+    }
     for err in 0..line.len() {
-        let found = call(rt, words, text, Limits { err, ..limits })?;
-        found.check(words, out, &line[..err], 6)?;
+        let found = call(rt, row.words, &row.text, Limits { err, ..AMPLE })?;
+        found.check(row.name, all, &line[..err], 6)?;
+    }
+    let limits = Limits {
+        read: reads.saturating_add(1),
+        out: all.len(),
+        err: line.len(),
+    };
+    row.check(rt, limits)
+}
+
+#[test]
+fn each_read_and_each_byte_may_fail(rt: HostRuntime) -> Result<(), Fail> {
+    let alloc = rt.alloc();
+    let (dump, spaces) = (dump_lines(alloc)?, " ".repeat(alloc, 8192)?);
+    for line in ROWS.split('\n') {
+        let (reads, row) = line.split_once('|').ok_or("how often it reads is missing")?;
+        let row = row
+            .replace(alloc, '@', &dump)?
+            .replace(alloc, '#', &spaces)?;
+        check_ends(&rt, &Row::read(alloc, &row)?, reads.parse::<u64>()?)?;
     }
     Ok(())
-}
-
-#[test]
-fn each_byte_of_a_line_may_be_the_last(rt: HostRuntime) -> Result<(), Fail> {
-    let refused = b"ael: line 2: error 1: unknown instruction\n";
-    check_lines(&rt, WORDS, ".mutator\nfoo\n", AMPLE, b"", refused)?;
-    let usage = b"usage: ael asm, sim, run, concord or bench\n";
-    check_lines(&rt, "sim --cycles --dump 1", FIRST, AMPLE, b"", usage)?;
-    let stopped = b"0: stopped\ncycles 0 live 0\n";
-    check_lines(
-        &rt,
-        "sim --steps 1 --cycles",
-        FIRST,
-        AMPLE,
-        stopped,
-        b"ael: steps out\n",
-    )?;
-    let read = Limits { read: 2, ..AMPLE };
-    check_lines(&rt, WORDS, FIRST, read, b"", b"ael: read fault\n")?;
-    let out = Limits { out: 20, ..AMPLE };
-    check_lines(
-        &rt,
-        WORDS,
-        FIRST,
-        out,
-        b"0: 7\n0: halt\ncycles ",
-        b"ael: write fault\n",
-    )
 }
