@@ -46,11 +46,12 @@ fn longest(rt: &impl Abort, alloc: Global, lines: &str, pages: u8) -> Result<u32
     Err("it doesn't end".into())
 }
 
+/// Counted by a plain implementation of the same steps too.
 #[test]
 fn the_longest_instruction_is_short_enough(rt: HostRuntime) -> Result<(), Fail> {
-    for (lines, pages) in [(GARBAGE.lines, 4), (LIST, 4), (LIST, 16)] {
-        let longest = longest(&rt, rt.alloc(), lines, pages)?;
-        assert!(rt; longest <= most_steps(pages), "{longest} in {pages} pages");
+    for (lines, pages, counted) in [(GARBAGE.lines, 4, 491), (LIST, 4, 1920), (LIST, 16, 7716)] {
+        assert_eq!(rt; longest(&rt, rt.alloc(), lines, pages)?, counted);
+        assert!(rt; counted <= most_steps(pages), "{counted} in {pages} pages");
     }
     Ok(())
 }
