@@ -89,6 +89,7 @@ impl State {
     }
 
     /// An access begins.
+    #[inline(always)]
     fn begin_access(&mut self, first: Option<AccessStage>) -> Stepped
         ensures state { self.new ≡ uncounted (accesses self.old first) }
         ensures tells { result ≡ Stepped.Moved }
@@ -159,6 +160,7 @@ fn to_board(word: u64, usage: BoardUse) -> Option<AccessStage>
 }
 
 /// The access with which an action begins, if it makes one.
+#[inline(always)]
 fn first_stage(action: Action) -> Option<AccessStage>
     requires { (printed : ℕ) × FitsAction printed action }
     ensures { result ≡ access.begun action }
