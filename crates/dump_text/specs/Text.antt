@@ -1,0 +1,78 @@
+-- A dump and its text.
+use Rattle.std.specs.Prelude.{ℕ, ◌+◌, ◌-◌, ◌^◌, ◌<◌, ◌≡◌, Bool, false, ◌&&◌, IsTrue, nat_le, List, [], ◌∷◌, ◌++◌, length, codes, decimal, replicate, zero, suc}
+use Rattle.std.specs.Fmt.{digits}
+use Rattle.std.specs.List.{flat_map, AllByRecursion}
+use Rattle.heap_state.specs.Kept.{Kept}
+use Rattle.space_map.specs.Table.{table_length}
+
+-- the pages of a space, the registers of each mutator, what each worker keeps, and the words of the table
+pub record Dumped : Type 0 where
+  pub pages : ℕ
+  pub registers : List (List ℕ)
+  pub kept : List Kept
+  pub words : List ℕ
+
+-- ---- the text
+
+-- a word by its 16 hexadecimal digits
+abbrev pub word_text : ℕ → List ℕ
+word_text word = replicate (16 - length (digits 16 false word)) 48 ++ digits 16 false word
+
+-- what stands behind a word that so many more of its line follow: a space, or the end of the line
+abbrev pub behind : ℕ → ℕ
+behind zero = 10
+behind (suc n) = 32
+
+-- words in a line, with a space between two
+abbrev pub words_line : List ℕ → List ℕ
+words_line [] = []
+words_line (word ∷ words) = word_text word ++ behind (length words) ∷ words_line words
+
+-- the counts of the first line
+pub record Counts : Type 0 where
+  pub pages : ℕ
+  pub mutators : ℕ
+  pub workers : ℕ
+
+-- the first line: how many pages a space has, how many mutators there are, and how many workers
+abbrev pub head_text : Counts → List ℕ
+head_text c = codes "dump " ++ (decimal c.pages ++ 32 ∷ (decimal c.mutators ++ 32 ∷ (decimal c.workers ++ 10 ∷ [])))
+
+-- what a worker keeps: a header, and a place
+abbrev pub kept_text : Kept → List ℕ
+kept_text k = words_line (k.header ∷ k.place ∷ [])
+
+-- a word of the table, on a line of its own
+abbrev pub table_text : ℕ → List ℕ
+table_text word = words_line (word ∷ [])
+
+abbrev pub counts_of : Dumped → Counts
+counts_of d = record { pages = d.pages; mutators = length d.registers; workers = length d.kept }
+
+-- the first line, the registers of each mutator, what each worker keeps, and the table
+abbrev pub dump_text : Dumped → List ℕ
+dump_text d = head_text (counts_of d) ++ (flat_map words_line d.registers ++ (flat_map kept_text d.kept ++ flat_map table_text d.words))
+
+-- ---- what has a text
+
+-- a heap may have so many pages, mutators and workers
+abbrev pub are_counts : Counts → Bool
+are_counts c = nat_le 4 c.pages && nat_le c.pages 2048 && nat_le 1 c.mutators && nat_le c.mutators 16 && nat_le c.mutators c.workers && nat_le c.workers (c.mutators + 8)
+
+abbrev pub IsWord : ℕ → Type 0
+IsWord word = word < 2 ^ 64
+
+-- eight words
+abbrev pub AreRegisters : List ℕ → Type 0
+AreRegisters words = (length words ≡ 8) × AllByRecursion IsWord words
+
+abbrev pub AreKept : Kept → Type 0
+AreKept k = IsWord k.header × IsWord k.place
+
+-- a dump: its counts are those of a heap, each number is a word, and the table has the length that the pages ask
+pub record IsDump (d : Dumped) : Type 0 where
+  pub counts : IsTrue (are_counts (counts_of d))
+  pub registers : AllByRecursion AreRegisters d.registers
+  pub kept : AllByRecursion AreKept d.kept
+  pub words : AllByRecursion IsWord d.words
+  pub length : length d.words ≡ table_length d.pages
