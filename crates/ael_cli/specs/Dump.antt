@@ -3,8 +3,11 @@ use Rattle.std.specs.Prelude.{ℕ, ◌-◌, false, List, [], ◌∷◌, ◌++◌
 use Rattle.std.specs.Fmt.{digits}
 use Rattle.std.specs.List.{flat_map}
 use Rattle.heap_state.specs.Kept.{Kept}
+use Rattle.plain_state.specs.State.{Plain}
+use Rattle.heap_state.specs.Represents.{DumpRepresents}
 use Rattle.gc_core.specs.Core.{CoreState}
-use Rattle.gc_core.specs.Readers.{registers_in, kept_in, cycles_of, live_of}
+use Rattle.gc_core.specs.Dumped.{Dumped, dump_said, dumped}
+use Rattle.gc_core.specs.Readers.{cycles_of, live_of}
 
 -- ---- cycles
 
@@ -40,7 +43,10 @@ abbrev pub kept_line : Kept → List ℕ
 kept_line k = words_line (k.header ∷ k.place ∷ [])
 
 -- the registers of each mutator, what each worker keeps, and the table
-abbrev pub dump_text : CoreState → List ℕ
-dump_text s =
-    dump_head s.heap.pages (length (registers_in s)) (length (kept_in s)) ++ flat_map words_line (registers_in s) ++ flat_map kept_line (kept_in s)
-    ++ table_lines s.heap.words
+abbrev pub dump_text : Dumped → List ℕ
+dump_text d =
+    dump_head d.pages (length d.registers) (length d.kept) ++ flat_map words_line d.registers ++ flat_map kept_line d.kept ++ table_lines d.words
+
+-- what the dump of a core tells, read by itself, represents a plain state
+abbrev pub IsTrueDump : CoreState → Plain → Type 0
+IsTrueDump s p = DumpRepresents (dump_said (dumped s)) p

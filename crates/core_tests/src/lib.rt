@@ -9,6 +9,8 @@ mod copies;
 #[cfg(test)]
 mod faults;
 #[cfg(test)]
+mod pace;
+#[cfg(test)]
 mod rows;
 #[cfg(test)]
 mod sleeping;

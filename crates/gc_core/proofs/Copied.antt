@@ -14,7 +14,7 @@ use Rattle.space_map.specs.declared.page_word.PageWord.TheVariants.{Unset}
 use Rattle.space_map.specs.PageWord.{age_of}
 use Rattle.space_map.specs.Spaces.{board_page}
 use Rattle.gc_worker.specs.Between.{ReadyingStands, TasksMayBegin}
-use Rattle.gc_worker.specs.Claims.{CopiedPagesAreBelowLow, FlipsAreOfTraced, IsCopiedPage, IsOfEpoch, PagesAreOpenedByClaims, TracedPagesAreOpen}
+use Rattle.gc_worker.specs.Claims.{CopiedPagesAreBelowLow, FlipsAreOfTraced, IsCopiedPage, IsOfEpoch, PagesAreOpenedByClaims, TracedPagesAreOpen, epoch_in}
 use Rattle.gc_worker.specs.Copied.{IsTraced}
 use Rattle.gc_worker.specs.Held.{Held}
 use Rattle.gc_worker.specs.Law.{Heap, WorkersStand, nobody}
@@ -24,7 +24,7 @@ use Rattle.gc_worker.specs.declared.stepped.Stepped.TheVariants as tells
 use Rattle.gc_core.specs.Claims.{AreApart, IsWonOnce, PagesAreWon, won_of, wins_from}
 use Rattle.gc_core.specs.Core.{CoreState}
 use Rattle.gc_core.specs.Event.{core_after, event_of, event_by, readied, ready}
-use Rattle.gc_core.specs.Law.{EventsKeep, IsSteady, epoch_in, story_by}
+use Rattle.gc_core.specs.Law.{EventsKeep, IsSteady, story_by}
 use Rattle.gc_core.specs.Run.{Ran, after_event, all_ended, mark_of, run_from}
 use Rattle.gc_core.proofs.Readied.{Ready, readied_stands}
 

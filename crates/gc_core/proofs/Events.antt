@@ -30,7 +30,8 @@ use Rattle.gc_worker.specs.declared.stepped.Stepped.TheVariants as tells
 use Rattle.gc_core.specs.Core.{CoreState}
 use Rattle.gc_core.specs.Event.{event_of, ready, task_of}
 use Rattle.gc_worker.specs.Stepped.{stepped_by}
-use Rattle.gc_core.specs.Law.{IsOnTask, IsSteady, IsForWant, IsTold, Keeps, EventsKeep, EventsMeet, plain_after, story_by, epoch_in}
+use Rattle.gc_worker.specs.Claims.{epoch_in}
+use Rattle.gc_core.specs.Law.{IsOnTask, IsSteady, IsForWant, IsTold, Keeps, EventsKeep, EventsMeet, plain_after, story_by}
 use Rattle.gc_core.specs.Run.{mark_of}
 use Rattle.gc_core.specs.Whole.{MissingWorkersAreIdle}
 use Rattle.gc_worker.proofs.Represented.{represented_workers}

@@ -1,5 +1,6 @@
 pub mod Outcomes
 pub mod Readied
+pub mod Dumping
 pub mod Events
 pub mod Claims
 pub mod Copied
@@ -16,3 +17,4 @@ pub mod Telling
 pub mod CoreReads
 pub mod Lone
 pub mod LoneEnds
+pub mod Ending

@@ -12,13 +12,15 @@ use Rattle.gc_worker.proofs.Between.Standing.{what_stands_is_so}
 use Rattle.gc_worker.proofs.Between.Wanting.{workers_want}
 use Rattle.gc_worker.proofs.Whole.{steps_keep}
 use Rattle.gc_core.specs.Core.{CoreState, opening_core}
-use Rattle.gc_core.specs.Law.{EventsKeep, EventsMeet, epoch_in}
+use Rattle.gc_worker.specs.Claims.{epoch_in}
+use Rattle.gc_core.specs.Law.{EventsKeep, EventsMeet}
 use Rattle.gc_core.specs.Run.{Ran, run_from}
 use Rattle.gc_core.specs.Whole.{RunsFollow, FullsFollowFlips, NoPageIsWonTwice, CopiedPagesAreWonOnce, FlipsAreOfTracedCores}
 use Rattle.gc_core.proofs.Events as events
 use Rattle.gc_core.proofs.Begun.{opening_stands, opening_steady, opening_epoch}
 use Rattle.gc_core.proofs.Claims.{pages_are_won_once}
 use Rattle.gc_core.proofs.Copied.{pages_are_won, flipped_of_traced}
+use Rattle.gc_core.proofs.Dumping.{told_represents}
 use Rattle.gc_core.proofs.Fulls.{fulls_come_after_flips}
 use Rattle.gc_worker.proofs.Between.Begun.{beginnings_are_kept, full_is_found_later}
 use Rattle.gc_core.proofs.Running.{run_law, run_acts, run_full, stands_seen}
@@ -41,6 +43,7 @@ runs_follow code items config schedule n program size turns few =
     let all = what_stands_is_so r.last.heap _ _ law.stands in
     record {
       represents = rw now at all.sound.represents;
+      dump = told_represents r.last _ all.enough (rw now at all.sound.represents).dump;
       seen = rw now at (stands_seen what_stands_is_so r.last _ _ law.stands);
       acts = run_acts events_keep schedule 0 n s story steady stands;
       full = run_full events_keep schedule 0 n s story steady stands;

@@ -1,11 +1,9 @@
 -- What a cycle keeps, over whole runs: what was copied was live at the last flip, and a heap that is full has no word to waste.
-use Rattle.std.specs.Prelude.{◌≡◌, ℕ, ◌+◌, ◌*◌, ◌<◌, ◌≤◌, ◌==◌, List, Option, Some, None, IsTrue, if◌then◌else◌, zero, suc}
+use Rattle.std.specs.Prelude.{◌≡◌, ℕ, ◌+◌, ◌*◌, ◌<◌, ◌≤◌, ◌==◌, List, Option, Some, None, if◌then◌else◌, zero, suc}
 use Rattle.plain_state.specs.declared.end.End.TheVariants as ends
 use Rattle.plain_state.specs.declared.sizes.TheConstants.{PAGE_WORDS}
 use Rattle.plain_state.specs.State.{Plain}
 use Rattle.mutator_asm.specs.declared.instr.Instr.{Instr}
-use Rattle.mutator_asm.specs.declared.item.Item.{Item}
-use Rattle.mutator_asm.specs.Program.{IsWellFormed}
 use Rattle.plain_heap.specs.Order.{Story, story}
 use Rattle.atom_store.specs.declared.step.Step.{Step}
 use Rattle.atom_store.specs.Step.{reply_of}
@@ -18,25 +16,16 @@ use Rattle.gc_worker.specs.Wanted.{wanted}
 use Rattle.gc_worker.specs.declared.config.Config.{Config}
 use Rattle.gc_worker.specs.declared.stepped.Stepped.{Stepped}
 use Rattle.gc_worker.specs.declared.stepped.Stepped.TheVariants.{Idle, Moved, Effect, Flipped, Ended}
-use Rattle.gc_core.specs.Core.{CoreState, is_size, opening_core}
+use Rattle.gc_core.specs.Core.{CoreState, opening_core}
 use Rattle.gc_core.specs.Event.{core_after, event_of, ready}
 use Rattle.gc_core.specs.Readers.{live_of}
-use Rattle.gc_core.specs.Run.{Ran, all_ended, run_from}
+use Rattle.gc_core.specs.Run.{InEveryRun, all_ended, run_of}
 
 -- ---- runs from an opening
-
--- so many events of a program by a schedule, from its opening
-abbrev pub run_of : List (List Instr) → Config → (ℕ → ℕ) → ℕ → Ran
-run_of code config schedule n = run_from schedule 0 n (opening_core code config)
 
 -- the plain state at the last flip of its order, and that after all of it
 abbrev pub story_of : List (List Instr) → Config → (ℕ → ℕ) → ℕ → Story
 story_of code config schedule n = story code config.turns (run_of code config schedule n).order
-
--- it is so of every run of every program, by any schedule and for any number of steps
-abbrev pub InEveryRun : (List (List Instr) → Config → (ℕ → ℕ) → ℕ → Type 0) → Type 0
-InEveryRun IsSo = (code : List (List Instr)) (items : List Item) (config : Config) (schedule : ℕ → ℕ) (n : ℕ)
-    → IsWellFormed code items → IsTrue (is_size config.pages) → config.turns ≤ 10000000 → config.scanners ≤ 8 → IsSo code config schedule n
 
 -- What is counted along a run from a position of the schedule on: by the core before each event, and its worker.
 unfoldable pub count_from : (next : CoreState → ℕ → ℕ → ℕ) → (ℕ → ℕ) → ℕ → ℕ → (count : ℕ) → CoreState → ℕ

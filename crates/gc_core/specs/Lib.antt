@@ -1,5 +1,6 @@
 pub mod Core
 pub mod Readers
+pub mod Dumped
 pub mod Event
 pub mod Run
 pub mod Law

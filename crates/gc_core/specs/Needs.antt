@@ -1,6 +1,6 @@
 -- What heap a program needs, by the order of its run alone: the pages of the records that it makes between two flips, beside what was
 -- live at the first of them.
-use Rattle.std.specs.Prelude.{◌≡◌, ◌≢◌, ⊤, ℕ, ◌+◌, ◌*◌, ◌<◌, ◌≤◌, ◌-◌, ◌^◌, ◌==◌, List, [], ◌∷◌, ◌++◌, Some, if◌then◌else◌, length, unwrap_or}
+use Rattle.std.specs.Prelude.{◌≡◌, ◌≢◌, ⊤, ℕ, ◌+◌, ◌*◌, ◌<◌, ◌≤◌, ◌-◌, ◌^◌, ◌==◌, ◌⊎◌, true, false, List, [], ◌∷◌, ◌++◌, Some, if◌then◌else◌, length, unwrap_or}
 use Rattle.plain_state.specs.declared.end.End.TheVariants as ends
 use Rattle.plain_state.specs.declared.sizes.TheConstants.{PAGE_WORDS}
 use Rattle.plain_state.specs.State.{Plain}
@@ -12,9 +12,10 @@ use Rattle.plain_heap.specs.Step.{asked_by}
 use Rattle.heap_state.specs.Functions.{sum_below}
 use Rattle.heap_state.specs.Reachable.{IsLive}
 use Rattle.gc_worker.specs.declared.stepped.Stepped.TheVariants.{Ended}
-use Rattle.gc_core.specs.Cycles.{InEveryRun, run_of, story_of, claims_of}
+use Rattle.gc_core.specs.Run.{InEveryRun, run_of}
+use Rattle.gc_core.specs.Cycles.{story_of, claims_of}
 use Rattle.gc_core.specs.Event.{event_of}
-use Rattle.gc_core.specs.Fulls.{flips_by}
+use Rattle.gc_core.specs.Fulls.{flips_in, since_in}
 
 -- ---- records
 
@@ -89,9 +90,13 @@ abbrev pub HasRoomFor : (pages : ℕ) → List (List Instr) → ℕ → Story �
 HasRoomFor pages code turns s made m = (asked live : ℕ) → asked_by code turns s.now m ≡ Some asked → IsLive s.flip live
     → live + PAGE_WORDS * (made + being_made code turns s.now m + asked) ≤ PAGE_WORDS * pages
 
--- it does so after each front of the order, for each mutator
+-- after these marks mutator m may find the heap full: a flip came since its last step, or as many came as there can be
+abbrev pub MayBeFull : List Mark → (m : ℕ) → Type 0
+MayBeFull front m = (since_in (λ j. false) front m ≡ true) ⊎ (flips_in 0 front ≡ 2 ^ 32 - 1)
+
+-- it does so wherever in the order a mutator may find the heap full
 abbrev pub IsLargeEnough : (pages : ℕ) → List (List Instr) → ℕ → List Mark → Type 0
-IsLargeEnough pages code turns order = (front rest : List Mark) (m : ℕ) → front ++ rest ≡ order
+IsLargeEnough pages code turns order = (front rest : List Mark) (m : ℕ) → front ++ rest ≡ order → MayBeFull front m
     → HasRoomFor pages code turns (story code turns front) (made_since code turns front) m
 
 abbrev pub HasNoFull : List Mark → Type 0
@@ -103,10 +108,6 @@ LargeHeapsAreNeverFull = InEveryRun (λ code config schedule n.
     IsLargeEnough config.pages code config.turns (run_of code config schedule n).order → HasNoFull (run_of code config schedule n).order)
 
 -- ---- with one mutator
-
-abbrev pub flips_in : ℕ → List Mark → ℕ
-flips_in flips [] = flips
-flips_in flips (mark ∷ marks) = flips_in (flips_by flips mark) marks
 
 -- it ends with a flip
 pub record EndsWithFlip (front : List Mark) : Type 0 where

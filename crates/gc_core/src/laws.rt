@@ -53,8 +53,8 @@ pub fn instructions_flip_once()
     ensures lone { LoneFullsFollowTheirFlips }
 {}
 
-/// A heap is never full in which, after each front of the run's order, the next record fits beside what was live at the last flip and all
-/// records made since then or being made. With one mutator it is enough that the record fits beside what is live.
+/// A heap is never full in which, wherever a flip came since a mutator's last step, the mutator's next record fits beside what was live at
+/// that flip and all records made since then or being made. With one mutator it is enough that the record fits beside what is live.
 pub fn large_heaps_are_never_full()
     ensures large { LargeHeapsAreNeverFull }
     ensures lone { LoneHeapsAreNeverFull }

@@ -1,8 +1,10 @@
 //! A core: the workers and the words that they share, stepped by whoever has the schedule.
 
-ghost use Rattle.std.specs.Prelude.{◌≡◌, ◌<◌};
+ghost use Rattle.std.specs.Prelude.{◌≡◌, ◌≢◌, ◌<◌, ℕ};
+ghost use Rattle.plain_state.specs.declared.end.End.{End};
 ghost use Rattle.gc_core.specs.Core.{workers_of};
 ghost use Rattle.gc_core.specs.Event.{core_after, event_of};
+ghost use Rattle.gc_core.specs.Run.{all_ended};
 
 use crate::slot::Slot;
 use atom_store::PlainAtoms;
@@ -36,10 +38,12 @@ impl<'p> Model for Core<'p> {
 
 impl<'p> Core<'p> {
     /// One event of a worker: its next atomic step. It takes no memory.
+    #[inline(always)]
     pub fn step(&mut self, worker: u8) -> Stepped
         requires { worker < workers_of self.old }
         ensures told { result ≡ (event_of self.old worker).told }
         ensures after { self.new ≡ core_after self.old worker }
+        ensures ends_are_told { ((m : ℕ) (why : End) → result ≢ Stepped.Ended m why) → all_ended self.new ≡ all_ended self.old }
         ensures workers { workers_of self.new ≡ workers_of self.old }
     {
         let at = worker as usize;

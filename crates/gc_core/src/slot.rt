@@ -67,6 +67,7 @@ impl Slot {
     }
 
     /// Makes it on these words, where there is one.
+    #[inline(always)]
     pub fn step(&mut self, on: &mut PlainAtoms) -> Stepped
         requires sound { IsSound self.old }
         requires may { MayMake self.old on.old }

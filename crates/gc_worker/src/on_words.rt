@@ -11,6 +11,7 @@ use atom_store::{Atoms, PlainAtoms, Step};
 
 impl State {
     /// Makes the next step, where there is one.
+    #[inline(always)]
     pub fn step(&mut self, on: &mut PlainAtoms) -> Stepped
         requires sound { IsSound self.old }
         requires may { MayMake self.old on.old }

@@ -87,6 +87,7 @@ impl Worker {
     }
 
     /// Makes the next step on these words, where it has one; it is the same as to take the reply to what it wants.
+    #[inline(always)]
     pub fn step(&mut self, on: &mut PlainAtoms) -> Stepped
         requires may { MayMake self.old on.old }
         ensures state { self.new ≡ uncounted (made self.old on.old).held }

@@ -32,7 +32,8 @@ use Rattle.gc_core.specs.Core.{CoreState, opening_core}
 use Rattle.gc_core.specs.Cycles.{flips_after, flips_next}
 use Rattle.gc_worker.specs.Stepped.{stepped_by}
 use Rattle.gc_core.specs.Event.{core_after, event_of, readied, ready}
-use Rattle.gc_core.specs.Law.{IsSteady, epoch_in}
+use Rattle.gc_worker.specs.Claims.{epoch_in}
+use Rattle.gc_core.specs.Law.{IsSteady}
 use Rattle.gc_core.proofs.Fulls.{ready_as, at_look, had_no_end}
 use Rattle.gc_core.proofs.Readied.{Due, Begins, Rests, Ready, due, ready_account, readied_stands}
 

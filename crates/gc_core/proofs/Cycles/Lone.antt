@@ -16,11 +16,11 @@ use Rattle.plain_heap.proofs.Staying.{plain_count}
 use Rattle.plain_heap.proofs.Stories.{story-now, story_after-append}
 use Rattle.heap_state.specs.Functions.{sum_below}
 use Rattle.heap_state.specs.Reachable.{IsLive}
-use Rattle.gc_core.specs.Fulls.{EachMayCome, MayCome, flips_by, since_by}
-use Rattle.gc_core.specs.Needs.{EachFullIs, EndsWithFlip, HasNoFull, IsEnoughForOne, being_made, flips_in, made_since, opened}
+use Rattle.gc_core.specs.Fulls.{EachMayCome, flips_by, flips_in, since_by, since_in}
+use Rattle.gc_core.specs.Needs.{EachFullIs, EndsWithFlip, HasNoFull, IsEnoughForOne, being_made, made_since, opened}
 use Rattle.gc_core.specs.Whole.{EachActs}
 use Rattle.gc_core.proofs.Cycles.Along.{made_after-append}
-use Rattle.gc_core.proofs.Cycles.Orders.{at_full}
+use Rattle.gc_core.proofs.Cycles.Orders.{at_full, may_come_at}
 
 -- a flip, or a step of mutator m
 abbrev IsOwn : (m : ℕ) → Mark → Type 0
@@ -93,16 +93,6 @@ module _ (code : List (List Instr)) (turns : ℕ) where
         absurd (full_ends p j pages left words each.0.1 each.0.0 (subst (λ (i : ℕ). end_of (marked code turns p mark) i ≡ Some None) (sym is_own) later))
 
 -- ---- the last mark before
-
--- for each mutator, whether a flip came since its last step, after marks
-abbrev since_in : (ℕ → Bool) → List Mark → ℕ → Bool
-since_in since [] = since
-since_in since (mark ∷ marks) = since_in (since_by since mark) marks
-
-may_come_at : (since : ℕ → Bool) (flips : ℕ) (front rest : List Mark) (mark : Mark) → EachMayCome since flips (front ++ mark ∷ rest) → MayCome (since_in since front) (flips_in flips front) mark
-unfolding EachMayCome
-may_come_at since flips [] rest mark each = each.0
-may_come_at since flips (first ∷ front) rest mark each = may_come_at (since_by since first) (flips_by flips first) front rest mark each.1
 
 -- a list that ends with a flip does so behind another mark
 further : (mark : Mark) (marks : List Mark) → EndsWithFlip marks → EndsWithFlip (mark ∷ marks)

@@ -16,6 +16,7 @@ use Rattle.gc_worker.specs.declared.stepped.Stepped.TheVariants.{Idle, Moved, Ef
 use Rattle.gc_core.specs.Core.{CoreState}
 use Rattle.gc_core.specs.Cycles.{claims_next}
 use Rattle.gc_core.specs.Event.{core_after, event_of}
+use Rattle.gc_core.specs.Fulls.{EachMayCome, MayCome, flips_by, flips_in, since_by, since_in}
 use Rattle.gc_core.specs.Law.{EventsKeep, IsSteady, IsTold, story_by}
 use Rattle.gc_core.specs.Needs.{EachFullIs, HasNoFull, IsFullAt, IsLargeEnough, being_made, made_after, made_by, opened}
 use Rattle.gc_core.specs.Run.{all_ended, mark_of, run_from}
@@ -94,10 +95,19 @@ pub at_full : (n : ℕ) (code : List (List Instr)) (turns : ℕ) (s : Story) (ma
 at_full n code turns s made [] rest m asked room live each = each.0
 at_full n code turns s made (mark ∷ front) rest m asked room live each = at_full n code turns (turned code turns s mark) (made_by code turns s.now made mark) front rest m asked room live each.1
 
-pub large_is_never_full : (n : ℕ) (code : List (List Instr)) (turns : ℕ) (order : List Mark) → EachFullIs n code turns (opened code) 0 order → IsLargeEnough n code turns order → HasNoFull order
-large_is_never_full n code turns order each large front rest m asked room live is =
+-- and to whether it may come
+pub may_come_at : (since : ℕ → Bool) (flips : ℕ) (front rest : List Mark) (mark : Mark) → EachMayCome since flips (front ++ mark ∷ rest) → MayCome (since_in since front) (flips_in flips front) mark
+unfolding EachMayCome
+may_come_at since flips [] rest mark each = each.0
+may_come_at since flips (first ∷ front) rest mark each = may_come_at (since_by since first) (flips_by flips first) front rest mark each.1
+
+pub large_is_never_full : (n : ℕ) (code : List (List Instr)) (turns : ℕ) (order : List Mark) → EachFullIs n code turns (opened code) 0 order → EachMayCome (λ j. false) 0 order
+    → IsLargeEnough n code turns order → HasNoFull order
+large_is_never_full n code turns order each may large front rest m asked room live is =
+    let mark = marks.Full m asked room live in
+    let comes = may_come_at (λ j. false) 0 front rest mark (subst (EachMayCome (λ j. false) 0) (sym is) may) in
     let full = at_full n code turns (opened code) 0 front rest m asked room live (subst (EachFullIs n code turns (opened code) 0) (sym is) each) in
-    let fits = large front (marks.Full m asked room live ∷ rest) m is asked live full.asked_is full.live_is in
+    let fits = large front (mark ∷ rest) m is comes asked live full.asked_is full.live_is in
     let filled = full.filled in
     let few = full.for_records in
     let short = full.short in

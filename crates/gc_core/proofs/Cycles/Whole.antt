@@ -23,12 +23,12 @@ use Rattle.gc_worker.specs.Law.{WorkersStand}
 use Rattle.gc_worker.specs.declared.config.Config.{Config}
 use Rattle.gc_worker.specs.declared.stepped.Stepped.TheVariants.{Ended}
 use Rattle.gc_core.specs.Core.{CoreState, is_size, opening_core}
-use Rattle.gc_core.specs.Cycles.{CyclesKeepWhatIsLive, FullHeapsAreFilled, InstructionsFlipOnce, claims_next, claims_of, flips_next, run_of, story_of}
+use Rattle.gc_core.specs.Cycles.{CyclesKeepWhatIsLive, FullHeapsAreFilled, InstructionsFlipOnce, claims_next, claims_of, flips_next, story_of}
 use Rattle.gc_core.specs.Event.{event_of}
 use Rattle.gc_core.specs.Fulls.{EachMayCome}
 use Rattle.gc_core.specs.Law.{IsSteady, IsTold}
 use Rattle.gc_core.specs.Needs.{ClaimsAreForRecords, LargeHeapsAreNeverFull, LoneFullsFollowTheirFlips, LoneHeapsAreNeverFull, OrdersFillTheSpace, being_made, made_since, opened}
-use Rattle.gc_core.specs.Run.{Ran}
+use Rattle.gc_core.specs.Run.{run_of, Ran}
 use Rattle.gc_core.specs.Whole.{EachActs}
 use Rattle.gc_core.proofs.Begun.{opening_stands, opening_steady}
 use Rattle.gc_core.proofs.Cycles.Along.{holds_after}
@@ -124,6 +124,7 @@ orders_fill_the_space code items config schedule n program size turns few =
 pub large_heaps_are_never_full : LargeHeapsAreNeverFull
 large_heaps_are_never_full code items config schedule n program size turns few =
     large_is_never_full config.pages code config.turns (run_of code config schedule n).order (orders_fill_the_space code items config schedule n program size turns few)
+    (fulls_follow_flips code items config schedule n program size turns few)
 
 pub lone_fulls_follow_their_flips : LoneFullsFollowTheirFlips
 lone_fulls_follow_their_flips code items config schedule n program size turns few one front rest m asked room live is below =

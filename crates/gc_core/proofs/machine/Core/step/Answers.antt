@@ -8,6 +8,8 @@ use Rattle.gc_core.specs.Event.{core_after, event_of}
 use Rattle.gc_core.specs.Law.{IsLawful}
 use Rattle.gc_core.proofs.CoreSteps.{held_sound, held_counts, ready_sound, state, read_held, made_ready, read_ready, may_make, made_room, made_told, made_core}
 use Rattle.gc_core.proofs.Lawful.{lawful_after}
+use Rattle.gc_core.specs.Run.{all_ended}
+use Rattle.gc_core.proofs.Ending.{ends_are_told}
 use Rattle.gc_core.proofs.machine.Core.step.Goals as goal
 
 -- ---- the worker is made ready
@@ -87,3 +89,16 @@ returns-clause-after c =
     let z_is = c.step.ensures.state ∙ ap (λ (x : Held). (made x s.heap.words).held) again in
     let words_are = c.step.ensures.words ∙ ap (λ (x : Held). (made x s.heap.words).words) again in
     made_core s w c.self.invariant.2 below c.ready.new.self c.step.new.self c.step.new.on ready_is z_is words_are ∙ ap (λ (s : CoreState). core_after s w) c.self.view_is
+
+pub returns-clause-ends_are_told : goal.returns-clause-ends_are_told
+returns-clause-ends_are_told c = λ untold.
+    let s = state c.self.inside.program.now.code c.self.inside.turns c.self.inside.spaces.pages c.self.inside.atoms c.self.inside.slots.items in
+    let w = c.args.worker in
+    let below : w < length c.self.inside.slots.items = subst (λ (s : CoreState). w < workers_of s) (sym c.self.view_is) c.requires in
+    let ready_is = made_ready s w below c.index_mut.result.now c.ready.new.self c.index_mut.ensures.value c.ready.ensures in
+    let again = read_ready s w below c.ready.new.self c.index_mut-2.result.now ready_is c.index_mut-2.ensures.value in
+    let z_is = c.step.ensures.state ∙ ap (λ (x : Held). (made x s.heap.words).held) again in
+    let words_are = c.step.ensures.words ∙ ap (λ (x : Held). (made x s.heap.words).words) again in
+    let told = c.step.ensures.tells ∙ (ap (λ (x : Held). (made x s.heap.words).told) again ∙ made_told s w c.self.invariant.2 below) in
+    ap all_ended (made_core s w c.self.invariant.2 below c.ready.new.self c.step.new.self c.step.new.on ready_is z_is words_are)
+    ∙ (ends_are_told s w c.self.invariant.2 (λ m why is. untold m why (told ∙ is)) ∙ ap all_ended c.self.view_is)
