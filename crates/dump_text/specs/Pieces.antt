@@ -4,6 +4,7 @@ use Rattle.std.specs.Char.{is_ascii_digit}
 use Rattle.std.specs.List.{list_all}
 use Rattle.std.specs.Str.Parse.{digits_value}
 use Rattle.heap_state.specs.Kept.{Kept}
+use Rattle.plain_state.specs.declared.sizes.TheConstants.{REGISTERS}
 use Rattle.dump_text.specs.declared.head.Head.{Head}
 use Rattle.dump_text.specs.declared.kept.Kept.{Kept as ReadKept}
 use Rattle.dump_text.specs.Text.{Counts, are_counts, behind}
@@ -50,7 +51,7 @@ line_at (suc n) bytes = do
 
 -- the line of a mutator's registers
 unfoldable pub registers_at : Piece (List ℕ)
-registers_at bytes = line_at 8 bytes
+registers_at bytes = line_at REGISTERS bytes
 
 -- the line of what a worker keeps
 unfoldable pub kept_at : Piece Kept
@@ -98,4 +99,4 @@ head_at bytes = do
 
 -- the counts as they were read
 abbrev pub head_view : Head → Counts
-head_view h = record { pages = h.pages; mutators = h.mutators; workers = h.workers }
+head_view h = record { pages = h.spaces.pages; mutators = h.mutators; workers = h.workers }

@@ -3,7 +3,9 @@ use Rattle.std.specs.Prelude.{ℕ, ◌+◌, ◌-◌, ◌^◌, ◌<◌, ◌≡◌
 use Rattle.std.specs.Fmt.{digits}
 use Rattle.std.specs.List.{flat_map, AllByRecursion}
 use Rattle.heap_state.specs.Kept.{Kept}
+use Rattle.plain_state.specs.declared.sizes.TheConstants.{REGISTERS}
 use Rattle.space_map.specs.Table.{table_length}
+use Rattle.dump_text.specs.declared.head.TheConstants.{MOST_MUTATORS, MOST_SCANNERS}
 
 -- the pages of a space, the registers of each mutator, what each worker keeps, and the words of the table
 pub record Dumped : Type 0 where
@@ -55,16 +57,23 @@ dump_text d = head_text (counts_of d) ++ (flat_map words_line d.registers ++ (fl
 
 -- ---- what has a text
 
--- a heap may have so many pages, mutators and workers
+-- a space may have so many pages
+abbrev pub are_pages : ℕ → Bool
+are_pages n = nat_le 4 n && nat_le n 2048
+
+-- so many of the workers may be mutators, the others being scanners
+abbrev pub are_workers : (mutators workers : ℕ) → Bool
+are_workers mutators workers = nat_le 1 mutators && nat_le mutators MOST_MUTATORS && nat_le mutators workers && nat_le workers (mutators + MOST_SCANNERS)
+
 abbrev pub are_counts : Counts → Bool
-are_counts c = nat_le 4 c.pages && nat_le c.pages 2048 && nat_le 1 c.mutators && nat_le c.mutators 16 && nat_le c.mutators c.workers && nat_le c.workers (c.mutators + 8)
+are_counts c = are_pages c.pages && are_workers c.mutators c.workers
 
 abbrev pub IsWord : ℕ → Type 0
 IsWord word = word < 2 ^ 64
 
--- eight words
+-- a word for each register
 abbrev pub AreRegisters : List ℕ → Type 0
-AreRegisters words = (length words ≡ 8) × AllByRecursion IsWord words
+AreRegisters words = (length words ≡ REGISTERS) × AllByRecursion IsWord words
 
 abbrev pub AreKept : Kept → Type 0
 AreKept k = IsWord k.header × IsWord k.place

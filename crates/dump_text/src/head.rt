@@ -1,34 +1,37 @@
 //! The first line of a dump.
 
-ghost use Rattle.std.specs.Prelude.{IfSome, ◌≡◌, ◌<◌, ◌≤◌, IsTrue, length, option_map};
+ghost use Rattle.std.specs.Prelude.{IfSome, ◌≡◌, ◌<◌, ◌≤◌, ◌+◌, IsTrue, length, option_map};
 ghost use Rattle.std.specs.Char.{is_ascii_digit};
 ghost use Rattle.std.specs.List.{list_all};
 ghost use Rattle.std.specs.Str.Parse.{digits_value};
 ghost use Rattle.dump_text.specs.Pieces.{digit_count, number_at, keyword_at, head_at, head_view};
-ghost use Rattle.dump_text.specs.Text.{are_counts};
+ghost use Rattle.dump_text.specs.Text.{are_workers};
 
 use crate::word::after;
+use space_map::Spaces;
 
-/// How many pages a space has, how many mutators there are, and how many workers.
+/// A heap has at most so many mutators.
+const MOST_MUTATORS: u32 = 16;
+
+/// A heap has at most so many scanners.
+const MOST_SCANNERS: u32 = 8;
+
+/// How the spaces lie, how many mutators there are, and how many workers.
 #[derive(Clone, Copy, Debug, PartialEq, Eq)]
 pub struct Head {
-    pub pages: u32,
+    pub spaces: Spaces,
     pub mutators: u32,
     pub workers: u32,
 }
 
-impl Head {
-    /// Whether a heap may have so many pages, mutators and workers.
-    fn fits(self) -> bool
-        ensures { result ≡ are_counts (head_view self) }
-    {
-        4 <= self.pages
-            && self.pages <= 2048
-            && 1 <= self.mutators
-            && self.mutators <= 16
-            && self.mutators <= self.workers
-            && self.workers <= self.mutators + 8
-    }
+/// Whether so many of the workers may be mutators.
+fn are_workers(mutators: u32, workers: u32) -> bool
+    ensures { result ≡ are_workers mutators workers }
+{
+    1 <= mutators
+        && mutators <= MOST_MUTATORS
+        && mutators <= workers
+        && workers <= mutators + MOST_SCANNERS
 }
 
 /// How many decimal digits stand at the front.
@@ -84,22 +87,23 @@ fn keyword(bytes: &[u8]) -> Option<&[u8]>
 #[tactic(auto, unfolding(crate::specs::Pieces::head_at))]
 pub fn first_line(bytes: &[u8]) -> Option<(Head, &[u8])>
     ensures read { option_map (λ x. (head_view x.0, x.1.now)) result ≡ head_at bytes.now }
-    ensures pages { IfSome result (λ x. x.0.pages ≤ 2048) }
-    ensures mutators { IfSome result (λ x. x.0.mutators ≤ 16) }
-    ensures workers { IfSome result (λ x. x.0.workers ≤ 24) }
+    ensures mutators { IfSome result (λ x. x.0.mutators ≤ MOST_MUTATORS) }
+    ensures workers { IfSome result (λ x. x.0.workers ≤ MOST_MUTATORS + MOST_SCANNERS) }
 {
     let rest = keyword(bytes)?;
     let (pages, rest) = number(b' ', rest)?;
     let (mutators, rest) = number(b' ', rest)?;
     let (workers, rest) = number(b'\n', rest)?;
-    let head = Head {
-        pages,
-        mutators,
-        workers,
-    };
-    if head.fits() {
-        Some((head, rest))
-    } else {
-        None
+    let spaces = Spaces::new(pages).ok()?;
+    if !are_workers(mutators, workers) {
+        return None;
     }
+    Some((
+        Head {
+            spaces,
+            mutators,
+            workers,
+        },
+        rest,
+    ))
 }

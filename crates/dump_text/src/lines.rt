@@ -7,6 +7,7 @@ ghost use Rattle.dump_text.specs.Reading.{Gives, many};
 use crate::dump_error::DumpError;
 use crate::kept::Kept;
 use crate::word::{cell, kept_line, registers_line};
+use plain_state::REGISTERS;
 use std::alloc::Global;
 
 /// So many lines of registers, the first of which has this number.
@@ -15,7 +16,7 @@ pub fn all_registers(
     count: u32,
     line: u32,
     bytes: &[u8],
-) -> Result<(Vec<[u64; 8]>, &[u8]), DumpError>
+) -> Result<(Vec<[u64; REGISTERS]>, &[u8]), DumpError>
     requires { line + count < 2 ^ 32 }
     ensures { Gives (λ x. (x.0.items, x.1.now)) result (many registers_at count line bytes.now) }
 {

@@ -24,7 +24,7 @@ fn all(alloc: Global, bytes: &[u8]) -> Result<Dump, DumpError>
     line += head.mutators;
     let (kept, rest) = all_kept(alloc, head.workers, line, rest)?;
     line += head.workers;
-    let length = 132 * head.pages + 105;
+    let length = head.spaces.table_len() as u32;
     let (words, rest) = table(alloc, length, line, rest)?;
     if !rest.is_empty() {
         return Err(DumpError::Bad {
@@ -32,7 +32,7 @@ fn all(alloc: Global, bytes: &[u8]) -> Result<Dump, DumpError>
         });
     }
     Ok(Dump {
-        pages: head.pages,
+        pages: head.spaces.pages(),
         registers,
         kept,
         words,

@@ -7,6 +7,7 @@ ghost use Rattle.std.specs.Str.Parse.{digits_value};
 ghost use Rattle.dump_text.specs.Pieces.{is_hex, byte_at, word_at, cell_at, registers_at, kept_at, kept_view};
 
 use crate::kept::Kept;
+use plain_state::REGISTERS;
 
 /// Whether a byte is a digit of a word.
 fn is_hex(b: u8) -> bool
@@ -80,7 +81,7 @@ pub fn cell(wanted: u8, bytes: &[u8]) -> Option<(u64, &[u8])>
 
 /// The line of a mutator's registers.
 #[tactic(auto, unfolding(crate::specs::Pieces::registers_at))]
-pub fn registers_line(bytes: &[u8]) -> Option<([u64; 8], &[u8])>
+pub fn registers_line(bytes: &[u8]) -> Option<([u64; REGISTERS], &[u8])>
     ensures { option_map (λ x. (x.0, x.1.now)) result ≡ registers_at bytes.now }
 {
     let (r0, rest) = cell(b' ', bytes)?;
