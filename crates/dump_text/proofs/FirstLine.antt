@@ -6,7 +6,8 @@ use Rattle.std.specs.List.{list_all}
 use Rattle.std.specs.Char.{is_ascii_digit}
 use Rattle.dump_text.specs.Lines.{first_lines}
 use Rattle.dump_text.specs.Pieces.{◌>>=◌, byte_at, keyword_at, number_at, head_at}
-use Rattle.dump_text.specs.Text.{Counts, head_text, are_counts}
+use Rattle.dump_text.specs.Text.{Counts, are_counts}
+use Rattle.dump_text.proofs.Laid.{head_text}
 use Rattle.dump_text.proofs.FirstLines.{is_inside, inside_line}
 use Rattle.dump_text.proofs.Numerals.{number_takes, number_again, decimal_digits}
 use Rattle.dump_text.proofs.Options.{some_bind, some_if, both_true}

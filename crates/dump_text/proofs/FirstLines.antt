@@ -5,7 +5,8 @@ use Rattle.std.proofs.lemmas.List.{append_assoc}
 use Rattle.std.specs.List.{list_all}
 use Rattle.dump_text.specs.Lines.{first_lines}
 use Rattle.dump_text.specs.Pieces.{is_hex}
-use Rattle.dump_text.specs.Text.{word_text, words_line}
+use Rattle.dump_text.specs.Text.{word_text}
+use Rattle.dump_text.proofs.Laid.{row_text}
 use Rattle.dump_text.proofs.Hex.{text_hex}
 use Rattle.dump_text.proofs.Options.{both_true}
 
@@ -50,10 +51,10 @@ word_inside : (n w : ℕ) (rest : List ℕ) → first_lines (suc n) (word_text w
 word_inside n w rest = inside_line n (word_text w) rest (all_inside (word_text w) (text_hex w))
 
 -- words in a line are one line
-pub words_end : (n : ℕ) (word : ℕ) (words rest : List ℕ) → first_lines (suc n) (words_line (word ∷ words) ++ rest) ≡ words_line (word ∷ words) ++ first_lines n rest
+pub words_end : (n : ℕ) (word : ℕ) (words rest : List ℕ) → first_lines (suc n) (row_text (word ∷ words) ++ rest) ≡ row_text (word ∷ words) ++ first_lines n rest
 words_end n w [] rest =
     ap (first_lines (suc n)) (append_assoc (word_text w) (10 ∷ []) rest) ∙ word_inside n w (10 ∷ rest) ∙ sym (append_assoc (word_text w) (10 ∷ []) (first_lines n rest))
 words_end n w (v ∷ words) rest =
     let deeper = words_end n v words rest in
-    ap (first_lines (suc n)) (append_assoc (word_text w) (32 ∷ words_line (v ∷ words)) rest) ∙ word_inside n w (32 ∷ (words_line (v ∷ words) ++ rest))
-    ∙ ap (λ (xs : List ℕ). word_text w ++ 32 ∷ xs) deeper ∙ sym (append_assoc (word_text w) (32 ∷ words_line (v ∷ words)) (first_lines n rest))
+    ap (first_lines (suc n)) (append_assoc (word_text w) (32 ∷ row_text (v ∷ words)) rest) ∙ word_inside n w (32 ∷ (row_text (v ∷ words) ++ rest))
+    ∙ ap (λ (xs : List ℕ). word_text w ++ 32 ∷ xs) deeper ∙ sym (append_assoc (word_text w) (32 ∷ row_text (v ∷ words)) (first_lines n rest))

@@ -9,3 +9,4 @@ pub mod Loop
 pub mod FirstLine
 pub mod Whole
 pub mod Answering
+pub mod Laid

@@ -4,8 +4,9 @@ use Rattle.std.proofs.lemmas.Bool.{eqb-true, eq-eqb}
 use Rattle.std.proofs.lemmas.List.{append_assoc}
 use Rattle.std.specs.List.{AllByRecursion}
 use Rattle.heap_state.specs.Kept.{Kept}
-use Rattle.dump_text.specs.Pieces.{Piece, ◌>>=◌, byte_at, word_at, cell_at, line_at, registers_at, kept_at}
-use Rattle.dump_text.specs.Text.{word_text, behind, words_line, kept_text, table_text, IsWord, AreRegisters, AreKept}
+use Rattle.dump_text.specs.Pieces.{behind, Piece, ◌>>=◌, byte_at, word_at, cell_at, line_at, registers_at, kept_at}
+use Rattle.dump_text.specs.Text.{word_text, IsWord, AreRegisters, AreKept}
+use Rattle.dump_text.proofs.Laid.{row_text, kept_text, table_text}
 use Rattle.dump_text.proofs.Hex.{word_takes, word_again}
 use Rattle.dump_text.proofs.Options.{some_bind, some_if, some_is}
 
@@ -44,10 +45,10 @@ cell_again wanted w rest lt = rw (word_again w (wanted ∷ rest) lt, byte_again 
 
 -- ---- a line of words
 
-line_takes : (n : ℕ) (bytes words rest : List ℕ) → line_at n bytes ≡ Some (words, rest) → (bytes ≡ words_line words ++ rest) × (length words ≡ n) × AllByRecursion IsWord words
+line_takes : (n : ℕ) (bytes words rest : List ℕ) → line_at n bytes ≡ Some (words, rest) → (bytes ≡ row_text words ++ rest) × (length words ≡ n) × AllByRecursion IsWord words
 line_takes zero bytes words rest e =
     let pair = some_is {A = List ℕ × List ℕ} ([], bytes) (words, rest) e in
-    let P : List ℕ × List ℕ → Type 0 = λ p. (bytes ≡ words_line p.0 ++ p.1) × (length p.0 ≡ 0) × AllByRecursion IsWord p.0 in
+    let P : List ℕ × List ℕ → Type 0 = λ p. (bytes ≡ row_text p.0 ++ p.1) × (length p.0 ≡ 0) × AllByRecursion IsWord p.0 in
     subst P pair (refl, refl, tt)
 line_takes (suc n) bytes words rest e =
     let a = some_bind (cell_at (behind n) bytes) (λ word. line_at n word.1 >>= λ words. Some (word.0 ∷ words.0, words.1)) (words, rest) e in
@@ -55,23 +56,23 @@ line_takes (suc n) bytes words rest e =
     let pair = some_is {A = List ℕ × List ℕ} (a.0.0 ∷ b.0.0, b.0.1) (words, rest) b.2 in
     let first = cell_takes (behind n) bytes a.0.0 a.0.1 a.1 in
     let others = line_takes n a.0.1 b.0.0 b.0.1 b.1 in
-    let whole : bytes ≡ (word_text a.0.0 ++ behind (length b.0.0) ∷ words_line b.0.0) ++ b.0.1 =
-    first.0 ∙ ap (λ (xs : List ℕ). word_text a.0.0 ++ behind n ∷ xs) others.0 ∙ ap (λ (k : ℕ). word_text a.0.0 ++ behind k ∷ (words_line b.0.0 ++ b.0.1)) (sym others.1)
-    ∙ sym (append_assoc (word_text a.0.0) (behind (length b.0.0) ∷ words_line b.0.0) b.0.1) in
-    let P : List ℕ × List ℕ → Type 0 = λ p. (bytes ≡ words_line p.0 ++ p.1) × (length p.0 ≡ suc n) × AllByRecursion IsWord p.0 in
+    let whole : bytes ≡ (word_text a.0.0 ++ behind (length b.0.0) ∷ row_text b.0.0) ++ b.0.1 =
+    first.0 ∙ ap (λ (xs : List ℕ). word_text a.0.0 ++ behind n ∷ xs) others.0 ∙ ap (λ (k : ℕ). word_text a.0.0 ++ behind k ∷ (row_text b.0.0 ++ b.0.1)) (sym others.1)
+    ∙ sym (append_assoc (word_text a.0.0) (behind (length b.0.0) ∷ row_text b.0.0) b.0.1) in
+    let P : List ℕ × List ℕ → Type 0 = λ p. (bytes ≡ row_text p.0 ++ p.1) × (length p.0 ≡ suc n) × AllByRecursion IsWord p.0 in
     subst P pair (whole, ap suc others.1, (first.1, others.2))
 
-line_again : (words rest : List ℕ) → AllByRecursion IsWord words → line_at (length words) (words_line words ++ rest) ≡ Some (words, rest)
+line_again : (words rest : List ℕ) → AllByRecursion IsWord words → line_at (length words) (row_text words ++ rest) ≡ Some (words, rest)
 line_again [] rest h = refl
 line_again (w ∷ words) rest h =
-    let regrouped : words_line (w ∷ words) ++ rest ≡ word_text w ++ behind (length words) ∷ (words_line words ++ rest) = append_assoc (word_text w) (behind (length words) ∷ words_line words) rest in
-    ap (line_at (suc (length words))) regrouped ∙ rw (cell_again (behind (length words)) w (words_line words ++ rest) h.0, line_again words rest h.1) refl
+    let regrouped : row_text (w ∷ words) ++ rest ≡ word_text w ++ behind (length words) ∷ (row_text words ++ rest) = append_assoc (word_text w) (behind (length words) ∷ row_text words) rest in
+    ap (line_at (suc (length words))) regrouped ∙ rw (cell_again (behind (length words)) w (row_text words ++ rest) h.0, line_again words rest h.1) refl
 
-pub registers_piece : IsPiece registers_at words_line AreRegisters
+pub registers_piece : IsPiece registers_at row_text AreRegisters
 unfolding registers_at
 registers_piece = record {
   takes = λ bytes words rest e. let t = line_takes 8 bytes words rest e in (t.0, (t.1, t.2));
-  again = λ words rest h. ap (λ (n : ℕ). line_at n (words_line words ++ rest)) (sym h.0) ∙ line_again words rest h.1;
+  again = λ words rest h. ap (λ (n : ℕ). line_at n (row_text words ++ rest)) (sym h.0) ∙ line_again words rest h.1;
 }
 
 pub table_piece : IsPiece (cell_at 10) table_text IsWord
@@ -93,7 +94,7 @@ kept_takes bytes k rest e =
     let second = cell_takes 10 a.0.1 b.0.0 b.0.1 b.1 in
     let whole : bytes ≡ kept_text made ++ b.0.1 =
     first.0 ∙ ap (λ (xs : List ℕ). word_text a.0.0 ++ 32 ∷ xs) (second.0 ∙ sym (append_assoc (word_text b.0.0) (10 ∷ []) b.0.1))
-    ∙ sym (append_assoc (word_text a.0.0) (32 ∷ words_line (b.0.0 ∷ [])) b.0.1) in
+    ∙ sym (append_assoc (word_text a.0.0) (32 ∷ row_text (b.0.0 ∷ [])) b.0.1) in
     let P : Kept × List ℕ → Type 0 = λ p. (bytes ≡ kept_text p.0 ++ p.1) × AreKept p.0 in
     subst P pair (whole, (first.1, second.1))
 
@@ -103,6 +104,6 @@ kept_piece = record {
   takes = kept_takes;
   again = λ k rest h.
       let regrouped : kept_text k ++ rest ≡ word_text k.header ++ 32 ∷ (word_text k.place ++ 10 ∷ rest) =
-      append_assoc (word_text k.header) (32 ∷ words_line (k.place ∷ [])) rest ∙ ap (λ (xs : List ℕ). word_text k.header ++ 32 ∷ xs) (append_assoc (word_text k.place) (10 ∷ []) rest) in
+      append_assoc (word_text k.header) (32 ∷ row_text (k.place ∷ [])) rest ∙ ap (λ (xs : List ℕ). word_text k.header ++ 32 ∷ xs) (append_assoc (word_text k.place) (10 ∷ []) rest) in
       ap kept_at regrouped ∙ rw (cell_again 32 k.header (word_text k.place ++ 10 ∷ rest) h.0, cell_again 10 k.place rest h.1) refl;
 }

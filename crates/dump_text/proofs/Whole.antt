@@ -7,7 +7,8 @@ use Rattle.space_map.specs.Table.{table_length}
 use Rattle.dump_text.specs.Lines.{first_lines, IsFirstWrong}
 use Rattle.dump_text.specs.Pieces.{cell_at, registers_at, kept_at, head_at}
 use Rattle.dump_text.specs.Reading.{Reader, ◌>>=◌, or_line, many, nothing_at, dump_at}
-use Rattle.dump_text.specs.Text.{Counts, Dumped, IsDump, IsWord, AreRegisters, AreKept, are_counts, counts_of, dump_text, head_text, words_line, kept_text, table_text}
+use Rattle.dump_text.specs.Text.{Counts, Dumped, IsDump, IsWord, AreRegisters, AreKept, are_counts, counts_of, dump_text}
+use Rattle.dump_text.proofs.Laid.{laid, laid_text, head_text, row_text, kept_text, table_text}
 use Rattle.dump_text.proofs.Exact.{IsExact, IsWrong, one_line, many_lines, both, both_exact, same_front, ok_bind, err_bind, ok_is, err_is, ok_not_err, First, Second}
 use Rattle.dump_text.proofs.FirstLine.{head_piece, head_ends}
 use Rattle.dump_text.proofs.FirstLines.{front_and_rest, words_end}
@@ -18,7 +19,7 @@ use Rattle.dump_text.proofs.Pieces.{registers_piece, kept_piece, table_piece}
 head_lines : IsExact (λ line bytes. or_line line (head_at bytes)) head_text (λ c. are_counts c ≡ true) (λ _. 1)
 head_lines = one_line head_piece (record { pages = 4; mutators = 1; workers = 1 }) refl (λ c rest n h. head_ends c rest n h)
 
-registers_end : (words rest : List ℕ) (n : ℕ) → AreRegisters words → first_lines (suc n) (words_line words ++ rest) ≡ words_line words ++ first_lines n rest
+registers_end : (words rest : List ℕ) (n : ℕ) → AreRegisters words → first_lines (suc n) (row_text words ++ rest) ≡ row_text words ++ first_lines n rest
 registers_end [] rest n h = absurd (omega (arith, h.0))
 registers_end (w ∷ words) rest n h = words_end n w words rest
 
@@ -28,7 +29,7 @@ no_registers = 0 ∷ 0 ∷ 0 ∷ 0 ∷ 0 ∷ 0 ∷ 0 ∷ 0 ∷ []
 zero_is_word : IsWord 0
 zero_is_word = omega arith
 
-registers_lines : IsExact (λ line bytes. or_line line (registers_at bytes)) words_line AreRegisters (λ _. 1)
+registers_lines : IsExact (λ line bytes. or_line line (registers_at bytes)) row_text AreRegisters (λ _. 1)
 unfolding no_registers
 registers_lines =
     let z = zero_is_word in
@@ -49,7 +50,7 @@ abbrev parts_at : Reader Parts
 parts_at = both (λ line bytes. or_line line (head_at bytes)) (λ _. 1) (λ c. both (many registers_at c.mutators) (λ _. c.mutators) (λ _. both (many kept_at c.workers) (λ _. c.workers) (λ _. many (cell_at 10) (table_length c.pages))))
 
 abbrev parts_text : Parts → List ℕ
-parts_text z = head_text z.0 ++ (flat_map words_line z.1.0 ++ (flat_map kept_text z.1.1.0 ++ flat_map table_text z.1.1.1))
+parts_text z = head_text z.0 ++ (flat_map row_text z.1.0 ++ (flat_map kept_text z.1.1.0 ++ flat_map table_text z.1.1.1))
 
 abbrev PartsFit : Parts → Type 0
 PartsFit z = (are_counts z.0 ≡ true) × (((length z.1.0 ≡ z.0.mutators) × AllByRecursion AreRegisters z.1.0) × (((length z.1.1.0 ≡ z.0.workers) × AllByRecursion AreKept z.1.1.0) × ((length z.1.1.1 ≡ table_length z.0.pages) × AllByRecursion IsWord z.1.1.1)))
@@ -79,7 +80,7 @@ is_dump : (z : Parts) → PartsFit z → IsDump (dumped z)
 is_dump z h = record { counts = ap are_counts (same_counts z h) ∙ h.0; registers = h.1.0.1; kept = h.1.1.0.1; words = h.1.1.1.1; length = h.1.1.1.0 }
 
 same_text : (z : Parts) → PartsFit z → dump_text (dumped z) ≡ parts_text z
-same_text z h = ap (λ (c : Counts). head_text c ++ (flat_map words_line z.1.0 ++ (flat_map kept_text z.1.1.0 ++ flat_map table_text z.1.1.1))) (same_counts z h)
+same_text z h = laid (dumped z) (is_dump z h) ∙ ap (λ (c : Counts). head_text c ++ (flat_map row_text z.1.0 ++ (flat_map kept_text z.1.1.0 ++ flat_map table_text z.1.1.1))) (same_counts z h)
 
 -- ---- reading it line by line is reading its parts
 
@@ -145,7 +146,7 @@ pub dump_again : (d : Dumped) → IsDump d → dump_at (dump_text d) ≡ Ok d
 dump_again d h =
     let z = parts_of d in
     let read : parts_at 1 (parts_text z) ≡ Ok (z, []) = ap (parts_at 1) (sym (append-nil (parts_text z))) ∙ parts_exact.again 1 z [] (fits_of d h) in
-    dump_is (dump_text d) ∙ ap (λ (r : Result (Parts × List ℕ) ℕ). r >>= finish) read
+    dump_is (dump_text d) ∙ ap (λ (r : Result (Parts × List ℕ) ℕ). r >>= finish) (ap (parts_at 1) (laid d h) ∙ read)
 
 -- ---- the first wrong line
 
@@ -162,7 +163,7 @@ wrong_part bytes line place e w =
       before = ap (λ (n : ℕ). first_lines n bytes) here ∙ w.before [] ∙ ap (first_lines place) (append-nil (parts_text w.begun) ∙ sym (same_text w.begun w.fits)) ∙ ap (λ (n : ℕ). first_lines n (dump_text (dumped w.begun))) (sym here);
       wrong = λ d h same.
           w.wrong (parts_of d) [] (fits_of d h)
-          (ap (λ (n : ℕ). first_lines n bytes) (sym next) ∙ same ∙ ap (λ (n : ℕ). first_lines n (dump_text d)) next ∙ ap (first_lines (suc place)) (sym (append-nil (dump_text d))));
+          (ap (λ (n : ℕ). first_lines n bytes) (sym next) ∙ same ∙ ap (λ (n : ℕ). first_lines n (dump_text d)) next ∙ ap (first_lines (suc place)) (laid d h ∙ sym (append-nil (laid_text d))));
     }
 
 wrong_end : (bytes : List ℕ) (line : ℕ) (z : Parts) (b : ℕ) (rest : List ℕ) → line ≡ total z.0 → PartsFit z → bytes ≡ parts_text z ++ b ∷ rest → IsFirstWrong bytes line
@@ -179,7 +180,7 @@ wrong_end bytes line z b rest e h is =
           let left : first_lines line bytes ≡ parts_text z ++ first_lines 1 (b ∷ rest) = ap (λ (n : ℕ). first_lines n bytes) next ∙ ap (first_lines (parts_count z + 1)) is ∙ parts_exact.ends z (b ∷ rest) 1 h in
           let f = front_and_rest line (dump_text d) in
           let split : parts_text (parts_of d) ++ [] ≡ parts_text z ++ (first_lines 1 (b ∷ rest) ++ f.0) =
-          append-nil (dump_text d) ∙ f.1 ∙ ap (λ (xs : List ℕ). xs ++ f.0) (sym same ∙ left) ∙ append_assoc (parts_text z) (first_lines 1 (b ∷ rest)) f.0 in
+          append-nil (laid_text d) ∙ sym (laid d g) ∙ f.1 ∙ ap (λ (xs : List ℕ). xs ++ f.0) (sym same ∙ left) ∙ append_assoc (parts_text z) (first_lines 1 (b ∷ rest)) f.0 in
           nil_is_not_cons (same_front parts_exact (parts_of d) z [] (first_lines 1 (b ∷ rest) ++ f.0) (fits_of d g) h split).1;
     }
 

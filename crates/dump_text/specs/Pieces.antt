@@ -7,7 +7,7 @@ use Rattle.heap_state.specs.Kept.{Kept}
 use Rattle.plain_state.specs.declared.sizes.TheConstants.{REGISTERS}
 use Rattle.dump_text.specs.declared.head.Head.{Head}
 use Rattle.dump_text.specs.declared.kept.Kept.{Kept as ReadKept}
-use Rattle.dump_text.specs.Text.{Counts, are_counts, behind}
+use Rattle.dump_text.specs.Text.{Counts, are_counts}
 
 -- a reader of pieces
 abbrev pub Piece : Type 0 → Type 0
@@ -40,6 +40,11 @@ cell_at wanted bytes = do
   word ← word_at bytes
   rest ← byte_at wanted word.1
   Some (word.0, rest)
+
+-- what stands behind a word that so many more of its line follow: a space, or the end of the line
+abbrev pub behind : ℕ → ℕ
+behind zero = 10
+behind (suc n) = 32
 
 -- a line of so many words
 abbrev pub line_at : ℕ → Piece (List ℕ)

@@ -1,5 +1,5 @@
 -- A dump and its text.
-use Rattle.std.specs.Prelude.{ℕ, ◌+◌, ◌-◌, ◌^◌, ◌<◌, ◌≡◌, Bool, false, ◌&&◌, IsTrue, nat_le, List, [], ◌∷◌, ◌++◌, length, codes, decimal, replicate, zero, suc}
+use Rattle.std.specs.Prelude.{ℕ, ◌+◌, ◌-◌, ◌^◌, ◌<◌, ◌≡◌, Bool, false, ◌&&◌, IsTrue, nat_le, List, [], ◌∷◌, ◌++◌, length, codes, decimal, replicate}
 use Rattle.std.specs.Fmt.{digits}
 use Rattle.std.specs.List.{flat_map, AllByRecursion}
 use Rattle.heap_state.specs.Kept.{Kept}
@@ -20,15 +20,29 @@ pub record Dumped : Type 0 where
 abbrev pub word_text : ℕ → List ℕ
 word_text word = replicate (16 - length (digits 16 false word)) 48 ++ digits 16 false word
 
--- what stands behind a word that so many more of its line follow: a space, or the end of the line
-abbrev pub behind : ℕ → ℕ
-behind zero = 10
-behind (suc n) = 32
-
 -- words in a line, with a space between two
 abbrev pub words_line : List ℕ → List ℕ
-words_line [] = []
-words_line (word ∷ words) = word_text word ++ behind (length words) ∷ words_line words
+words_line [] = codes "\n"
+words_line (word ∷ words) = word_text word ++ flat_map (λ w. codes " " ++ word_text w) words ++ codes "\n"
+
+-- the first line: how many pages a space has, how many mutators there are, and how many workers
+abbrev pub dump_head : (pages mutators workers : ℕ) → List ℕ
+dump_head pages mutators workers = codes "dump " ++ decimal pages ++ codes " " ++ decimal mutators ++ codes " " ++ decimal workers ++ codes "\n"
+
+-- the words of the table, a line each
+abbrev pub table_lines : List ℕ → List ℕ
+table_lines words = flat_map (λ word. word_text word ++ codes "\n") words
+
+-- what a worker keeps: a header, and a place
+abbrev pub kept_line : Kept → List ℕ
+kept_line k = words_line (k.header ∷ k.place ∷ [])
+
+-- the first line, the registers of each mutator, what each worker keeps, and the table
+abbrev pub dump_text : Dumped → List ℕ
+dump_text d =
+    dump_head d.pages (length d.registers) (length d.kept) ++ flat_map words_line d.registers ++ flat_map kept_line d.kept ++ table_lines d.words
+
+-- ---- what has a text
 
 -- the counts of the first line
 pub record Counts : Type 0 where
@@ -36,26 +50,8 @@ pub record Counts : Type 0 where
   pub mutators : ℕ
   pub workers : ℕ
 
--- the first line: how many pages a space has, how many mutators there are, and how many workers
-abbrev pub head_text : Counts → List ℕ
-head_text c = codes "dump " ++ (decimal c.pages ++ 32 ∷ (decimal c.mutators ++ 32 ∷ (decimal c.workers ++ 10 ∷ [])))
-
--- what a worker keeps: a header, and a place
-abbrev pub kept_text : Kept → List ℕ
-kept_text k = words_line (k.header ∷ k.place ∷ [])
-
--- a word of the table, on a line of its own
-abbrev pub table_text : ℕ → List ℕ
-table_text word = words_line (word ∷ [])
-
 abbrev pub counts_of : Dumped → Counts
 counts_of d = record { pages = d.pages; mutators = length d.registers; workers = length d.kept }
-
--- the first line, the registers of each mutator, what each worker keeps, and the table
-abbrev pub dump_text : Dumped → List ℕ
-dump_text d = head_text (counts_of d) ++ (flat_map words_line d.registers ++ (flat_map kept_text d.kept ++ flat_map table_text d.words))
-
--- ---- what has a text
 
 -- a space may have so many pages
 abbrev pub are_pages : ℕ → Bool
