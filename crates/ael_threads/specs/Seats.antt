@@ -10,6 +10,7 @@ use Rattle.atom_store.specs.declared.step.Step.TheVariants.{Load, Store, Exchang
 use Rattle.space_map.specs.Table.{table_length}
 use Rattle.plain_state.specs.State.{Mutator, Plain, serial_of}
 use Rattle.plain_state.specs.State as plain
+use Rattle.gc_worker.specs.declared.stage.Stage.TheVariants.{Gone}
 use Rattle.gc_worker.specs.declared.stepped.Stepped.{Stepped}
 use Rattle.gc_worker.specs.declared.stepped.Stepped.TheVariants.{Idle}
 use Rattle.gc_worker.specs.Between.{AreAlike, GoesOn, Lands, Readies, Shows}
@@ -158,8 +159,9 @@ pub record ActsBy (a : Seated) (r : Reply) (s : Stepped) (b : Seated) : Type 0 w
   pub knows : Moves a.knows (first_number a.knows.hands) a.worker r b.knows
   pub goes_on : GoesOn a.worker r
 
+-- an act is idle exactly where a mutator has left, or a scanner has seen that all have
 abbrev pub Acts : Seated → Stepped → Seated → Type 0
-Acts a Idle b = (b ≡ a) × (wanted a.worker ≡ None)
+Acts a Idle b = (b ≡ a) × (a.worker.stage ≡ Gone)
 Acts a s b = (r : Reply) × ActsBy a r s b
 
 -- ---- how a seat's first worker goes to a new seat
