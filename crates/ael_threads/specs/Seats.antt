@@ -57,13 +57,13 @@ IsMine v = calls_of (first_number v.hands) v.seen ≡ first_own v.hands
 abbrev pub plain_seen : View → Plain
 plain_seen v = after_all (first_plain v.plan) v.seen
 
--- Worker m, which holds x, is as its plain mutator q; where that one has no end its registers show that one's.
+-- Worker m, which holds x, is as its plain mutator q, and its registers show that one's, also once it has its end.
 pub record IsShown (records : plain.Heap) (m : ℕ) (x : Held) (q : Mutator) : Type 0 where
   pub counter : x.account.counter ≡ q.counter
   pub printed : x.account.printed ≡ q.printed
   pub end : x.account.end ≡ q.end
   pub serial : x.account.serial ≡ serial_of records m
-  pub registers : q.end ≡ None → Shows x.registers q
+  pub registers : Shows x.registers q
 
 -- The seat's own worker is as its plain mutator after what was seen: whatever came since was none of its calls.
 abbrev pub ShowsSeen : Held → View → Type 0
