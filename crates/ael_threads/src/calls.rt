@@ -60,7 +60,7 @@ impl Mutator {
     /// Leaves the heap. A mutator without an end makes `halt` first.
     pub fn leave<R: Wait>(&mut self, rt: &R, h: &Shared)
         requires table { self.old.table ≡ h.now.table.shared.table_id }
-        requires no_task { self.old.worker.task ≡ None }
+        requires no_task { self.old.worker.account.end ≡ None → self.old.worker.task ≡ None }
         ensures table { self.new.table ≡ self.old.table }
         ensures left { self.new.worker.stage ≡ Gone }
         ensures ended { (end : End) → self.old.worker.account.end ≡ Some end → Rests self.old self.new }
