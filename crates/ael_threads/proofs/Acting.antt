@@ -1,10 +1,17 @@
 -- What an act tells.
-use Rattle.std.proofs.Common.{◌≡◌, ℕ, ◌<◌, List, [], ◌∷◌, Some, sym, ◌∙◌, ap, subst, arith}
+use Rattle.std.proofs.Common.{Option, None, true, ◌≡◌, ℕ, ◌<◌, List, [], ◌∷◌, Some, sym, ◌∙◌, ap, subst, arith}
 use Rattle.atom_store.specs.declared.reply.Reply.{Reply}
 use Rattle.atom_store.specs.declared.step.Step.{Step}
+use Rattle.std.specs.Option.{is_some}
+use Rattle.plain_state.specs.declared.end.End.{End}
+use Rattle.gate_core.specs.declared.passage.Passage.{Passage}
+use Rattle.gate_core.specs.declared.passage.Passage.TheVariants.{Attach, Forwarded, Leave, Look, Park, Request, Resume}
+use Rattle.gc_worker.specs.declared.after.After.{After}
+use Rattle.gc_worker.specs.declared.stage.Stage.{Stage}
+use Rattle.gc_worker.specs.declared.stage.Stage.TheVariants.{Accesses, Evacuates, Flips, Forwards, Gone, Looks, Opens, Passes, Places, Scans, Serves}
 use Rattle.gc_worker.specs.declared.stepped.Stepped.{Stepped}
 use Rattle.gc_worker.specs.declared.stepped.Stepped.TheVariants as stepped
-use Rattle.gc_worker.specs.Fits.{Fits}
+use Rattle.gc_worker.specs.Fits.{Fits, FitsEnd, FitsTask, FitsTaskBefore, IsEndBefore}
 use Rattle.gc_worker.specs.Held.{Held}
 use Rattle.gc_worker.specs.Stepped.{stepped_by, uncounted}
 use Rattle.gc_worker.specs.Turned.{Effect, Ends, Told, Silent, Answers, Marks, told, turned}
@@ -17,6 +24,38 @@ use Rattle.ael_threads.specs.Seats.{Acts, ActsBy, Heads, Moves, Seated, first_nu
 pub heads_fit : (plan : Plan) (x : Held) (hs : List Hand) → Heads plan x hs → Fits plan.spaces.pages plan.mutators (first_number hs) x
 heads_fit plan x [] h = absurd h
 heads_fit plan x (was ∷ others) h = h.fits
+
+pub heads_of : (a b : Seated) → a ≡ b → Heads a.knows.plan a.worker a.knows.hands → Heads b.knows.plan b.worker b.knows.hands
+heads_of a b same h = subst (λ (z : Seated). Heads z.knows.plan z.worker z.knows.hands) same h
+
+-- who has an end has no task
+pub no_task : (plan : Plan) (x : Held) (hs : List Hand) (end : End) → Heads plan x hs → x.account.end ≡ Some end → x.task ≡ None
+no_task plan x hs end heads is = by_stage x.stage (subst (λ (o : Option End). FitsEnd x.stage (is_some o)) is f.end) f.task
+  where
+    f : Fits plan.spaces.pages plan.mutators (first_number hs) x
+    f = heads_fit plan x hs heads
+
+    by_passage : (passage : Passage) (after : After) → IsEndBefore passage true → FitsTaskBefore x passage after → x.task ≡ None
+    by_passage Leave after e task = task
+    by_passage Look after e task = absurd (cc)
+    by_passage Attach after e task = absurd (cc)
+    by_passage Park after e task = absurd (cc)
+    by_passage Request after e task = absurd (cc)
+    by_passage (Resume epoch) after e task = absurd (cc)
+    by_passage Forwarded after e task = absurd (cc)
+
+    by_stage : (stage : Stage) → FitsEnd stage true → FitsTask x stage → x.task ≡ None
+    by_stage Gone e task = task
+    by_stage (Passes g after) e task = by_passage g.passage after e task
+    by_stage Looks e task = absurd (cc)
+    by_stage (Flips g) e task = absurd (cc)
+    by_stage (Forwards w) e task = absurd (cc)
+    by_stage (Accesses a) e task = absurd (cc)
+    by_stage (Places p) e task = absurd (cc)
+    by_stage (Serves d back) e task = absurd (cc)
+    by_stage (Scans g back) e task = absurd (cc)
+    by_stage (Evacuates v g back) e task = absurd (cc)
+    by_stage (Opens o g back) e task = absurd (cc)
 
 -- who makes a step is not idle
 not_idle : (k : ℕ) (t : Told) → stepped.Idle ≡ stepped_by k t → ⊥

@@ -11,4 +11,5 @@ pub mod Dealing
 pub mod Joining
 pub mod Readying
 pub mod Acting
+pub mod Calling
 pub mod Gathering

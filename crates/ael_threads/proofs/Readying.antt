@@ -1,5 +1,5 @@
 -- A caller between two steps.
-use Rattle.std.proofs.Common.{◌≡◌, ℕ, ◌+◌, ◌<◌, ◌≤◌, Bool, true, false, nat_lt, List, [], ◌∷◌, ◌++◌, Some, refl, sym, ap, subst, ◌∙◌, slice_get, arith, lt-ltb}
+use Rattle.std.proofs.Common.{None, ◌≡◌, ℕ, ◌+◌, ◌<◌, ◌≤◌, Bool, true, false, nat_lt, List, [], ◌∷◌, ◌++◌, Some, refl, sym, ap, subst, ◌∙◌, slice_get, arith, lt-ltb}
 use Rattle.std.proofs.lemmas.Bool.{le-ltb}
 use Rattle.std.specs.Prelude.{if◌then◌else◌}
 use mathlib.Core.List.{IsPrefix}
@@ -94,6 +94,13 @@ pub fresh_heads : (plan : Plan) (k : ℕ) (x : Held) (v : View) → IsPageCount 
 fresh_heads plan k x v size few e is =
     subst (λ (z : Held × View). Heads z.1.plan z.0 z.1.hands) (λ i. (sym e i, sym is i)) (stays plan k (first_held plan k) (first_fits plan k size few))
 
+first_end : (plan : Plan) (k : ℕ) → (first_held plan k).account.end ≡ None
+first_end plan k = by_side (nat_lt k plan.mutators)
+  where
+    by_side : (b : Bool) → (if b then fresh_mutator plan.spaces.pages plan.mutators k else fresh_scanner plan.spaces.pages plan.mutators k).account.end ≡ None
+    by_side true = refl
+    by_side false = refl
+
 -- what it shows is the opening's plain mutator
 fresh_shown : (plan : Plan) (k : ℕ) → IsPageCount plan.spaces.pages → plan.mutators ≤ 16 → crew plan ≤ 24 → k < crew plan → (q : Mutator) → slice_get (first_plain plan).mutators k ≡ Some q
     → IsShown (first_plain plan).heap k (first_held plan k) q
@@ -104,7 +111,8 @@ fresh_shown plan k size few all below q its =
     let same : 0 + k ≡ k = omega arith in
     let held : held_at h k ≡ counted 0 (first_held plan k) = get_of h.workers k (first_held plan (0 + k)) nobody (worker_at n plan.mutators 0 (crew plan) k below) ∙ (ap (first_held plan) same ∙ sym (uncounted_first n plan.mutators k)) in
     subst (λ (x : Held). IsShown (first_plain plan).heap k x q) (uncounted_first n plan.mutators k)
-    (shown_by h (first_plain plan) k 0 (first_held plan k) q (subst (λ (x : Held). IsAsPlain h (first_plain plan) k x q) held (so.mutators k q its)))
+    (let a : IsAsPlain h (first_plain plan) k (counted 0 (first_held plan k)) q = subst (λ (x : Held). IsAsPlain h (first_plain plan) k x q) held (so.mutators k q its) in
+    shown_by h (first_plain plan) k 0 (first_held plan k) q a (a.shows (sym a.account.end ∙ first_end plan k)))
 
 pub fresh_shows : (plan : Plan) (k : ℕ) (x : Held) (v : View) → IsPageCount plan.spaces.pages → plan.mutators ≤ 16 → crew plan ≤ 24 → k < crew plan → x ≡ first_held plan k
     → v ≡ view plan (hand k (first_held plan k) [] ∷ []) [] [] [] → ShowsSeen x v

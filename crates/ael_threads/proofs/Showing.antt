@@ -4,11 +4,15 @@ use Rattle.std.specs.Option.{is_some}
 use Rattle.plain_state.specs.declared.end.End.{End}
 use Rattle.plain_state.specs.declared.end.End.TheVariants.{Halt, NotPointer, NotNumber, OutOfRange, IntoRaw, ZeroDivisor, JumpOut, TurnsOut, OutputFull, HeapFull}
 use Rattle.plain_state.specs.State.{Mutator, Plain}
+use Rattle.plain_state.proofs.Lists.{slice_get-set_same}
+use Rattle.std.proofs.lemmas.Option.{same_Some, slice_get_within}
 use Rattle.heap_state.specs.Worker.{is_running}
 use Rattle.gc_worker.specs.declared.stage.Stage.{Stage}
 use Rattle.gc_worker.specs.declared.stage.Stage.TheVariants.{Looks}
 use Rattle.gc_worker.specs.declared.task.Task.{Task}
-use Rattle.gc_worker.specs.Between.{AreAlike, IsAsPlain, Lands}
+use Rattle.gc_worker.specs.declared.task.Task.TheVariants.{Calls, Stops}
+use Rattle.gc_worker.specs.Answer.{after_answer, after_told}
+use Rattle.gc_worker.specs.Between.{AreAlike, IsAsPlain, Lands, Shows}
 use Rattle.gc_worker.specs.Counted.{counted}
 use Rattle.gc_worker.specs.Fits.{Fits, FitsEnd}
 use Rattle.gc_worker.specs.Full.{FullByEnd, FullWhereTold}
@@ -19,13 +23,13 @@ use Rattle.gc_worker.specs.Stepped.{uncounted}
 use Rattle.gc_worker.specs.Turned.{Effect, Ends, Told, Silent, Answers, Marks}
 use Rattle.ael_threads.specs.Seats.{IsEffect, IsShown}
 
-pub shown_by : (h : Heap) (p : Plain) (m count : ℕ) (z : Held) (q : Mutator) → IsAsPlain h p m (counted count z) q → IsShown p.heap m (uncounted z) q
-shown_by h p m count z q a = record {
+pub shown_by : (h : Heap) (p : Plain) (m count : ℕ) (z : Held) (q : Mutator) → IsAsPlain h p m (counted count z) q → Shows z.registers q → IsShown p.heap m (uncounted z) q
+shown_by h p m count z q a shows = record {
   counter = a.account.counter;
   printed = a.account.printed;
   end = a.account.end;
   serial = a.account.serial;
-  registers = a.shows;
+  registers = shows;
 }
 
 -- ---- after an effect
@@ -41,7 +45,7 @@ none_of None e = refl
 none_of (Some end) e = absurd (cc)
 
 -- who looks at the gate has no end
-no_end : (h : Heap) (p : Plain) (n mutators m count : ℕ) (z : Held) (q : Mutator) → IsAsPlain h p m (counted count z) q → Fits n mutators m z → z.stage ≡ Looks → q.end ≡ None
+pub no_end : (h : Heap) (p : Plain) (n mutators m count : ℕ) (z : Held) (q : Mutator) → IsAsPlain h p m (counted count z) q → Fits n mutators m z → z.stage ≡ Looks → q.end ≡ None
 no_end h p n mutators m count z q a f looks = sym a.account.end ∙ none_of z.account.end (subst (λ (stage : Stage). FitsEnd stage (is_some z.account.end)) looks f.end)
 
 runs : (count : ℕ) (z : Held) → z.stage ≡ Looks → is_running (post_in (counted count z) z.stage) ≡ true
@@ -88,3 +92,21 @@ full_by n words count x Silent h = tt
 full_by n words count x (Answers task Effect) h = tt
 full_by n words count x (Answers task (Ends end)) h = full_end n words count x end h
 full_by n words count x (Marks asked) h = tt
+
+-- ---- an end
+
+module _ (p : Plain) (m : ℕ) (q : Mutator) (why : End) (its : slice_get p.mutators m ≡ Some q) where
+  abbrev with_end : Mutator
+  with_end = record q { end = Some why }
+
+  -- who answers by an end keeps its registers
+  ended_is : (task : Task) → slice_get (after_told p m (Answers task (Ends why))).mutators m ≡ Some with_end
+  ended_is (Calls instr) = ap (λ (o : Option Mutator). slice_get (after_answer p m (Calls instr) (Ends why) o).mutators m) its ∙ slice_get-set_same p.mutators m with_end (slice_get_within p.mutators m q its)
+  ended_is (Stops end) = ap (λ (o : Option Mutator). slice_get (after_answer p m (Stops end) (Ends why) o).mutators m) its ∙ slice_get-set_same p.mutators m with_end (slice_get_within p.mutators m q its)
+
+pub ends_with : (p : Plain) (m : ℕ) (q : Mutator) (task : Task) (why : End) (w : Mutator) (registers : List ℕ) → slice_get p.mutators m ≡ Some q → slice_get (after_told p m (Answers task (Ends why))).mutators m ≡ Some w
+    → Shows registers q → Shows registers w
+ends_with p m q task why w registers its was s =
+    let new : Mutator = record q { end = Some why } in
+    let same : new ≡ w = same_Some new w (sym (ended_is p m q why its task) ∙ was) in
+    subst (Shows registers) same (record { numbers = s.numbers; pointers = s.pointers })

@@ -1,5 +1,5 @@
 -- A step keeps the rule.
-use Rattle.std.proofs.Common.{◌≡◌, ◌≢◌, ℕ, ◌<◌, Some, List, [], ◌∷◌, ◌++◌, length, slice_get, slice_set, set, refl, sym, ◌∙◌, ap, subst, length-set, arith, get_or-set_same}
+use Rattle.std.proofs.Common.{◌≡◌, ◌≢◌, ℕ, ◌<◌, Option, Some, None, List, [], ◌∷◌, ◌++◌, length, slice_get, slice_set, set, refl, sym, ◌∙◌, ap, subst, length-set, arith, get_or-set_same}
 use mathlib.Core.Option.{some}
 use mathlib.Core.List.{IsPrefix}
 use Rattle.std.proofs.lemmas.Option.{slice_get_within}
@@ -8,18 +8,19 @@ use Rattle.atomic_table.specs.Table as table
 use Rattle.atom_store.specs.declared.reply.Reply.{Reply}
 use Rattle.atom_store.specs.declared.step.Step.{Step}
 use Rattle.atom_store.specs.Step.{words_after, reply_of}
+use Rattle.plain_state.specs.declared.end.End.{End}
 use Rattle.plain_state.specs.State.{Mutator, Plain}
 use Rattle.gc_worker.specs.declared.stage.Stage.TheVariants.{Looks}
 use Rattle.gc_worker.specs.declared.task.Task.{Task}
 use Rattle.gc_worker.specs.Answer.{ComesTo, IsAnswered, after_told}
-use Rattle.gc_worker.specs.Between.{AreAlike, IsAsPlain, Lands, Readies}
+use Rattle.gc_worker.specs.Between.{AreAlike, GoesOn, IsAsPlain, Lands, Readies, Shows}
 use Rattle.gc_worker.specs.Counted.{CountsApart, counted, count_after}
 use Rattle.gc_worker.specs.Fits.{Fits}
 use Rattle.gc_worker.specs.Full.{FullWhereTold}
 use Rattle.gc_worker.specs.Held.{Held}
 use Rattle.gc_worker.specs.Law.{Heap, StepKeeps, WorkersStand, at_flip, held_at, nobody}
 use Rattle.gc_worker.specs.Stepped.{uncounted}
-use Rattle.gc_worker.specs.Turned.{Effect, Told, Silent, Answers, Marks, told, turned, won}
+use Rattle.gc_worker.specs.Turned.{Effect, Ends, Told, Silent, Answers, Marks, told, turned, won}
 use Rattle.gc_worker.specs.Wanted.{wanted}
 use Rattle.gc_worker.proofs.Between.GoingOn.{workers_go_on}
 use Rattle.gc_worker.proofs.Between.Others.{answers_leave_the_others}
@@ -36,11 +37,11 @@ use Rattle.ael_threads.specs.declared.view.Plan.{Plan}
 use Rattle.ael_threads.specs.declared.view.View.{View}
 use Rattle.ael_threads.specs.Histories.{HasOwn, IsLegal, after_all, call, calls_of, extra, first_plain, hand, last_flip, own_after}
 use Rattle.ael_threads.specs.Rule.{FitsView, Has, Kept, heap_of, view}
-use Rattle.ael_threads.specs.Seats.{Follows, IsEffect, Moves, Sees, ShowsSeen, plain_seen, seen_after, with_claim}
+use Rattle.ael_threads.specs.Seats.{Follows, IsEffect, IsShown, Moves, Sees, ShowsSeen, plain_seen, seen_after, with_claim}
 use Rattle.ael_threads.proofs.Places.{at_inside, get_of, set_else, set_here}
 use Rattle.ael_threads.proofs.Elements.{each_map, prefix_more, prefix_self}
 use Rattle.ael_threads.proofs.Growing.{Agrees, after_more, calls_more, flip_more, legal_more, seen_keeps}
-use Rattle.ael_threads.proofs.Showing.{alike_by, effect_is, full_by, lands_by, mutator_at, shown_by}
+use Rattle.ael_threads.proofs.Showing.{alike_by, effect_is, ends_with, full_by, lands_by, mutator_at, no_end, shown_by}
 use Rattle.ael_threads.proofs.Views.{all_fit, my_fit}
 use Rattle.ael_threads.proofs.Winning.{Keeps, won_after}
 
@@ -78,7 +79,7 @@ mine_after seen log m own (Marks asked) was is = was
 -- ---- the step of the seat's own worker, which held was.worker after its last step, and whose code holds x now
 
 module _ (plan : Plan) (id : ℕ) (was : Hand) (x : Held) (others : List Hand) (seen heard : List Entry) (claims : List Claim) (q : Step) (s : TableState) (b : Kept plan s)
-    (at : get_elem? s.views id ≡ some (view plan (was ∷ others) seen heard claims)) (follows : Follows plan was.number was.worker x) (is_mine : calls_of was.number seen ≡ was.own)
+    (at : get_elem? s.views id ≡ some (view plan (was ∷ others) seen heard claims)) (follows : Follows plan was.number was.worker x) (is_mine : calls_of was.number seen ≡ was.own) (showed : ShowsSeen x (view plan (was ∷ others) seen heard claims))
     (want : wanted x ≡ Some q) where
   abbrev v : View
   v = view plan (was ∷ others) seen heard claims
@@ -196,6 +197,39 @@ module _ (plan : Plan) (id : ℕ) (was : Hand) (x : Held) (others : List Hand) (
   alike : IsEffect t → (w : Mutator) → slice_get p'.mutators m ≡ Some w → AreAlike z.registers w
   alike h w its = let e = effect_is t h in alike_by heap' p' n plan.mutators m count' z w (as_plain w its) fits_z (looks e.0 e.1)
 
+  -- ---- its registers, also once it has its end
+
+  -- what was shown before is shown of the whole history
+  agreed : Agrees m (plain_seen v) p
+  agreed = seen_keeps (first_plain plan) seen b.log m was.own fits_view.seen is_mine has.calls
+
+  showed_at : (w : Mutator) → slice_get p.mutators m ≡ Some w → IsShown (plain_seen v).heap m x w
+  showed_at w its = showed w (sym agreed.mutator ∙ its)
+
+  goes : GoesOn x r
+  goes = workers_go_on n plan.mutators m x r follows.fits
+
+  -- who had its end keeps its registers
+  stays_ended : (w : Mutator) (end : End) → slice_get p.mutators m ≡ Some w → w.end ≡ Some end → Shows z.registers w
+  stays_ended w end its e = let s = showed_at w its in subst (λ (registers : List ℕ). Shows registers w) (sym (goes.ended end (s.end ∙ e)).1) s.registers
+
+  shows_ended : (w : Mutator) (end : End) (u : Told) → t ≡ u → slice_get (after_told p m u).mutators m ≡ Some w → slice_get p'.mutators m ≡ Some w → w.end ≡ Some end → Shows z.registers w
+  shows_ended w end Silent is was_its its e = stays_ended w end was_its e
+  shows_ended w end (Marks asked) is was_its its e = stays_ended w end was_its e
+  shows_ended w end (Answers task Effect) is was_its its e = (as_plain w its).shows (no_end heap' p' n plan.mutators m count' z w (as_plain w its) fits_z (looks task is))
+  shows_ended w end (Answers task (Ends why)) is was_its its e =
+      let comes : ComesTo p m task (Ends why) = subst (IsAnswered p m) is answered in
+      let s = showed_at comes.mutator comes.is in
+      let same = (goes.answers task (Ends why) is).after.1 in
+      ends_with p m comes.mutator task why w z.registers comes.is was_its (subst (λ (registers : List ℕ). Shows registers comes.mutator) (sym same) s.registers)
+
+  shows_registers : (w : Mutator) → slice_get p'.mutators m ≡ Some w → Shows z.registers w
+  shows_registers w its = by_end w.end refl
+    where
+      by_end : (end : Option End) → w.end ≡ end → Shows z.registers w
+      by_end None e = (as_plain w its).shows e
+      by_end (Some end) e = shows_ended w end t refl (ap (λ (s : Plain). slice_get s.mutators m) (sym (after_more (first_plain plan) b.log m t)) ∙ its) its e
+
   -- ---- the rule after it
 
   abbrev d : Hand
@@ -247,7 +281,7 @@ module _ (plan : Plan) (id : ℕ) (was : Hand) (x : Held) (others : List Hand) (
   agrees = seen_keeps (first_plain plan) seen' log' m (own_after m was.own t) fit.seen mine' has'.calls
 
   shows' : ShowsSeen (uncounted z) v'
-  shows' w its = let h = shown_by heap' p' m count' z w (as_plain w (agrees.mutator ∙ its)) in record {
+  shows' w its = let h = shown_by heap' p' m count' z w (as_plain w (agrees.mutator ∙ its)) (shows_registers w (agrees.mutator ∙ its)) in record {
     counter = h.counter;
     printed = h.printed;
     end = h.end;

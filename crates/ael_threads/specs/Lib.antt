@@ -2,4 +2,5 @@ pub mod Histories
 pub mod Rule
 pub mod Seats
 pub mod Readers
+pub mod Calls
 pub mod Opened

@@ -10,6 +10,7 @@ use Rattle.atom_store.specs.declared.step.Step.TheVariants.{Load, Store, Exchang
 use Rattle.space_map.specs.Table.{table_length}
 use Rattle.plain_state.specs.State.{Mutator, Plain, serial_of}
 use Rattle.plain_state.specs.State as plain
+use Rattle.gc_worker.specs.declared.stage.Stage.TheVariants.{Gone}
 use Rattle.gc_worker.specs.declared.stepped.Stepped.{Stepped}
 use Rattle.gc_worker.specs.declared.stepped.Stepped.TheVariants.{Idle}
 use Rattle.gc_worker.specs.Between.{AreAlike, GoesOn, Lands, Readies, Shows}
@@ -56,13 +57,13 @@ IsMine v = calls_of (first_number v.hands) v.seen ≡ first_own v.hands
 abbrev pub plain_seen : View → Plain
 plain_seen v = after_all (first_plain v.plan) v.seen
 
--- Worker m, which holds x, is as its plain mutator q; where that one has no end its registers show that one's.
+-- Worker m, which holds x, is as its plain mutator q, and its registers show that one's, also once it has its end.
 pub record IsShown (records : plain.Heap) (m : ℕ) (x : Held) (q : Mutator) : Type 0 where
   pub counter : x.account.counter ≡ q.counter
   pub printed : x.account.printed ≡ q.printed
   pub end : x.account.end ≡ q.end
   pub serial : x.account.serial ≡ serial_of records m
-  pub registers : q.end ≡ None → Shows x.registers q
+  pub registers : Shows x.registers q
 
 -- The seat's own worker is as its plain mutator after what was seen: whatever came since was none of its calls.
 abbrev pub ShowsSeen : Held → View → Type 0
@@ -158,8 +159,9 @@ pub record ActsBy (a : Seated) (r : Reply) (s : Stepped) (b : Seated) : Type 0 w
   pub knows : Moves a.knows (first_number a.knows.hands) a.worker r b.knows
   pub goes_on : GoesOn a.worker r
 
+-- an act is idle exactly where a mutator has left, or a scanner has seen that all have
 abbrev pub Acts : Seated → Stepped → Seated → Type 0
-Acts a Idle b = (b ≡ a) × (wanted a.worker ≡ None)
+Acts a Idle b = (b ≡ a) × (a.worker.stage ≡ Gone)
 Acts a s b = (r : Reply) × ActsBy a r s b
 
 -- ---- how a seat's first worker goes to a new seat

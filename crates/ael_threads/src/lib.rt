@@ -4,6 +4,7 @@
 #![tactic(auto)]
 
 mod caller;
+mod calls;
 mod closing;
 mod mutator;
 mod opening;

@@ -1,6 +1,7 @@
 //! A mutator of the heap.
 
 ghost use Rattle.std.specs.Prelude.{◌≡◌, ◌<◌, Some, None, slice_index};
+ghost use Rattle.plain_state.specs.declared.end.End.{End};
 ghost use Rattle.plain_state.specs.declared.sizes.TheConstants.{REGISTERS};
 ghost use Rattle.gc_worker.specs.declared.stage.Stage.TheVariants.{Gone};
 ghost use Rattle.gc_worker.specs.declared.task.Task.TheVariants.{Calls, Stops};
@@ -114,6 +115,7 @@ impl Mutator {
     /// Its end, where it has one, which is the plain mutator's after all that was seen.
     pub fn ended(&self) -> Option<End>
         ensures ended { result ≡ self.now.worker.account.end }
+        ensures no_task { (end : End) → result ≡ Some end → self.now.worker.task ≡ None }
         ensures shows { ShowsSeen self.now.worker self.now.knows }
     {
         self.caller.worker.ended()

@@ -91,6 +91,7 @@ impl Shared {
         requires heads { Heads seat.old.me.0.plan worker.now seat.old.me.0.hands }
         requires live { IsLive seat.old.table_id seat.old.me.0 }
         requires mine { IsMine seat.old.me.0 }
+        requires shows { ShowsSeen worker.now seat.old.me.0 }
         ensures table { (seat.new.table_id ≡ seat.old.table_id) × (seat.new.id ≡ seat.old.id) × (seat.new.me.1 ≡ seat.old.me.1) }
         ensures moved { Moves seat.old.me.0 (first_number seat.old.me.0.hands) worker.now result seat.new.me.0 }
     {
