@@ -2,6 +2,9 @@
 use Rattle.std.proofs.Common.{◌≡◌, ℕ, List, [], ◌∷◌, ◌++◌, drop, Some, None, refl, sym, ◌∙◌, ap, subst, slice_get}
 use Rattle.std.proofs.lemmas.Option.{same_Some}
 use Rattle.atom_store.specs.declared.reply.Reply.{Reply}
+use Rattle.std.specs.Option.{is_some}
+use Rattle.gc_worker.specs.declared.stage.Stage.{Stage}
+use Rattle.ael_threads.proofs.Showing.{none_of}
 use Rattle.plain_state.specs.declared.end.End.{End}
 use Rattle.heap_state.specs.Worker.{Account}
 use Rattle.mutator_asm.specs.declared.instr.Instr.TheVariants.{Halt}
@@ -9,9 +12,9 @@ use Rattle.gc_worker.specs.declared.stepped.Stepped.{Stepped}
 use Rattle.gc_worker.specs.declared.stepped.Stepped.TheVariants as stepped
 use Rattle.gc_worker.specs.declared.task.Task.{Task}
 use Rattle.gc_worker.specs.declared.task.Task.TheVariants.{Calls}
-use Rattle.gc_worker.specs.Fits.{FitsCall}
+use Rattle.gc_worker.specs.Fits.{FitsCall, Fits, FitsEnd}
 use Rattle.plain_heap.specs.Action as plain_action
-use Rattle.gc_worker.specs.Between.{AreAlike, IsNoAnswer, Lands, with_task}
+use Rattle.gc_worker.specs.Between.{AreAlike, IsNoAnswer, Lands, with_task, RestsAfter}
 use Rattle.gc_worker.specs.Full.{FullWhereTold}
 use Rattle.gc_worker.specs.Held.{Held}
 use Rattle.gc_worker.specs.Stepped.{stepped_by, uncounted}
@@ -22,7 +25,7 @@ use Rattle.ael_threads.specs.declared.view.Did.TheVariants.{Done, Trap}
 use Rattle.ael_threads.specs.declared.view.Entry.{Entry}
 use Rattle.ael_threads.specs.declared.view.Plan.{Plan}
 use Rattle.ael_threads.specs.declared.view.View.{View}
-use Rattle.ael_threads.specs.Calls.{Called, Departs, IsDone, IsQuiet, Rests, Waits, call_by}
+use Rattle.ael_threads.specs.Calls.{Called, Departs, end_of, IsDone, IsQuiet, Rests, Waits, call_by}
 use Rattle.ael_threads.specs.Histories.{call, hand, outcome_of, own_after}
 use Rattle.ael_threads.specs.Seats.{Acts, ActsBy, Extends, IsEffect, Seated, Sees, ShowsSeen, first_number, first_own, plain_seen}
 
@@ -94,6 +97,10 @@ waits_more a b c task (stepped.Ended m end) w h no_effect no_end = absurd (no_en
 
 -- ---- the step that answers
 
+ends_by : (n mutators m : ℕ) (was z : Held) (did : Did) → RestsAfter was z (outcome_of did) → Fits n mutators m z → z.account.end ≡ end_of did
+ends_by n mutators m was z Done looks f = none_of z.account.end (subst (λ (stage : Stage). FitsEnd stage (is_some z.account.end)) looks f.end)
+ends_by n mutators m was z (Trap end) after f = ap (λ (a : Account). a.end) after.0
+
 done_is : (did : Did) (x : Held) (task : Task) → IsDone did → IsEffect (Answers task (outcome_of did))
 done_is Done x task h = tt
 done_is (Trap end) x task h = absurd h
@@ -111,6 +118,7 @@ calls a b c task r s did w h other is =
     let pages : b.knows.plan.spaces.pages ≡ a.knows.plan.spaces.pages = ap (λ (p : Plan). p.spaces.pages) w.rests.plan in
     record {
       rests = ap (λ (x : Held). x.task) h.worker ∙ answer.rests;
+      ends = ap (λ (x : Held). x.account.end) h.worker ∙ ends_by b.knows.plan.spaces.pages b.knows.plan.mutators m b.worker (turned b.worker r) did answer.after k.fits;
       plan = k.plan ∙ w.rests.plan;
       hands = k.hands ∙ ((λ i. hand m (sym h.worker i) (own_after m (first_own b.knows.hands) (is i)) ∷ drop 1 b.knows.hands) ∙ (λ i. hand (w.rests.number i) c.worker (w.rests.own i ++ call_is i ∷ []) ∷ w.rests.others i));
       history = subst (λ (z : Plan × (List Entry × Call)). Extends z.0 c.knows.hands z.1.0 z.1.1 c.knows.seen) (λ i. (w.rests.plan i, (w.rests.seen i, call_is i)))

@@ -4,6 +4,7 @@ use mathlib.Core.List.{IsPrefix}
 use Rattle.atomic_table.specs.Table as table
 use Rattle.atomic_table.specs.Seated.{TableId}
 use Rattle.gc_worker.specs.Law.{WorkersStand}
+use Rattle.gc_worker.proofs.Between.Copied.{copied_was_live}
 use Rattle.ael_threads.specs.declared.view.Claim.{Claim}
 use Rattle.ael_threads.specs.declared.view.Hand.{Hand}
 use Rattle.ael_threads.specs.declared.view.Plan.{Plan}
@@ -32,12 +33,15 @@ pub closes : (plan : Plan) (id : ℕ) (t : TableId) (all : List Seated) (one : S
 closes plan id t all one words xs g end =
     let s = end.0 in
     let b = end.1.0 in
+    let stands : WorkersStand (heap_of plan words b.workers) (after_all (first_plain plan) b.log) (last_flip (first_plain plan) b.log) =
+    subst (λ (z : List ℕ). WorkersStand (heap_of plan z b.workers) (after_all (first_plain plan) b.log) (last_flip (first_plain plan) b.log)) end.2 b.stands in
     let f = b.seats id one.knows end.1.1 in record {
       log = b.log;
       workers = b.workers;
       legal = b.legal;
       count = b.count;
-      stands = subst (λ (z : List ℕ). WorkersStand (heap_of plan z b.workers) (after_all (first_plain plan) b.log) (last_flip (first_plain plan) b.log)) end.2 b.stands;
+      stands = stands;
+      copied = copied_was_live (heap_of plan words b.workers) (after_all (first_plain plan) b.log) (last_flip (first_plain plan) b.log) stands;
       seen = each_map (λ (c : Seated). IsPrefix c.knows.seen one.knows.seen) (λ (c : Seated). IsPrefix c.knows.seen b.log) (λ c h. prefix_trans c.knows.seen one.knows.seen b.log h f.seen) all g.seen;
       hands = subst (Each (Stays b.workers b.log)) g.hands (each_map (Has b.workers b.log b.owner id) (Stays b.workers b.log) (λ h k. record { state = k.state; calls = k.calls }) one.knows.hands f.hands);
       once = subst IsOnce g.claims f.once;

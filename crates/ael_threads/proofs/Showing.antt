@@ -40,7 +40,7 @@ effect_is (Answers task Effect) h = (task, refl)
 effect_is (Answers task (Ends end)) h = absurd h
 effect_is (Marks asked) h = absurd h
 
-none_of : (o : Option End) → is_some o ≡ false → o ≡ None
+pub none_of : (o : Option End) → is_some o ≡ false → o ≡ None
 none_of None e = refl
 none_of (Some end) e = absurd (cc)
 

@@ -31,6 +31,11 @@ pub record Waits (a : Seated) (task : Task) (b : Seated) : Type 0 where
   pub asks : b.worker.task ≡ Some task
   pub rests : Rests a b
 
+-- the end that the mutator then has
+abbrev pub end_of : Did → Option End
+end_of Done = None
+end_of (Trap end) = Some end
+
 abbrev pub IsDone : Did → Type 0
 IsDone Done = ⊤
 IsDone (Trap end) = ⊥
@@ -42,6 +47,7 @@ IsDone (Trap end) = ⊥
 -- told to be full it was, by the words that the asking worker found.
 pub record Called (a : Seated) (task : Task) (did : Did) (b : Seated) : Type 0 where
   pub rests : b.worker.task ≡ None
+  pub ends : b.worker.account.end ≡ end_of did
   pub plan : b.knows.plan ≡ a.knows.plan
   pub hands : b.knows.hands ≡ hand (first_number a.knows.hands) b.worker (first_own a.knows.hands ++ call_by a task did ∷ []) ∷ drop 1 a.knows.hands
   pub history : Extends a.knows.plan b.knows.hands a.knows.seen (call_by a task did) b.knows.seen

@@ -18,7 +18,9 @@ use Rattle.gc_worker.specs.Counted.{counted}
 use Rattle.gc_worker.specs.Fits.{Fits, Takes}
 use Rattle.gc_worker.specs.Full.{FullWhereTold}
 use Rattle.gc_worker.specs.Held.{Held}
-use Rattle.gc_worker.specs.Law.{WorkersStand}
+use Rattle.gc_worker.specs.Copied.{IsTraced}
+use Rattle.gc_worker.specs.Law.{WorkersStand, read}
+use Rattle.heap_state.specs.Copies.{CopiedIsLive}
 use Rattle.gc_worker.specs.Stepped.{stepped_by, uncounted}
 use Rattle.gc_worker.specs.Turned.{Effect, Ends, PageWon, Told, Silent, Answers, Marks, told, turned, won}
 use Rattle.gc_worker.specs.Wanted.{wanted}
@@ -235,13 +237,15 @@ pub record Stays (workers : List Held) (log : List Entry) (h : Hand) : Type 0 wh
   pub calls : calls_of h.number log ≡ h.own
 
 -- THE CLAUSE OF CLOSE: the calls of all these callers stand in one legal history, each once, of which what each has seen is a
--- beginning; with what their codes hold the words stand for the plain state after it; no page was won twice in one epoch.
+-- beginning; with what their codes hold the words stand for the plain state after it; what was copied in an epoch
+-- that is traced is what was live at the last flip of the history; no page was won twice in one epoch.
 pub record Closes (plan : Plan) (all : List Seated) (words : List ℕ) : Type 0 where
   pub log : List Entry
   pub workers : List Held
   pub legal : IsLegal (first_plain plan) log
   pub count : length workers ≡ crew plan
   pub stands : WorkersStand (heap_of plan words workers) (after_all (first_plain plan) log) (last_flip (first_plain plan) log)
+  pub copied : IsTraced (heap_of plan words workers) → CopiedIsLive (read (heap_of plan words workers)) (last_flip (first_plain plan) log)
   pub seen : Each (λ (s : Seated). IsPrefix s.knows.seen log) all
   pub hands : Each (Stays workers log) (all_hands all)
   pub once : IsOnce (all_claims all)
