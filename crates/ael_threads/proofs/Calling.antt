@@ -26,8 +26,8 @@ use Rattle.ael_threads.specs.declared.view.Entry.{Entry}
 use Rattle.ael_threads.specs.declared.view.Plan.{Plan}
 use Rattle.ael_threads.specs.declared.view.View.{View}
 use Rattle.ael_threads.specs.Calls.{Called, Departs, end_of, IsDone, IsQuiet, Rests, Waits, call_by}
-use Rattle.ael_threads.specs.Histories.{call, hand, outcome_of, own_after}
-use Rattle.ael_threads.specs.Seats.{Acts, ActsBy, Extends, IsEffect, Seated, Sees, ShowsSeen, first_number, first_own, plain_seen}
+use Rattle.ael_threads.specs.Histories.{call, hand, outcome_of, own_after, first_plain, last_flip}
+use Rattle.ael_threads.specs.Seats.{Acts, ActsBy, Extends, IsEffect, Seated, Sees, ShowsSeen, first_number, first_own, plain_seen, LiveWhereTold}
 
 pub rests_same : (a b : Seated) → b.knows ≡ a.knows → Rests a b
 rests_same a b same = record {
@@ -129,6 +129,7 @@ calls a b c task r s did w h other is =
       asker = b.worker;
       asked = w.asks;
       full = subst (λ (z : ℕ × Told). FullWhereTold z.0 k.before b.worker z.1) (λ i. (pages i, is i)) k.full;
+      live = subst (λ (z : Plan × Told). LiveWhereTold (last_flip (first_plain z.0) c.knows.seen) z.1) (λ i. (w.rests.plan i, (is ∙ (λ j. Answers (same j) (outcome_of did))) i)) k.live;
       lands = λ yes. subst (λ (z : ℕ × Held). Lands z.0 k.after z.1) (λ i. (pages i, sym h.worker i))
           (lands_uncounted b.knows.plan.spaces.pages k.after (turned b.worker r) (k.lands (subst IsEffect (sym is) (done_is did b.worker other yes))));
       alike = λ yes q its. subst (λ (x : Held). AreAlike x.registers q) (sym h.worker)

@@ -18,10 +18,11 @@ use Rattle.gc_worker.specs.Fits.{Fits, FitsEnd}
 use Rattle.gc_worker.specs.Full.{FullByEnd, FullWhereTold}
 use Rattle.gc_worker.specs.Held.{Held}
 use Rattle.gc_worker.specs.Knows.{post_in}
-use Rattle.gc_worker.specs.Law.{Heap}
+use Rattle.gc_worker.specs.Law.{Heap, WorkersStand}
+use Rattle.gc_worker.proofs.Between.Copied.{full_tells_live}
 use Rattle.gc_worker.specs.Stepped.{uncounted}
 use Rattle.gc_worker.specs.Turned.{Effect, Ends, Told, Silent, Answers, Marks}
-use Rattle.ael_threads.specs.Seats.{IsEffect, IsShown}
+use Rattle.ael_threads.specs.Seats.{IsEffect, IsShown, LiveByEnd, LiveWhereTold}
 
 pub shown_by : (h : Heap) (p : Plain) (m count : ℕ) (z : Held) (q : Mutator) → IsAsPlain h p m (counted count z) q → Shows z.registers q → IsShown p.heap m (uncounted z) q
 shown_by h p m count z q a shows = record {
@@ -110,3 +111,24 @@ ends_with p m q task why w registers its was s =
     let new : Mutator = record q { end = Some why } in
     let same : new ≡ w = same_Some new w (sym (ended_is p m q why its task) ∙ was) in
     subst (Shows registers) same (record { numbers = s.numbers; pointers = s.pointers })
+
+-- ---- what is told as live
+
+module _ (h : Heap) (p o : Plain) (stands : WorkersStand h p o) (x : Held) where
+  live_end : (end : End) → FullByEnd h.pages h.words x end → LiveByEnd o end
+  live_end (HeapFull asked room live) f = full_tells_live h p o x asked room live stands f
+  live_end Halt f = tt
+  live_end NotPointer f = tt
+  live_end NotNumber f = tt
+  live_end OutOfRange f = tt
+  live_end IntoRaw f = tt
+  live_end ZeroDivisor f = tt
+  live_end JumpOut f = tt
+  live_end TurnsOut f = tt
+  live_end OutputFull f = tt
+
+  pub live_by : (t : Told) → FullWhereTold h.pages h.words x t → LiveWhereTold o t
+  live_by Silent f = tt
+  live_by (Answers task Effect) f = tt
+  live_by (Answers task (Ends end)) f = live_end end f
+  live_by (Marks asked) f = tt

@@ -37,11 +37,11 @@ use Rattle.ael_threads.specs.declared.view.Plan.{Plan}
 use Rattle.ael_threads.specs.declared.view.View.{View}
 use Rattle.ael_threads.specs.Histories.{HasOwn, IsLegal, after_all, call, calls_of, extra, first_plain, hand, last_flip, own_after}
 use Rattle.ael_threads.specs.Rule.{FitsView, Has, Kept, heap_of, view}
-use Rattle.ael_threads.specs.Seats.{Follows, IsEffect, IsShown, Moves, Sees, ShowsSeen, plain_seen, seen_after, with_claim}
+use Rattle.ael_threads.specs.Seats.{Follows, IsEffect, IsShown, Moves, Sees, ShowsSeen, plain_seen, seen_after, with_claim, LiveByEnd, LiveWhereTold}
 use Rattle.ael_threads.proofs.Places.{at_inside, get_of, set_else, set_here}
 use Rattle.ael_threads.proofs.Elements.{each_map, prefix_more, prefix_self}
 use Rattle.ael_threads.proofs.Growing.{Agrees, after_more, calls_more, flip_more, legal_more, seen_keeps}
-use Rattle.ael_threads.proofs.Showing.{alike_by, effect_is, ends_with, full_by, lands_by, mutator_at, no_end, shown_by}
+use Rattle.ael_threads.proofs.Showing.{alike_by, effect_is, ends_with, full_by, lands_by, live_by, mutator_at, no_end, shown_by}
 use Rattle.ael_threads.proofs.Views.{all_fit, my_fit}
 use Rattle.ael_threads.proofs.Winning.{Keeps, won_after}
 
@@ -75,6 +75,13 @@ mine_after : (seen log : List Entry) (m : ℕ) (own : List Call) (t : Told) → 
 mine_after seen log m own Silent was is = was
 mine_after seen log m own (Answers task outcome) was is = is
 mine_after seen log m own (Marks asked) was is = was
+
+-- an answer is no flip
+live_seen : (p : Plain) (seen log : List Entry) (m : ℕ) (t : Told) → LiveWhereTold (last_flip p log) t → LiveWhereTold (last_flip p (seen_after seen (log ++ extra m t) t)) t
+live_seen p seen log m Silent h = tt
+live_seen p seen log m (Answers task Effect) h = tt
+live_seen p seen log m (Answers task (Ends end)) h = subst (λ (o : Plain). LiveByEnd o end) (sym (flip_more p p log m (Answers task (Ends end)))) h
+live_seen p seen log m (Marks asked) h = tt
 
 -- ---- the step of the seat's own worker, which held was.worker after its last step, and whose code holds x now
 
@@ -306,6 +313,7 @@ module _ (plan : Plan) (id : ℕ) (was : Hand) (x : Held) (others : List Hand) (
       before = s.words;
       after = later;
       full = full_by n s.words count x t (subst (FullWhereTold n s.words y) tells law.full);
+      live = live_seen (first_plain plan) seen b.log m t (subst (LiveWhereTold o) tells (live_by (heap_of plan s.words workers1) p o readied y (told y r) law.full));
       lands = lands;
       alike = λ h w its. alike h w (agrees.mutator ∙ its);
     },

@@ -8,11 +8,12 @@ use Rattle.gc_worker.specs.declared.task.Task.TheVariants.{Calls}
 use Rattle.gc_worker.specs.Between.{AreAlike, Lands}
 use Rattle.gc_worker.specs.Full.{FullByOutcome}
 use Rattle.gc_worker.specs.Held.{Held}
+use Rattle.gc_worker.specs.Turned.{Answers}
 use Rattle.ael_threads.specs.declared.view.Call.{Call}
 use Rattle.ael_threads.specs.declared.view.Did.{Did}
 use Rattle.ael_threads.specs.declared.view.Did.TheVariants.{Done, Trap}
-use Rattle.ael_threads.specs.Histories.{call, hand, outcome_of}
-use Rattle.ael_threads.specs.Seats.{Extends, Seated, ShowsSeen, first_number, first_own, plain_seen}
+use Rattle.ael_threads.specs.Histories.{call, first_plain, hand, last_flip, outcome_of}
+use Rattle.ael_threads.specs.Seats.{Extends, LiveWhereTold, Seated, ShowsSeen, first_number, first_own, plain_seen}
 
 -- a caller's call that came to this
 abbrev pub call_by : Seated → Task → Did → Call
@@ -44,7 +45,7 @@ IsDone (Trap end) = ⊥
 -- seen before, and ends with the call; of the seat's workers it has just the calls that they made. What the caller shows is its plain
 -- mutator after it. Where the task was executed, each pointer in the registers leads to a record's header in the space of the caller's
 -- epoch, by the words after the call, and two registers hold one word exactly where the plain ones hold one value; where the heap is
--- told to be full it was, by the words that the asking worker found.
+-- told to be full it was, by the words that the asking worker found, and what is told as live was live at the last flip.
 pub record Called (a : Seated) (task : Task) (did : Did) (b : Seated) : Type 0 where
   pub rests : b.worker.task ≡ None
   pub ends : b.worker.account.end ≡ end_of did
@@ -57,6 +58,7 @@ pub record Called (a : Seated) (task : Task) (did : Did) (b : Seated) : Type 0 w
   pub asker : Held
   pub asked : asker.task ≡ Some task
   pub full : FullByOutcome a.knows.plan.spaces.pages before asker (outcome_of did)
+  pub live : LiveWhereTold (last_flip (first_plain a.knows.plan) b.knows.seen) (Answers task (outcome_of did))
   pub lands : IsDone did → Lands a.knows.plan.spaces.pages after b.worker
   pub alike : IsDone did → (q : Mutator) → slice_get (plain_seen b.knows).mutators (first_number a.knows.hands) ≡ Some q → AreAlike b.worker.registers q
 

@@ -18,6 +18,9 @@ use Rattle.gc_worker.specs.Counted.{counted}
 use Rattle.gc_worker.specs.Fits.{Fits, Takes}
 use Rattle.gc_worker.specs.Full.{FullWhereTold}
 use Rattle.gc_worker.specs.Held.{Held}
+use Rattle.plain_state.specs.declared.end.End.{End}
+use Rattle.plain_state.specs.declared.end.End.TheVariants.{HeapFull}
+use Rattle.heap_state.specs.Reachable as reachable
 use Rattle.gc_worker.specs.Copied.{IsTraced}
 use Rattle.gc_worker.specs.Law.{WorkersStand, read}
 use Rattle.heap_state.specs.Copies.{CopiedIsLive}
@@ -100,6 +103,17 @@ Sees v m Silent w = w.seen ≡ v.seen
 Sees v m (Answers task outcome) w = Extends v.plan w.hands v.seen (call m task outcome) w.seen
 Sees v m (Marks asked) w = w.seen ≡ v.seen
 
+-- the words that the end of a full heap tells as live are those that were live in this plain state
+abbrev pub LiveByEnd : Plain → End → Type 0
+LiveByEnd o (HeapFull asked room live) = reachable.IsLive o live
+LiveByEnd o end = ⊤
+
+abbrev pub LiveWhereTold : Plain → Told → Type 0
+LiveWhereTold o Silent = ⊤
+LiveWhereTold o (Answers task Effect) = ⊤
+LiveWhereTold o (Answers task (Ends end)) = LiveByEnd o end
+LiveWhereTold o (Marks asked) = ⊤
+
 abbrev pub IsEffect : Told → Type 0
 IsEffect Silent = ⊥
 IsEffect (Answers task Effect) = ⊤
@@ -107,7 +121,7 @@ IsEffect (Answers task (Ends end)) = ⊥
 IsEffect (Marks asked) = ⊥
 
 -- A step of worker m, whose code holds x and takes r. The words before and after it are those that the step found and left: where the
--- heap is told to be full it was by the former, and after an effect each pointer in the registers leads to a record's header in the
+-- heap is told to be full it was by the former, and what is told as live was live at the last flip; after an effect each pointer in the registers leads to a record's header in the
 -- latter, two registers holding one word exactly where the plain ones hold one value.
 pub record Moves (v : View) (m : ℕ) (x : Held) (r : Reply) (w : View) : Type 0 where
   pub takes : Takes x r
@@ -122,6 +136,7 @@ pub record Moves (v : View) (m : ℕ) (x : Held) (r : Reply) (w : View) : Type 0
   pub before : List ℕ
   pub after : List ℕ
   pub full : FullWhereTold v.plan.spaces.pages before x (told x r)
+  pub live : LiveWhereTold (last_flip (first_plain v.plan) w.seen) (told x r)
   pub lands : IsEffect (told x r) → Lands v.plan.spaces.pages after (turned x r)
   pub alike : IsEffect (told x r) → (q : Mutator) → slice_get (plain_seen w).mutators m ≡ Some q → AreAlike (turned x r).registers q
 
