@@ -13,7 +13,8 @@ use Rattle.gc_core.specs.Whole.{Follows}
 use Rattle.ael_cli.specs.declared.status.Status.{Status}
 use Rattle.ael_cli.specs.declared.status.Status.TheVariants.{Done, Ended, StepsOut}
 use Rattle.ael_cli.specs.declared.options.SimOptions.{SimOptions}
-use Rattle.ael_cli.specs.Dump.{cycles_line, dump_text}
+use Rattle.dump_text.specs.Text.{dump_text}
+use Rattle.ael_cli.specs.Dump.{cycles_line}
 use Rattle.ael_cli.specs.Seen.{has_halted, status_seen}
 use Rattle.ael_cli.specs.Simulation.{core_of, scheduled, run_of, order_of, plain_of, flag_lines, IsCollected, IsSimulated}
 

@@ -15,7 +15,8 @@ use Rattle.gc_core.specs.Run.{Ran, run_from, EachEvent}
 use Rattle.gc_core.specs.Whole.{EachActs, IsFull}
 use Rattle.ael_cli.specs.declared.options.SimOptions.{SimOptions}
 use Rattle.ael_cli.specs.declared.status.Status.{Status}
-use Rattle.ael_cli.specs.Dump.{cycles_line, dump_text, IsTrueDump}
+use Rattle.dump_text.specs.Text.{dump_text}
+use Rattle.ael_cli.specs.Dump.{cycles_line, IsTrueDump}
 use Rattle.ael_cli.specs.ProgramTask.{program_task}
 use Rattle.ael_cli.specs.Schedule.{schedule_of}
 use Rattle.ael_cli.specs.Seen.{status_seen}

@@ -4,7 +4,7 @@ ghost use Rattle.std.specs.Prelude.{◌≡◌, ◌++◌, OnOk, string_bytes};
 ghost use Rattle.std.specs.List.{flat_map};
 ghost use Rattle.gc_core.specs.Dumped.{dumped};
 ghost use Rattle.gc_core.specs.Readers.{kept_in, registers_in};
-ghost use Rattle.ael_cli.specs.Dump.{dump_head, dump_text, kept_line, table_lines, word_text, words_line};
+ghost use Rattle.dump_text.specs.Text.{dump_head, dump_text, kept_line, table_lines, word_text, words_line};
 
 use gc_core::Core;
 use plain_heap::NoMemory;

@@ -3,7 +3,8 @@
 ghost use Rattle.std.specs.Prelude.{◌≡◌, ◌++◌, [], OnOk, if◌then◌else◌, string_bytes};
 ghost use Rattle.gc_core.specs.Dumped.{dumped};
 ghost use Rattle.plain_heap.specs.Print.{order_line};
-ghost use Rattle.ael_cli.specs.Dump.{cycles_line, dump_text};
+ghost use Rattle.dump_text.specs.Text.{dump_text};
+ghost use Rattle.ael_cli.specs.Dump.{cycles_line};
 ghost use Rattle.ael_cli.specs.Simulation.{flag_lines};
 
 use crate::dump::push_dump;

@@ -1,19 +1,12 @@
 -- What a dump tells of a core, and what it says of the heap.
 use Rattle.std.specs.Prelude.{ℕ, List, [], length, slice_index, slice_index_or}
+use Rattle.dump_text.specs.Text.{Dumped}
 use Rattle.heap_state.specs.Dump.{Dump}
-use Rattle.heap_state.specs.Kept.{Kept}
 use Rattle.heap_state.specs.Table.{table_of}
 use Rattle.gc_core.specs.Core.{CoreState}
 use Rattle.gc_core.specs.Readers.{registers_in, kept_in}
 
 -- the pages of a space, the registers of each mutator, what each worker keeps, and the words of the table
-pub record Dumped : Type 0 where
-  pub pages : ℕ
-  pub registers : List (List ℕ)
-  pub kept : List Kept
-  pub words : List ℕ
-
--- those of a core
 abbrev pub dumped : CoreState → Dumped
 dumped s = record { pages = s.heap.pages; registers = registers_in s; kept = kept_in s; words = s.heap.words }
 
