@@ -1,4 +1,4 @@
-ghost use Rattle.std.specs.Prelude.{◌≡◌, ◌+◌, ◌*◌, ◌^◌, ◌<◌, ◌≤◌, Some, IsTrue};
+ghost use Rattle.std.specs.Prelude.{◌≡◌, ◌≢◌, ◌+◌, ◌*◌, ◌^◌, ◌<◌, ◌≤◌, ℕ, Some, IsTrue};
 ghost use Rattle.atom_store.specs.declared.reply.Reply.TheVariants.{Value, Done, Won, Lost};
 ghost use Rattle.atom_store.specs.Step.{place_in};
 ghost use Rattle.heap_words.specs.Decoded.{decode};
@@ -70,10 +70,13 @@ impl Evac {
         ensures in_table { place_in result < table_length self.now.layout.pages }
     {
         let spaces = self.spaces;
-        let old = spaces.word_place(self.addr);
         match self.stage {
-            EvacStage::LoadsHeader => Step::Load(old),
-            EvacStage::TakesHeader(kept) => Step::Exchange(old, kept.word, busy(kept, self.worker)),
+            EvacStage::LoadsHeader => Step::Load(spaces.word_place(self.addr)),
+            EvacStage::TakesHeader(kept) => Step::Exchange(
+                spaces.word_place(self.addr),
+                kept.word,
+                busy(kept, self.worker),
+            ),
             EvacStage::LoadsArea(_) => Step::Load(spaces.area_place(spaces.to_space(self.epoch))),
             EvacStage::Announces(kept, area) => Step::Store(
                 spaces.announce_place(self.worker),
@@ -91,7 +94,7 @@ impl Evac {
                 spaces.cross_place(page),
                 u64::from(r.to),
             ),
-            EvacStage::StoresForward(r) => Step::Store(old, forward(r)),
+            EvacStage::StoresForward(r) => Step::Store(spaces.word_place(self.addr), forward(r)),
             EvacStage::Clears(_) => Step::Store(spaces.announce_place(self.worker), 0),
             EvacStage::Ended(_) => unreachable!(),
         }
@@ -106,26 +109,67 @@ impl Evac {
         ensures told { result ≡ told (taken self.old reply).stage }
         ensures lowers { IsTrue (advances self.old.stage reply) → left self.new < left self.old }
     {
+        match reply {
+            Reply::Value(word) => self.has_loaded(word),
+            Reply::Done => self.has_stored(),
+            Reply::Won | Reply::Lost(_) => self.has_exchanged(reply),
+        }
+    }
+
+    /// Takes the word that was loaded.
+    fn has_loaded(&mut self, word: u64) -> Turn<To>
+        requires going { IsGoing self.old.stage }
+        requires sound { IsSound (taken self.old (Value word)) }
+        ensures state { self.new ≡ taken self.old (Value word) }
+        ensures told { result ≡ told (taken self.old (Value word)).stage }
+        ensures lowers { IsTrue (advances self.old.stage (Value word)) → left self.new < left self.old }
+    {
+        match self.stage {
+            EvacStage::LoadsHeader => self.reads_header(word),
+            EvacStage::LoadsArea(kept) => self.reads_area(kept, word),
+            EvacStage::LoadsWord(r, number) => {
+                self.goes_to(EvacStage::StoresWord(r, LoadedWord { number, word }))
+            }
+            _ => Turn::More,
+        }
+    }
+
+    /// Goes on from a store.
+    fn has_stored(&mut self) -> Turn<To>
+        requires going { IsGoing self.old.stage }
+        requires sound { IsSound (taken self.old Done) }
+        ensures state { self.new ≡ taken self.old Done }
+        ensures told { result ≡ told (taken self.old Done).stage }
+        ensures lowers { IsTrue (advances self.old.stage Done) → left self.new < left self.old }
+    {
+        match self.stage {
+            EvacStage::Announces(kept, area) => self.goes_to(EvacStage::Reserves(kept, area)),
+            EvacStage::StoresHeader(r) => self.has_copied(r, 1),
+            EvacStage::StoresWord(r, w) => self.has_copied(r, w.number + 1),
+            EvacStage::StoresCross(r, page) => self.has_crossed(r, page + 1),
+            EvacStage::StoresForward(r) => self.goes_to(EvacStage::Clears(r.to)),
+            EvacStage::Clears(to) => self.ends(to),
+            _ => Turn::More,
+        }
+    }
+
+    /// Takes what became of an exchange.
+    fn has_exchanged(&mut self, reply: Reply) -> Turn<To>
+        requires going { IsGoing self.old.stage }
+        requires sound { IsSound (taken self.old reply) }
+        requires no_word { (word : ℕ) → reply ≢ Value word }
+        requires no_store { reply ≢ Done }
+        ensures state { self.new ≡ taken self.old reply }
+        ensures told { result ≡ told (taken self.old reply).stage }
+        ensures lowers { IsTrue (advances self.old.stage reply) → left self.new < left self.old }
+    {
         match (self.stage, reply) {
-            (EvacStage::LoadsHeader, Reply::Value(word)) => self.reads_header(word),
             (EvacStage::TakesHeader(kept), Reply::Won) => self.goes_to(EvacStage::LoadsArea(kept)),
             (EvacStage::TakesHeader(_), Reply::Lost(_)) => self.goes_to(EvacStage::LoadsHeader),
-            (EvacStage::LoadsArea(kept), Reply::Value(word)) => self.reads_area(kept, word),
-            (EvacStage::Announces(kept, area), Reply::Done) => {
-                self.goes_to(EvacStage::Reserves(kept, area))
-            }
             (EvacStage::Reserves(kept, area), Reply::Won) => self.has_reserved(kept, area),
             (EvacStage::Reserves(kept, area), Reply::Lost(word)) => {
                 self.reads_other_area(kept, area, word)
             }
-            (EvacStage::StoresHeader(r), Reply::Done) => self.has_copied(r, 1),
-            (EvacStage::LoadsWord(r, number), Reply::Value(word)) => {
-                self.goes_to(EvacStage::StoresWord(r, LoadedWord { number, word }))
-            }
-            (EvacStage::StoresWord(r, w), Reply::Done) => self.has_copied(r, w.number + 1),
-            (EvacStage::StoresCross(r, page), Reply::Done) => self.has_crossed(r, page + 1),
-            (EvacStage::StoresForward(r), Reply::Done) => self.goes_to(EvacStage::Clears(r.to)),
-            (EvacStage::Clears(to), Reply::Done) => self.ends(to),
             _ => Turn::More,
         }
     }

@@ -1,4 +1,4 @@
-ghost use Rattle.std.specs.Prelude.{◌≡◌, ◌+◌, ◌^◌, ◌<◌, ◌≤◌, Some, IsTrue};
+ghost use Rattle.std.specs.Prelude.{◌≡◌, ◌+◌, ◌^◌, ◌<◌, ◌≤◌, Some, IsTrue, ◌≢◌, ℕ};
 ghost use Rattle.atom_store.specs.Step.{place_in};
 ghost use Rattle.heap_state.specs.FieldSpan.{first_field};
 ghost use Rattle.heap_state.specs.Ghost.{said_kind};
@@ -107,19 +107,41 @@ impl Scan {
         ensures told { result ≡ told (taken self.old reply).stage }
         ensures lowers { IsTrue (advances self.old.stage reply) → left self.new < left self.old }
     {
+        match reply {
+            Reply::Value(word) => self.has_loaded(word),
+            Reply::Done | Reply::Won | Reply::Lost(_) => self.has_stored(reply),
+        }
+    }
+
+    /// Takes the word that was loaded.
+    fn has_loaded(&mut self, word: u64) -> Turn<Scanned>
+        requires going { HasStep self.old.stage }
+        requires sound { IsSound (taken self.old (Reply.Value word)) }
+        ensures state { self.new ≡ taken self.old (Reply.Value word) }
+        ensures told { result ≡ told (taken self.old (Reply.Value word)).stage }
+        ensures lowers { IsTrue (advances self.old.stage (Reply.Value word)) → left self.new < left self.old }
+    {
+        match self.stage {
+            ScanStage::LoadsCross => self.goes_to(ScanStage::LoadsFirst(word as u32)),
+            ScanStage::LoadsFirst(at) => self.reads_header(at, ScanStage::LoadsFirst(at), word),
+            ScanStage::LoadsWord(spot) => self.reads_word(spot, word),
+            ScanStage::LoadsFront(r) => self.reads_area(r, word),
+            ScanStage::LoadsNext(r) => self.reads_header(r.next, ScanStage::LoadsNext(r), word),
+            ScanStage::StoresCopy(..) | ScanStage::Asks(_) | ScanStage::Ended(_) => Turn::More,
+        }
+    }
+
+    /// Goes on from a store.
+    fn has_stored(&mut self, reply: Reply) -> Turn<Scanned>
+        requires going { HasStep self.old.stage }
+        requires sound { IsSound (taken self.old reply) }
+        requires no_word { (word : ℕ) → reply ≢ Reply.Value word }
+        ensures state { self.new ≡ taken self.old reply }
+        ensures told { result ≡ told (taken self.old reply).stage }
+        ensures lowers { IsTrue (advances self.old.stage reply) → left self.new < left self.old }
+    {
         match (self.stage, reply) {
-            (ScanStage::LoadsCross, Reply::Value(word)) => {
-                self.goes_to(ScanStage::LoadsFirst(word as u32))
-            }
-            (ScanStage::LoadsFirst(at), Reply::Value(word)) => {
-                self.reads_header(at, ScanStage::LoadsFirst(at), word)
-            }
-            (ScanStage::LoadsWord(spot), Reply::Value(word)) => self.reads_word(spot, word),
             (ScanStage::StoresCopy(asked, _), Reply::Done) => self.passes(asked.spot),
-            (ScanStage::LoadsFront(r), Reply::Value(word)) => self.reads_area(r, word),
-            (ScanStage::LoadsNext(r), Reply::Value(word)) => {
-                self.reads_header(r.next, ScanStage::LoadsNext(r), word)
-            }
             _ => Turn::More,
         }
     }
