@@ -42,6 +42,7 @@ class_plain class.Scanning = refl
 class_plain class.Earlier = refl
 class_plain class.Unset = refl
 class_plain class.Mark = refl
+class_plain class.Low = refl
 class_plain class.Plain = refl
 class_plain class.Small = refl
 

@@ -21,6 +21,7 @@ class_name class.Scanning = codes "scanning"
 class_name class.Earlier = codes "earlier"
 class_name class.Unset = codes "unset"
 class_name class.Mark = codes "mark"
+class_name class.Low = codes "low"
 class_name class.Plain = codes "plain"
 class_name class.Small = codes "small"
 

@@ -31,8 +31,10 @@ pub enum Class {
     Earlier,
     /// A page that was neither opened nor scanned.
     Unset,
-    /// FRONT or LOW.
+    /// FRONT.
     Mark,
+    /// LOW.
+    Low,
     /// Plain text.
     Plain,
     /// Small text in a word.
@@ -60,6 +62,7 @@ impl fmt::Display for Class {
             Class::Earlier => "earlier",
             Class::Unset => "unset",
             Class::Mark => "mark",
+            Class::Low => "low",
             Class::Plain => "plain",
             Class::Small => "small",
         };

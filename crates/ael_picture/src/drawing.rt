@@ -1,12 +1,12 @@
 //! A heap as shapes.
 
 use crate::class::Class;
-use crate::heap::{Found, Heap};
+use crate::heap::Heap;
 use crate::shape::Shape;
 use heap_words::{Kind, Tag, Word};
 use mmu_model::read as read_page;
 use plain_state::NoMemory;
-use record_layout::read as read_header;
+use record_layout::{read as read_header, read_forward};
 use space_map::{PAGE_WORDS, PageWord};
 use std::alloc::Global;
 
@@ -212,20 +212,38 @@ fn draw_page(
 }
 
 /// FRONT or LOW: a line in the page where it lies.
-fn draw_mark(
-    alloc: Global,
-    drawing: &mut Drawing,
-    tops: &[u32],
-    addr: u32,
-    name: &str,
-) -> Result<(), NoMemory> {
+fn draw_mark(drawing: &mut Drawing, tops: &[u32], addr: u32, class: Class) -> Result<(), NoMemory> {
     let Some(top) = tops.get((addr / PAGE_WORDS) as usize) else {
         return Ok(());
     };
     let x = LEFT + CELL * (addr % PAGE_WORDS);
-    drawing.line(x, top.saturating_sub(3), x, top.saturating_add(19), Class::Mark)?;
-    let text = format!(in alloc; "{name} {addr}")?;
-    drawing.label(x.saturating_add(2), top.saturating_sub(3), Class::Small, text)
+    drawing.line(x, top.saturating_sub(2), x, top.saturating_add(WIDE + 2), class)
+}
+
+/// Lines from what stands in a record's place to its copy.
+fn draw_forwards(
+    heap: &Heap,
+    classes: &[Class],
+    drawing: &mut Drawing,
+    tops: &[u32],
+) -> Result<(), NoMemory> {
+    let mut addr = 0u32;
+    for class in classes {
+        if *class == Class::Forward {
+            if let Some(forward) = read_forward(heap.word(addr)) {
+                let from = tops.get((addr / PAGE_WORDS) as usize);
+                let to = tops.get((forward.addr / PAGE_WORDS) as usize);
+                if let (Some(from), Some(to)) = (from, to) {
+                    let x = LEFT + CELL * (addr % PAGE_WORDS) + CELL / 2;
+                    let to_x = LEFT + CELL * (forward.addr % PAGE_WORDS) + CELL / 2;
+                    let (from, to) = (*from, *to);
+                    drawing.line(x, from.saturating_add(WIDE), to_x, to, Class::Forward)?;
+                }
+            }
+        }
+        addr = addr.saturating_add(1);
+    }
+    Ok(())
 }
 
 /// A space or the board: its pages one below the other.
@@ -290,29 +308,52 @@ fn draw_registers(
 
 /// What the colours mean.
 fn draw_legend(alloc: Global, drawing: &mut Drawing) -> Result<(), NoMemory> {
-    let words = [
-        (Class::Header, "header"),
-        (Class::Number, "number"),
-        (Class::Raw, "raw"),
-        (Class::New, "pointer, new"),
-        (Class::Old, "pointer, old"),
-        (Class::Forward, "forward"),
-        (Class::Busy, "busy"),
-        (Class::Open, "page open"),
-        (Class::Scanning, "scanned"),
-        (Class::Earlier, "earlier"),
-        (Class::Unset, "unset"),
+    let rows = [
+        [
+            (Class::Header, "header"),
+            (Class::Number, "number"),
+            (Class::Raw, "raw word"),
+            (Class::New, "pointer to new"),
+            (Class::Old, "pointer to old"),
+            (Class::Forward, "forward"),
+            (Class::Busy, "being copied"),
+        ],
+        [
+            (Class::Open, "page open"),
+            (Class::Scanning, "page scanned"),
+            (Class::Earlier, "earlier epoch"),
+            (Class::Unset, "never set"),
+            (Class::Mark, "FRONT"),
+            (Class::Low, "LOW"),
+            (Class::Free, "no record"),
+        ],
     ];
-    let y = drawing.bottom;
-    let mut x = LEFT;
-    for (class, name) in words {
-        drawing.block(x, y, 12, 12, class)?;
-        let text = format!(in alloc; "{name}")?;
-        drawing.label(x.saturating_add(15), y.saturating_add(10), Class::Plain, text)?;
-        x = x.saturating_add(82);
+    for row in rows {
+        let y = drawing.bottom;
+        let mut x = LEFT;
+        for (class, name) in row {
+            drawing.block(x, y, 12, 12, class)?;
+            let text = format!(in alloc; "{name}")?;
+            drawing.label(x.saturating_add(16), y.saturating_add(10), Class::Plain, text)?;
+            x = x.saturating_add(126);
+        }
+        drawing.down(17);
     }
-    drawing.down(24);
+    drawing.down(6);
     Ok(())
+}
+
+/// The name of a space or the board, with where its FRONT and LOW are.
+fn title(alloc: Global, heap: &Heap, space: u8) -> Result<String, NoMemory> {
+    match heap.area(space) {
+        Some(area) => {
+            let start = if space < 2 { heap.spaces.space_start(space) } else { 0 };
+            let (front, low) = (start.saturating_add(area.front), start.saturating_add(area.low));
+            Ok(format!(in alloc; "space {space}: FRONT {front}, LOW {low}")?)
+        }
+        None if space < 2 => Ok(format!(in alloc; "space {space}")?),
+        None => Ok(format!(in alloc; "board")?),
+    }
 }
 
 /// The whole picture.
@@ -326,20 +367,27 @@ pub fn draw(alloc: Global, heap: &Heap) -> Result<Drawing, NoMemory> {
     let pages = heap.spaces.pages();
     draw_counts(alloc, heap, &mut drawing)?;
     draw_legend(alloc, &mut drawing)?;
-    let rows = [(0, pages, "space 0"), (pages, 2 * pages, "space 1"), (2 * pages, 2 * pages + 1, "board")];
-    for (from, to, name) in rows {
+    let rows = [
+        (0, pages, 0u8),
+        (pages, 2 * pages, 1),
+        (2 * pages, 2 * pages + 1, 2),
+    ];
+    for (from, to, space) in rows {
         let y = drawing.bottom;
-        let text = format!(in alloc; "{name}")?;
+        let text = title(alloc, heap, space)?;
         drawing.label(8, y.saturating_add(10), Class::Plain, text)?;
         drawing.down(18);
         draw_pages(alloc, heap, classes.as_slice(), &mut drawing, &mut tops, from, to)?;
+    }
+    if pages <= MOST_PAGES_BY_WORD {
+        draw_forwards(heap, classes.as_slice(), &mut drawing, tops.as_slice())?;
     }
     draw_registers(alloc, heap, &mut drawing, tops.as_slice())?;
     for space in 0..2u8 {
         if let Some(area) = heap.area(space) {
             let start = heap.spaces.space_start(space);
-            draw_mark(alloc, &mut drawing, tops.as_slice(), start.saturating_add(area.front), "FRONT")?;
-            draw_mark(alloc, &mut drawing, tops.as_slice(), start.saturating_add(area.low), "LOW")?;
+            draw_mark(&mut drawing, tops.as_slice(), start.saturating_add(area.front), Class::Mark)?;
+            draw_mark(&mut drawing, tops.as_slice(), start.saturating_add(area.low), Class::Low)?;
         }
     }
     Ok(drawing)

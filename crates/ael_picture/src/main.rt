@@ -12,9 +12,9 @@ use crate::heap::Heap;
 use crate::svg::svg;
 use dump_text::{DumpError, read};
 use plain_state::NoMemory;
-use space_map::{GateWord, Spaces};
+use space_map::Spaces;
 use std::alloc::Global;
-use std::io::{Read, Write};
+use std::io::{ErrorKind, Read, Write};
 use std::process::ExitCode;
 
 /// The picture of a dump.
@@ -42,15 +42,21 @@ fn picture(alloc: Global, bytes: &[u8]) -> Result<String, DumpError> {
 
 fn main(rt: HostRuntime) -> ExitCode {
     let mut bytes = Vec::new(rt.alloc());
-    let mut input = rt.stdin();
-    if input.read_to_end(&mut bytes).is_err() {
+    if let Err(error) = rt.stdin().read_to_end(&mut bytes) {
+        if error.kind() == ErrorKind::OutOfMemory {
+            let _ = eprintln!(rt; "ael_picture: out of memory");
+            return ExitCode::from(7);
+        }
         let _ = eprintln!(rt; "ael_picture: read fault");
         return ExitCode::from(5);
     }
     match picture(rt.alloc(), bytes.as_slice()) {
         Ok(text) => match rt.stdout().write_all(text.as_str().as_bytes()) {
             Ok(()) => ExitCode::from(0),
-            Err(_) => ExitCode::from(6),
+            Err(_) => {
+                let _ = eprintln!(rt; "ael_picture: write fault");
+                ExitCode::from(6)
+            }
         },
         Err(DumpError::NoMemory) => {
             let _ = eprintln!(rt; "ael_picture: out of memory");
