@@ -1,15 +1,13 @@
 -- A picture has nothing in its tags that would end them.
-use Rattle.std.proofs.Common.{◌≡◌, ℕ, zero, suc, ◌+◌, ◌/◌, ◌%◌, ◌<◌, Bool, true, false, cond, List, [], ◌∷◌, ◌++◌, decimal, string_bytes, Result, Ok, Err, refl, arith, ◌==◌, IsTrue}
+use Rattle.std.proofs.Common.{◌≡◌, ℕ, zero, suc, ◌/◌, ◌%◌, ◌<◌, true, false, cond, List, [], ◌∷◌, decimal, refl, arith, ◌==◌}
 use Rattle.std.proofs.lemmas.Bool.Decides.{nat_tests}
 use Rattle.std.specs.Fmt.{digits, digits_onto, digit_glyph}
 use Rattle.std.specs.List.{list_all}
-use Rattle.std.specs.Prelude.{IfOk}
-use Rattle.std.specs.Str.{chars}
 use Rattle.ael_picture.specs.declared.class.Class.{Class}
 use Rattle.ael_picture.specs.declared.class.Class.TheVariants as class
 use Rattle.ael_picture.specs.declared.shape.Shape.{Shape}
 use Rattle.ael_picture.specs.declared.shape.Shape.TheVariants as shape
-use Rattle.ael_picture.specs.Markup.{Content, IsClean, IsMarkup, is_in_name, is_in_value, markup}
+use Rattle.ael_picture.specs.Markup.{Content, IsClean, IsMarkup, is_in_value, markup}
 use Rattle.ael_picture.specs.Shapes.{all_drawn, class_name, drawn, picture}
 
 glyph_plain : (d : ℕ) → d < 10 → is_in_value (digit_glyph false d) ≡ true

@@ -1,5 +1,5 @@
 -- Elements and text, and how they are written.
-use Rattle.std.specs.Prelude.{ℕ, ◌≡◌, Bool, not, ◌&&◌, ◌||◌, ◌==◌, IsTrue, nat_le, List, [], ◌∷◌, ◌++◌, codes, if◌then◌else◌}
+use Rattle.std.specs.Prelude.{ℕ, ◌≡◌, Bool, not, ◌&&◌, ◌||◌, ◌==◌, IsTrue, nat_le, List, [], ◌++◌, codes, if◌then◌else◌}
 use Rattle.std.specs.Char.{encode_utf8}
 use Rattle.std.specs.List.{flat_map, list_all, AllByRecursion}
 

@@ -1,5 +1,5 @@
 -- The shapes of a picture, as markup.
-use Rattle.std.specs.Prelude.{ℕ, List, [], ◌∷◌, ◌++◌, codes, decimal, string_bytes}
+use Rattle.std.specs.Prelude.{ℕ, List, [], ◌∷◌, codes, decimal, string_bytes}
 use Rattle.std.specs.Str.{chars}
 use Rattle.ael_picture.specs.declared.class.Class.{Class}
 use Rattle.ael_picture.specs.declared.class.Class.TheVariants as class

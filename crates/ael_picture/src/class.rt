@@ -1,7 +1,5 @@
 //! What a shape stands for, by which it is coloured.
 
-
-
 use std::fmt;
 
 /// What a shape stands for.

@@ -11,17 +11,18 @@ use space_map::{PAGE_WORDS, PageWord};
 use std::alloc::Global;
 
 /// Where the words of a page begin.
-const LEFT: u32 = 84;
+const LEFT: u32 = 100;
 
 /// The width of a word.
 const CELL: u32 = 14;
 
 /// The height of a page that has records, and of one that has none.
 const WIDE: u32 = 16;
+
 const NARROW: u32 = 3;
 
 /// The width of the picture.
-pub const WIDTH: u32 = 1000;
+pub const WIDTH: u32 = 1016;
 
 /// Up to so many pages a space, each word is drawn by itself.
 const MOST_PAGES_BY_WORD: u32 = 64;
@@ -34,7 +35,14 @@ pub struct Drawing {
 }
 
 impl Drawing {
-    fn block(&mut self, x: u32, y: u32, width: u32, height: u32, class: Class) -> Result<(), NoMemory> {
+    fn block(
+        &mut self,
+        x: u32,
+        y: u32,
+        width: u32,
+        height: u32,
+        class: Class,
+    ) -> Result<(), NoMemory> {
         self.shapes.push(Shape::Box {
             x,
             y,
@@ -75,7 +83,10 @@ fn draw_counts(alloc: Global, heap: &Heap, drawing: &mut Drawing) -> Result<(), 
     };
     let text = match heap.gate() {
         Some(gate) => {
-            format!(in alloc; "epoch {}, live {}, running {}, behind {}, left {}, request {}, TRACED {traced}, owed {owed}", gate.epoch, gate.live, gate.running, gate.behind, gate.left, gate.request)?
+            format!(in alloc;
+                "epoch {}, live {}, running {}, behind {}, left {}, request {}, TRACED {traced}, owed {owed}",
+                gate.epoch, gate.live, gate.running, gate.behind, gate.left, gate.request
+            )?
         }
         None => format!(in alloc; "no gate, TRACED {traced}, owed {owed}")?,
     };
@@ -141,9 +152,17 @@ fn draw_name(
     let text = if header.len < 5 {
         format!(in alloc; "{}.{}", header.mutator, header.serial)?
     } else {
-        format!(in alloc; "{kind} {} {}.{}", header.len, header.mutator, header.serial)?
+        format!(in alloc;
+            "{kind} {} {}.{}",
+            header.len, header.mutator, header.serial
+        )?
     };
-    drawing.label(x.saturating_add(2), y.saturating_add(11), Class::Small, text)
+    drawing.label(
+        x.saturating_add(2),
+        y.saturating_add(11),
+        Class::Small,
+        text,
+    )
 }
 
 /// The words of a page, each by itself.
@@ -169,14 +188,25 @@ fn draw_words(
 }
 
 /// The words of a page, as bars of words of one class.
-fn draw_bars(classes: &[Class], drawing: &mut Drawing, first: u32, height: u32) -> Result<(), NoMemory> {
+fn draw_bars(
+    classes: &[Class],
+    drawing: &mut Drawing,
+    first: u32,
+    height: u32,
+) -> Result<(), NoMemory> {
     let y = drawing.bottom;
     let mut start = 0;
     for i in 0..PAGE_WORDS {
         let class = class_at(classes, first.saturating_add(i));
         let ends = i + 1 == PAGE_WORDS || class_at(classes, first.saturating_add(i + 1)) != class;
         if ends && start <= i {
-            drawing.block(LEFT + CELL * start, y, CELL * (i + 1 - start), height, class)?;
+            drawing.block(
+                LEFT + CELL * start,
+                y,
+                CELL * (i + 1 - start),
+                height,
+                class,
+            )?;
             start = i + 1;
         }
     }
@@ -211,13 +241,34 @@ fn draw_page(
     Ok(height)
 }
 
-/// FRONT or LOW: a line in the page where it lies.
-fn draw_mark(drawing: &mut Drawing, tops: &[u32], addr: u32, class: Class) -> Result<(), NoMemory> {
-    let Some(top) = tops.get((addr / PAGE_WORDS) as usize) else {
+/// FRONT or LOW, so many words into a space: a line in the page where it lies.
+fn draw_mark(
+    heap: &Heap,
+    drawing: &mut Drawing,
+    tops: &[u32],
+    space: u8,
+    offset: u32,
+    class: Class,
+) -> Result<(), NoMemory> {
+    let pages = heap.spaces.pages();
+    // The end of a space is the right end of its last page.
+    let (page, column) = if offset == pages * PAGE_WORDS {
+        (pages - 1, PAGE_WORDS)
+    } else {
+        (offset / PAGE_WORDS, offset % PAGE_WORDS)
+    };
+    let page = page.saturating_add(pages.saturating_mul(u32::from(space)));
+    let Some(top) = tops.get(page as usize) else {
         return Ok(());
     };
-    let x = LEFT + CELL * (addr % PAGE_WORDS);
-    drawing.line(x, top.saturating_sub(2), x, top.saturating_add(WIDE + 2), class)
+    let x = LEFT + CELL * column;
+    drawing.line(
+        x,
+        top.saturating_sub(2),
+        x,
+        top.saturating_add(WIDE + 2),
+        class,
+    )
 }
 
 /// Lines from what stands in a record's place to its copy.
@@ -290,11 +341,22 @@ fn draw_registers(
             let class = heap.tagged(*word);
             drawing.block(x, y, 108, WIDE, class)?;
             let text = register_text(alloc, *word)?;
-            drawing.label(x.saturating_add(4), y.saturating_add(12), Class::Plain, text)?;
+            drawing.label(
+                x.saturating_add(4),
+                y.saturating_add(12),
+                Class::Plain,
+                text,
+            )?;
             if let Some(addr) = Word(*word).as_pointer() {
                 if let Some(top) = tops.get((addr / PAGE_WORDS) as usize) {
                     let to_x = LEFT + CELL * (addr % PAGE_WORDS) + CELL / 2;
-                    drawing.line(x.saturating_add(54), y, to_x, top.saturating_add(WIDE), class)?;
+                    drawing.line(
+                        x.saturating_add(54),
+                        y,
+                        to_x,
+                        top.saturating_add(WIDE),
+                        class,
+                    )?;
                 }
             }
             x = x.saturating_add(112);
@@ -334,7 +396,12 @@ fn draw_legend(alloc: Global, drawing: &mut Drawing) -> Result<(), NoMemory> {
         for (class, name) in row {
             drawing.block(x, y, 12, 12, class)?;
             let text = format!(in alloc; "{name}")?;
-            drawing.label(x.saturating_add(16), y.saturating_add(10), Class::Plain, text)?;
+            drawing.label(
+                x.saturating_add(16),
+                y.saturating_add(10),
+                Class::Plain,
+                text,
+            )?;
             x = x.saturating_add(126);
         }
         drawing.down(17);
@@ -347,8 +414,15 @@ fn draw_legend(alloc: Global, drawing: &mut Drawing) -> Result<(), NoMemory> {
 fn title(alloc: Global, heap: &Heap, space: u8) -> Result<String, NoMemory> {
     match heap.area(space) {
         Some(area) => {
-            let start = if space < 2 { heap.spaces.space_start(space) } else { 0 };
-            let (front, low) = (start.saturating_add(area.front), start.saturating_add(area.low));
+            let start = if space < 2 {
+                heap.spaces.space_start(space)
+            } else {
+                0
+            };
+            let (front, low) = (
+                start.saturating_add(area.front),
+                start.saturating_add(area.low),
+            );
             Ok(format!(in alloc; "space {space}: FRONT {front}, LOW {low}")?)
         }
         None if space < 2 => Ok(format!(in alloc; "space {space}")?),
@@ -377,7 +451,15 @@ pub fn draw(alloc: Global, heap: &Heap) -> Result<Drawing, NoMemory> {
         let text = title(alloc, heap, space)?;
         drawing.label(8, y.saturating_add(10), Class::Plain, text)?;
         drawing.down(18);
-        draw_pages(alloc, heap, classes.as_slice(), &mut drawing, &mut tops, from, to)?;
+        draw_pages(
+            alloc,
+            heap,
+            classes.as_slice(),
+            &mut drawing,
+            &mut tops,
+            from,
+            to,
+        )?;
     }
     if pages <= MOST_PAGES_BY_WORD {
         draw_forwards(heap, classes.as_slice(), &mut drawing, tops.as_slice())?;
@@ -385,9 +467,22 @@ pub fn draw(alloc: Global, heap: &Heap) -> Result<Drawing, NoMemory> {
     draw_registers(alloc, heap, &mut drawing, tops.as_slice())?;
     for space in 0..2u8 {
         if let Some(area) = heap.area(space) {
-            let start = heap.spaces.space_start(space);
-            draw_mark(&mut drawing, tops.as_slice(), start.saturating_add(area.front), Class::Mark)?;
-            draw_mark(&mut drawing, tops.as_slice(), start.saturating_add(area.low), Class::Low)?;
+            draw_mark(
+                heap,
+                &mut drawing,
+                tops.as_slice(),
+                space,
+                area.front,
+                Class::Mark,
+            )?;
+            draw_mark(
+                heap,
+                &mut drawing,
+                tops.as_slice(),
+                space,
+                area.low,
+                Class::Low,
+            )?;
         }
     }
     Ok(drawing)

@@ -99,7 +99,8 @@ fn push_shape(out: &mut String, shape: &Shape) -> Result<(), NoMemory>
 }
 
 /// How the classes are coloured.
-const STYLE: &str = "text{font:11px sans-serif}.small{font-size:8px}rect{stroke:#999;stroke-width:.5}.free{fill:#fff;stroke:#e4e4e4}.header{fill:#9db7de}.number{fill:#e8e8e8}.raw{fill:#d8c9a3}.new{fill:#8fc98f}.old{fill:#e39b9b}.forward{fill:#b79bd6}.busy{fill:#f2a33a}.open{fill:#8fc98f}.scanning{fill:#f2a33a}.earlier{fill:#c8c8c8}.unset{fill:#fff}.mark{fill:#000}.low{fill:#1f4fd8}line.new{stroke:#3d8b3d}line.old{stroke:#b94a4a}line.forward{stroke:#7d55b0}line.mark{stroke:#000;stroke-width:3}line.low{stroke:#1f4fd8;stroke-width:3}text.small{fill:#000}";
+const STYLE: &str =
+    "text{font:11px sans-serif}.small{font-size:8px}rect{stroke:#999;stroke-width:.5}.free{fill:#fff;stroke:#e4e4e4}.header{fill:#9db7de}.number{fill:#e8e8e8}.raw{fill:#d8c9a3}.new{fill:#8fc98f}.old{fill:#e39b9b}.forward{fill:#b79bd6}.busy{fill:#f2a33a}.open{fill:#8fc98f}.scanning{fill:#f2a33a}.earlier{fill:#c8c8c8}.unset{fill:#fff}.mark{fill:#000}.low{fill:#1f4fd8}line.new{stroke:#3d8b3d}line.old{stroke:#b94a4a}line.forward{stroke:#7d55b0}line.mark{stroke:#000;stroke-width:3}line.low{stroke:#1f4fd8;stroke-width:3}text.small{fill:#000}";
 
 /// Adds shapes, the first one lowest.
 fn push_shapes(out: &mut String, shapes: &[Shape]) -> Result<(), NoMemory>
