@@ -1,6 +1,6 @@
 //! The operands of `bench`.
 
-use crate::options::{SEED, SimOptions};
+use crate::options::{SEED, STEPS, SimOptions, TURNS};
 use benchmark::{key_count, seed_behind};
 use clap::ArgMatches;
 use simple_commands::{Numbers, number_of, wide_number};
@@ -14,6 +14,9 @@ pub const DEPTH: (&str, Numbers) = (
         default: 1,
     },
 );
+
+/// The pages of a space beside one for each key.
+pub const SPARE_PAGES: u32 = 64;
 
 /// The operand of `bench` with a number of 32 bits.
 pub const BENCH_NUMBERS: [(&str, Numbers); 1] = [DEPTH];
@@ -57,10 +60,10 @@ impl BenchOperands {
         ensures range { AreInRange result }
     {
         SimOptions {
-            pages: 64 + key_count(self.depth),
+            pages: SPARE_PAGES + key_count(self.depth),
             scanners: 1,
-            turns: 10_000_000,
-            steps: 100_000_000,
+            turns: TURNS.1.most,
+            steps: STEPS.1.most,
             seed: Some(seed_behind(self.seed)),
             order: false,
             cycles: true,

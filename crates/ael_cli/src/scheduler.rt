@@ -41,7 +41,7 @@ impl<'p> Scheduler<'p> {
     }
 
     /// The worker of the next step.
-    #[inline(never)]
+    #[inline(always)]
     pub fn next(&mut self) -> u8
         ensures names { result ≡ to_come self.old 0 }
         ensures later { (at : ℕ) → to_come self.new at ≡ to_come self.old (at + 1) }

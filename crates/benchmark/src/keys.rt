@@ -21,15 +21,14 @@ pub struct Keys {
 
 impl Keys {
     /// The keys that the next two words give.
-    pub fn draw(words: &mut SplitMix64, count: u64) -> Keys
-        requires some { 2 ≤ count }
-        requires few { count ≤ 2 ^ 62 }
+    pub fn draw(words: &mut SplitMix64, count: u32) -> Keys
+        requires { 2 ≤ count }
         ensures keys { result ≡ keys_by count (mix_u64 words.old).0 (mix_u64 (next_state words.old)).0 }
         ensures later { words.new ≡ next_state (next_state words.old) }
     {
         Keys {
-            first: words.next_word() % count,
-            addend: 2 * (words.next_word() % (count / 2)) + 1,
+            first: words.next_word() % u64::from(count),
+            addend: 2 * (words.next_word() % u64::from(count / 2)) + 1,
         }
     }
 }

@@ -11,7 +11,7 @@ use std::alloc::Global;
 
 /// Adds the section of a mutator.
 #[tactic(auto, unfolding(crate::specs::Text::section_text))]
-fn push_section(out: &mut String, count: u64, keys: Keys) -> Result<(), NoMemory>
+fn push_section(out: &mut String, count: u32, keys: Keys) -> Result<(), NoMemory>
     ensures { OnOk result (string_bytes out.new ≡ string_bytes out.old ++ section_text count keys) }
 {
     let Keys { first, addend } = keys;
@@ -43,7 +43,7 @@ pub fn bench_text(alloc: Global, depth: u32, seed: u64) -> Result<Vec<u8>, NoMem
     ensures exact { IfOk result (λ text. text.items ≡ bench_text depth seed) }
     ensures short { IfOk result (λ text. length text.items < 2 ^ 31) }
 {
-    let count = u64::from(key_count(depth));
+    let count = key_count(depth);
     let mut words = SplitMix64::seed_from_u64(seed);
     let mut out = String::new(alloc);
     for _ in 0..MUTATORS {

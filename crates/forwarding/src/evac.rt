@@ -63,6 +63,7 @@ impl Evac {
     }
 
     /// The next step.
+    #[inline(always)]
     pub fn want(&self) -> Step
         requires { IsGoing self.now.stage }
         ensures wanted { wanted self.now ≡ Some result }
@@ -97,6 +98,7 @@ impl Evac {
     }
 
     /// Takes the reply to it.
+    #[inline(always)]
     pub fn take(&mut self, reply: Reply) -> Turn<To>
         requires going { IsGoing self.old.stage }
         requires sound { IsSound (taken self.old reply) }

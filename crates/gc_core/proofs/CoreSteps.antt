@@ -1,8 +1,8 @@
 -- What a core's step needs of its worker, and what it leaves.
-use Rattle.std.proofs.Common.{◌≡◌, ℕ, ◌<◌, ◌≤◌, Bool, true, false, nat_le, List, length, set, get_or, Option, Some, None, Err, refl, ap, sym, subst, ◌∙◌, arith, leb-false, get_or-set_same}
+use Rattle.std.proofs.Common.{◌≡◌, ℕ, ◌<◌, ◌≤◌, Bool, true, false, nat_le, List, length, set, get_or, Option, Some, None, Err, refl, ap, sym, subst, ◌∙◌, arith, leb-false}
 use Rattle.std.specs.Option.{ok_or}
 use Rattle.std.specs.Prelude.{if◌then◌else◌}
-use Rattle.std.proofs.lemmas.List.{get_or_default, set-get_or, set-set}
+use Rattle.std.proofs.lemmas.List.{get_or_default, set-get_or}
 use Rattle.std.proofs.lemmas.Option.{slice_get_within}
 use Rattle.plain_state.specs.declared.end.End.TheVariants.{TurnsOut, JumpOut}
 use Rattle.plain_state.specs.State.{Mutator}
@@ -135,19 +135,15 @@ module _ (s : CoreState) (w : ℕ) (below : w < length s.heap.workers) where
   pub made_ready : (old new : Held) → old ≡ get_or s.heap.workers w old → new ≡ readied s.code s.turns w old → new ≡ ready s w
   made_ready old new is made = made ∙ ap (readied s.code s.turns w) (read_held old is)
 
-  -- and read again
-  pub read_ready : (new z : Held) → new ≡ ready s w → z ≡ get_or (set s.heap.workers w new) w z → z ≡ ready s w
-  read_ready new z made is = is ∙ (get_or-set_same s.heap.workers w new z below ∙ made)
-
-  pub idle_workers : (new : Held) → new ≡ ready s w → wanted (ready s w) ≡ None → set s.heap.workers w new ≡ s.heap.workers
+  idle_workers : (new : Held) → new ≡ ready s w → wanted (ready s w) ≡ None → set s.heap.workers w new ≡ s.heap.workers
   idle_workers new made none = ap (set s.heap.workers w) (made ∙ idle_same s w none) ∙ set-get_or s.heap.workers w nobody
 
 module _ (s : CoreState) (w : ℕ) (lawful : IsLawful s) (below : w < length s.heap.workers) (q : Step) (asked : wanted (ready s w) ≡ Some q) where
   -- the core after the step
-  pub moved_core : (new z : Held) (words : List ℕ) → z ≡ turned (ready s w) (reply_of q s.heap.words) → words ≡ words_after q s.heap.words
-      → record { code = s.code; turns = s.turns; heap = record { pages = s.heap.pages; words = words; mutators = s.heap.mutators; workers = set (set s.heap.workers w new) w z } } ≡ core_after s w
-  moved_core new z words z_is words_is =
-      ap (λ (ws : List Held). record s { heap = record s.heap { words = words; workers = ws } }) (set-set s.heap.workers w new z ∙ ap (set s.heap.workers w) z_is)
+  moved_core : (z : Held) (words : List ℕ) → z ≡ turned (ready s w) (reply_of q s.heap.words) → words ≡ words_after q s.heap.words
+      → record { code = s.code; turns = s.turns; heap = record { pages = s.heap.pages; words = words; mutators = s.heap.mutators; workers = set s.heap.workers w z } } ≡ core_after s w
+  moved_core z words z_is words_is =
+      ap (λ (x : Held). record s { heap = record s.heap { words = words; workers = set s.heap.workers w x } }) z_is
       ∙ (ap (λ (l : List ℕ). record s { heap = record s.heap { words = l; workers = set s.heap.workers w (turned (ready s w) (reply_of q s.heap.words)) } }) words_is
       ∙ ap (λ (e : Event). record s { heap = e.after }) (sym (event_some s w q asked)))
 
@@ -186,14 +182,14 @@ module _ (s : CoreState) (w : ℕ) (lawful : IsLawful s) (below : w < length s.h
           ∙ ap (λ (e : Event). e.told) (sym (event_some s w q asked))
 
   -- the core after it
-  pub made_core : (new z : Held) (after : List ℕ) → new ≡ worker → z ≡ (made worker words).held → after ≡ (made worker words).words
-      → record { code = s.code; turns = s.turns; heap = record { pages = s.heap.pages; words = after; mutators = s.heap.mutators; workers = set (set s.heap.workers w new) w z } } ≡ core_after s w
-  made_core new z after new_is z_is after_is = by_step (wanted worker) refl z_is after_is
+  pub made_core : (z : Held) (after : List ℕ) → z ≡ (made worker words).held → after ≡ (made worker words).words
+      → record { code = s.code; turns = s.turns; heap = record { pages = s.heap.pages; words = after; mutators = s.heap.mutators; workers = set s.heap.workers w z } } ≡ core_after s w
+  made_core z after z_is after_is = by_step (wanted worker) refl z_is after_is
     where
       by_step : (o : Option Step) → wanted worker ≡ o → z ≡ (made_by worker words o).held → after ≡ (made_by worker words o).words
-          → record { code = s.code; turns = s.turns; heap = record { pages = s.heap.pages; words = after; mutators = s.heap.mutators; workers = set (set s.heap.workers w new) w z } } ≡ core_after s w
+          → record { code = s.code; turns = s.turns; heap = record { pages = s.heap.pages; words = after; mutators = s.heap.mutators; workers = set s.heap.workers w z } } ≡ core_after s w
       by_step None none z_is after_is =
-          ap (λ (ws : List Held). record s { heap = record s.heap { words = after; workers = ws } }) (set-set s.heap.workers w new z ∙ idle_workers s w below z z_is none)
+          ap (λ (ws : List Held). record s { heap = record s.heap { words = after; workers = ws } }) (idle_workers s w below z z_is none)
           ∙ (ap (λ (l : List ℕ). record s { heap = record s.heap { words = l } }) after_is
           ∙ sym (ap (λ (e : Event). record s { heap = e.after }) (event_none s w none)))
-      by_step (Some q) asked z_is after_is = moved_core s w lawful below q asked new z after z_is after_is
+      by_step (Some q) asked z_is after_is = moved_core s w lawful below q asked z after z_is after_is

@@ -46,8 +46,8 @@ impl<'p> Core<'p> {
         ensures ends_are_told { ((m : ℕ) (why : End) → result ≢ Stepped.Ended m why) → all_ended self.new ≡ all_ended self.old }
         ensures workers { workers_of self.new ≡ workers_of self.old }
     {
-        let at = worker as usize;
-        self.slots[at].ready(self.program, self.turns, worker);
-        self.slots[at].step(&mut self.atoms)
+        let slot = &mut self.slots[worker as usize];
+        slot.ready(self.program, self.turns, worker);
+        slot.step(&mut self.atoms)
     }
 }

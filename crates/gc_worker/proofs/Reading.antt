@@ -1,5 +1,6 @@
 -- What the code reads in a word is what the definitions make of it.
-use Rattle.std.proofs.Common.{◌≡◌, ℕ, true, false, ◌+◌, ◌-◌, ◌^◌, ◌<◌, ◌≤◌, arith, Option, zero, suc, List, [], ◌∷◌, map, Some, None, refl, sym, ap, ◌∙◌, subst, slice_get, slice_index, slice_index_or}
+use Rattle.std.specs.Option.{option_and_then}
+use Rattle.std.proofs.Common.{◌≡◌, ℕ, true, false, ◌+◌, ◌-◌, ◌^◌, ◌<◌, ◌≤◌, arith, Option, Result, Ok, zero, suc, List, [], ◌∷◌, map, Some, None, refl, sym, ap, ◌∙◌, subst, slice_get, slice_index, slice_index_or}
 use Rattle.heap_words.specs.Decoded.{Decoded, NumberWord, PointerWord, HeaderWord, ForwardWord, BusyWord, Malformed, decode, encode, number_in, pointer_in}
 use Rattle.heap_words.proofs.Decoding.{decode-header_word}
 use Rattle.heap_words.proofs.Spelling.{number_word-decode, pointer_word-decode}
@@ -13,12 +14,17 @@ use Rattle.gc_worker.specs.declared.record_access.RecordAccess.{RecordAccess}
 use Rattle.gc_worker.specs.Access.{GoesTo, read_header, role_in, used_by}
 use Rattle.gc_worker.specs.Seen.{IsValueAs, IsValueWord, by_address, making_in, seen, seen_as, value_seen, word_for}
 use Rattle.heap_state.specs.Worker.{Account}
-use Rattle.plain_heap.specs.Action.{register}
+use Rattle.plain_heap.specs.Action.{action, register}
 use Rattle.gc_worker.specs.Fits.{FitsStage, IsMaking}
-use Rattle.gc_worker.specs.Held.{Held, at_stage}
+use Rattle.gc_worker.specs.Held.{Held, at_stage, header_of, making_for}
 use Rattle.gc_worker.specs.declared.stage.Stage.{Stage}
 use Rattle.gc_worker.specs.Turned.{back_from, first_pointer, places, scans, served_by}
-use Rattle.gc_worker.specs.Stepped.{served_in}
+use Rattle.gc_worker.specs.Stepped.{IsOfTask, seen_by, served_in}
+use Rattle.gc_worker.specs.declared.task.Task.TheVariants.{Calls}
+use Rattle.mutator_asm.specs.declared.instr.Instr.{Instr}
+use Rattle.plain_heap.specs.declared.action.Action.{Action}
+use Rattle.plain_heap.specs.declared.action.Action.TheVariants.{Sets, Jumps, Links, Prints, Makes, Measures, Loads, Stores, Gets, Puts, Swaps}
+use Rattle.plain_state.specs.declared.end.End.{End}
 use Rattle.gc_worker.specs.declared.back.Back.{Back}
 use Rattle.gc_worker.specs.declared.back.Back.TheVariants.{ToAccess, ToPlace, ToScanner}
 use Rattle.fault_duty.specs.Duty.{Round}
@@ -200,3 +206,21 @@ pub served_fits : (x : Held) (was : Stage) (d : Round) (epoch : ℕ) (back : Bac
     → FitsStage (served_in (at_stage x was) epoch back end) (served_in (at_stage x was) epoch back end).stage
 served_fits x was d epoch back end is fits =
     let Fitting : Held → Type 0 = λ y. FitsStage y y.stage in subst Fitting (sym (served_after x was d epoch back end is)) fits
+
+-- ---- actions
+
+-- what the task's instruction does makes the record of the task, if it makes one
+pub action_is_of_task : (x : Held) (instr : Instr) (act : Action) → x.task ≡ Some (Calls instr) → Ok act ≡ action (seen_by x) instr → IsOfTask x act
+action_is_of_task x instr (Makes kind d n) task is =
+    ap (λ (t : Option Task). option_and_then (header_of x) (making_for x t)) task
+    ∙ ap (λ (r : Result Action End). option_and_then (header_of x) (making_in r)) (sym is)
+action_is_of_task x instr (Sets d v) task is = tt
+action_is_of_task x instr (Jumps target) task is = tt
+action_is_of_task x instr (Links d target) task is = tt
+action_is_of_task x instr (Prints n) task is = tt
+action_is_of_task x instr (Measures d i) task is = tt
+action_is_of_task x instr (Loads d i n) task is = tt
+action_is_of_task x instr (Stores i n v) task is = tt
+action_is_of_task x instr (Gets d n) task is = tt
+action_is_of_task x instr (Puts n v) task is = tt
+action_is_of_task x instr (Swaps d n v) task is = tt

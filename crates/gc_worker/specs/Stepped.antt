@@ -24,7 +24,7 @@ use Rattle.fault_duty.specs.declared.round_end.RoundEnd.{RoundEnd}
 use Rattle.fault_duty.specs.declared.round_end.RoundEnd.TheVariants.{ScanPage, ScanInPlace, Marked, AllLeft, NothingNow}
 use Rattle.gc_worker.specs.declared.back.Back.{Back}
 use Rattle.gc_worker.specs.declared.back.Back.TheVariants.{ToScanner}
-use Rattle.gc_worker.specs.Held.{Held, at_stage}
+use Rattle.gc_worker.specs.Held.{Held, at_stage, header_for, header_of}
 use Rattle.gc_worker.specs.Seen.{seen}
 use Rattle.gc_worker.specs.Turned as turned
 
@@ -86,6 +86,11 @@ FitsAction c (Stores i x v) = FitsValue (Reference i) × FitsValue v
 FitsAction c (Gets d x) = x < BOARD_WORDS
 FitsAction c (Puts x v) = (x < BOARD_WORDS) × FitsValue v
 FitsAction c (Swaps d x v) = (x < BOARD_WORDS) × FitsValue v
+
+-- an action that makes a record makes that of the task
+abbrev pub IsOfTask : Held → Action → Type 0
+IsOfTask x (Makes kind d n) = header_for x ≡ header_of x (record { kind = kind; into = d; len = n })
+IsOfTask x act = ⊤
 
 -- ---- which machine is at work
 

@@ -5,7 +5,7 @@ ghost use Rattle.plain_state.specs.declared.sizes.TheConstants.{BOARD_WORDS, MOS
 ghost use Rattle.gc_worker.specs.declared.task.Task.{Task};
 ghost use Rattle.gc_worker.specs.Access as access;
 ghost use Rattle.gc_worker.specs.Fits.{FitsStage};
-ghost use Rattle.gc_worker.specs.Stepped.{FitsAction, stepped_by, uncounted};
+ghost use Rattle.gc_worker.specs.Stepped.{FitsAction, IsOfTask, stepped_by, uncounted};
 ghost use Rattle.gc_worker.specs.Turned.{accesses, acts, ended, jumped, loads, prints, told_action, went_on, with_word};
 
 use crate::access::Access;
@@ -89,6 +89,7 @@ impl State {
     }
 
     /// An access begins.
+    #[inline(always)]
     fn begin_access(&mut self, first: Option<AccessStage>) -> Stepped
         ensures state { self.new ≡ uncounted (accesses self.old first) }
         ensures tells { result ≡ Stepped.Moved }
@@ -109,6 +110,7 @@ impl State {
         requires at { self.old.stage ≡ Stage.Looks }
         requires is_mutator { nat_lt self.old.number self.old.mutators ≡ true }
         requires fits { FitsAction (length self.old.account.printed) action }
+        requires of_task { IsOfTask self.old action }
         requires after { FitsStage (acts self.old action) (acts self.old action).stage }
         ensures state { self.new ≡ uncounted (acts self.old action) }
         ensures tells { (task : Task) → result ≡ stepped_by self.old.number (told_action task action) }
@@ -121,8 +123,8 @@ impl State {
                 self.jump(target)
             }
             Action::Prints(number) => self.print(number),
-            Action::Makes(..) => {
-                self.stage = self.placing();
+            Action::Makes(kind, _, len) => {
+                self.stage = self.placing_by(self.next_header(kind, len));
                 Stepped::Moved
             }
             Action::Measures(..)
@@ -159,6 +161,7 @@ fn to_board(word: u64, usage: BoardUse) -> Option<AccessStage>
 }
 
 /// The access with which an action begins, if it makes one.
+#[inline(always)]
 fn first_stage(action: Action) -> Option<AccessStage>
     requires { (printed : ℕ) × FitsAction printed action }
     ensures { result ≡ access.begun action }

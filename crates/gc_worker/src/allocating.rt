@@ -32,7 +32,7 @@ const LAST_SERIAL: u64 = 0xff_ffff_ffff;
 
 impl State {
     /// The header of the next record, which has this kind and length, if a header can say that.
-    fn next_header(&self, kind: Kind, len: u16) -> Option<Header>
+    pub fn next_header(&self, kind: Kind, len: u16) -> Option<Header>
         ensures { result ≡ header_in (HeaderWord (header_kind kind) len (self.now.account.serial + 1) self.now.number) }
     {
         header_after(self.serial, header_kind(kind), len, self.number)
@@ -73,7 +73,15 @@ impl State {
         requires { FitsStage self.now (places self.now (header_for self.now)) }
         ensures { result ≡ places self.now (header_for self.now) }
     {
-        match self.header() {
+        self.placing_by(self.header())
+    }
+
+    /// The beginning of the allocation of a record with this header, if there is one.
+    pub fn placing_by(&self, header: Option<Header>) -> Stage
+        requires { FitsStage self.now (places self.now header) }
+        ensures { result ≡ places self.now header }
+    {
+        match header {
             Some(header) => {
                 let run = self.run.unwrap_or(Run { at: 0, end: 0 });
                 Stage::Places(Place::new(self.spaces, run, header, self.epoch))

@@ -1,6 +1,6 @@
 //! The look at the gate that begins an instruction.
 
-ghost use Rattle.std.specs.Prelude.{◌≡◌, IsTrue, true, nat_lt};
+ghost use Rattle.std.specs.Prelude.{◌≡◌, IsTrue, Some, true, nat_lt};
 ghost use Rattle.space_map.specs.GateWord.{decode_gate};
 ghost use Rattle.mutator_asm.specs.Program.{is_valid};
 ghost use Rattle.gc_worker.specs.declared.task.Task.TheVariants.{Calls};
@@ -76,10 +76,12 @@ impl State {
         }
     }
 
+    #[tactic(auto, using(crate::proofs::Reading::action_is_of_task))]
     fn execute(&mut self, instr: Instr) -> Stepped
         requires at { self.old.stage ≡ Stage.Looks }
         requires is_mutator { nat_lt self.old.number self.old.mutators ≡ true }
         requires valid { IsTrue (is_valid instr) }
+        requires task { self.old.task ≡ Some (Calls instr) }
         requires after { FitsStage (acted self.old (action (seen_by self.old) instr)) (acted self.old (action (seen_by self.old) instr)).stage }
         ensures state { self.new ≡ uncounted (acted self.old (action (seen_by self.old) instr)) }
         ensures tells { result ≡ stepped_by self.old.number (told_acted (Calls instr) (action (seen_by self.old) instr)) }

@@ -21,15 +21,33 @@ impl State {
     {
         match self.stage {
             Stage::Looks => self.look_on(on),
-            Stage::Passes(..) => self.pass_on(on),
+            Stage::Passes(..) => {
+                self.pass_on(on);
+                Stepped::Moved
+            }
             Stage::Flips(_) => self.flip_on(on),
-            Stage::Forwards(_) => self.forward_on(on),
+            Stage::Forwards(_) => {
+                self.forward_on(on);
+                Stepped::Moved
+            }
             Stage::Accesses(_) => self.access_on(on),
             Stage::Places(_) => self.place_on(on),
-            Stage::Serves(..) => self.serve_on(on),
-            Stage::Scans(..) => self.scan_on(on),
-            Stage::Evacuates(..) => self.evacuate_on(on),
-            Stage::Opens(..) => self.open_on(on),
+            Stage::Serves(..) => {
+                self.serve_on(on);
+                Stepped::Moved
+            }
+            Stage::Scans(..) => {
+                self.scan_on(on);
+                Stepped::Moved
+            }
+            Stage::Evacuates(..) => {
+                self.evacuate_on(on);
+                Stepped::Moved
+            }
+            Stage::Opens(..) => {
+                self.open_on(on);
+                Stepped::Moved
+            }
             Stage::Gone => Stepped::Idle,
         }
     }
@@ -48,19 +66,18 @@ impl State {
     }
 
     #[inline(never)]
-    fn pass_on(&mut self, on: &mut PlainAtoms) -> Stepped
+    fn pass_on(&mut self, on: &mut PlainAtoms)
         requires at { IsAtGate self.old.stage }
         requires sound { IsSound self.old }
         requires may { MayMake self.old on.old }
         ensures state { self.new ≡ uncounted (made self.old on.old).held }
         ensures words { on.new ≡ (made self.old on.old).words }
-        ensures tells { result ≡ (made self.old on.old).told }
     {
         let Stage::Passes(gate, _) = &self.stage else {
             unreachable!()
         };
         let reply = on.act(gate.want());
-        self.pass(reply)
+        self.pass(reply);
     }
 
     #[inline(never)]
@@ -80,19 +97,18 @@ impl State {
     }
 
     #[inline(never)]
-    fn forward_on(&mut self, on: &mut PlainAtoms) -> Stepped
+    fn forward_on(&mut self, on: &mut PlainAtoms)
         requires at { IsForwarding self.old.stage }
         requires sound { IsSound self.old }
         requires may { MayMake self.old on.old }
         ensures state { self.new ≡ uncounted (made self.old on.old).held }
         ensures words { on.new ≡ (made self.old on.old).words }
-        ensures tells { result ≡ (made self.old on.old).told }
     {
         let Stage::Forwards(w) = &self.stage else {
             unreachable!()
         };
         let reply = on.act(w.evac.want());
-        self.forward(reply)
+        self.forward(reply);
     }
 
     #[inline(never)]
@@ -128,66 +144,62 @@ impl State {
     }
 
     #[inline(never)]
-    fn serve_on(&mut self, on: &mut PlainAtoms) -> Stepped
+    fn serve_on(&mut self, on: &mut PlainAtoms)
         requires at { IsServing self.old.stage }
         requires sound { IsSound self.old }
         requires may { MayMake self.old on.old }
         ensures state { self.new ≡ uncounted (made self.old on.old).held }
         ensures words { on.new ≡ (made self.old on.old).words }
-        ensures tells { result ≡ (made self.old on.old).told }
     {
         let Stage::Serves(duty, _) = &self.stage else {
             unreachable!()
         };
         let reply = on.act(duty.want());
-        self.serve(reply)
+        self.serve(reply);
     }
 
     #[inline(never)]
-    fn scan_on(&mut self, on: &mut PlainAtoms) -> Stepped
+    fn scan_on(&mut self, on: &mut PlainAtoms)
         requires at { IsScanning self.old.stage }
         requires sound { IsSound self.old }
         requires may { MayMake self.old on.old }
         ensures state { self.new ≡ uncounted (made self.old on.old).held }
         ensures words { on.new ≡ (made self.old on.old).words }
-        ensures tells { result ≡ (made self.old on.old).told }
     {
         let Stage::Scans(scan, _) = &self.stage else {
             unreachable!()
         };
         let reply = on.act(scan.want());
-        self.scan(reply)
+        self.scan(reply);
     }
 
     #[inline(never)]
-    fn evacuate_on(&mut self, on: &mut PlainAtoms) -> Stepped
+    fn evacuate_on(&mut self, on: &mut PlainAtoms)
         requires at { IsEvacuating self.old.stage }
         requires sound { IsSound self.old }
         requires may { MayMake self.old on.old }
         ensures state { self.new ≡ uncounted (made self.old on.old).held }
         ensures words { on.new ≡ (made self.old on.old).words }
-        ensures tells { result ≡ (made self.old on.old).told }
     {
         let Stage::Evacuates(evac, _, _) = &self.stage else {
             unreachable!()
         };
         let reply = on.act(evac.want());
-        self.evacuate(reply)
+        self.evacuate(reply);
     }
 
     #[inline(never)]
-    fn open_on(&mut self, on: &mut PlainAtoms) -> Stepped
+    fn open_on(&mut self, on: &mut PlainAtoms)
         requires at { IsOpening self.old.stage }
         requires sound { IsSound self.old }
         requires may { MayMake self.old on.old }
         ensures state { self.new ≡ uncounted (made self.old on.old).held }
         ensures words { on.new ≡ (made self.old on.old).words }
-        ensures tells { result ≡ (made self.old on.old).told }
     {
         let Stage::Opens(open, _, _) = &self.stage else {
             unreachable!()
         };
         let reply = on.act(open.want());
-        self.open(reply)
+        self.open(reply);
     }
 }

@@ -20,13 +20,12 @@ use space_map::GateWord;
 
 impl State {
     /// A step at the gate.
-    pub fn pass(&mut self, reply: Reply) -> Stepped
+    pub fn pass(&mut self, reply: Reply)
         requires at { IsAtGate self.old.stage }
         requires fits { IsSound self.old }
         requires takes { Takes self.old reply }
         requires after { IsSound (turned self.old reply) }
-        ensures state { self.new ≡ uncounted (turned self.old reply) }
-        ensures tells { result ≡ stepped_by self.old.number (told self.old reply) }
+        ensures { self.new ≡ uncounted (turned self.old reply) }
     {
         let Stage::Passes(gate, after) = &mut self.stage else {
             unreachable!()
@@ -36,7 +35,6 @@ impl State {
             self.stage = Stage::Passes(before, after);
             self.has_passed(after, before.passage(), passed);
         }
-        Stepped::Moved
     }
 
     /// What a passage comes to.
@@ -167,13 +165,12 @@ impl State {
     }
 
     /// A step of the copy of a record to which a register leads.
-    pub fn forward(&mut self, reply: Reply) -> Stepped
+    pub fn forward(&mut self, reply: Reply)
         requires at { IsForwarding self.old.stage }
         requires fits { IsSound self.old }
         requires takes { Takes self.old reply }
         requires after { IsSound (turned self.old reply) }
-        ensures state { self.new ≡ uncounted (turned self.old reply) }
-        ensures tells { result ≡ stepped_by self.old.number (told self.old reply) }
+        ensures { self.new ≡ uncounted (turned self.old reply) }
     {
         let Stage::Forwards(
             ForwardingRegister {
@@ -190,7 +187,6 @@ impl State {
             self.set(register, Word::pointer(to.0).0);
             self.stage = self.forwarding(after, register + 1);
         }
-        Stepped::Moved
     }
 }
 

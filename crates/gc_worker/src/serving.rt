@@ -52,13 +52,12 @@ impl State {
 
     /// A step of a round.
     #[tactic(auto, using(crate::proofs::Reading::served_after, crate::proofs::Reading::served_fits))]
-    pub fn serve(&mut self, reply: Reply) -> Stepped
+    pub fn serve(&mut self, reply: Reply)
         requires at { IsServing self.old.stage }
         requires fits { IsSound self.old }
         requires takes { Takes self.old reply }
         requires after { IsSound (turned self.old reply) }
-        ensures state { self.new ≡ uncounted (turned self.old reply) }
-        ensures tells { result ≡ stepped_by self.old.number (told self.old reply) }
+        ensures { self.new ≡ uncounted (turned self.old reply) }
     {
         let Stage::Serves(duty, _) = &mut self.stage else {
             unreachable!()
@@ -67,7 +66,6 @@ impl State {
             let epoch = duty.epoch();
             self.has_served(epoch, end);
         }
-        Stepped::Moved
     }
 
     /// What a round of an epoch comes to.
@@ -133,13 +131,12 @@ impl State {
     }
 
     /// A step of a scan.
-    pub fn scan(&mut self, reply: Reply) -> Stepped
+    pub fn scan(&mut self, reply: Reply)
         requires at { IsScanning self.old.stage }
         requires fits { IsSound self.old }
         requires takes { Takes self.old reply }
         requires after { IsSound (turned self.old reply) }
-        ensures state { self.new ≡ uncounted (turned self.old reply) }
-        ensures tells { result ≡ stepped_by self.old.number (told self.old reply) }
+        ensures { self.new ≡ uncounted (turned self.old reply) }
     {
         let Stage::Scans(scan, back) = &mut self.stage else {
             unreachable!()
@@ -157,17 +154,15 @@ impl State {
                 self.stage = Stage::Opens(open, scan, back);
             }
         }
-        Stepped::Moved
     }
 
     /// A step of a copy for a scan.
-    pub fn evacuate(&mut self, reply: Reply) -> Stepped
+    pub fn evacuate(&mut self, reply: Reply)
         requires at { IsEvacuating self.old.stage }
         requires fits { IsSound self.old }
         requires takes { Takes self.old reply }
         requires after { IsSound (turned self.old reply) }
-        ensures state { self.new ≡ uncounted (turned self.old reply) }
-        ensures tells { result ≡ stepped_by self.old.number (told self.old reply) }
+        ensures { self.new ≡ uncounted (turned self.old reply) }
     {
         let Stage::Evacuates(evac, scan, back) = &mut self.stage else {
             unreachable!()
@@ -176,17 +171,15 @@ impl State {
             scan.answer(to.0);
             self.stage = Stage::Scans(*scan, *back);
         }
-        Stepped::Moved
     }
 
     /// A step of the opening of a page that was scanned.
-    pub fn open(&mut self, reply: Reply) -> Stepped
+    pub fn open(&mut self, reply: Reply)
         requires at { IsOpening self.old.stage }
         requires fits { IsSound self.old }
         requires takes { Takes self.old reply }
         requires after { IsSound (turned self.old reply) }
-        ensures state { self.new ≡ uncounted (turned self.old reply) }
-        ensures tells { result ≡ stepped_by self.old.number (told self.old reply) }
+        ensures { self.new ≡ uncounted (turned self.old reply) }
     {
         let before = self.stage;
         let Stage::Opens(open, _, back) = &mut self.stage else {
@@ -197,6 +190,5 @@ impl State {
             self.stage = before;
             self.return_to(back);
         }
-        Stepped::Moved
     }
 }

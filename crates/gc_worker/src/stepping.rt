@@ -125,15 +125,33 @@ impl State {
     {
         match self.stage {
             Stage::Looks => self.look(reply),
-            Stage::Passes(..) => self.pass(reply),
+            Stage::Passes(..) => {
+                self.pass(reply);
+                Stepped::Moved
+            }
             Stage::Flips(_) => self.flip(reply),
-            Stage::Forwards(_) => self.forward(reply),
+            Stage::Forwards(_) => {
+                self.forward(reply);
+                Stepped::Moved
+            }
             Stage::Accesses(_) => self.access(reply),
             Stage::Places(_) => self.place(reply),
-            Stage::Serves(..) => self.serve(reply),
-            Stage::Scans(..) => self.scan(reply),
-            Stage::Evacuates(..) => self.evacuate(reply),
-            Stage::Opens(..) => self.open(reply),
+            Stage::Serves(..) => {
+                self.serve(reply);
+                Stepped::Moved
+            }
+            Stage::Scans(..) => {
+                self.scan(reply);
+                Stepped::Moved
+            }
+            Stage::Evacuates(..) => {
+                self.evacuate(reply);
+                Stepped::Moved
+            }
+            Stage::Opens(..) => {
+                self.open(reply);
+                Stepped::Moved
+            }
             Stage::Gone => unreachable!(),
         }
     }

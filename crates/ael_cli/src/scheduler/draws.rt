@@ -38,6 +38,7 @@ impl Draws {
     }
 
     /// The worker that the next word gives.
+    #[cold]
     pub fn next(&mut self) -> u8
         ensures names { result ≡ drawn_from self.old 0 }
         ensures later { (at : ℕ) → drawn_from self.new at ≡ drawn_from self.old (at + 1) }

@@ -47,6 +47,7 @@ impl<'p> Listing<'p> {
     }
 
     /// The worker of the next step.
+    #[cold]
     pub fn next(&mut self) -> u8
         ensures names { result ≡ listed_from self.old 0 }
         ensures later { (at : ℕ) → listed_from self.new at ≡ listed_from self.old (at + 1) }

@@ -22,7 +22,7 @@ loop-init c = record { words = search rules; text = search rules }
 pub returns : goal.returns
 returns c =
     let all : c.loop.counter ≡ MUTATORS = omega arith in
-    let count = c.from-count.ensures ∙ c.key_count.ensures.exact in
+    let count = c.key_count-count.ensures.exact in
     let exact : c.into_bytes.result.items ≡ bench_text c.args.depth c.args.seed = ap (λ (v : Vec ℕ). v.items) c.into_bytes.ensures.value ∙ c.loop.invariant.text ∙ ap₂ (λ n m. sections_text n c.args.seed m) count all in
     let bounds = pow_from_1_to_9 c.args.depth c.requires.some c.requires.few in
     record { exact = exact; short = omega (arith, ap length exact, text_short (2 ^ c.args.depth) c.args.seed bounds.0 bounds.1) }
