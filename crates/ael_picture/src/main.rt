@@ -14,8 +14,12 @@ use dump_text::{DumpError, read};
 use plain_state::NoMemory;
 use space_map::Spaces;
 use std::alloc::Global;
+use std::env;
 use std::io::{ErrorKind, Read, Write};
 use std::process::ExitCode;
+
+/// What standard error gets where there was no memory.
+const NO_MEMORY: &str = "ael_picture: out of memory";
 
 /// The picture of a dump.
 fn picture(alloc: Global, bytes: &[u8]) -> Result<String, DumpError> {
@@ -40,31 +44,50 @@ fn picture(alloc: Global, bytes: &[u8]) -> Result<String, DumpError> {
     }
 }
 
-fn main(rt: HostRuntime) -> ExitCode {
+/// Tells a line on standard error, and gives the exit status.
+fn failed(rt: &HostRuntime, line: &str, status: u8) -> ExitCode {
+    let _ = eprintln!(rt; "{line}");
+    ExitCode::from(status)
+}
+
+/// Whether there are words behind the program's name. Words that can't be read are some.
+fn has_words(rt: &HostRuntime) -> Result<bool, NoMemory> {
+    match env::args(rt) {
+        Ok(mut args) => {
+            let _ = args.next();
+            Ok(args.next().is_some())
+        }
+        Err(error) if error.kind() == ErrorKind::OutOfMemory => Err(NoMemory),
+        Err(_) => Ok(true),
+    }
+}
+
+/// Draws what standard input has.
+fn run(rt: &HostRuntime) -> ExitCode {
     let mut bytes = Vec::new(rt.alloc());
     if let Err(error) = rt.stdin().read_to_end(&mut bytes) {
         if error.kind() == ErrorKind::OutOfMemory {
-            let _ = eprintln!(rt; "ael_picture: out of memory");
-            return ExitCode::from(7);
+            return failed(rt, NO_MEMORY, 7);
         }
-        let _ = eprintln!(rt; "ael_picture: read fault");
-        return ExitCode::from(5);
+        return failed(rt, "ael_picture: read fault", 5);
     }
     match picture(rt.alloc(), bytes.as_slice()) {
         Ok(text) => match rt.stdout().write_all(text.as_str().as_bytes()) {
             Ok(()) => ExitCode::from(0),
-            Err(_) => {
-                let _ = eprintln!(rt; "ael_picture: write fault");
-                ExitCode::from(6)
-            }
+            Err(_) => failed(rt, "ael_picture: write fault", 6),
         },
-        Err(DumpError::NoMemory) => {
-            let _ = eprintln!(rt; "ael_picture: out of memory");
-            ExitCode::from(7)
-        }
+        Err(DumpError::NoMemory) => failed(rt, NO_MEMORY, 7),
         Err(DumpError::Bad { line }) => {
             let _ = eprintln!(rt; "ael_picture: line {line}: not a dump");
             ExitCode::from(1)
         }
+    }
+}
+
+fn main(rt: HostRuntime) -> ExitCode {
+    match has_words(&rt) {
+        Ok(false) => run(&rt),
+        Ok(true) => failed(&rt, "usage: ael_picture", 2),
+        Err(NoMemory) => failed(&rt, NO_MEMORY, 7),
     }
 }
