@@ -1,8 +1,10 @@
 -- What an act tells.
-use Rattle.std.proofs.Common.{Option, None, true, ◌≡◌, ℕ, ◌<◌, List, [], ◌∷◌, Some, sym, ◌∙◌, ap, subst, arith}
+use Rattle.std.proofs.Common.{Option, None, true, ◌≡◌, ℕ, ◌<◌, List, [], ◌∷◌, Some, sym, ◌∙◌, ap, subst, arith, length}
+use Rattle.std.proofs.lemmas.List.{length-replicate}
 use Rattle.atom_store.specs.declared.reply.Reply.{Reply}
 use Rattle.atom_store.specs.declared.step.Step.{Step}
 use Rattle.std.specs.Option.{is_some}
+use Rattle.heap_laws.specs.Opening.{opening_mutator}
 use Rattle.plain_state.specs.declared.end.End.{End}
 use Rattle.gate_core.specs.declared.passage.Passage.{Passage}
 use Rattle.gate_core.specs.declared.passage.Passage.TheVariants.{Attach, Forwarded, Leave, Look, Park, Request, Resume}
@@ -19,7 +21,10 @@ use Rattle.gc_worker.specs.Wanted.{wanted}
 use Rattle.gc_worker.proofs.Between.GoingOn.{workers_go_on}
 use Rattle.ael_threads.specs.declared.view.Hand.{Hand}
 use Rattle.ael_threads.specs.declared.view.Plan.{Plan}
-use Rattle.ael_threads.specs.Seats.{Acts, ActsBy, Heads, Moves, Seated, first_number}
+use Rattle.ael_threads.specs.Histories.{first_plain}
+use Rattle.ael_threads.specs.Readers.{IsThere}
+use Rattle.ael_threads.specs.Seats.{Acts, ActsBy, Heads, Moves, Seated, first_number, plain_seen}
+use Rattle.ael_threads.proofs.Growing.{as_many}
 
 pub heads_fit : (plan : Plan) (x : Held) (hs : List Hand) → Heads plan x hs → Fits plan.spaces.pages plan.mutators (first_number hs) x
 heads_fit plan x [] h = absurd h
@@ -27,6 +32,15 @@ heads_fit plan x (was ∷ others) h = h.fits
 
 pub heads_of : (a b : Seated) → a ≡ b → Heads a.knows.plan a.worker a.knows.hands → Heads b.knows.plan b.worker b.knows.hands
 heads_of a b same h = subst (λ (z : Seated). Heads z.knows.plan z.worker z.knows.hands) same h
+
+pub is_there : (a : Seated) → Heads a.knows.plan a.worker a.knows.hands → a.worker.number < a.worker.mutators → IsThere a
+is_there a heads below =
+    let f = heads_fit a.knows.plan a.worker a.knows.hands heads in
+    let beside : a.worker.mutators ≡ a.knows.plan.mutators = f.beside in
+    let many : length (plain_seen a.knows).mutators ≡ a.knows.plan.mutators = as_many (first_plain a.knows.plan) a.knows.seen ∙ length-replicate a.knows.plan.mutators opening_mutator in (
+      sym f.number,
+      omega (arith, below, beside, many),
+    )
 
 -- who has an end has no task
 pub no_task : (plan : Plan) (x : Held) (hs : List Hand) (end : End) → Heads plan x hs → x.account.end ≡ Some end → x.task ≡ None

@@ -114,6 +114,7 @@ calls a b c task r s did w h other is =
     let k = h.knows in
     let answer = h.goes_on.answers other (outcome_of did) is in
     let same : other ≡ task = same_Some other task (sym answer.asked ∙ w.asks) in
+    let answers : told b.worker r ≡ Answers task (outcome_of did) = is ∙ (λ j. Answers (same j) (outcome_of did)) in
     let call_is : call m other (outcome_of did) ≡ call_by a task did = (λ i. call (w.rests.number i) (same i) (outcome_of did)) in
     let pages : b.knows.plan.spaces.pages ≡ a.knows.plan.spaces.pages = ap (λ (p : Plan). p.spaces.pages) w.rests.plan in
     record {
@@ -124,12 +125,14 @@ calls a b c task r s did w h other is =
       history = subst (λ (z : Plan × (List Entry × Call)). Extends z.0 c.knows.hands z.1.0 z.1.1 c.knows.seen) (λ i. (w.rests.plan i, (w.rests.seen i, call_is i)))
           (subst (λ (t : Told). Sees b.knows m t c.knows) is k.seen);
       shows = subst (λ (x : Held). ShowsSeen x c.knows) (sym h.worker) k.shows;
-      before = k.before;
-      after = k.after;
-      asker = b.worker;
-      asked = w.asks;
+      last = b;
+      waits = w;
+      reply = r;
+      stepped = s;
+      acts = h;
+      answers = answers;
       full = subst (λ (z : ℕ × Told). FullWhereTold z.0 k.before b.worker z.1) (λ i. (pages i, is i)) k.full;
-      live = subst (λ (z : Plan × Told). LiveWhereTold (last_flip (first_plain z.0) c.knows.seen) z.1) (λ i. (w.rests.plan i, (is ∙ (λ j. Answers (same j) (outcome_of did))) i)) k.live;
+      live = subst (λ (z : Plan × Told). LiveWhereTold (last_flip (first_plain z.0) c.knows.seen) z.1) (λ i. (w.rests.plan i, answers i)) k.live;
       lands = λ yes. subst (λ (z : ℕ × Held). Lands z.0 k.after z.1) (λ i. (pages i, sym h.worker i))
           (lands_uncounted b.knows.plan.spaces.pages k.after (turned b.worker r) (k.lands (subst IsEffect (sym is) (done_is did b.worker other yes))));
       alike = λ yes q its. subst (λ (x : Held). AreAlike x.registers q) (sym h.worker)

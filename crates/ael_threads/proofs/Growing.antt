@@ -1,5 +1,5 @@
 -- A history after one step more.
-use Rattle.std.proofs.Common.{◌≡◌, ◌≢◌, ℕ, Bool, true, false, cond, ◌==◌, List, [], ◌∷◌, ◌++◌, refl, sym, ◌∙◌, ap, append-nil, ne_eqb, eq-eqb, slice_get}
+use Rattle.std.proofs.Common.{◌≡◌, ◌≢◌, ℕ, Bool, true, false, cond, ◌==◌, List, [], ◌∷◌, ◌++◌, refl, sym, ◌∙◌, ap, append-nil, ne_eqb, eq-eqb, slice_get, length}
 use mathlib.Core.List.{IsPrefix}
 use Rattle.plain_state.specs.State.{Plain, serial_of}
 use Rattle.gc_worker.specs.Answer.{IsAnswered, after_told}
@@ -84,6 +84,12 @@ after_append : (p : Plain) (xs ys : List Entry) → after_all p (xs ++ ys) ≡ a
 after_append p [] ys = refl
 after_append p (Made c ∷ es) ys = after_append (after_call p c) es ys
 after_append p (Exchanged asked ∷ es) ys = after_append p es ys
+
+-- no call makes or ends a plain mutator
+pub as_many : (p : Plain) (log : List Entry) → length (after_all p log).mutators ≡ length p.mutators
+as_many p [] = refl
+as_many p (Made c ∷ es) = as_many (after_call p c) es ∙ (answers_leave_the_others p c.by (Answers c.task (outcome_of c.did))).as_many
+as_many p (Exchanged asked ∷ es) = as_many p es
 
 -- a beginning of a history with all calls of worker m leaves its mutator as the whole does
 pub seen_keeps : (p : Plain) (seen log : List Entry) (m : ℕ) (own : List Call) → IsPrefix seen log → calls_of m seen ≡ own → calls_of m log ≡ own

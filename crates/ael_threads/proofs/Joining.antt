@@ -149,6 +149,7 @@ learns plan slots id me st live s b homes at small =
           claims = refl;
           seen = f.seen;
           heard = f.heard;
+          apart = f.apart;
           own = each_map (Has b.workers b.log b.owner id) (λ (h : Hand). calls_of h.number b.log ≡ h.own) (λ h t. t.calls) v.hands f.hands;
           once = f.once;
           legal = subst (λ (z : Plan). IsLegal (first_plain z) b.log) (sym (f.same live)) b.legal;
@@ -166,6 +167,7 @@ absorbs v u x w e l =
       mine = m.seen;
       other = m.heard;
       own = m.own;
+      apart = m.apart;
       once = m.once;
       legal = m.legal;
     }

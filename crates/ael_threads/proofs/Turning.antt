@@ -36,8 +36,8 @@ use Rattle.ael_threads.specs.declared.view.Hand.{Hand}
 use Rattle.ael_threads.specs.declared.view.Plan.{Plan}
 use Rattle.ael_threads.specs.declared.view.View.{View}
 use Rattle.ael_threads.specs.Histories.{HasOwn, IsLegal, after_all, call, calls_of, extra, first_plain, hand, last_flip, own_after}
-use Rattle.ael_threads.specs.Rule.{FitsView, Has, Kept, heap_of, view}
-use Rattle.ael_threads.specs.Seats.{Follows, IsEffect, IsShown, Moves, Sees, ShowsSeen, plain_seen, seen_after, with_claim, LiveByEnd, LiveWhereTold}
+use Rattle.ael_threads.specs.Rule.{FitsView, Has, Kept, crew, heap_of, view}
+use Rattle.ael_threads.specs.Seats.{Follows, IsEffect, IsShown, Moves, Sees, ShowsSeen, StandWith, plain_seen, seen_after, with_claim, LiveByEnd, LiveWhereTold}
 use Rattle.ael_threads.proofs.Places.{at_inside, get_of, set_else, set_here}
 use Rattle.ael_threads.proofs.Elements.{each_map, prefix_more, prefix_self}
 use Rattle.ael_threads.proofs.Growing.{Agrees, after_more, calls_more, flip_more, legal_more, seen_keeps}
@@ -267,11 +267,17 @@ module _ (plan : Plan) (id : ℕ) (was : Hand) (x : Held) (others : List Hand) (
   legal' : IsLegal (first_plain plan) log'
   legal' = legal_more (first_plain plan) b.log m t b.legal answered
 
+  count1 : length workers1 ≡ crew plan
+  count1 = length-set b.workers m y ∙ b.count
+
+  count2 : length workers2 ≡ crew plan
+  count2 = length-set workers1 m (turned y r) ∙ count1
+
   kept' : Kept plan (record { words = later; homes = s.homes; views = slice_set s.views id v' })
   kept' = record {
     log = log';
     workers = workers2;
-    count = length-set workers1 m (turned y r) ∙ (length-set b.workers m y ∙ b.count);
+    count = count2;
     owner = b.owner;
     winner = won_after b.winner id (won x r);
     legal = legal';
@@ -296,6 +302,29 @@ module _ (plan : Plan) (id : ℕ) (was : Hand) (x : Held) (others : List Hand) (
     registers = h.registers;
   }
 
+  -- the words that it finds, and those that it leaves
+  abbrev found : StandWith plan m x seen s.words
+  found = record {
+    log = b.log;
+    legal = b.legal;
+    begins = fits_view.seen;
+    workers = workers1;
+    count = count1;
+    here = record { held = y; is = set_here b.workers m y inside; shown = refl };
+    stands = readied;
+  }
+
+  abbrev stands_after : StandWith plan m z seen' later
+  stands_after = record {
+    log = log';
+    legal = legal';
+    begins = fit.seen;
+    workers = workers2;
+    count = count2;
+    here = has'.state;
+    stands = stands';
+  }
+
   pub moves : Came plan id v m x r s later
   moves = (
     v',
@@ -310,8 +339,17 @@ module _ (plan : Plan) (id : ℕ) (was : Hand) (x : Held) (others : List Hand) (
       seen = sees v v' b.log m t fits_view.seen refl legal' (each_map (Has workers2 log' b.owner id) (λ (h : Hand). calls_of h.number log' ≡ h.own) (λ h k. k.calls) (d ∷ others) fit.hands);
       mine = mine';
       shows = shows';
+      step = q;
+      wants = want;
       before = s.words;
+      reply = refl;
       after = later;
+      left = refl;
+      found = found;
+      stands = stands_after;
+      grows = refl;
+      sees = refl;
+      others = λ j other. set_else workers1 m j (turned y r) other;
       full = full_by n s.words count x t (subst (FullWhereTold n s.words y) tells law.full);
       live = live_seen (first_plain plan) seen b.log m t (subst (LiveWhereTold o) tells (live_by (heap_of plan s.words workers1) p o readied y (told y r) law.full));
       lands = lands;

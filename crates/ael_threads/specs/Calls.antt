@@ -1,19 +1,20 @@
 -- What a call is to its caller.
-use Rattle.std.specs.Prelude.{◌≡◌, ℕ, ⊤, Option, Some, None, List, [], ◌∷◌, ◌++◌, drop, slice_get}
+use Rattle.std.specs.Prelude.{◌≡◌, ⊤, Option, Some, None, [], ◌∷◌, ◌++◌, drop, slice_get}
+use Rattle.atom_store.specs.declared.reply.Reply.{Reply}
 use Rattle.plain_state.specs.declared.end.End.{End}
 use Rattle.plain_state.specs.State.{Mutator}
 use Rattle.mutator_asm.specs.declared.instr.Instr.TheVariants.{Halt}
+use Rattle.gc_worker.specs.declared.stepped.Stepped.{Stepped}
 use Rattle.gc_worker.specs.declared.task.Task.{Task}
 use Rattle.gc_worker.specs.declared.task.Task.TheVariants.{Calls}
 use Rattle.gc_worker.specs.Between.{AreAlike, Lands}
 use Rattle.gc_worker.specs.Full.{FullByOutcome}
-use Rattle.gc_worker.specs.Held.{Held}
-use Rattle.gc_worker.specs.Turned.{Answers}
+use Rattle.gc_worker.specs.Turned.{Answers, told}
 use Rattle.ael_threads.specs.declared.view.Call.{Call}
 use Rattle.ael_threads.specs.declared.view.Did.{Did}
 use Rattle.ael_threads.specs.declared.view.Did.TheVariants.{Done, Trap}
 use Rattle.ael_threads.specs.Histories.{call, first_plain, hand, last_flip, outcome_of}
-use Rattle.ael_threads.specs.Seats.{Extends, LiveWhereTold, Seated, ShowsSeen, first_number, first_own, plain_seen}
+use Rattle.ael_threads.specs.Seats.{ActsBy, Extends, LiveWhereTold, Seated, ShowsSeen, first_number, first_own, plain_seen}
 
 -- a caller's call that came to this
 abbrev pub call_by : Seated → Task → Did → Call
@@ -43,9 +44,9 @@ IsDone (Trap end) = ⊥
 
 -- THE CLAUSE OF EXEC: the call is one more of the caller's own, and the history that it has seen is legal, begins with all that it had
 -- seen before, and ends with the call; of the seat's workers it has just the calls that they made. What the caller shows is its plain
--- mutator after it. Where the task was executed, each pointer in the registers leads to a record's header in the space of the caller's
--- epoch, by the words after the call, and two registers hold one word exactly where the plain ones hold one value; where the heap is
--- told to be full it was, by the words that the asking worker found, and what is told as live was live at the last flip.
+-- mutator after it. The last act is of the caller while it still waits, and answers the task. Where the task was executed, each pointer in the registers leads to a record's header in the space of the caller's
+-- epoch, by the words after that act, and two registers hold one word exactly where the plain ones hold one value; where the heap is
+-- told to be full it was, by the words that the act found, and what is told as live was live at the last flip.
 pub record Called (a : Seated) (task : Task) (did : Did) (b : Seated) : Type 0 where
   pub rests : b.worker.task ≡ None
   pub ends : b.worker.account.end ≡ end_of did
@@ -53,13 +54,15 @@ pub record Called (a : Seated) (task : Task) (did : Did) (b : Seated) : Type 0 w
   pub hands : b.knows.hands ≡ hand (first_number a.knows.hands) b.worker (first_own a.knows.hands ++ call_by a task did ∷ []) ∷ drop 1 a.knows.hands
   pub history : Extends a.knows.plan b.knows.hands a.knows.seen (call_by a task did) b.knows.seen
   pub shows : ShowsSeen b.worker b.knows
-  pub before : List ℕ
-  pub after : List ℕ
-  pub asker : Held
-  pub asked : asker.task ≡ Some task
-  pub full : FullByOutcome a.knows.plan.spaces.pages before asker (outcome_of did)
+  pub last : Seated
+  pub waits : Waits a task last
+  pub reply : Reply
+  pub stepped : Stepped
+  pub acts : ActsBy last reply stepped b
+  pub answers : told last.worker reply ≡ Answers task (outcome_of did)
+  pub full : FullByOutcome a.knows.plan.spaces.pages acts.knows.before last.worker (outcome_of did)
   pub live : LiveWhereTold (last_flip (first_plain a.knows.plan) b.knows.seen) (Answers task (outcome_of did))
-  pub lands : IsDone did → Lands a.knows.plan.spaces.pages after b.worker
+  pub lands : IsDone did → Lands a.knows.plan.spaces.pages acts.knows.after b.worker
   pub alike : IsDone did → (q : Mutator) → slice_get (plain_seen b.knows).mutators (first_number a.knows.hands) ≡ Some q → AreAlike b.worker.registers q
 
 -- what some acts came to: the call, or the caller still waits for it

@@ -1,9 +1,9 @@
 -- What a caller shows.
-use Rattle.std.specs.Prelude.{◌≡◌, ℕ, ◌+◌, ◌-◌, ◌^◌, min}
+use Rattle.std.specs.Prelude.{◌≡◌, ℕ, ◌+◌, ◌-◌, ◌^◌, ◌<◌, length, min}
 use Rattle.heap_words.specs.Decoded.{NumberWord, PointerWord, decode}
 use Rattle.gc_worker.specs.declared.stepped.Stepped.{Stepped}
 use Rattle.gc_worker.specs.declared.stepped.Stepped.TheVariants.{Idle}
-use Rattle.ael_threads.specs.Seats.{Seated}
+use Rattle.ael_threads.specs.Seats.{Seated, first_number, plain_seen}
 use Rattle.ael_threads.specs.declared.mutator.Reg.{Reg}
 use Rattle.ael_threads.specs.declared.mutator.Reg.TheVariants.{Number, Pointer}
 
@@ -11,6 +11,10 @@ use Rattle.ael_threads.specs.declared.mutator.Reg.TheVariants.{Number, Pointer}
 abbrev pub IsReg : ℕ → Reg → Type 0
 IsReg word (Number n) = decode word ≡ NumberWord n
 IsReg word (Pointer address) = decode word ≡ PointerWord address
+
+-- the mutator of the seat's own number is in the plain state after what was seen
+abbrev pub IsThere : Seated → Type 0
+IsThere s = (first_number s.knows.hands ≡ s.worker.number) × (s.worker.number < length (plain_seen s.knows).mutators)
 
 -- a scanner: its seat, and how many steps it has made
 pub record Scanning : Type 0 where

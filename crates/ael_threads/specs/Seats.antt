@@ -1,12 +1,14 @@
 -- What a seat is told by a step, and by what it takes in.
-use Rattle.std.specs.Prelude.{◌≡◌, ℕ, zero, suc, ◌+◌, ◌==◌, ◌<◌, ⊤, Option, Some, None, List, [], ◌∷◌, ◌++◌, take, drop, slice_get, length, if◌then◌else◌}
+use Rattle.std.specs.Prelude.{◌≡◌, ◌≢◌, ℕ, zero, suc, ◌+◌, ◌==◌, ◌<◌, ⊤, Option, Some, None, List, [], ◌∷◌, ◌++◌, map, take, drop, slice_get, length, if◌then◌else◌}
 use mathlib.Core.List.{IsPrefix}
+use lib.ListN.{get_elem?}
 use Rattle.atomic_table.specs.Table as table
 use Rattle.atomic_table.specs.Seated.{TableId}
 use Rattle.atom_store.specs.declared.reply.Reply.{Reply}
 use Rattle.atom_store.specs.declared.reply.Reply.TheVariants as replies
 use Rattle.atom_store.specs.declared.step.Step.{Step}
 use Rattle.atom_store.specs.declared.step.Step.TheVariants.{Load, Store, Exchange}
+use Rattle.atom_store.specs.Step.{reply_of, words_after}
 use Rattle.space_map.specs.Table.{table_length}
 use Rattle.plain_state.specs.State.{Mutator, Plain, serial_of}
 use Rattle.plain_state.specs.State as plain
@@ -34,7 +36,7 @@ use Rattle.ael_threads.specs.declared.view.Entry.TheVariants.{Made}
 use Rattle.ael_threads.specs.declared.view.Hand.{Hand}
 use Rattle.ael_threads.specs.declared.view.Plan.{Plan}
 use Rattle.ael_threads.specs.declared.view.View.{View}
-use Rattle.ael_threads.specs.Histories.{Each, IsOnce, HasOwn, IsLegal, after_all, call, calls_of, first_held, first_plain, hand, last_flip, own_after}
+use Rattle.ael_threads.specs.Histories.{Each, IsOnce, HasOwn, IsLegal, after_all, call, calls_of, extra, first_held, first_plain, hand, last_flip, number, own_after}
 use Rattle.ael_threads.specs.Rule.{StandsAs, crew, heap_of, view}
 
 -- ---- a step by the word that it finds
@@ -120,9 +122,22 @@ IsEffect (Answers task Effect) = ⊤
 IsEffect (Answers task (Ends end)) = ⊥
 IsEffect (Marks asked) = ⊥
 
--- A step of worker m, whose code holds x and takes r. The words before and after it are those that the step found and left: where the
--- heap is told to be full it was by the former, and what is told as live was live at the last flip; after an effect each pointer in the registers leads to a record's header in the
--- latter, two registers holding one word exactly where the plain ones hold one value.
+-- With these words, and with worker m, which holds x but for its count, all workers stand for the plain state after a legal history
+-- that begins with this.
+pub record StandWith (plan : Plan) (m : ℕ) (x : Held) (seen : List Entry) (words : List ℕ) : Type 0 where
+  pub log : List Entry
+  pub legal : IsLegal (first_plain plan) log
+  pub begins : IsPrefix seen log
+  pub workers : List Held
+  pub count : length workers ≡ crew plan
+  pub here : StandsAs workers m (uncounted x)
+  pub stands : WorkersStand (heap_of plan words workers) (after_all (first_plain plan) log) (last_flip (first_plain plan) log)
+
+-- A step of worker m, whose code holds x and takes r. It is the step that x wants, on the words before it, and r is what that step replies;
+-- with the words before and after it the workers stand for histories of which the latter has what the step tells besides, and no other
+-- worker has changed. Where the heap is told to be full it was by the words before, and what is told as live was live at the last
+-- flip; after an effect each pointer in the registers leads to a record's header in the words after, two registers holding one word
+-- exactly where the plain ones hold one value.
 pub record Moves (v : View) (m : ℕ) (x : Held) (r : Reply) (w : View) : Type 0 where
   pub takes : Takes x r
   pub fits : Fits v.plan.spaces.pages v.plan.mutators m (turned x r)
@@ -133,8 +148,17 @@ pub record Moves (v : View) (m : ℕ) (x : Held) (r : Reply) (w : View) : Type 0
   pub seen : Sees v m (told x r) w
   pub mine : IsMine w
   pub shows : ShowsSeen (uncounted (turned x r)) w
+  pub step : Step
+  pub wants : wanted x ≡ Some step
   pub before : List ℕ
+  pub reply : r ≡ reply_of step before
   pub after : List ℕ
+  pub left : after ≡ words_after step before
+  pub found : StandWith v.plan m x v.seen before
+  pub stands : StandWith v.plan m (turned x r) w.seen after
+  pub grows : stands.log ≡ found.log ++ extra m (told x r)
+  pub sees : w.seen ≡ seen_after v.seen stands.log (told x r)
+  pub others : (j : ℕ) → j ≢ m → get_elem? stands.workers j ≡ get_elem? found.workers j
   pub full : FullWhereTold v.plan.spaces.pages before x (told x r)
   pub live : LiveWhereTold (last_flip (first_plain v.plan) w.seen) (told x r)
   pub lands : IsEffect (told x r) → Lands v.plan.spaces.pages after (turned x r)
@@ -211,13 +235,15 @@ pub record Learned (v w : View) : Type 0 where
   pub seen : IsPrefix v.seen w.seen
   pub heard : IsPrefix v.heard w.seen
   pub own : HasOwn w.seen w.hands
+  pub apart : IsOnce (map number w.hands)
   pub once : IsOnce w.claims
   pub legal : IsLegal (first_plain w.plan) w.seen
 
 abbrev pub Learns : table.Step ℕ → Me → ℕ → Me → Type 0
 Learns st me found later = (later.1 ≡ me.1) × Learned me.0 later.0
 
--- THE CLAUSE OF ABSORB: one history for both callers, with just the calls that both made; no page won by both in one epoch
+-- THE CLAUSE OF ABSORB: one history for both callers, with just the calls that both made; no worker of both, and no page won by both in
+-- one epoch
 pub record Absorbs (v u w : View) : Type 0 where
   pub plan : w.plan ≡ v.plan
   pub hands : w.hands ≡ v.hands ++ u.hands
@@ -225,6 +251,7 @@ pub record Absorbs (v u w : View) : Type 0 where
   pub mine : IsPrefix v.seen w.seen
   pub other : IsPrefix u.seen w.seen
   pub own : HasOwn w.seen w.hands
+  pub apart : IsOnce (map number w.hands)
   pub once : IsOnce w.claims
   pub legal : IsLegal (first_plain w.plan) w.seen
 
@@ -253,7 +280,7 @@ pub record Stays (workers : List Held) (log : List Entry) (h : Hand) : Type 0 wh
 
 -- THE CLAUSE OF CLOSE: the calls of all these callers stand in one legal history, each once, of which what each has seen is a
 -- beginning; with what their codes hold the words stand for the plain state after it; what was copied in an epoch
--- that is traced is what was live at the last flip of the history; no page was won twice in one epoch.
+-- that is traced is what was live at the last flip of the history; no worker stands twice, and no page was won twice in one epoch.
 pub record Closes (plan : Plan) (all : List Seated) (words : List ℕ) : Type 0 where
   pub log : List Entry
   pub workers : List Held
@@ -263,4 +290,5 @@ pub record Closes (plan : Plan) (all : List Seated) (words : List ℕ) : Type 0 
   pub copied : IsTraced (heap_of plan words workers) → CopiedIsLive (read (heap_of plan words workers)) (last_flip (first_plain plan) log)
   pub seen : Each (λ (s : Seated). IsPrefix s.knows.seen log) all
   pub hands : Each (Stays workers log) (all_hands all)
+  pub apart : IsOnce (map number (all_hands all))
   pub once : IsOnce (all_claims all)

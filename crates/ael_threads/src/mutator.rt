@@ -8,7 +8,7 @@ ghost use Rattle.gc_worker.specs.declared.task.Task.TheVariants.{Calls, Stops};
 ghost use Rattle.gc_worker.specs.Between.{with_task};
 ghost use Rattle.gc_worker.specs.Fits.{MayBegin, MayStop};
 ghost use Rattle.gc_worker.specs.Stepped.{header_kept, place_kept};
-ghost use Rattle.ael_threads.specs.Readers.{IsReg};
+ghost use Rattle.ael_threads.specs.Readers.{IsReg, IsThere};
 ghost use Rattle.ael_threads.specs.Seats.{Absorbs, Acts, ShowsSeen};
 
 use crate::caller::Caller;
@@ -93,6 +93,7 @@ impl Mutator {
         requires { i < REGISTERS }
         ensures reg { IsReg (slice_index self.now.worker.registers i) result }
         ensures shows { ShowsSeen self.now.worker self.now.knows }
+        ensures there { IsThere self.now }
     {
         let word = Word(self.caller.worker.regs()[usize::from(i)]);
         if let Some(n) = word.as_number() {
@@ -108,6 +109,7 @@ impl Mutator {
     pub fn outputs(&self) -> &[u64]
         ensures outputs { result.now ≡ self.now.worker.account.printed }
         ensures shows { ShowsSeen self.now.worker self.now.knows }
+        ensures there { IsThere self.now }
     {
         self.caller.worker.outputs()
     }
@@ -117,6 +119,7 @@ impl Mutator {
         ensures ended { result ≡ self.now.worker.account.end }
         ensures no_task { (end : End) → result ≡ Some end → self.now.worker.task ≡ None }
         ensures shows { ShowsSeen self.now.worker self.now.knows }
+        ensures there { IsThere self.now }
     {
         self.caller.worker.ended()
     }
@@ -125,6 +128,7 @@ impl Mutator {
     pub fn serial(&self) -> u64
         ensures serial { result ≡ self.now.worker.account.serial }
         ensures shows { ShowsSeen self.now.worker self.now.knows }
+        ensures there { IsThere self.now }
     {
         self.caller.worker.serial()
     }
@@ -139,6 +143,7 @@ impl Mutator {
     pub fn pc(&self) -> u64
         ensures pc { result ≡ self.now.worker.account.counter }
         ensures shows { ShowsSeen self.now.worker self.now.knows }
+        ensures there { IsThere self.now }
     {
         self.caller.worker.pc()
     }
