@@ -6,3 +6,4 @@ pub mod Seeing
 pub mod Simulating
 pub mod Plainly
 pub mod Parsed
+pub mod Assured

@@ -1,22 +1,25 @@
 -- What holds of a call, from its answer and the answer's cause.
 use Rattle.std.proofs.Common.{◌≡◌, ℕ, List, ap, sym, ◌∙◌, subst, inl, inr, arith}
 use Rattle.std.specs.Prelude.{◌⊎◌, Option, Some}
+use Rattle.std.proofs.lemmas.Option.{same_Some}
+use Rattle.benchmark.specs.Text.{bench_text}
 use Rattle.mutator_asm.specs.declared.instr.Instr.{Instr}
 use Rattle.mutator_asm.specs.declared.item.Item.{Item}
 use Rattle.mutator_asm.specs.Text.{IsText}
 use Rattle.mutator_asm.specs.Theorems.{MeansOneProgram, MeansWellFormed, HasNoFault, ListsText}
 use Rattle.plain_heap.specs.Alone.{AlwaysTheSame}
 use Rattle.ael_cli.specs.declared.job.Job.{Job}
-use Rattle.ael_cli.specs.declared.job.Job.TheVariants.{Asm, Sim}
+use Rattle.ael_cli.specs.declared.job.Job.TheVariants.{Asm, Bench, Sim}
 use Rattle.ael_cli.specs.declared.options.SimOptions.{SimOptions}
 use Rattle.ael_cli.specs.declared.status.Status.{Status}
 use Rattle.ael_cli.specs.declared.status.Status.TheVariants.{Done, Text, Usage, Ended, StepsOut, ReadFault, WriteFault, NoMemory, TooLong}
 use Rattle.ael_cli.specs.Answer.{IsCaused, Made, Refused, Unread, OutOfMemory, IsAnswer}
+use Rattle.ael_cli.specs.Bench.{bench_options}
 use Rattle.ael_cli.specs.Call.{Call}
 use Rattle.ael_cli.specs.Emits.{Emits, AllWritten, OutFailed, BothFailed, ErrFailed}
 use Rattle.ael_cli.specs.Ends.{Drawn, Filled, IsFaultless}
 use Rattle.ael_cli.specs.Headline.{Holds, IsAlwaysTheSame, IsAnswered, IsComplete, IsDone, PrintsListing, PrintsPlainly}
-use Rattle.ael_cli.specs.Jobs.{task_of}
+use Rattle.ael_cli.specs.Jobs.{run_by, task_of}
 use Rattle.ael_cli.specs.ProgramTask.{HasFault, IsMadeOf, IsProgram}
 use Rattle.ael_cli.specs.Simulation.{IsSimulated, order_of, plain_of}
 use Rattle.ael_cli.specs.Status.{code_of}
@@ -61,6 +64,7 @@ not_refused no_fault bytes TooLong right fault = absurd fault
 
 -- a right input is not refused
 is_taken : {A : Type 0} → HasNoFault → (job : Job) (bytes : List ℕ) (status : Status) → (task_of job).IsRight bytes → (task_of job).Refuses bytes status → A
+is_taken no_fault (Bench operands) bytes status right fault = absurd fault
 is_taken no_fault Asm bytes status right fault = not_refused no_fault bytes status right fault
 is_taken no_fault (Sim options) bytes status right fault = not_refused no_fault bytes status right fault
 
@@ -109,16 +113,27 @@ module _ (one : MeansOneProgram) (no_fault : HasNoFault) (call : Call) (a : IsAn
   done : (job : Job) (program : List (List Instr)) (items : List Item) (s : Succeeds call job program items) → IsDone call job s.bytes
   done job program items s = elim (is_complete job s.bytes s.well) [ inl is ↦ is | inr none ↦ absurd (s.memory none) ]
 
-  simulated : (options : SimOptions) (program : List (List Instr)) (items : List Item) (s : Succeeds call (Sim options) program items)
-      → ((d : IsDone call (Sim options) s.bytes) × IsSimulated options program items d.output d.status)
-  simulated options program items s =
-      let d = done (Sim options) program items s in
-      (d, of_program one s.bytes program items d.output d.status s.text d.made)
+  simulated : (job : Job) (options : SimOptions) (program : List (List Instr)) (items : List Item) → run_by job ≡ Some options → (s : Succeeds call job program items)
+      → ((d : IsDone call job s.bytes) × IsSimulated options program items d.output d.status)
+  simulated Asm options program items runs s = cc
+  simulated (Bench operands) options program items runs s =
+      let d = done (Bench operands) program items s in
+      let made = of_program one (bench_text operands.depth operands.seed) program items d.output d.status s.text d.made in
+      (d, subst (λ o. IsSimulated o program items d.output d.status) (same_Some (bench_options operands) options runs) made)
+  simulated (Sim own) options program items runs s =
+      let d = done (Sim own) program items s in
+      (d, subst (λ o. IsSimulated o program items d.output d.status) (same_Some own options runs) (of_program one s.bytes program items d.output d.status s.text d.made))
 
   pub prints_plainly : PrintsPlainly call
-  prints_plainly options program items s =
-      let d = simulated options program items s in
-      record { prints = subst (λ output. Grows call.out.held output call.out.holds) d.1.prints d.0.printed; acts = d.1.acts; full = d.1.full }
+  prints_plainly job options program items runs s =
+      let d = simulated job options program items runs s in
+      record {
+        prints = subst (λ output. Grows call.out.held output call.out.holds) d.1.prints d.0.printed;
+        acts = d.1.acts;
+        full = d.1.full;
+        dump = d.1.dump;
+        collected = d.1.collected;
+      }
 
   pub prints_listing : MeansWellFormed → ListsText → PrintsListing call
   prints_listing well_formed lists program items s =
@@ -127,10 +142,10 @@ module _ (one : MeansOneProgram) (no_fault : HasNoFault) (call : Call) (a : IsAn
       (subst (λ output. Grows call.out.held output call.out.holds) listed.listed d.printed, lists program items (well_formed s.bytes program items s.text))
 
   pub is_always_the_same : AlwaysTheSame → IsAlwaysTheSame call
-  is_always_the_same same options program items s shares_nothing = record {
+  is_always_the_same same job options program items runs s shares_nothing = record {
     mutators = (plain_of options program items).mutators;
     all = plain_count program options.turns (order_of options program items);
-    prints = (prints_plainly options program items s).prints;
+    prints = (prints_plainly job options program items runs s).prints;
     alone = λ m k at. same program options.turns (order_of options program items) m k shares_nothing at;
   }
 

@@ -1,12 +1,16 @@
 -- The command line of `ael`, as a command of `clap`.
 use Rattle.std.specs.Prelude.{true, false, [], ◌∷◌, codes}
 use Rattle.clap.specs.Simple.{App, new_app, new_shape}
-use Rattle.simple_commands.specs.Options.{rules_of, with_rules}
-use Rattle.ael_cli.specs.Options.{sim_flags, sim_numbers, sim_wide}
+use Rattle.simple_commands.specs.Options.{operand_rules_of, rules_of, with_rules}
+use Rattle.ael_cli.specs.Options.{bench_numbers, bench_wide, sim_flags, sim_numbers, sim_wide}
 
 -- `sim`, with its options and flags
 abbrev pub sim_app : App
 sim_app = with_rules (new_app (codes "sim")) (rules_of sim_numbers sim_wide sim_flags)
+
+-- `bench`, with its operands
+abbrev pub bench_app : App
+bench_app = with_rules (new_app (codes "bench")) (operand_rules_of bench_numbers bench_wide)
 
 -- `asm`
 abbrev pub asm_app : App
@@ -21,5 +25,5 @@ ael_app = record {
     disable_help_flag = true;
     disable_help_subcommand = true;
   };
-  subs = asm_app.top ∷ sim_app.top ∷ [];
+  subs = asm_app.top ∷ sim_app.top ∷ bench_app.top ∷ [];
 }

@@ -10,15 +10,16 @@ use Rattle.plain_heap.specs.Print.{lines_seen, print_of, seen_in}
 use Rattle.plain_heap.specs.Alone.{IsAsAlone, shares_nothing}
 use Rattle.gc_core.specs.Whole.{EachActs}
 use Rattle.ael_cli.specs.declared.job.Job.{Job}
-use Rattle.ael_cli.specs.declared.job.Job.TheVariants.{Asm, Sim}
+use Rattle.ael_cli.specs.declared.job.Job.TheVariants.{Asm}
 use Rattle.ael_cli.specs.declared.options.SimOptions.{SimOptions}
 use Rattle.ael_cli.specs.declared.status.Status.{Status}
 use Rattle.ael_cli.specs.declared.status.Status.TheVariants.{ReadFault}
 use Rattle.ael_cli.specs.Answer.{IsAnswer, IsDrawnFor}
 use Rattle.ael_cli.specs.Call.{Call}
+use Rattle.ael_cli.specs.Dump.{IsTrueDump}
 use Rattle.ael_cli.specs.Emits.{Emits}
-use Rattle.ael_cli.specs.Jobs.{task_of}
-use Rattle.ael_cli.specs.Simulation.{flag_lines, order_of, run_of, IsFullWithoutRoom}
+use Rattle.ael_cli.specs.Jobs.{run_by, task_of}
+use Rattle.ael_cli.specs.Simulation.{flag_lines, order_of, run_of, IsCollected, IsFullWithoutRoom}
 use Rattle.ael_cli.specs.Status.{code_of}
 use Rattle.ael_cli.specs.Stream.{Grows}
 use Rattle.ael_cli.specs.Success.{GoesWell, Succeeds}
@@ -49,15 +50,19 @@ abbrev pub IsComplete : Call → Type 0
 IsComplete call = (job : Job) (bytes : List ℕ) → GoesWell call job bytes → IsDone call job bytes ⊎ (call.code ≡ 7)
 
 -- The bytes held grow by what the plain machine prints that executes the order of the run, and then
--- by the lines of the flags. Each mark of the order acts, and heap full comes only without room.
+-- by the lines of the flags. Each mark of the order acts, and heap full comes only without room. A dump
+-- represents what the plain machine came to.
 pub record IsPlainlyPrinted (call : Call) (options : SimOptions) (program : List (List Instr)) (items : List Item) : Type 0 where
   pub prints : Grows call.out.held (print_of (plain program options.turns (order_of options program items)) ++ flag_lines options (run_of options program items)) call.out.holds
   pub acts : EachActs program options.turns (opening program) (order_of options program items)
   pub full : IsFullWithoutRoom options program items
+  pub dump : IsTrueDump (run_of options program items).last (plain program options.turns (order_of options program items))
+  pub collected : IsCollected options program items
 
--- the headline in one sentence: where `sim` succeeds, it prints what the plain machine prints
+-- the headline in one sentence: where `sim` or `bench` succeeds, it prints what the plain machine prints
 abbrev pub PrintsPlainly : Call → Type 0
-PrintsPlainly call = (options : SimOptions) (program : List (List Instr)) (items : List Item) → Succeeds call (Sim options) program items → IsPlainlyPrinted call options program items
+PrintsPlainly call = (job : Job) (options : SimOptions) (program : List (List Instr)) (items : List Item) → run_by job ≡ Some options → Succeeds call job program items
+    → IsPlainlyPrinted call options program items
 
 -- where `asm` succeeds, the bytes held grow by the program's listing, which is a text of this same program
 abbrev pub PrintsListing : Call → Type 0
@@ -73,9 +78,9 @@ pub record IsPrintedAsAlone (call : Call) (options : SimOptions) (program : List
   pub prints : Grows call.out.held (lines_seen 0 (seen_in mutators) ++ flag_lines options (run_of options program items)) call.out.holds
   pub alone : (m : ℕ) (k : Mutator) → slice_get mutators m ≡ Some k → IsAsAlone program options.turns m k
 
--- where `sim` succeeds, the mutators of a program without `get`, `put` and `swap` print what they print alone
+-- where `sim` or `bench` succeeds, the mutators of a program without `get`, `put` and `swap` print what they print alone
 abbrev pub IsAlwaysTheSame : Call → Type 0
-IsAlwaysTheSame call = (options : SimOptions) (program : List (List Instr)) (items : List Item) → Succeeds call (Sim options) program items
+IsAlwaysTheSame call = (job : Job) (options : SimOptions) (program : List (List Instr)) (items : List Item) → run_by job ≡ Some options → Succeeds call job program items
     → IsTrue (shares_nothing program) → IsPrintedAsAlone call options program items
 
 -- all of it

@@ -1,5 +1,6 @@
 pub mod Answer
 pub mod Asm
+pub mod Bench
 pub mod Call
 pub mod Coming
 pub mod CommandLine

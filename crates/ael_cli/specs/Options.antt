@@ -1,10 +1,11 @@
--- The options of a simulation, by the rows of what was given.
-use Rattle.std.specs.Prelude.{◌≤◌, IsTrue, List, [], ◌∷◌, codes}
+-- The options of a simulation, and the operands of the benchmark, by the rows of what was given.
+use Rattle.std.specs.Prelude.{ℕ, ◌≤◌, IsTrue, List, [], ◌∷◌, codes, unwrap_or}
 use Rattle.clap.specs.Walk.{Row, Text}
 use Rattle.gc_core.specs.Core.{is_size}
 use Rattle.simple_commands.specs.Options.{number_given}
 use Rattle.simple_commands.specs.Readers.{number_of, was_given}
 use Rattle.simple_commands.specs.declared.options.Numbers.{Numbers}
+use Rattle.ael_cli.specs.declared.operands.BenchOperands.{BenchOperands}
 use Rattle.ael_cli.specs.declared.options.SimOptions.{SimOptions}
 
 -- `--pages`
@@ -23,7 +24,7 @@ turns_option = (codes "turns", record { least = 1; most = 10000000; default = 10
 abbrev pub steps_option : Text × Numbers
 steps_option = (codes "steps", record { least = 1; most = 100000000; default = 10000000 })
 
--- `--seed`, which has no default
+-- `--seed`, which has no default, or `SEED`
 abbrev pub seed_option : Text
 seed_option = codes "seed"
 
@@ -38,6 +39,17 @@ cycles_flag = codes "cycles"
 -- `--dump`
 abbrev pub dump_flag : Text
 dump_flag = codes "dump"
+
+-- `DEPTH`, which is always there
+abbrev pub depth_operand : Text × Numbers
+depth_operand = (codes "depth", record { least = 1; most = 9; default = 1 })
+
+-- the tables of `bench`, whose second operand is `SEED`
+abbrev pub bench_numbers : List (Text × Numbers)
+bench_numbers = depth_operand ∷ []
+
+abbrev pub bench_wide : List Text
+bench_wide = seed_option ∷ []
 
 -- the tables of `sim`
 abbrev pub sim_numbers : List (Text × Numbers)
@@ -66,3 +78,10 @@ pub record AreInRange (options : SimOptions) : Type 0 where
   pub pages : IsTrue (is_size options.pages)
   pub scanners : options.scanners ≤ 8
   pub turns : (1 ≤ options.turns) × (options.turns ≤ 10000000)
+
+abbrev pub operands_of : List Row → BenchOperands
+operands_of rows = record { depth = number_given depth_operand rows; seed = unwrap_or (number_of seed_option rows) 0 }
+
+-- the trees are of a depth that they may have
+abbrev pub IsDepth : ℕ → Type 0
+IsDepth depth = (1 ≤ depth) × (depth ≤ 9)

@@ -4,15 +4,19 @@ use Rattle.plain_state.specs.State.{Plain}
 use Rattle.mutator_asm.specs.declared.instr.Instr.{Instr}
 use Rattle.mutator_asm.specs.declared.item.Item.{Item}
 use Rattle.plain_heap.specs.declared.mark.Mark.{Mark}
-use Rattle.plain_heap.specs.Order.{opening, plain}
+use Rattle.plain_heap.specs.Order.{opening, plain, story}
 use Rattle.plain_heap.specs.Print.{print_of, order_line, plain_seen}
 use Rattle.gc_worker.specs.declared.config.Config.{Config}
 use Rattle.gc_core.specs.Core.{CoreState, opening_core, workers_of}
+use Rattle.gc_core.specs.Cycles.{KeepsWhatIsLive}
+use Rattle.gc_core.specs.Dumped.{dumped}
+use Rattle.gc_core.specs.Needs.{EachFullIs, HasNoFull, IsLargeEnough, opened}
 use Rattle.gc_core.specs.Run.{Ran, run_from, EachEvent}
 use Rattle.gc_core.specs.Whole.{EachActs, IsFull}
 use Rattle.ael_cli.specs.declared.options.SimOptions.{SimOptions}
 use Rattle.ael_cli.specs.declared.status.Status.{Status}
-use Rattle.ael_cli.specs.Dump.{cycles_line, dump_text}
+use Rattle.dump_text.specs.Text.{dump_text}
+use Rattle.ael_cli.specs.Dump.{cycles_line, IsTrueDump}
 use Rattle.ael_cli.specs.ProgramTask.{program_task}
 use Rattle.ael_cli.specs.Schedule.{schedule_of}
 use Rattle.ael_cli.specs.Seen.{status_seen}
@@ -47,10 +51,18 @@ order_of options program items = (run_of options program items).order
 abbrev pub plain_of : SimOptions → List (List Instr) → List Item → Plain
 plain_of options program items = plain program options.turns (order_of options program items)
 
+-- What the collector kept in the run: what was copied in a traced epoch, and is told as live, was live at the last exchange of the
+-- spaces; at each full heap of the order that and records made since fill the space; and where the heap is as large as the order needs it
+-- was never full.
+pub record IsCollected (options : SimOptions) (program : List (List Instr)) (items : List Item) : Type 0 where
+  pub live : KeepsWhatIsLive (run_of options program items).last (story program options.turns (order_of options program items)).flip
+  pub filled : EachFullIs options.pages program options.turns (opened program) 0 (order_of options program items)
+  pub large : IsLargeEnough options.pages program options.turns (order_of options program items) → HasNoFull (order_of options program items)
+
 -- the lines of the flags, by what the run came to
 abbrev pub flag_lines : SimOptions → Ran → List ℕ
 flag_lines options ran =
-    (if options.order then order_line ran.order else []) ++ (if options.cycles then cycles_line ran.last else []) ++ (if options.dump then dump_text ran.last else [])
+    (if options.order then order_line ran.order else []) ++ (if options.cycles then cycles_line ran.last else []) ++ (if options.dump then dump_text (dumped ran.last) else [])
 
 -- all that is printed: the lines of the plain machine, and then those of the flags
 abbrev pub output_of : SimOptions → List (List Instr) → List Item → List ℕ
@@ -61,12 +73,15 @@ abbrev pub status_of : SimOptions → List (List Instr) → List Item → Status
 status_of options program items = status_seen (plain_seen (plain_of options program items))
 
 -- The output is what the plain machine prints that executes the order of the run. Each mark of the
--- order acts: each mutator's marks execute its program from the start, none skipped and none twice.
+-- order acts: each mutator's marks execute its program from the start, none skipped and none twice. The
+-- dump of the run represents what the plain machine came to, and its heap was collected.
 pub record IsSimulated (options : SimOptions) (program : List (List Instr)) (items : List Item) (output : List ℕ) (status : Status) : Type 0 where
   pub prints : output ≡ output_of options program items
   pub went : status ≡ status_of options program items
   pub acts : EachActs program options.turns (opening program) (order_of options program items)
   pub full : IsFullWithoutRoom options program items
+  pub dump : IsTrueDump (run_of options program items).last (plain_of options program items)
+  pub collected : IsCollected options program items
 
 abbrev pub sim_task : SimOptions → Task
 sim_task options = program_task (IsSimulated options)

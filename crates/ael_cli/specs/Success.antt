@@ -6,7 +6,7 @@ use Rattle.mutator_asm.specs.Text.{IsText}
 use Rattle.ael_cli.specs.declared.job.Job.{Job}
 use Rattle.ael_cli.specs.Call.{Call}
 use Rattle.ael_cli.specs.Ends.{IsFaultless}
-use Rattle.ael_cli.specs.Jobs.{task_of}
+use Rattle.ael_cli.specs.Jobs.{task_of, text_of}
 use Rattle.ael_cli.specs.Task.{IsGiven}
 use Rattle.ael_cli.specs.Words.{job_of}
 
@@ -20,9 +20,9 @@ pub record GoesWell (call : Call) (job : Job) (bytes : List ℕ) : Type 0 where
   pub printed : IsFaultless call.out.before call.out.after
   pub told : IsFaultless call.err.before call.err.after
 
--- nothing fails in a call that asks for this job on the text of this program, and memory is not wanting
+-- nothing fails in a call that asks for this job, whose text is that of this program, and memory is not wanting
 pub record Succeeds (call : Call) (job : Job) (program : List (List Instr)) (items : List Item) : Type 0 where
   pub bytes : List ℕ
-  pub text : IsText bytes program items
+  pub text : IsText (text_of job bytes) program items
   pub well : GoesWell call job bytes
   pub memory : call.code ≢ 7

@@ -12,6 +12,7 @@ ghost use Rattle.ael_cli.specs.Words.{IsInRange};
 
 use crate::answer::Answer;
 use crate::asm::asm;
+use crate::bench::bench;
 use crate::job::Job;
 use crate::reading::read_all;
 use crate::sim::sim;
@@ -49,6 +50,7 @@ fn work<S: Source>(alloc: Global, job: Job, src: &mut S) -> Result<Answer, Statu
 {
     match job {
         Job::Asm => Ok(asm(alloc, &read_program(alloc, src)?)?),
+        Job::Bench(operands) => Ok(bench(alloc, operands)?),
         Job::Sim(options) => Ok(sim(alloc, &read_program(alloc, src)?, options)?),
     }
 }

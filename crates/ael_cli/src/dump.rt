@@ -2,8 +2,9 @@
 
 ghost use Rattle.std.specs.Prelude.{◌≡◌, ◌++◌, OnOk, string_bytes};
 ghost use Rattle.std.specs.List.{flat_map};
+ghost use Rattle.gc_core.specs.Dumped.{dumped};
 ghost use Rattle.gc_core.specs.Readers.{kept_in, registers_in};
-ghost use Rattle.ael_cli.specs.Dump.{dump_head, dump_text, kept_line, table_lines, word_text, words_line};
+ghost use Rattle.dump_text.specs.Text.{dump_head, dump_text, kept_line, table_lines, word_text, words_line};
 
 use gc_core::Core;
 use plain_heap::NoMemory;
@@ -75,7 +76,7 @@ fn push_kept(out: &mut String, core: &Core) -> Result<(), NoMemory>
 
 /// Adds the dump of a core.
 pub fn push_dump(out: &mut String, core: &Core) -> Result<(), NoMemory>
-    ensures { OnOk result (string_bytes out.new ≡ string_bytes out.old ++ dump_text core.now) }
+    ensures { OnOk result (string_bytes out.new ≡ string_bytes out.old ++ dump_text (dumped core.now)) }
 {
     push_head(out, core.pages(), core.mutators(), core.workers())?;
     push_registers(out, core)?;

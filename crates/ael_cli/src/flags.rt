@@ -1,8 +1,10 @@
 //! The lines of the flags of `sim`.
 
 ghost use Rattle.std.specs.Prelude.{◌≡◌, ◌++◌, [], OnOk, if◌then◌else◌, string_bytes};
+ghost use Rattle.gc_core.specs.Dumped.{dumped};
 ghost use Rattle.plain_heap.specs.Print.{order_line};
-ghost use Rattle.ael_cli.specs.Dump.{cycles_line, dump_text};
+ghost use Rattle.dump_text.specs.Text.{dump_text};
+ghost use Rattle.ael_cli.specs.Dump.{cycles_line};
 ghost use Rattle.ael_cli.specs.Simulation.{flag_lines};
 
 use crate::dump::push_dump;
@@ -37,7 +39,7 @@ fn push_cycles_if(out: &mut String, flag: bool, core: &Core) -> Result<(), NoMem
 
 /// Adds the dump, where it is asked for.
 fn push_dump_if(out: &mut String, flag: bool, core: &Core) -> Result<(), NoMemory>
-    ensures { OnOk result (string_bytes out.new ≡ string_bytes out.old ++ (if flag then dump_text core.now else [])) }
+    ensures { OnOk result (string_bytes out.new ≡ string_bytes out.old ++ (if flag then dump_text (dumped core.now) else [])) }
 {
     if flag {
         push_dump(out, core)?;

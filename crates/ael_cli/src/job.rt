@@ -1,5 +1,6 @@
 //! What the words of the command line ask for.
 
+use crate::operands::BenchOperands;
 use crate::options::SimOptions;
 
 /// What a call of the program is to do.
@@ -7,6 +8,8 @@ use crate::options::SimOptions;
 pub enum Job {
     /// To list a program.
     Asm,
+    /// To run the benchmark by a seed.
+    Bench(BenchOperands),
     /// To run a program by a schedule, and print what its mutators printed.
     Sim(SimOptions),
 }
@@ -20,7 +23,7 @@ impl Job {
         ensures { result ≡ (task_of self).waits }
     {
         match self {
-            Job::Asm | Job::Sim(_) => false,
+            Job::Asm | Job::Bench(_) | Job::Sim(_) => false,
         }
     }
 }

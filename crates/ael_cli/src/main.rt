@@ -4,11 +4,13 @@
 mod answer;
 mod answering;
 mod asm;
+mod bench;
 mod command_line;
 mod dump;
 mod flags;
 mod job;
 mod memory;
+mod operands;
 mod options;
 mod reading;
 mod run;

@@ -14,7 +14,10 @@ use crate::flags::push_flags;
 use crate::options::SimOptions;
 use crate::run::run;
 use crate::status::Status;
-use gc_core::{Config, Core, OpenError, runs_follow};
+use gc_core::{
+    Config, Core, OpenError, cycles_keep_what_is_live, full_heaps_are_filled,
+    large_heaps_are_never_full, runs_follow,
+};
 use mutator_asm::Program;
 use plain_heap::{End, NoMemory, push_lines};
 use std::alloc::Global;
@@ -88,6 +91,9 @@ pub fn sim(alloc: Global, program: &Program, options: SimOptions) -> Result<Answ
     ensures { IfOk result (λ answer. IsSimulated options program.now.code program.now.schedule answer.output.items answer.status) }
 {
     runs_follow();
+    cycles_keep_what_is_live();
+    full_heaps_are_filled();
+    large_heaps_are_never_full();
     let mut core = open(alloc, program, options)?;
     let order = run(alloc, &mut core, program.schedule.as_slice(), options)?;
     let mut output = String::new(alloc);

@@ -1,7 +1,9 @@
 //! The program's answers, over sources and sinks in memory and over a file.
 
+mod benches;
 mod collecting;
 mod dumps;
+mod failing;
 mod files;
 mod instructions;
 mod listings;
@@ -115,6 +117,14 @@ fn calls_give_what_they_should(rt: HostRuntime) -> Result<(), Fail> {
     Ok(())
 }
 
+#[test]
+fn a_lone_mutator_sees_no_scanners(rt: HostRuntime) -> Result<(), Fail> {
+    for words in ["|sim ", "|sim --scanners 0 ", "|sim --scanners 8 "] {
+        check_rows(&rt, &collecting::LONE.replace(rt.alloc(), "|sim ", words)?)?;
+    }
+    Ok(())
+}
+
 /// A text of one instruction, with spaces before its last line end.
 const LENGTHS: &str = "\
 1048562| |the longest input|sim|.mutator/halt@/|0: halt/||0
@@ -139,9 +149,11 @@ const ENDS: &str = "\
 2|1000|1000|the read of the end fails|sim|.mutator/li r1 7/new r0 2/st r0 1 r1/ld r2 r0 1/out r2/halt/||ael: read fault/|5
 2|1000|1000|the read of the end of a listing fails|asm|.mutator/halt/||ael: read fault/|5
 1|1000|1000|the first read fails|sim|||ael: read fault/|5
+1|1000|1000|a benchmark reads nothing|bench 3 1||0: 8/0: halt/1: 8/1: halt/2: 8/2: halt/3: 8/3: halt/cycles 0 live 0/||0
 0|1|1000|no room for the output|sim|.mutator/halt/|0|ael: write fault/|6
 0|1000|0|no room for the usage|||||6
 0|1000|5|some room for the usage||||usage|6
+2|1000|4|a read fails, and err too|sim|.mutator/halt/||ael:|6
 0|1000|10|some room for a text's fault|sim|.mutator/foo/||ael: line |6
 0|3|7|both sinks fail|sim|.mutator/li r1 7/new r0 2/st r0 1 r1/ld r2 r0 1/out r2/halt/|0: |ael: wr|6
 0|3|17|out fails, and err has just enough room|sim|.mutator/li r1 7/new r0 2/st r0 1 r1/ld r2 r0 1/out r2/halt/|0: |ael: write fault/|6";
@@ -162,24 +174,6 @@ fn ends_that_fail_are_told(rt: HostRuntime) -> Result<(), Fail> {
         Row::read(rt.alloc(), row)?.check(&rt, limits)?;
     }
     Ok(())
-}
-
-/// Where out has no room for all, it holds what it has room for.
-fn check_fronts(rt: &HostRuntime, words: &str, text: &str, whole: &[u8]) -> Result<(), Fail> {
-    for out in 0..whole.len() {
-        let found = call(rt, words, text, Limits { out, ..AMPLE })?;
-        found.check(words, &whole[..out], b"ael: write fault\n", 6)?;
-    }
-    let out = whole.len();
-    call(rt, words, text, Limits { out, ..AMPLE })?.check(words, whole, b"", 0)
-}
-
-#[test]
-fn failed_writes_leave_a_front(rt: HostRuntime) -> Result<(), Fail> {
-    let printed = b"0: 7\n0: halt\norder 0 0 0 0 0 0\n";
-    check_fronts(&rt, "sim --order", FIRST, printed)?;
-    let listing = b".schedule 0\n.mutator\nL0: jmp L0\n";
-    check_fronts(&rt, "asm", ".schedule 0\n.mutator\nl: jmp l\n", listing)
 }
 
 #[test]

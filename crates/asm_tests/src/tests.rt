@@ -179,6 +179,41 @@ fn the_first_line_counts_and_then_the_lowest_number(rt: HostRuntime) {
     }
 }
 
+/// The lines of a text, and the number of the error of the text up to each byte, or 0 where it is a program.
+const PREFIXES: [(&str, &str); 14] = [
+    (".mutator\n", "111111100"),
+    ("new r0 1\n", "112222200"),
+    ("new r1 1\n", "112222200"),
+    ("st r0 0 r1\n", "12222222200"),
+    ("st r1 0 r0\n", "12222222200"),
+    ("put 3 r0\n", "112222200"),
+    ("li r0 0\n", "12222200"),
+    ("li r1 0\n", "12222200"),
+    ("raw r4 127\n", "11222220000"),
+    ("li r4 0\n", "12222200"),
+    ("raw r4 127\n", "11222220000"),
+    ("li r4 0\n", "12222200"),
+    ("raw r4 127\n", "11222220000"),
+    ("halt\n", "11100"),
+];
+
+#[test]
+fn each_prefix_is_a_program_or_has_an_error(rt: HostRuntime) -> Result<(), Fail> {
+    let mut text = String::new(rt.alloc());
+    assert_eq!(rt; fault_of(&rt, &text), (5, 1));
+    for (i, (line, numbers)) in PREFIXES.iter().enumerate() {
+        for (byte, digit) in line.chars().zip(numbers.chars()) {
+            text.push(byte)?;
+            let wanted = match digit.to_digit(10) {
+                Some(number) if number > 0 => (number as u8, i as u32 + 1),
+                _ => (0, 0),
+            };
+            assert_eq!(rt; fault_of(&rt, &text), wanted, "{text}");
+        }
+    }
+    Ok(())
+}
+
 /// A text of a first line, a line that is repeated, and a last one.
 fn repeated(
     rt: &HostRuntime,

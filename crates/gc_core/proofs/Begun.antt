@@ -23,7 +23,8 @@ use Rattle.gc_worker.proofs.Gate.Words.{gate_says}
 use Rattle.gc_worker.proofs.Between.Opening.{is_there}
 use Rattle.gc_worker.specs.declared.config.Config.{Config}
 use Rattle.gc_core.specs.Core.{opening_core, is_size}
-use Rattle.gc_core.specs.Law.{IsSteady, epoch_in}
+use Rattle.gc_worker.specs.Claims.{epoch_in}
+use Rattle.gc_core.specs.Law.{IsSteady}
 
 -- one for each element
 map_const : {A B : Type 0} (b : B) (xs : List A) → map (λ x. b) xs ≡ replicate (length xs) b
@@ -36,7 +37,7 @@ opens_so code = λ i. record {
   mutators = sym (map_const order.fresh code) i;
 }
 
-size_fits : (pages : ℕ) → IsTrue (is_size pages) → IsPageCount pages
+pub size_fits : (pages : ℕ) → IsTrue (is_size pages) → IsPageCount pages
 size_fits pages e = by_tests (nat_le 4 pages) (nat_le pages 2048) refl refl e
   where
     by_tests : (a b : Bool) → nat_le 4 pages ≡ a → nat_le pages 2048 ≡ b → (a && b) ≡ true → IsPageCount pages

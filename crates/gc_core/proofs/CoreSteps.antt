@@ -10,15 +10,15 @@ use Rattle.mutator_asm.specs.declared.instr.Instr.{Instr}
 use Rattle.mutator_asm.specs.Program.{instr_at}
 use Rattle.atom_store.specs.declared.reply.Reply.{Reply}
 use Rattle.atom_store.specs.declared.step.Step.{Step}
-use Rattle.atom_store.specs.Step.{place_in, reply_of, words_after}
+use Rattle.atom_store.specs.Step.{reply_of, words_after}
 use Rattle.gc_worker.specs.declared.stage.Stage.{Stage}
 use Rattle.gc_worker.specs.declared.task.Task.{Task}
 use Rattle.gc_worker.specs.declared.task.Task.TheVariants.{Calls, Stops}
 use Rattle.gc_worker.specs.Answer.{ComesTo, IsAnswered, MayCome}
-use Rattle.gc_worker.specs.Fits.{Fits, Takes}
+use Rattle.gc_worker.specs.Fits.{Fits}
 use Rattle.gc_worker.specs.Held.{Held}
 use Rattle.heap_state.specs.Worker.{Account}
-use Rattle.gc_worker.specs.Law.{StepKeeps, held_at, moved, nobody}
+use Rattle.gc_worker.specs.Law.{StepKeeps, held_at, nobody}
 use Rattle.gc_worker.specs.Made.{AllowsStep, MayMake, made, made_by}
 use Rattle.gc_worker.specs.Stepped.{IsSound, awaits, stepped_by}
 use Rattle.gc_worker.specs.Turned.{Told, Silent, Answers, Marks, Effect, Ends, told, turned}
@@ -30,11 +30,11 @@ use Rattle.gc_worker.proofs.Between.Standing.{what_stands_is_so}
 use Rattle.gc_worker.proofs.Whole.{steps_keep}
 use Rattle.gc_worker.specs.declared.stepped.Stepped.TheVariants as tells
 use Rattle.gc_core.specs.Core.{CoreState}
-use Rattle.gc_core.specs.Event.{Event, core_after, event_of, next_task, readied, ready, stepped_of, task_of}
+use Rattle.gc_core.specs.Event.{Event, core_after, event_of, next_task, readied, ready, task_of}
 use Rattle.gc_core.specs.Law.{IsLawful}
 use Rattle.gc_core.proofs.Readied.{Due, Begins, Rests, Ready, due, readied_stands, ready_task, ready_account}
 use Rattle.gc_core.proofs.Counting.{idle_by}
-use Rattle.gc_core.proofs.Whole.{events_keep}
+use Rattle.gc_core.proofs.Lawful.{event_none, event_some, makes, ready_fits}
 
 -- a worker that fits a heap is sound
 sound_by : (n mutators k : ℕ) (x : Held) → Fits n mutators k x → IsSound x
@@ -75,25 +75,11 @@ module _ (s : CoreState) (w : ℕ) (lawful : IsLawful s) (below : w < length s.h
   r : Ready s w lawful.plain lawful.flip
   r = readied_stands readying_stands tasks_may_begin s w lawful.plain lawful.flip lawful.steady lawful.stands below
 
-  fits : Fits r.heap.pages r.heap.mutators w y
-  fits = subst (Fits r.heap.pages r.heap.mutators w) r.holds (r.stands.fit w r.below)
+  fits : Fits s.heap.pages s.heap.mutators w y
+  fits = ready_fits s w lawful below
 
   pub ready_sound : IsSound y
-  ready_sound = sound_by r.heap.pages r.heap.mutators w y fits
-
-  pub ready_number : y.number ≡ w
-  ready_number = fits.number
-
-  pub lawful_after : IsLawful (core_after s w)
-  lawful_after =
-      let keeps = events_keep s w (record { flip = lawful.flip; now = lawful.plain }) lawful.steady lawful.stands in
-      record { steady = keeps.steady; plain = _; flip = _; stands = keeps.stands }
-
-  -- ---- no step
-
-  pub idle_event : wanted y ≡ None → event_of s w ≡ record { told = tells.Idle; after = s.heap }
-  unfolding event_of
-  idle_event none = rw none refl
+  ready_sound = sound_by s.heap.pages s.heap.mutators w y fits
 
   -- ---- a step
 
@@ -104,18 +90,8 @@ module _ (s : CoreState) (w : ℕ) (lawful : IsLawful s) (below : w < length s.h
     keeps : StepKeeps r.heap lawful.plain lawful.flip w y q
     keeps = steps_keep r.heap lawful.plain lawful.flip w y q r.stands r.below r.holds asked
 
-    pub place : place_in q < length s.heap.words
-    place = rw r.words at keeps.place
-
-    pub takes : Takes y reply
-    takes = rw r.words at keeps.takes
-
     pub turned_sound : IsSound (turned y reply)
-    turned_sound = sound_by r.heap.pages r.heap.mutators w (turned y reply) (rw r.words at keeps.fits)
-
-    pub moved_event : event_of s w ≡ record { told = stepped_of w (told y reply); after = moved s.heap w y q }
-    unfolding event_of
-    moved_event = rw asked refl
+    turned_sound = sound_by s.heap.pages s.heap.mutators w (turned y reply) (makes s w q lawful below asked).fits
 
     pub room : (m : ℕ) → stepped_by y.number (told y reply) ≡ tells.Effect m → y.account.executed < 4294967295
     room m is =
@@ -123,7 +99,7 @@ module _ (s : CoreState) (w : ℕ) (lawful : IsLawful s) (below : w < length s.h
         let comes : ComesTo lawful.plain w effect.0 Effect = subst (IsAnswered lawful.plain w) effect.1 (rw r.words at keeps.answered) in
         let so = what_stands_is_so r.heap lawful.plain lawful.flip r.stands in
         let few : w < s.heap.mutators = (let l = slice_get_within lawful.plain.mutators w comes.mutator comes.is in let n = so.as_many in let k = r.mutators in omega (arith, l, n, k)) in
-        let answer = (workers_go_on r.heap.pages r.heap.mutators w y reply fits).answers effect.0 Effect effect.1 in
+        let answer = (workers_go_on s.heap.pages s.heap.mutators w y reply fits).answers effect.0 Effect effect.1 in
         let turns = by_task comes.mutator effect.0 comes.may (ready_task s w lawful.steady few effect.0 answer.asked) in
         let same = ready_account s w in
         let left : y.account.executed < s.turns = subst (λ (a : Account). a.executed < s.turns) (sym same) turns in
@@ -133,14 +109,6 @@ module _ (s : CoreState) (w : ℕ) (lawful : IsLawful s) (below : w < length s.h
         by_task : (q : Mutator) (task : Task) → MayCome w lawful.plain.heap q task Effect → task ≡ next_task s.code s.turns w x → x.account.executed < s.turns
         by_task q (Calls instr) may is = has_turns s.code s.turns w x instr is
         by_task q (Stops end) may is = absurd may
-
--- ---- the words for it
-
-pub told_same : (w k : ℕ) (t : Told) → k ≡ w → stepped_by k t ≡ stepped_of w t
-told_same w k Silent same = refl
-told_same w k (Answers task Effect) same = ap tells.Effect same
-told_same w k (Answers task (Ends end)) same = ap (λ (m : ℕ). tells.Ended m end) same
-told_same w k (Marks asked) same = refl
 
 -- ---- the list of the workers
 
@@ -177,7 +145,7 @@ module _ (s : CoreState) (w : ℕ) (lawful : IsLawful s) (below : w < length s.h
   moved_core z words z_is words_is =
       ap (λ (x : Held). record s { heap = record s.heap { words = words; workers = set s.heap.workers w x } }) z_is
       ∙ (ap (λ (l : List ℕ). record s { heap = record s.heap { words = l; workers = set s.heap.workers w (turned (ready s w) (reply_of q s.heap.words)) } }) words_is
-      ∙ ap (λ (e : Event). record s { heap = e.after }) (sym (moved_event s w lawful below q asked)))
+      ∙ ap (λ (e : Event). record s { heap = e.after }) (sym (event_some s w q asked)))
 
 -- ---- the worker's own step
 
@@ -194,7 +162,7 @@ module _ (s : CoreState) (w : ℕ) (lawful : IsLawful s) (below : w < length s.h
     where
       by_step : (o : Option Step) → wanted worker ≡ o → AllowsStep worker words o
       by_step None none = tt
-      by_step (Some q) asked = record { place = place s w lawful below q asked; takes = takes s w lawful below q asked; fits = turned_sound s w lawful below q asked }
+      by_step (Some q) asked = let m = makes s w q lawful below asked in record { place = m.place; takes = m.takes; fits = turned_sound s w lawful below q asked }
 
   pub made_room : (m : ℕ) → (made worker words).told ≡ tells.Effect m → worker.account.executed < 4294967295
   made_room m is = by_step (wanted worker) refl is
@@ -208,10 +176,10 @@ module _ (s : CoreState) (w : ℕ) (lawful : IsLawful s) (below : w < length s.h
   made_told = by_step (wanted worker) refl
     where
       by_step : (o : Option Step) → wanted worker ≡ o → (made_by worker words o).told ≡ (event_of s w).told
-      by_step None none = sym (ap (λ (e : Event). e.told) (idle_event s w lawful below none))
+      by_step None none = sym (ap (λ (e : Event). e.told) (event_none s w none))
       by_step (Some q) asked =
-          told_same w worker.number (told worker (reply_of q words)) (ready_number s w lawful below)
-          ∙ ap (λ (e : Event). e.told) (sym (moved_event s w lawful below q asked))
+          ap (λ (k : ℕ). stepped_by k (told worker (reply_of q words))) (ready_fits s w lawful below).number
+          ∙ ap (λ (e : Event). e.told) (sym (event_some s w q asked))
 
   -- the core after it
   pub made_core : (z : Held) (after : List ℕ) → z ≡ (made worker words).held → after ≡ (made worker words).words
@@ -223,5 +191,5 @@ module _ (s : CoreState) (w : ℕ) (lawful : IsLawful s) (below : w < length s.h
       by_step None none z_is after_is =
           ap (λ (ws : List Held). record s { heap = record s.heap { words = after; workers = ws } }) (idle_workers s w below z z_is none)
           ∙ (ap (λ (l : List ℕ). record s { heap = record s.heap { words = l } }) after_is
-          ∙ sym (ap (λ (e : Event). record s { heap = e.after }) (idle_event s w lawful below none)))
+          ∙ sym (ap (λ (e : Event). record s { heap = e.after }) (event_none s w none)))
       by_step (Some q) asked z_is after_is = moved_core s w lawful below q asked z after z_is after_is

@@ -23,7 +23,7 @@ use Rattle.gc_worker.specs.Made.{AllowsStep, MayMake, made, made_by}
 use Rattle.gc_worker.specs.Wanted.{wanted}
 use Rattle.gc_worker.proofs.Counting.{counted_fit, counts_are_apart}
 
-at_look : (stage : Stage) (task : Option Task) → awaits_at stage task ≡ true → (stage ≡ Looks) × (task ≡ None)
+pub at_look : (stage : Stage) (task : Option Task) → awaits_at stage task ≡ true → (stage ≡ Looks) × (task ≡ None)
 at_look Looks None is = (refl, refl)
 at_look Looks (Some task) is = absurd (cc)
 at_look (Passes g after) task is = absurd (cc)
@@ -60,9 +60,6 @@ call_by account registers instr valid few = record { valid = valid; serial = λ 
 -- it is sound with its count, and so without
 pub sound_apart : (count : ℕ) (x : Held) → IsSound (counted count x) → IsSound x
 sound_apart count x sound = (counted_fit x.layout.pages x.mutators x.number count x).0 sound
-
-pub sound_with : (count : ℕ) (x : Held) → IsSound x → IsSound (counted count x)
-sound_with count x sound = (counted_fit x.layout.pages x.mutators x.number count x).1 sound
 
 module _ (count : ℕ) (x : Held) (sound : IsSound (counted count x)) where
   apart : CountsApart count x

@@ -28,8 +28,10 @@ use Rattle.gc_worker.specs.Wanted.{wanted}
 use Rattle.gc_worker.specs.declared.stepped.Stepped.{Stepped}
 use Rattle.gc_worker.specs.declared.stepped.Stepped.TheVariants as tells
 use Rattle.gc_core.specs.Core.{CoreState}
-use Rattle.gc_core.specs.Event.{event_of, ready, task_of, told_outcome, stepped_of}
-use Rattle.gc_core.specs.Law.{IsOnTask, IsSteady, IsForWant, IsTold, Keeps, EventsKeep, EventsMeet, plain_after, story_by, epoch_in}
+use Rattle.gc_core.specs.Event.{event_of, ready, task_of}
+use Rattle.gc_worker.specs.Stepped.{stepped_by}
+use Rattle.gc_worker.specs.Claims.{epoch_in}
+use Rattle.gc_core.specs.Law.{IsOnTask, IsSteady, IsForWant, IsTold, Keeps, EventsKeep, EventsMeet, plain_after, story_by}
 use Rattle.gc_core.specs.Run.{mark_of}
 use Rattle.gc_core.specs.Whole.{MissingWorkersAreIdle}
 use Rattle.gc_worker.proofs.Represented.{represented_workers}
@@ -49,12 +51,12 @@ module _ (s : CoreState) (w : ℕ) (story : Story) (steady : IsSteady s) (stands
 -- ---- the story
 
 -- an answer is no flip
-answer_story : (s : CoreState) (story : Story) (w : ℕ) (outcome : Outcome)
-    → story_by s story (told_outcome w outcome) ≡ record { flip = story.flip; now = plain_after s story.now (told_outcome w outcome) }
-answer_story s story w Effect = refl
-answer_story s story w (Ends why) = by_sort (sort w why)
+answer_story : (s : CoreState) (story : Story) (w : ℕ) (task : Task) (outcome : Outcome)
+    → story_by s story (stepped_by w (Answers task outcome)) ≡ record { flip = story.flip; now = plain_after s story.now (stepped_by w (Answers task outcome)) }
+answer_story s story w task Effect = refl
+answer_story s story w task (Ends why) = by_sort (sort w why)
   where
-    by_sort : Sort w why → story_by s story (told_outcome w (Ends why)) ≡ record { flip = story.flip; now = plain_after s story.now (told_outcome w (Ends why)) }
+    by_sort : Sort w why → story_by s story (tells.Ended w why) ≡ record { flip = story.flip; now = plain_after s story.now (tells.Ended w why) }
     by_sort (IsStep e c) = rw e refl
     by_sort (IsFull asked room live e) = rw e refl
 
@@ -136,9 +138,9 @@ module _ (law : StepsKeep) (goes : WorkersGoOn) (wants : WorkersWant) (so : What
     abbrev after : Heap
     after = moved r.heap w y q
 
-    event_is : event_of s w ≡ record { told = stepped_of w t; after = after }
+    event_is : event_of s w ≡ record { told = stepped_by w t; after = after }
     unfolding event_of
-    event_is = rw asked (λ i. record { told = stepped_of w (told y (reply_of q (sym r.words i))); after = sym (r.moves y q) i })
+    event_is = rw asked (λ i. record { told = stepped_by w (told y (reply_of q (sym r.words i))); after = sym (r.moves y q) i })
 
     goes_on : GoesOn y (reply_of q r.heap.words)
     goes_on = goes r.heap.pages r.heap.mutators w y (reply_of q r.heap.words) fits
@@ -153,14 +155,14 @@ module _ (law : StepsKeep) (goes : WorkersGoOn) (wants : WorkersWant) (so : What
 
     -- the story after a step that is this
     abbrev Stands : Told → Type 0
-    Stands t = ((story_by s story (stepped_of w t)).now ≡ after_told p w t) × ((story_by s story (stepped_of w t)).flip ≡ at_flip p story.flip t)
+    Stands t = ((story_by s story (stepped_by w t)).now ≡ after_told p w t) × ((story_by s story (stepped_by w t)).flip ≡ at_flip p story.flip t)
 
     answers_stand : (task : Task) (outcome : Outcome) (k : Mutator) → slice_get p.mutators w ≡ Some k → k.end ≡ None → task ≡ task_of (fetch s.code s.turns w k) → MayCome w p.heap k task outcome
         → Stands (Answers task outcome)
     answers_stand task outcome k is none own may =
         let may' : MayCome w p.heap k (task_of (fetch s.code s.turns w k)) outcome = rw own at may in
         let c = comes s.code s.turns p w k (has_code k is) is none outcome may' in
-        rw (answer_story s story w outcome) (c ∙ rw (is, own) refl, refl)
+        rw (own, answer_story s story w (task_of (fetch s.code s.turns w k)) outcome) (c ∙ rw is refl, refl)
 
     story_stands : (u : Told) → t ≡ u → IsAnswered p w u → Stands u
     story_stands Silent e answered = (refl, refl)
@@ -192,7 +194,7 @@ module _ (law : StepsKeep) (goes : WorkersGoOn) (wants : WorkersWant) (so : What
         asks_then s.code s.turns p w k (has_code k is) is none asked room live (subst (λ (e : End). MayCome w p.heap k (task_of (fetch s.code s.turns w k)) (Ends e)) f may)
 
     told_by : (u : Told) → t ≡ u → IsAnswered p w u → FullWhereTold r.heap.pages r.heap.words y u → FlipsWhereTold r.heap.pages r.heap.words (words_after q r.heap.words) y u
-        → IsTold s w p after (stepped_of w u)
+        → IsTold s w p after (stepped_by w u)
     told_by Silent e answered full flips = epoch_same flips
     told_by (Marks asked) e answered full flips =
         (flips.asked_is, flips.next ∙ ap (λ n. n + 1) (sym flips.epoch ∙ (λ i. epoch_of (r.pages i) (r.words i))))

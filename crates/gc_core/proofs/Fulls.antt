@@ -29,9 +29,11 @@ use Rattle.gc_worker.specs.Turned.{Outcome, Effect, Ends, Told, Silent, Answers,
 use Rattle.gc_worker.specs.Wanted.{wanted}
 use Rattle.heap_state.specs.Worker.{Account, is_running}
 use Rattle.gc_core.specs.Core.{CoreState}
-use Rattle.gc_core.specs.Event.{core_after, event_of, readied, ready, stepped_of}
+use Rattle.gc_core.specs.Event.{core_after, event_of, readied, ready}
+use Rattle.gc_worker.specs.Stepped.{stepped_by}
 use Rattle.gc_core.specs.Fulls.{since_by, flips_by, MayCome, EachMayCome, AreSince, FullsComeAfterFlips}
-use Rattle.gc_core.specs.Law.{EventsKeep, IsSteady, story_by, epoch_in}
+use Rattle.gc_worker.specs.Claims.{epoch_in}
+use Rattle.gc_core.specs.Law.{EventsKeep, IsSteady, story_by}
 use Rattle.gc_core.specs.Run.{Ran, after_event, all_ended, end_mark, mark_of, run_from}
 use Rattle.gc_core.proofs.Outcomes.{Sort, IsFull, IsStep, sort}
 use Rattle.gc_core.proofs.Readied.{Due, Begins, Rests, Ready, due, ready_account, readied_stands}
@@ -71,7 +73,7 @@ since_other since j m other = ap (λ (b : Bool). cond b false (since m)) (ne_eqb
 nobody_plain : Mutator
 nobody_plain = record { counter = 0; registers = []; printed = []; executed = 0; end = None }
 
-ready_as : (s : CoreState) (w : ℕ) → ((ready s w).stage ≡ (held_at s.heap w).stage) × ((ready s w).begun ≡ (held_at s.heap w).begun)
+pub ready_as : (s : CoreState) (w : ℕ) → ((ready s w).stage ≡ (held_at s.heap w).stage) × ((ready s w).begun ≡ (held_at s.heap w).begun)
 ready_as s w = by_due (due s.code s.turns w (held_at s.heap w))
   where
     by_due : Due s.code s.turns w (held_at s.heap w) → ((ready s w).stage ≡ (held_at s.heap w).stage) × ((ready s w).begun ≡ (held_at s.heap w).begun)
@@ -118,7 +120,7 @@ module _ (law : StepsKeep) (goes : WorkersGoOn) (so : WhatStandsIsSo) (begun : B
   it_holds = get_or-set_same s.heap.workers w z nobody below
 
   -- a mutator that looks is of the gate's epoch
-  at_look : w < s.heap.mutators → y.stage ≡ Looks → epoch_in s.heap ≡ y.epoch
+  pub at_look : w < s.heap.mutators → y.stage ≡ Looks → epoch_in s.heap ≡ y.epoch
   at_look few looks =
       let n = is_so.as_many in let m = r.mutators in
       let there = slice_get-get_or story.now.mutators w nobody_plain (omega (arith, n, m, few)) in
@@ -127,7 +129,7 @@ module _ (law : StepsKeep) (goes : WorkersGoOn) (so : WhatStandsIsSo) (begun : B
       rw (r.words, r.pages) at (epoch (ap (λ (t : Stage). is_running (post_in y t)) looks))
 
   -- who has no end had none
-  had_no_end : z.account.end ≡ None → y.account.end ≡ None
+  pub had_no_end : z.account.end ≡ None → y.account.end ≡ None
   had_no_end none = by_end y.account.end refl
     where
       by_end : (o : Option End) → y.account.end ≡ o → y.account.end ≡ None
@@ -215,7 +217,7 @@ module _ (law : StepsKeep) (goes : WorkersGoOn) (so : WhatStandsIsSo) (begun : B
           (λ (last : y.epoch ≡ 2 ^ 32 - 1). inr (epoch_is ∙ last))
           found.no_flip
 
-  leaves_by : (t : Told) → told y reply ≡ t → Leaves since s after (mark_of (stepped_of w t))
+  leaves_by : (t : Told) → told y reply ≡ t → Leaves since s after (mark_of (stepped_by w t))
   leaves_by Silent e = record { may = tt; flips = sym (no_flip Silent e); are = stays since (no_flip Silent e) (λ m other. refl) own }
   leaves_by (Marks asked) e =
       let f = no_flip (Marks asked) e in

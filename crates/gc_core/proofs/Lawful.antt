@@ -19,7 +19,8 @@ use Rattle.gc_worker.proofs.Between.Readying.{readying_stands}
 use Rattle.gc_worker.proofs.Whole.{steps_keep}
 use Rattle.gc_worker.specs.declared.config.Config.{Config}
 use Rattle.gc_core.specs.Core.{CoreState, opening_core, workers_of, is_size}
-use Rattle.gc_core.specs.Event.{Event, event_of, event_by, core_after, ready, next_task, stepped_of}
+use Rattle.gc_core.specs.Event.{Event, event_of, event_by, core_after, ready, next_task}
+use Rattle.gc_worker.specs.Stepped.{stepped_by}
 use Rattle.gc_core.specs.Law.{IsLawful, story_by}
 use Rattle.gc_core.proofs.Begun.{opening_stands, opening_steady}
 use Rattle.gc_core.proofs.Readied.{readied_stands, looks_idle, may_begin}
@@ -47,7 +48,7 @@ unfolding event_of
 event_none s w e = rw e refl
 
 pub event_some : (s : CoreState) (w : ℕ) (q : Step) → wanted (ready s w) ≡ Some q
-    → event_of s w ≡ record { told = stepped_of w (told (ready s w) (reply_of q s.heap.words)); after = moved s.heap w (ready s w) q }
+    → event_of s w ≡ record { told = stepped_by w (told (ready s w) (reply_of q s.heap.words)); after = moved s.heap w (ready s w) q }
 unfolding event_of
 event_some s w q e = rw e refl
 
@@ -67,7 +68,7 @@ pub record Makes (s : CoreState) (w : ℕ) (q : Step) : Type 0 where
   pub place : place_in q < length s.heap.words
   pub takes : Takes (ready s w) (reply_of q s.heap.words)
   pub fits : Fits s.heap.pages s.heap.mutators w (turned (ready s w) (reply_of q s.heap.words))
-  pub event : event_of s w ≡ record { told = stepped_of w (told (ready s w) (reply_of q s.heap.words)); after = moved s.heap w (ready s w) q }
+  pub event : event_of s w ≡ record { told = stepped_by w (told (ready s w) (reply_of q s.heap.words)); after = moved s.heap w (ready s w) q }
 
 pub ready_fits : (s : CoreState) (w : ℕ) → IsLawful s → w < workers_of s → Fits s.heap.pages s.heap.mutators w (ready s w)
 ready_fits s w l below =

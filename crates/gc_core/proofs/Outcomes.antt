@@ -24,8 +24,9 @@ use Rattle.plain_heap.specs.Step.{fetch, executes, ended, settled, stepped, aske
 use Rattle.plain_heap.proofs.Counting.{Went, call-went}
 use Rattle.plain_heap.proofs.Outcomes.{if_ok-bind}
 use Rattle.gc_worker.specs.Answer.{MayEnd, MayCome, after_outcome}
-use Rattle.gc_worker.specs.Turned.{Outcome, Effect, Ends}
-use Rattle.gc_core.specs.Event.{task_of, told_outcome}
+use Rattle.gc_worker.specs.Turned.{Outcome, Effect, Ends, Answers}
+use Rattle.gc_worker.specs.Stepped.{stepped_by}
+use Rattle.gc_core.specs.Event.{task_of}
 use Rattle.gc_core.specs.Run.{end_mark, mark_of}
 
 -- ---- ends
@@ -97,7 +98,7 @@ module _ (code : List (List Instr)) (turns : ℕ) (p : Plain) (m : ℕ) (q : Mut
 
   -- ---- its task
 
-  asks : (instr : Instr) (asked : ℕ) → fetch code turns m q ≡ Ok instr → option_map pages_of (new_record q instr) ≡ Some asked → asked_by code turns p m ≡ Some asked
+  pub asks : (instr : Instr) (asked : ℕ) → fetch code turns m q ≡ Ok instr → option_map pages_of (new_record q instr) ≡ Some asked → asked_by code turns p m ≡ Some asked
   unfolding asked_by action
   asks instr asked e may = rw (is, running, e) may
 
@@ -117,7 +118,7 @@ module _ (code : List (List Instr)) (turns : ℕ) (p : Plain) (m : ℕ) (q : Mut
 
   -- the plain state after what it comes to
   abbrev Then : Outcome → Plain
-  Then outcome = state_after code turns p (option_to_list (mark_of (told_outcome m outcome)))
+  Then outcome = state_after code turns p (option_to_list (mark_of (stepped_by m (Answers (task_of (fetch code turns m q)) outcome))))
 
   by_end : (instr : Instr) (why : End) → fetch code turns m q ≡ Ok instr → MayEnd m p.heap q instr why → Sort m why → Then (Ends why) ≡ ended p m q why
   by_end instr why e may (IsStep s c) = rw (s, does_step, executes-ok instr e, c p.heap q instr may) refl

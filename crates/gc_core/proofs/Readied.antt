@@ -22,10 +22,12 @@ use Rattle.gc_worker.specs.Fits.{Fits, MayBegin, FitsEnd, IsOnSide}
 use Rattle.gc_worker.specs.Held.{Held}
 use Rattle.gc_worker.specs.Law.{Heap, nobody, held_at, moved, WorkersStand}
 use Rattle.gc_worker.specs.Seen.{seen}
+use Rattle.gc_worker.specs.Stepped.{awaits, awaits_at}
 use Rattle.gc_worker.specs.Turned.{turned}
 use Rattle.gc_core.specs.Core.{CoreState}
 use Rattle.gc_core.specs.Event.{task_of, next_task, readied, ready}
 use Rattle.gc_core.specs.Law.{IsSteady}
+use Rattle.gc_core.proofs.Counting.{at_look}
 
 -- ---- whether a task is due
 
@@ -51,6 +53,18 @@ module _ (code : List (List Instr)) (turns m : ℕ) (x : Held) where
 
   pub due : Due code turns m x
   due = due_by x.stage x.task refl refl
+
+  -- one that awaits a task is given its next one
+  pub readied_awaits : awaits x ≡ true → readied code turns m x ≡ with_task x (next_task code turns m x)
+  readied_awaits is = let at = at_look x.stage x.task is in rw (at.0, at.1) refl
+
+  -- another stays as it is
+  pub readied_rests : awaits x ≡ false → readied code turns m x ≡ x
+  readied_rests is = by_due due
+    where
+      by_due : Due code turns m x → readied code turns m x ≡ x
+      by_due (Rests same) = same
+      by_due (Begins stage none same) = absurd (let late : true ≡ false = sym (λ i. awaits_at (stage i) (none i)) ∙ is in cc)
 
 -- ---- it may begin it
 

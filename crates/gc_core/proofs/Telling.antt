@@ -1,9 +1,7 @@
 -- What the readers of a core tell, place by place.
-use Rattle.std.proofs.Common.{◌≡◌, ◌≢◌, ℕ, ◌+◌, ◌<◌, ◌≤◌, List, length, Option, Some, None, slice_get, refl, ap, ◌∙◌, arith}
+use Rattle.std.proofs.Common.{◌≡◌, ℕ, ◌<◌, ◌≤◌, length, Option, Some, slice_get, refl, ap, ◌∙◌, arith}
 use Rattle.std.specs.Prelude.{map}
 use Rattle.std.specs.Option.{option_map}
-use Rattle.std.specs.Prelude.{slice_index}
-use Rattle.std.proofs.lemmas.Bool.{lt-ltb, eq-eqb, ne_eqb}
 use Rattle.std.proofs.lemmas.List.{get_or-take, length-take-le, length-map}
 use Rattle.std.proofs.lemmas.Option.{slice_get-map, slice_get-get_or}
 use Rattle.plain_heap.specs.Print.{Seen}
@@ -21,15 +19,7 @@ use Rattle.gc_worker.specs.Knows.{knows, copy_at, copy_in}
 use Rattle.gc_worker.specs.Stepped.{header_kept, place_kept}
 use Rattle.gc_worker.specs.Law.{nobody, held_at}
 use Rattle.gc_core.specs.Core.{CoreState, workers_of}
-use Rattle.space_map.specs.declared.area_word.AreaWord.{AreaWord}
-use Rattle.space_map.specs.declared.gate_word.GateWord.{GateWord}
-use Rattle.space_map.specs.AreaWord.{decode_area}
-use Rattle.space_map.specs.GateWord.{decode_gate}
-use Rattle.space_map.specs.Spaces.{to_space}
-use Rattle.space_map.specs.Table.{Gate, Traced, Area, place_of}
-use Rattle.heap_state.specs.Table.{word_in}
-use Rattle.gc_worker.specs.Law.{epoch_of}
-use Rattle.gc_core.specs.Readers.{mutators_in, seen_of, registers_in, kept_in, cycles_of, live_of}
+use Rattle.gc_core.specs.Readers.{mutators_in, seen_of, kept_in}
 
 abbrev seen_in : Held → Seen
 seen_in x = record { printed = x.account.printed; end = x.account.end }
@@ -41,9 +31,6 @@ module _ (s : CoreState) (enough : s.heap.mutators ≤ workers_of s) where
   pub seen_length : length (seen_of s) ≡ s.heap.mutators
   seen_length = length-map (mutators_in s) seen_in ∙ many
 
-  pub registers_length : length (registers_in s) ≡ s.heap.mutators
-  registers_length = length-map (mutators_in s) (λ (x : Held). x.registers) ∙ many
-
   module _ (m : ℕ) (few : m < s.heap.mutators) where
     there : slice_get (mutators_in s) m ≡ Some (held_at s.heap m)
     there = slice_get-get_or (mutators_in s) m nobody (omega (arith, few, many)) ∙ ap (λ (x : Held). Some x) (get_or-take s.heap.mutators s.heap.workers m nobody few)
@@ -52,15 +39,8 @@ module _ (s : CoreState) (enough : s.heap.mutators ≤ workers_of s) where
     pub seen_there : slice_get (seen_of s) m ≡ Some (seen_in (held_at s.heap m))
     seen_there = slice_get-map seen_in (mutators_in s) m ∙ ap (λ (o : Option Held). option_map seen_in o) there
 
-    -- its registers
-    pub registers_there : slice_get (registers_in s) m ≡ Some (held_at s.heap m).registers
-    registers_there = slice_get-map (λ (x : Held). x.registers) (mutators_in s) m ∙ ap (λ (o : Option Held). option_map (λ (x : Held). x.registers) o) there
-
 -- what a worker keeps
-pub kept_length : (s : CoreState) → length (kept_in s) ≡ workers_of s
-kept_length s = length-map (map knows s.heap.workers) (λ (x : Worker). kept_by x.copy) ∙ length-map s.heap.workers knows
-
-pub kept_there : (s : CoreState) (w : ℕ) → w < workers_of s → slice_get (kept_in s) w ≡ Some (kept_by (knows (held_at s.heap w)).copy)
+kept_there : (s : CoreState) (w : ℕ) → w < workers_of s → slice_get (kept_in s) w ≡ Some (kept_by (knows (held_at s.heap w)).copy)
 kept_there s w below =
     slice_get-map (λ (x : Worker). kept_by x.copy) (map knows s.heap.workers) w
     ∙ ap (λ (o : Option Worker). option_map (λ (x : Worker). kept_by x.copy) o) (slice_get-map knows s.heap.workers w ∙ ap (λ (o : Option Held). option_map knows o) (slice_get-get_or s.heap.workers w nobody below))
@@ -97,37 +77,3 @@ stage_kept Gone = refl
 pub kept_told : (s : CoreState) (w : ℕ) → w < workers_of s
     → slice_get (kept_in s) w ≡ Some (record { header = header_kept (held_at s.heap w).stage; place = place_kept (held_at s.heap w).stage })
 kept_told s w below = kept_there s w below ∙ ap (λ (k : Kept). Some k) (stage_kept (held_at s.heap w).stage)
-
--- ---- the epoch, and what was copied in it
-
-pub gate_epoch : (n : ℕ) (words : List ℕ) (g : GateWord) → decode_gate (slice_index words (place_of n Gate)) ≡ Some g → g.epoch ≡ epoch_of n words
-unfolding word_in
-gate_epoch n words g e = rw e refl
-
-pub gate_none : (n : ℕ) (words : List ℕ) → decode_gate (slice_index words (place_of n Gate)) ≡ None → 0 ≡ epoch_of n words
-unfolding word_in
-gate_none n words e = rw e refl
-
-module _ (s : CoreState) (epoch : ℕ) (is : epoch ≡ cycles_of s) where
-  abbrev n : ℕ
-  n = s.heap.pages
-
-  abbrev words : List ℕ
-  words = s.heap.words
-
-  traced_word : word_in n words Traced ≡ slice_index words (place_of n Traced)
-  unfolding word_in
-  traced_word = refl
-
-  area_word : word_in n words (Area (to_space epoch)) ≡ slice_index words (place_of n (Area (to_space epoch)))
-  unfolding word_in
-  area_word = let l : to_space epoch < 2 = omega arith in rw (lt-ltb (to_space epoch) 2 l) refl
-
-  -- the epoch isn't traced
-  pub live_not : slice_index words (place_of n Traced) ≢ epoch + 1 → None ≡ live_of s
-  live_not d = rw (← is, traced_word, ne_eqb (slice_index words (place_of n Traced)) (epoch + 1) d) refl
-
-  -- it is, and this is its area
-  pub live_by : (o : Option AreaWord) → slice_index words (place_of n Traced) ≡ epoch + 1 → decode_area (slice_index words (place_of n (Area (to_space epoch)))) ≡ o
-      → option_map (λ (a : AreaWord). a.front) o ≡ live_of s
-  live_by o t a = rw (← is, traced_word, eq-eqb (slice_index words (place_of n Traced)) (epoch + 1) t, area_word, a) refl

@@ -4,18 +4,23 @@ use Rattle.plain_heap.specs.Order.{Story, opening}
 use Rattle.plain_heap.proofs.Stories.{story_after-now}
 use Rattle.gc_worker.proofs.Between.Beginning.{tasks_may_begin}
 use Rattle.gc_worker.proofs.Between.GoingOn.{workers_go_on}
+use Rattle.gc_worker.proofs.Between.ByClaims.{pages_are_opened_by_claims}
+use Rattle.gc_worker.proofs.Between.Claims.{copied_pages_are_below_low, flips_are_of_traced, traced_pages_are_open}
 use Rattle.gc_worker.proofs.Between.Opening.{heaps_open}
 use Rattle.gc_worker.proofs.Between.Readying.{readying_stands}
 use Rattle.gc_worker.proofs.Between.Standing.{what_stands_is_so}
 use Rattle.gc_worker.proofs.Between.Wanting.{workers_want}
 use Rattle.gc_worker.proofs.Whole.{steps_keep}
 use Rattle.gc_core.specs.Core.{CoreState, opening_core}
-use Rattle.gc_core.specs.Law.{EventsKeep, EventsMeet, epoch_in}
+use Rattle.gc_worker.specs.Claims.{epoch_in}
+use Rattle.gc_core.specs.Law.{EventsKeep, EventsMeet}
 use Rattle.gc_core.specs.Run.{Ran, run_from}
-use Rattle.gc_core.specs.Whole.{RunsFollow, FullsFollowFlips, NoPageIsWonTwice}
+use Rattle.gc_core.specs.Whole.{RunsFollow, FullsFollowFlips, NoPageIsWonTwice, CopiedPagesAreWonOnce, FlipsAreOfTracedCores}
 use Rattle.gc_core.proofs.Events as events
 use Rattle.gc_core.proofs.Begun.{opening_stands, opening_steady, opening_epoch}
 use Rattle.gc_core.proofs.Claims.{pages_are_won_once}
+use Rattle.gc_core.proofs.Copied.{pages_are_won, flipped_of_traced}
+use Rattle.gc_core.proofs.Dumping.{told_represents}
 use Rattle.gc_core.proofs.Fulls.{fulls_come_after_flips}
 use Rattle.gc_worker.proofs.Between.Begun.{beginnings_are_kept, full_is_found_later}
 use Rattle.gc_core.proofs.Running.{run_law, run_acts, run_full, stands_seen}
@@ -38,6 +43,7 @@ runs_follow code items config schedule n program size turns few =
     let all = what_stands_is_so r.last.heap _ _ law.stands in
     record {
       represents = rw now at all.sound.represents;
+      dump = told_represents r.last _ all.enough (rw now at all.sound.represents).dump;
       seen = rw now at (stands_seen what_stands_is_so r.last _ _ law.stands);
       acts = run_acts events_keep schedule 0 n s story steady stands;
       full = run_full events_keep schedule 0 n s story steady stands;
@@ -48,6 +54,20 @@ runs_follow code items config schedule n program size turns few =
 pub no_page_is_won_twice : NoPageIsWonTwice
 no_page_is_won_twice schedule at n s l =
     pages_are_won_once steps_keep readying_stands tasks_may_begin events_keep schedule at n s (record { flip = l.flip; now = l.plain }) l.steady l.stands
+
+pub copied_pages_are_won_once : CopiedPagesAreWonOnce
+copied_pages_are_won_once code items config schedule n program size turns few later =
+    let s : CoreState = opening_core code config in
+    let story : Story = record { flip = opening code; now = opening code } in
+    let stands = opening_stands heaps_open code items config program size turns few in
+    let steady = opening_steady heaps_open code items config program size turns few in
+    let law = run_law events_keep schedule 0 n s story steady stands in
+    let apart = pages_are_won_once steps_keep readying_stands tasks_may_begin events_keep schedule 0 n s story steady stands in
+    pages_are_won pages_are_opened_by_claims readying_stands tasks_may_begin events_keep traced_pages_are_open copied_pages_are_below_low schedule n s story steady stands
+    (opening_epoch heaps_open code items config program size turns few) apart later _ _ law.stands
+
+pub flips_are_of_traced_cores : FlipsAreOfTracedCores
+flips_are_of_traced_cores s w asked l e = flipped_of_traced flips_are_of_traced readying_stands tasks_may_begin s w asked l.plain l.flip l.steady l.stands e
 
 pub fulls_follow_flips : FullsFollowFlips
 fulls_follow_flips code items config schedule n program size turns few =

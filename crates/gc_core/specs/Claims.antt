@@ -1,10 +1,13 @@
 -- Which pages are claimed in a run.
-use Rattle.std.specs.Prelude.{◌≡◌, ℕ, ◌+◌, List, [], ◌++◌, Option, Some, None, slice_get, if◌then◌else◌, zero, suc}
+use Rattle.std.specs.Prelude.{◌≡◌, ℕ, ◌+◌, ◌⊎◌, List, [], ◌++◌, Option, Some, None, slice_get, if◌then◌else◌, zero, suc}
 use Rattle.std.specs.Option.{option_to_list}
 use Rattle.plain_heap.specs.Order.{Story}
 use Rattle.atom_store.specs.declared.step.Step.{Step}
 use Rattle.atom_store.specs.Step.{reply_of}
-use Rattle.gc_worker.specs.Law.{WorkersStand}
+use Rattle.space_map.specs.Spaces.{board_page}
+use Rattle.gc_worker.specs.Claims.{CopiedPagesAreOpen, IsCopiedPage, IsOfEpoch, epoch_in}
+use Rattle.gc_worker.specs.Copied.{IsTraced}
+use Rattle.gc_worker.specs.Law.{Heap, WorkersStand}
 use Rattle.gc_worker.specs.Turned.{PageWon, won}
 use Rattle.gc_worker.specs.Wanted.{wanted}
 use Rattle.gc_core.specs.Core.{CoreState}
@@ -34,3 +37,18 @@ AreApart wins = (i j : ℕ) (w : PageWon) → slice_get wins i ≡ Some w → sl
 abbrev pub PagesAreWonOnce : Type 0
 PagesAreWonOnce = (schedule : ℕ → ℕ) (at n : ℕ) (s : CoreState) (story : Story) → IsSteady s → WorkersStand s.heap story.now story.flip
     → AreApart (wins_from schedule at n s)
+
+-- ---- the pages of an epoch
+
+-- the page was won in the epoch of the heap's gate, exactly once
+pub record IsWonOnce (wins : List PageWon) (h : Heap) (page : ℕ) : Type 0 where
+  pub at : ℕ
+  pub won : slice_get wins at ≡ Some (record { page = page; epoch = epoch_in h })
+  pub once : (i : ℕ) → slice_get wins i ≡ Some (record { page = page; epoch = epoch_in h }) → i ≡ at
+
+-- Each page for copies that is open in that epoch, or being scanned, was won so. Once the epoch is traced the board and all pages into
+-- which records were copied are open in it, and were won so.
+pub record PagesAreWon (wins : List PageWon) (h : Heap) : Type 0 where
+  pub of_epoch : (page : ℕ) → IsOfEpoch h.pages h.words page → IsWonOnce wins h page
+  pub opened : IsTraced h → CopiedPagesAreOpen h
+  pub copied : IsTraced h → (page : ℕ) → (page ≡ board_page h.pages) ⊎ IsCopiedPage h page → IsWonOnce wins h page

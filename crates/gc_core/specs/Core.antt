@@ -15,6 +15,13 @@ pub record CoreState : Type 0 where
 abbrev pub is_size : ℕ → Bool
 is_size pages = nat_le 4 pages && nat_le pages 2048
 
+-- the most instructions that a mutator may execute, and the most scanners
+abbrev pub most_turns : ℕ
+most_turns = 10000000
+
+abbrev pub most_scanners : ℕ
+most_scanners = 8
+
 -- the core in which a program begins: a mutator for each section, and the scanners
 abbrev pub opening_core : List (List Instr) → Config → CoreState
 opening_core code config = record { code = code; turns = config.turns; heap = opening config.pages (length code) config.scanners }

@@ -13,11 +13,12 @@ use Rattle.gc_worker.specs.Between.{with_task}
 use Rattle.gc_worker.specs.Held.{Held}
 use Rattle.gc_worker.specs.Law.{Heap, held_at, moved}
 use Rattle.gc_worker.specs.Seen.{seen}
-use Rattle.gc_worker.specs.Turned.{Outcome, Effect, Ends, Told, Silent, Answers, Marks, told}
+use Rattle.gc_worker.specs.Stepped.{stepped_by}
+use Rattle.gc_worker.specs.Turned.{told}
 use Rattle.gc_worker.specs.Wanted.{wanted}
 use Rattle.gc_core.specs.Core.{CoreState}
 use Rattle.gc_worker.specs.declared.stepped.Stepped.{Stepped}
-use Rattle.gc_worker.specs.declared.stepped.Stepped.TheVariants as tells
+use Rattle.gc_worker.specs.declared.stepped.Stepped.TheVariants.{Idle}
 
 -- ---- the next task
 
@@ -44,20 +45,10 @@ pub record Event : Type 0 where
   pub told : Stepped
   pub after : Heap
 
-abbrev pub told_outcome : ℕ → Outcome → Stepped
-told_outcome m Effect = tells.Effect m
-told_outcome m (Ends why) = tells.Ended m why
-
--- what a step of worker m is
-abbrev pub stepped_of : ℕ → Told → Stepped
-stepped_of m Silent = tells.Moved
-stepped_of m (Answers task outcome) = told_outcome m outcome
-stepped_of m (Marks asked) = tells.Flipped asked
-
 -- worker w, which holds x, wants this step, or none
 abbrev pub event_by : Heap → ℕ → Held → Option Step → Event
-event_by h w x None = record { told = tells.Idle; after = h }
-event_by h w x (Some q) = record { told = stepped_of w (told x (reply_of q h.words)); after = moved h w x q }
+event_by h w x None = record { told = Idle; after = h }
+event_by h w x (Some q) = record { told = stepped_by w (told x (reply_of q h.words)); after = moved h w x q }
 
 -- what worker w holds as it makes its next step
 abbrev pub ready : CoreState → ℕ → Held

@@ -6,7 +6,8 @@ use Rattle.plain_heap.specs.Order.{Story}
 use Rattle.gc_worker.specs.Begun.{IsPastLook}
 use Rattle.gc_worker.specs.Law.{WorkersStand, held_at}
 use Rattle.gc_core.specs.Core.{CoreState}
-use Rattle.gc_core.specs.Law.{IsSteady, epoch_in}
+use Rattle.gc_worker.specs.Claims.{epoch_in}
+use Rattle.gc_core.specs.Law.{IsSteady}
 use Rattle.gc_core.specs.Run.{run_from}
 
 -- ---- an order
@@ -22,6 +23,15 @@ abbrev pub flips_by : ℕ → Mark → ℕ
 flips_by flips (marks.Step j) = flips
 flips_by flips (marks.Flip asked) = flips + 1
 flips_by flips (marks.Full j asked room live) = flips
+
+-- the same after marks
+abbrev pub since_in : (ℕ → Bool) → List Mark → ℕ → Bool
+since_in since [] = since
+since_in since (mark ∷ marks) = since_in (since_by since mark) marks
+
+abbrev pub flips_in : ℕ → List Mark → ℕ
+flips_in flips [] = flips
+flips_in flips (mark ∷ marks) = flips_in (flips_by flips mark) marks
 
 -- a mutator finds the heap full where a flip came since its last step, or as many as there can be
 abbrev pub MayCome : (ℕ → Bool) → ℕ → Mark → Type 0

@@ -12,7 +12,8 @@ use Rattle.heap_state.specs.Represents.{Represents}
 use Rattle.gc_worker.specs.declared.task.Task.{Task}
 use Rattle.gc_worker.specs.Full.{FindsNoRoom}
 use Rattle.gc_worker.specs.Held as held
-use Rattle.gc_worker.specs.Law.{Heap, WorkersStand, held_at, read, epoch_of}
+use Rattle.gc_worker.specs.Claims.{epoch_in}
+use Rattle.gc_worker.specs.Law.{Heap, WorkersStand, held_at, read}
 use Rattle.gc_worker.specs.declared.stepped.Stepped.{Stepped}
 use Rattle.gc_worker.specs.declared.stepped.Stepped.TheVariants.{Idle, Moved, Effect, Flipped, Ended}
 use Rattle.gc_core.specs.Core.{CoreState}
@@ -63,10 +64,6 @@ IsForWant s p m ends.ZeroDivisor = ⊤
 IsForWant s p m ends.JumpOut = ⊤
 IsForWant s p m ends.TurnsOut = ⊤
 IsForWant s p m ends.OutputFull = ⊤
-
--- The epoch that the gate of the core's table says.
-abbrev pub epoch_in : Heap → ℕ
-epoch_in h = epoch_of h.pages h.words
 
 -- What is told of an event of worker w is so: an idle worker has its end, or is no mutator, and nothing changed. An effect or
 -- an end is of mutator w, which had no end, and has just the end that is told. A flip is for the pages that the worker's task asks

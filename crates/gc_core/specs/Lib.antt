@@ -1,8 +1,12 @@
 pub mod Core
 pub mod Readers
+pub mod Dumped
 pub mod Event
 pub mod Run
 pub mod Law
 pub mod Claims
 pub mod Fulls
 pub mod Whole
+pub mod Cycles
+pub mod Needs
+pub mod Lone

@@ -1,14 +1,18 @@
 -- A whole run: one event after another by a schedule, and the order of what happened.
-use Rattle.std.specs.Prelude.{ℕ, ◌+◌, ◌%◌, Bool, true, false, List, [], ◌++◌, ⊤, Option, Some, None, if◌then◌else◌, zero, suc}
+use Rattle.std.specs.Prelude.{ℕ, ◌+◌, ◌%◌, ◌≤◌, Bool, true, false, List, [], ◌++◌, ⊤, IsTrue, Option, Some, None, if◌then◌else◌, zero, suc}
 use Rattle.std.specs.Option.{is_some, option_to_list}
 use Rattle.std.specs.List.{list_all}
 use Rattle.plain_state.specs.declared.end.End.{End}
 use Rattle.plain_state.specs.declared.end.End.TheVariants as ends
+use Rattle.mutator_asm.specs.declared.instr.Instr.{Instr}
+use Rattle.mutator_asm.specs.declared.item.Item.{Item}
+use Rattle.mutator_asm.specs.Program.{IsWellFormed}
 use Rattle.plain_heap.specs.declared.mark.Mark.{Mark}
 use Rattle.plain_heap.specs.declared.mark.Mark.TheVariants as marks
+use Rattle.gc_worker.specs.declared.config.Config.{Config}
 use Rattle.gc_worker.specs.declared.stepped.Stepped.{Stepped}
 use Rattle.gc_worker.specs.declared.stepped.Stepped.TheVariants.{Idle, Moved, Effect, Flipped, Ended}
-use Rattle.gc_core.specs.Core.{CoreState}
+use Rattle.gc_core.specs.Core.{CoreState, is_size, most_scanners, most_turns, opening_core}
 use Rattle.gc_core.specs.Event.{event_of, core_after}
 use Rattle.gc_core.specs.Readers.{seen_of}
 
@@ -66,3 +70,14 @@ Unless false rest = rest
 unfoldable pub EachEvent : (CoreState → ℕ → Type 0) → (ℕ → ℕ) → ℕ → ℕ → CoreState → Type 0
 EachEvent IsSo schedule at zero s = ⊤
 EachEvent IsSo schedule at (suc n) s = Unless (all_ended s) (IsSo s (schedule at) × EachEvent IsSo schedule (at + 1) n (core_after s (schedule at)))
+
+-- ---- runs from an opening
+
+-- so many events of a program by a schedule, from its opening
+abbrev pub run_of : List (List Instr) → Config → (ℕ → ℕ) → ℕ → Ran
+run_of code config schedule n = run_from schedule 0 n (opening_core code config)
+
+-- it is so of every run of every program, by any schedule and for any number of steps
+abbrev pub InEveryRun : (List (List Instr) → Config → (ℕ → ℕ) → ℕ → Type 0) → Type 0
+InEveryRun IsSo = (code : List (List Instr)) (items : List Item) (config : Config) (schedule : ℕ → ℕ) (n : ℕ)
+    → IsWellFormed code items → IsTrue (is_size config.pages) → config.turns ≤ most_turns → config.scanners ≤ most_scanners → IsSo code config schedule n

@@ -1,7 +1,10 @@
 //! What holds of all events and runs. Each function here does nothing: its contract is what is proved.
 
+ghost use Rattle.gc_core.specs.Cycles.{CyclesKeepWhatIsLive, FullHeapsAreFilled, InstructionsFlipOnce};
 ghost use Rattle.gc_core.specs.Law.{EventsMeet};
-ghost use Rattle.gc_core.specs.Whole.{FullsFollowFlips, MissingWorkersAreIdle, NoPageIsWonTwice, RunsFollow};
+ghost use Rattle.gc_core.specs.Lone.{LoneMutatorsGoOn, LoneRunsEnd};
+ghost use Rattle.gc_core.specs.Needs.{ClaimsAreForRecords, LargeHeapsAreNeverFull, LoneFullsFollowTheirFlips, LoneHeapsAreNeverFull, OrdersFillTheSpace};
+ghost use Rattle.gc_core.specs.Whole.{CopiedPagesAreWonOnce, FlipsAreOfTracedCores, FullsFollowFlips, MissingWorkersAreIdle, NoPageIsWonTwice, RunsFollow};
 
 /// The event of any worker does to each plain state that the core represents what the mark of it does, and what is told of it is so.
 pub fn events_meet()
@@ -28,4 +31,49 @@ pub fn fulls_follow_flips()
 /// In a run no page is won twice in an epoch.
 pub fn no_page_is_won_twice()
     ensures { NoPageIsWonTwice }
+{}
+
+/// Where the epoch of a run's core is traced, what was copied in it is what was reachable at the last flip of the order, each record once,
+/// and so many words are told as live.
+pub fn cycles_keep_what_is_live()
+    ensures { CyclesKeepWhatIsLive }
+{}
+
+/// Where a run tells that the heap is full, what was live at the last flip, the words claimed since then and the room that is left are all
+/// words of the space; and what was claimed are pages of records made since then, or of such that other mutators are making.
+pub fn full_heaps_are_filled()
+    ensures filled { FullHeapsAreFilled }
+    ensures for_records { ClaimsAreForRecords }
+    ensures orders { OrdersFillTheSpace }
+{}
+
+/// In a run a mutator flips at most once for an instruction; and with one mutator the heap is full right after a flip, or in the last epoch.
+pub fn instructions_flip_once()
+    ensures once { InstructionsFlipOnce }
+    ensures lone { LoneFullsFollowTheirFlips }
+{}
+
+/// A heap is never full in which, wherever a flip came since a mutator's last step, the mutator's next record fits beside what was live at
+/// that flip and all records made since then or being made. With one mutator it is enough that the record fits beside what is live.
+pub fn large_heaps_are_never_full()
+    ensures large { LargeHeapsAreNeverFull }
+    ensures lone { LoneHeapsAreNeverFull }
+{}
+
+/// In each epoch after the first the pages that are open for copies, or being scanned, were won in the run, each exactly once. Once the
+/// epoch is traced, the board and all pages into which records were copied are open, and were won so; and no event flips before.
+pub fn copied_pages_are_won_once()
+    ensures won { CopiedPagesAreWonOnce }
+    ensures flips { FlipsAreOfTracedCores }
+{}
+
+/// A mutator that has the core to itself gets on: in any number of steps it comes to its end, or has executed an instruction for each time
+/// that the most steps of one are in them.
+pub fn lone_mutators_go_on()
+    ensures { LoneMutatorsGoOn }
+{}
+
+/// It has its end after as many steps as the instructions for which it has turns, and one more, can take.
+pub fn lone_runs_end()
+    ensures { LoneRunsEnd }
 {}

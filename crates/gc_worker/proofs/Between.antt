@@ -1,6 +1,10 @@
 pub mod Standing
 pub mod Copied
 pub mod Claims
+pub mod Written
+pub mod Leaving
+pub mod PageWords
+pub mod ByClaims
 pub mod Begun
 pub mod Readying
 pub mod Beginning

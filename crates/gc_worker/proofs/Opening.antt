@@ -41,7 +41,7 @@ has_ended s (scan_stage.LoadsFront r) h = absurd h
 has_ended s (scan_stage.LoadsNext r) h = absurd h
 
 -- at each stage it is of its page
-of_page : (s : Scanning) (stage : ScanStage) → (scan_of s stage).page ≡ s.page
+pub of_page : (s : Scanning) (stage : ScanStage) → (scan_of s stage).page ≡ s.page
 of_page s (scan_stage.Ended ending) = refl
 of_page s scan_stage.LoadsCross = refl
 of_page s (scan_stage.LoadsFirst at) = refl

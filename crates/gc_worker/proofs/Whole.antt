@@ -15,7 +15,6 @@ use Rattle.gate_core.specs.Gate.{Passing}
 use Rattle.heap_state.specs.Configuration.{Configuration, Stands, table, era, memory, team}
 use Rattle.heap_state.specs.Cycle.{Cycle}
 use Rattle.heap_state.specs.Entries.{Entry, GateIs, TracedIs, AreaIs, PageIs, CrossIs, WordIs, AnnounceIs}
-use Rattle.heap_state.specs.Table.{table_of}
 use Rattle.space_map.specs.PageWord.{age_of}
 use Rattle.heap_state.specs.Ghost.{Ghost}
 use Rattle.heap_laws.specs.Lifting.{StandsWith, stepped, Leaves, Flipped}
@@ -40,6 +39,7 @@ use Rattle.gc_worker.proofs.Flip.Flipping.{flips_gate}
 use Rattle.gc_worker.proofs.Members.{member}
 use Rattle.gc_worker.proofs.Opening.{opens}
 use Rattle.gc_worker.proofs.Rounds.Whole.{serves}
+use Rattle.gc_worker.proofs.Rounds.Words.{page_age}
 use Rattle.gc_worker.proofs.Copying.Whole.{evacuates, forwards}
 use Rattle.gc_worker.proofs.Place.Stages.{places}
 use Rattle.gc_worker.proofs.Scan.Stages.{scans}
@@ -101,10 +101,6 @@ module _ (c : Configuration) (p : Plain) (s : Stands c p) (k : ℕ) (x : Held) w
   kinds is = by_stage x.stage is
 
 -- ---- the heap
-
-page_age : (c : Configuration) (page : ℕ) → age_of ((table c).page page) ≡ age c.pages c.words page
-unfolding table_of
-page_age c page = refl
 
 module _ (h : Heap) (p o : Plain) (k : ℕ) (x : Held) (q : Step) (st : WorkersStand h p o) (l : k < length h.workers) (holds : held_at h k ≡ x) where
   abbrev r : Reply

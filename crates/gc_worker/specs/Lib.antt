@@ -12,6 +12,8 @@ pub mod Law
 pub mod Between
 pub mod Copied
 pub mod Claims
+pub mod Past
+pub mod Cycles
 pub mod Begun
 pub mod Represented
 pub mod FullTold

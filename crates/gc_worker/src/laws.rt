@@ -3,9 +3,11 @@
 ghost use Rattle.gc_worker.specs.Law.{StepsKeep, FlipsAreWon, PlacesFit, RegistersLeadBack};
 ghost use Rattle.gc_worker.specs.Between.{HeapsOpen, ReadyingStands, TasksMayBegin, WorkersGoOn, WorkersWant, WhatStandsIsSo, AnswersLeaveTheOthers};
 ghost use Rattle.gc_worker.specs.Begun.{BeginningsAreKept, FullIsFoundLater};
-ghost use Rattle.gc_worker.specs.Claims.{TracedPagesAreOpen, FlipsAreOfTraced};
+ghost use Rattle.gc_worker.specs.Claims.{TracedPagesAreOpen, FlipsAreOfTraced, PagesAreOpenedByClaims, LowRisesAtFlips, CopiedPagesAreBelowLow};
 ghost use Rattle.gc_worker.specs.Copied.{CopiedWasLive, FullTellsLive};
+ghost use Rattle.gc_worker.specs.Cycles.{LowFallsByClaims, ClaimsAreSetAside, SetAsideIsForRecords, FlipsAreFirst, FlipsStayFirst, CallsGoOn};
 ghost use Rattle.gc_worker.specs.FullTold.{FullIsTold};
+ghost use Rattle.gc_worker.specs.Past.{PastClaimsAreLost, PastMarksAreLost, PagesAreWonNow};
 ghost use Rattle.gc_worker.specs.Counted.{CountedFit, CountsAreApart};
 ghost use Rattle.gc_worker.specs.Represented.{RepresentedWorkersStand};
 
@@ -88,6 +90,22 @@ pub fn traced_pages_are_open()
     ensures flips { FlipsAreOfTraced }
 {}
 
+/// A page for copies gets a word of the epoch by a claim and no other way: where its word is of the gate's epoch after a step, it was
+/// before, in the same epoch, or the step won the page. LOW, below which these pages lie, rises at a flip alone.
+pub fn pages_are_opened_by_claims()
+    ensures opened { PagesAreOpenedByClaims }
+    ensures low { LowRisesAtFlips }
+    ensures copied { CopiedPagesAreBelowLow }
+{}
+
+/// The exchange of a worker that slept past a flip is lost, as its round's epoch is past: that of the word of the page that it claims, and
+/// that of TRACED. No word changes, and the round ends with nothing done. So a page is won in the gate's epoch alone.
+pub fn exchanges_of_past_epochs_are_lost()
+    ensures pages { PastClaimsAreLost }
+    ensures traced { PastMarksAreLost }
+    ensures won { PagesAreWonNow }
+{}
+
 /// A worker with another count of its mutator's instructions wants, tells and becomes the same, and is as sound.
 pub fn counts_are_apart()
     ensures same { CountsAreApart }
@@ -98,4 +116,22 @@ pub fn counts_are_apart()
 pub fn beginnings_are_kept()
     ensures kept { BeginningsAreKept }
     ensures full { FullIsFoundLater }
+{}
+
+/// Within an epoch LOW falls by the words that allocations claim, and by these alone; a flip sets it to the end of the space.
+pub fn low_falls_by_claims()
+    ensures { LowFallsByClaims }
+{}
+
+/// What an allocation claims is set aside for the record that its mutator's instruction makes, until the record stands.
+pub fn claims_are_for_records()
+    ensures set_aside { ClaimsAreSetAside }
+    ensures records { SetAsideIsForRecords }
+{}
+
+/// A mutator that asks for a flip has seen none since it began its instruction, with which it goes on until it answers.
+pub fn flips_are_first()
+    ensures first { FlipsAreFirst }
+    ensures stay { FlipsStayFirst }
+    ensures calls { CallsGoOn }
 {}

@@ -44,10 +44,12 @@ pub use config::Config;
 pub use field_access::{FieldAccess, FieldUse, Role};
 pub use forwarding_register::ForwardingRegister;
 pub use laws::{
-    answers_leave_the_others, beginnings_are_kept, counts_are_apart, flips_are_won, full_is_told,
-    heaps_open, places_fit, readying_stands, registers_lead_back, steps_keep, tasks_may_begin,
-    traced_pages_are_open, what_is_represented_stands, what_stands_is_so, what_was_copied_was_live,
-    workers_go_on, workers_want,
+    answers_leave_the_others, beginnings_are_kept, claims_are_for_records, counts_are_apart,
+    exchanges_of_past_epochs_are_lost, flips_are_first, flips_are_won, full_is_told, heaps_open,
+    low_falls_by_claims, pages_are_opened_by_claims, places_fit, readying_stands,
+    registers_lead_back, steps_keep, tasks_may_begin, traced_pages_are_open,
+    what_is_represented_stands, what_stands_is_so, what_was_copied_was_live, workers_go_on,
+    workers_want,
 };
 pub use open_error::OpenError;
 pub use record_access::{RecordAccess, RecordUse};

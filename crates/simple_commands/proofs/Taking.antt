@@ -8,7 +8,7 @@ use Rattle.std.proofs.lemmas.Slice.Eq.{bytes_eq-Decides}
 use Rattle.clap.specs.Values.{IsUnsignedIn}
 use Rattle.clap.specs.Facts.{parser_of_value}
 use Rattle.clap.specs.Faults.{fault_of, is_simple_and_free}
-use Rattle.clap.specs.Simple.{App, Shape, filled_from, argument_words, built, entered, is_simple, label_of, names_of, rows_at, subcommand_of}
+use Rattle.clap.specs.Simple.{App, Shape, filled_from, index_after, argument_words, built, entered, is_simple, label_of, names_of, rows_at, subcommand_of}
 use Rattle.clap.specs.Takes.{entered_passes, level_passes, takes, value_passes, values_pass}
 use Rattle.clap.specs.Walk.{Row, Rule, Text, action_of, answers_to, nothing_held, reading_by, rows_after, stop_after}
 use Rattle.clap.specs.declared.error.kind.ErrorKind.{ErrorKind}
@@ -17,7 +17,7 @@ use Rattle.clap.proofs.ValueTestLemmas.{accepts-Accepts}
 use Rattle.simple_commands.specs.Exact.{gives_one, has_single_values, ids_differ, is_exact, is_well_made}
 use Rattle.simple_commands.specs.Held.{HoldsValue, HoldsValues, IsAmong, IsSubcommandOf}
 use Rattle.simple_commands.specs.Options as options
-use Rattle.simple_commands.specs.Options.{HoldOptions, HoldsNumberOf, HoldsWide, flag_rule, number_rule, rules_of, wide_rule}
+use Rattle.simple_commands.specs.Options.{HoldOptions, HoldsNumberOf, HoldsWide, flag_rule, number_operand, number_rule, operand_rules_of, rules_of, wide_operand, wide_rule}
 use Rattle.simple_commands.specs.declared.options.Numbers.{Numbers}
 use Rattle.simple_commands.specs.Parsing.{error_for}
 use Rattle.simple_commands.specs.declared.parsing.WordsError.{WordsError}
@@ -179,3 +179,21 @@ holds_options i numbers wide flags rows h =
     let grouped = append_assoc (map number_rule numbers) (map wide_rule wide) (map flag_rule flags) in
     let first = numbers_held i numbers (map wide_rule wide ++ map flag_rule flags) rows (subst (λ (rules : List Rule). HoldsValues (filled_from i rules) rows) grouped h) in
     record { numbers_held = first.0; wide_held = wide_held i wide (map flag_rule flags) rows first.1 }
+
+-- ---- operands, of which each has its place
+
+number_operands_held : (i : ℕ) (numbers : List (Text × Numbers)) (wide : List Text) (rows : List Row) → HoldsValues (filled_from i (operand_rules_of numbers wide)) rows
+    → options.Each (λ o. HoldsNumberOf o rows) numbers × ((j : ℕ) × HoldsValues (filled_from j (map wide_operand wide)) rows)
+number_operands_held i [] wide rows h = (tt, (i, h))
+number_operands_held i (o ∷ numbers) wide rows h = let more = number_operands_held (index_after i (number_operand o)) numbers wide rows h.1 in ((h.0, more.0), more.1)
+
+wide_operands_held : (i : ℕ) (wide : List Text) (rows : List Row) → HoldsValues (filled_from i (map wide_operand wide)) rows → options.Each (λ name. HoldsWide name rows) wide
+wide_operands_held i [] rows h = tt
+wide_operands_held i (name ∷ wide) rows h =
+    ((λ t is. let got = h.0 t is in subst (λ (u : Text). IsUnsignedIn 0 18446744073709551615 u) (sym got.1) got.2), wide_operands_held (index_after i (wide_operand name)) wide rows h.1)
+
+-- what the values of the tables' rules are, the operands hold
+pub holds_operands : (i : ℕ) (numbers : List (Text × Numbers)) (wide : List Text) (rows : List Row) → HoldsValues (filled_from i (operand_rules_of numbers wide)) rows → HoldOptions numbers wide rows
+holds_operands i numbers wide rows h =
+    let first = number_operands_held i numbers wide rows h in
+    record { numbers_held = first.0; wide_held = wide_operands_held first.1.0 wide rows first.1.1 }

@@ -10,6 +10,6 @@ mod options;
 mod parsing;
 mod readers;
 
-pub use options::{Numbers, add_options, number_of};
+pub use options::{Numbers, add_operands, add_options, number_of};
 pub use parsing::{WordsError, parse};
 pub use readers::{is_given, wide_number};

@@ -1,6 +1,7 @@
 //! The dump of a run.
 
 use super::{AMPLE, FIRST, call};
+use std::alloc::Global;
 use std::test::Fail;
 
 /// The lines of the dump that aren't a word 0, by their numbers from 1.
@@ -29,13 +30,20 @@ fn dump_line(number: usize) -> &'static str {
     }
 }
 
+/// The lines of the dump.
+pub fn dump_lines(alloc: Global) -> Result<String, Fail> {
+    let mut lines = String::new(alloc);
+    for number in 1..=636 {
+        lines.push_str(dump_line(number))?;
+        lines.push('\n')?;
+    }
+    Ok(lines)
+}
+
 #[test]
 fn a_dump_has_each_word(rt: HostRuntime) -> Result<(), Fail> {
     let mut wanted = String::from_str(rt.alloc(), "0: 7\n0: halt\n")?;
-    for number in 1..=636 {
-        wanted.push_str(dump_line(number))?;
-        wanted.push('\n')?;
-    }
+    wanted.push_str(&dump_lines(rt.alloc())?)?;
     let found = call(&rt, "sim --pages 4 --scanners 0 --dump", FIRST, AMPLE)?;
     found.check("a dump", wanted.as_bytes(), b"", 0)
 }

@@ -2,14 +2,15 @@
 
 use super::{same, words_of};
 use crate::job::Job;
+use crate::operands::BenchOperands;
 use crate::options::SimOptions;
 use crate::words::read_words;
 use simple_commands::WordsError;
 use std::alloc::Global;
 use std::test::Fail;
 
-/// Words and their job, which is a simulation's pages, scanners, turns, steps, seed and order, and
-/// the flags besides that were given.
+/// Words and their job: a simulation's pages, scanners, turns, steps, seed and order, and the flags
+/// besides that were given; or a benchmark's depth and seed.
 const ROWS: &str = "\
 sim|256 1 1000000 10000000 None false
 sim --|256 1 1000000 10000000 None false
@@ -85,7 +86,32 @@ help sim|refused
 -V|refused
 --version|refused
 sim --help|refused
-bench 1 1|refused
+bench 3 1|bench 3 1
+bench 1 0|bench 1 0
+bench 9 18446744073709551615|bench 9 18446744073709551615
+bench 03 +1|bench 3 1
+bench +3 01|bench 3 1
+bench -- 3 1|bench 3 1
+bench 3 -- 1|bench 3 1
+bench 3 1 --|bench 3 1
+bench|refused
+bench 3|refused
+bench 3 1 2|refused
+bench 0 1|refused
+bench 10 1|refused
+bench -3 1|refused
+bench -- -3 1|refused
+bench 3.0 1|refused
+bench '' 1|refused
+bench 3 ''|refused
+bench 3 -1|refused
+bench -- 3 -1|refused
+bench 3 18446744073709551616|refused
+bench 3 1 --cycles|refused
+bench --seed 1 3|refused
+bench --depth 3 1|refused
+bench --help|refused
+3 1 bench|refused
 asm x|refused
 asm asm|refused
 asm sim|refused
@@ -123,6 +149,9 @@ fn options_text(alloc: Global, options: SimOptions) -> Result<String, Fail> {
 fn found_text(alloc: Global, found: Result<Job, WordsError>) -> Result<String, Fail> {
     match found {
         Ok(Job::Asm) => Ok(String::from_str(alloc, "asm")?),
+        Ok(Job::Bench(BenchOperands { depth, seed })) => {
+            Ok(format!(in alloc; "bench {depth} {seed}")?)
+        }
         Ok(Job::Sim(options)) => options_text(alloc, options),
         Err(WordsError::Refused) => Ok(String::from_str(alloc, "refused")?),
         Err(WordsError::NoMemory) => Ok(String::from_str(alloc, "no memory")?),

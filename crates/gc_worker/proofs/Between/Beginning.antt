@@ -18,7 +18,6 @@ use Rattle.gc_worker.specs.Between.{IsIdle, TasksMayBegin, with_task}
 use Rattle.gc_worker.specs.Fits.{Fits, FitsEnd, FitsRegister, FitsStage, FitsTask, FitsTaskAfter, FitsTaskBack, FitsTaskBefore, IsAccessing, IsEndBefore, IsMaking, IsOnSide, IsOnSideBack, MayBegin}
 use Rattle.gc_worker.specs.Held.{Held, asked_by}
 use Rattle.gc_worker.specs.Knows.{known_at, passage_in, step_from, gate_step_at}
-use Rattle.gc_worker.specs.Stepped.{IsSound}
 
 -- ---- where it stands
 
@@ -187,7 +186,3 @@ pub tasks_may_begin : TasksMayBegin
 tasks_may_begin n mutators k x task f idle may =
     let w = waits x idle x.stage f.task f.end f.side in
     record { same = known x task x.stage w; fits = λ f. with_it x task may n mutators k w f }
-
--- it is sound with it
-pub task_sound : (x : Held) (task : Task) → IsSound x → IsIdle x → MayBegin x.account x.registers (Some task) → IsSound (with_task x task)
-task_sound x task f idle may = (tasks_may_begin x.layout.pages x.mutators x.number x task f idle may).fits f

@@ -36,13 +36,13 @@ use Rattle.gc_worker.specs.declared.stage.Stage.TheVariants.{Looks, Passes, Flip
 use Rattle.gc_worker.specs.declared.task.Task.{Task}
 use Rattle.gc_worker.specs.declared.task.Task.TheVariants.{Calls, Stops}
 use Rattle.gc_worker.specs.Access as access
-use Rattle.gc_worker.specs.Claims.{IsCopiedPage, TracedPagesAreOpen, FlipsAreOfTraced, epoch_in}
+use Rattle.gc_worker.specs.Claims.{IsBelowLow, IsCopiedPage, IsForCopies, CopiedPagesAreBelowLow, TracedPagesAreOpen, FlipsAreOfTraced, epoch_in}
 use Rattle.gc_worker.specs.Copied.{IsTraced}
 use Rattle.gc_worker.specs.Held.{Held}
 use Rattle.gc_worker.specs.Knows.{traced_seen_in}
 use Rattle.gc_worker.specs.Law.{Heap, read, WorkersStand}
 use Rattle.gc_worker.specs.Seen.{seen}
-use Rattle.gc_worker.specs.Turned.{Told, Silent, Answers, Marks, told, told_at, told_look, told_gate, told_start, told_acted, told_action, told_access, told_place, told_full, told_effect, told_end, is_full, end_of}
+use Rattle.gc_worker.specs.Turned.{Told, Silent, Answers, Marks, told_at, told_look, told_gate, told_start, told_acted, told_action, told_access, told_place, told_full, told_effect, told_end, is_full, end_of}
 use Rattle.gc_worker.specs.Turned as turning
 use Rattle.gc_worker.proofs.Areas.{area_now, area_says, is_space}
 use Rattle.gc_worker.proofs.Eras.{board_is, start_is}
@@ -56,8 +56,40 @@ module _ (h : Heap) (p o : Plain) (st : WorkersStand h p o) where
   abbrev c : Configuration
   c = read h
 
-  of_now : (era c).epoch ≡ epoch_in h
+  pub of_now : (era c).epoch ≡ epoch_in h
   of_now = sym (ap (turning.epoch_in 0) (gate_says c p st.stands))
+
+  -- the area of the gate's epoch, as its word says it
+  areas : (area : AreaWord) → decode_area (area_now c (to_space (epoch_in h))) ≡ Some area → AreaAnswers h.pages area
+  areas area is =
+      let space = to_space (epoch_in h) in
+      subst (AreaAnswers h.pages) (same_Some ((table c).area space) area (sym (area_says c p st.stands space (is_space (epoch_in h))) ∙ is))
+      ((areas_are_read c p st.stands).each space (is_space (epoch_in h)))
+
+  -- the pages that were copied into lie below LOW
+  copied_below : (page : ℕ) → IsCopiedPage h page → IsBelowLow h.pages h.words page
+  copied_below page copied =
+      let a = (areas copied.area copied.area_is).order in
+      let b = copied.below in
+      record { area = copied.area; area_is = copied.area_is; from = copied.from; below = omega (arith, a, b) }
+
+  -- and those are pages of the table
+  below_within : (page : ℕ) → IsBelowLow h.pages h.words page → page ≤ 2 * h.pages
+  below_within page is =
+      let a = (areas is.area is.area_is).order in
+      let b = is.below in
+      let start = start_within (to_space (epoch_in h)) (is_space (epoch_in h)) in
+      omega (arith, a, b, start)
+    where
+      start_within : (space : ℕ) → space < 2 → space_start h.pages space ≤ 64 * h.pages
+      start_within space small = ⊎_elim
+          (λ (none : space < 1). let e : space ≡ 0 = omega (arith, none) in subst (λ (n : ℕ). space_start h.pages n ≤ 64 * h.pages) (sym e) (omega arith))
+          (λ (one : 1 ≤ space). let e : space ≡ 1 = omega (arith, one, small) in subst (λ (n : ℕ). space_start h.pages n ≤ 64 * h.pages) (sym e) (omega arith))
+          (cases_lt space 1)
+
+  pub for_copies_within : (page : ℕ) → IsForCopies h.pages h.words page → page ≤ 2 * h.pages
+  for_copies_within page (inl board) = omega (arith, board)
+  for_copies_within page (inr below) = below_within page below
 
   module _ (traced : IsTraced h) where
     as_traced : (memory c).traced ≡ (era c).epoch + 1
@@ -77,13 +109,6 @@ module _ (h : Heap) (p o : Plain) (st : WorkersStand h p o) where
         subst (λ (page : ℕ). (table c).page page ≡ Open (era c).epoch) same quiet.board
 
     module _ (page : ℕ) (copied : IsCopiedPage h page) where
-      areas : AreaAnswers h.pages copied.area
-      areas =
-          let space = to_space (era c).epoch in
-          let same : copied.area ≡ (table c).area space =
-          same_Some copied.area ((table c).area space) (sym copied.area_is ∙ (ap (λ (e : ℕ). decode_area (area_now c (to_space e))) (sym of_now) ∙ area_says c p st.stands space (is_space (era c).epoch))) in
-          subst (AreaAnswers h.pages) (sym same) ((areas_are_read c p st.stands).each space (is_space (era c).epoch))
-
       front_is : (memory c).front ≡ (era c).start + copied.area.front
       front_is =
           let space = to_space (era c).epoch in
@@ -100,25 +125,19 @@ module _ (h : Heap) (p o : Plain) (st : WorkersStand h p o) where
           (λ (full : first_word page + 64 ≤ (memory c).front). quiet.full page (let s = start_as in let f = copied.from in omega (arith, s, f)) full)
           (cases_lt (memory c).front (first_word page + 64))
 
-      within : page ≤ 2 * h.pages
-      within = let a = areas.order in let b = copied.below in let space = is_space (epoch_in h) in omega (arith, a, b, by_space (to_space (epoch_in h)) space)
-        where
-          by_space : (space : ℕ) → space < 2 → space_start h.pages space ≤ 64 * h.pages
-          by_space space small = ⊎_elim
-              (λ (none : space < 1). let e : space ≡ 0 = omega (arith, none) in subst (λ (n : ℕ). space_start h.pages n ≤ 64 * h.pages) (sym e) (omega arith))
-              (λ (one : 1 ≤ space). let e : space ≡ 1 = omega (arith, one, small) in subst (λ (n : ℕ). space_start h.pages n ≤ 64 * h.pages) (sym e) (omega arith))
-              (cases_lt space 1)
-
     open_by : (page : ℕ) → (page ≡ board_page h.pages) ⊎ IsCopiedPage h page → decode_page (page_now c page) ≡ Some (Open (epoch_in h))
     open_by page (inl board) = says page (omega (arith, board)) (subst (λ (n : ℕ). (table c).page n ≡ Open (era c).epoch) (sym board) board_open)
-    open_by page (inr copied) = says page (within page copied) (is_open page copied)
+    open_by page (inr copied) = says page (below_within page (copied_below page copied)) (is_open page copied)
 
 pub traced_pages_are_open : TracedPagesAreOpen
 traced_pages_are_open h p o st traced page of_epoch = open_by h p o st traced page of_epoch
 
+pub copied_pages_are_below_low : CopiedPagesAreBelowLow
+copied_pages_are_below_low h p o page st copied = copied_below h p o st page copied
+
 -- ---- flips
 
-abbrev NoMark : Told → Type 0
+abbrev pub NoMark : Told → Type 0
 NoMark Silent = ⊤
 NoMark (Answers task outcome) = ⊤
 NoMark (Marks asked) = ⊥
@@ -178,7 +197,7 @@ places_unmarked x (Finished (Full s)) = full_unmarked x s s.traced
 places_unmarked x More = tt
 
 -- who flips is at a flip
-flips_at : (x : Held) (reply : Reply) (asked : ℕ) (stage : Stage) → told_at x stage reply ≡ Marks asked → (f : Flipping) × (stage ≡ Flips f)
+pub flips_at : (x : Held) (reply : Reply) (asked : ℕ) (stage : Stage) → told_at x stage reply ≡ Marks asked → (f : Flipping) × (stage ≡ Flips f)
 flips_at x reply asked (Flips f) e = (f, refl)
 flips_at x reply asked Looks e = absurd (subst NoMark e (looks_unmarked x reply))
 flips_at x reply asked (Accesses a) e = absurd (subst NoMark e (accesses_unmarked x.task (access.told a reply)))

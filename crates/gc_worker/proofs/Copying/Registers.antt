@@ -1,5 +1,5 @@
 -- The copy that a register asked for is found: the register gets its address, and the next one that holds a pointer asks.
-use Rattle.std.proofs.Common.{◌≡◌, ℕ, ◌+◌, ◌-◌, ◌*◌, ◌<◌, ◌≤◌, ◌^◌, true, List, length, slice_index, Option, Some, None, is_some, refl, sym, ap, subst, ◌∙◌, arith, get_or-set_same, get_or-set_other, length-set, ◌≢◌, nat_lt, ⊎_elim}
+use Rattle.std.proofs.Common.{◌≡◌, ℕ, ◌+◌, ◌-◌, ◌*◌, ◌<◌, ◌≤◌, ◌^◌, true, length, slice_index, Option, Some, None, is_some, refl, sym, ap, subst, ◌∙◌, arith, get_or-set_other, length-set, nat_lt}
 use Rattle.std.specs.Prelude.{slice_set}
 use Rattle.plain_state.specs.State.{Plain}
 use Rattle.atom_store.specs.declared.reply.Reply.{Reply}
@@ -20,17 +20,14 @@ use Rattle.forwarding.specs.Taken as evac_taken
 use Rattle.gate_core.specs.declared.passage.Passage.TheVariants.{Forwarded}
 use Rattle.heap_state.specs.Configuration.{Configuration, Stands, era, memory, team}
 use Rattle.heap_state.specs.Entries.{Entry, AnnounceIs}
-use Rattle.heap_state.specs.Functions.{put}
 use Rattle.heap_state.specs.Table.{word_in}
 use Rattle.heap_state.specs.Worker.{Worker, Quest, Register, is_late}
-use Rattle.heap_state.proofs.Puts.{put_is}
 use Rattle.heap_laws.specs.Composites.{AsksAt, AllDone, AsksNext, LeadNowhere, forwarded_to}
 use Rattle.heap_laws.proofs.Copying.Laws.{announces_are_cleared}
 use Rattle.heap_laws.proofs.Steps.Composites.{registers_find_forwards, registers_are_settled}
-use Rattle.std.proofs.lemmas.Bool.{cases_eq}
-use Rattle.plain_state.specs.declared.sizes.TheConstants.{REGISTERS}
+use Rattle.gc_worker.proofs.Settling.{AreValues, registers_put, values_set}
 use Rattle.gc_worker.proofs.Tasks.{task_stays}
-use Rattle.gc_worker.specs.Seen.{IsValueWord, IsValueAs}
+use Rattle.gc_worker.specs.Seen.{IsValueAs}
 use Rattle.gc_worker.specs.declared.after.After.{After}
 use Rattle.gc_worker.specs.declared.stage.Stage.{Stage}
 use Rattle.gc_worker.specs.declared.stage.Stage.TheVariants.{Forwards}
@@ -48,11 +45,6 @@ use Rattle.gc_worker.proofs.Gate.Resuming.{end_none}
 use Rattle.gc_worker.proofs.Gate.Words.{wants}
 use Rattle.gc_worker.proofs.Pointers.{Found, Nowhere, There, word_at, found, is_pointer, leads_nowhere}
 use Rattle.gc_worker.proofs.Steps.{Law, becomes, stores, row_fits, prepared}
-
--- a register changed in the list is changed in the worker
-registers_put : (registers : List ℕ) (r v : ℕ) → r < length registers → (λ (j : ℕ). slice_index (slice_set registers r v) j) ≡ put (λ (j : ℕ). slice_index registers j) r v
-registers_put registers r v l =
-    put_is (λ (j : ℕ). slice_index registers j) (λ (j : ℕ). slice_index (slice_set registers r v) j) r v (get_or-set_same registers r v 0 l) (λ j d. get_or-set_other registers r j v 0 d)
 
 module _ (c : Configuration) (p : Plain) (s : Stands c p) (k : ℕ) (y : Held) (v : Evacuation) (r : ℕ) (after : After) where
   abbrev host : Host
@@ -135,11 +127,8 @@ module _ (c : Configuration) (p : Plain) (s : Stands c p) (k : ℕ) (y : Held) (
       task_after : FitsTaskAfter (with_it to) after
       task_after = task_stays y.account y.registers r v.addr to (pointer_word to) inside (ap decode (sym (ap (λ (u : Worker). u.registers r) is.as_known)) ∙ origin.3) (decode-pointer_word to short) after y.task is.fits.task
 
-      value_words : (i : ℕ) → i < REGISTERS → IsValueWord (slice_index (with_it to).registers i)
-      value_words i l = ⊎_elim
-          (λ (same : i ≡ r). subst IsValueWord (sym (ap (slice_index (with_it to).registers) same ∙ get_or-set_same y.registers r (pointer_word to) 0 inside)) (subst IsValueAs (sym (decode-pointer_word to short)) tt))
-          (λ (other : i ≢ r). subst IsValueWord (sym (get_or-set_other y.registers r i (pointer_word to) 0 other)) (is.fits.registers i l))
-          (cases_eq i r)
+      value_words : AreValues (with_it to).registers
+      value_words = values_set y.registers r (pointer_word to) is.fits.eight (subst IsValueAs (sym (decode-pointer_word to short)) tt) is.fits.registers
 
       refits_it : (stage : Stage) → FitsEnd stage (is_some y.account.end) → IsOnSide stage (nat_lt y.number y.mutators) (is_some y.account.end)
           → FitsTask (at_stage (with_it to) stage) stage → FitsStage (at_stage (with_it to) stage) stage → Fits c.pages c.mutators k (at_stage (with_it to) stage)

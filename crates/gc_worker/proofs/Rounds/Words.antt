@@ -1,10 +1,11 @@
 -- The words that a round reads: TRACED, the pages' and those of announced places.
 use Rattle.std.proofs.Common.{◌≡◌, ℕ, ◌*◌, ◌≤◌, Some}
 use Rattle.plain_state.specs.State.{Plain}
-use Rattle.space_map.specs.PageWord.{decode_page}
+use Rattle.space_map.specs.PageWord.{age_of, decode_page}
 use Rattle.space_map.specs.Table.{Traced, Page, Announce}
 use Rattle.heap_state.specs.Configuration.{Configuration, Stands, table}
 use Rattle.heap_state.specs.Table.{table_of, word_in}
+use Rattle.gc_worker.specs.Law.{age}
 
 abbrev pub traced_now : Configuration → ℕ
 traced_now c = word_in c.pages c.words Traced
@@ -18,6 +19,10 @@ page_now c page = word_in c.pages c.words (Page page)
 
 pub page_says : (c : Configuration) (p : Plain) → Stands c p → (page : ℕ) → page ≤ 2 * c.pages → decode_page (page_now c page) ≡ Some ((table c).page page)
 page_says c p s page is = s.formed.pages page is
+
+pub page_age : (c : Configuration) (page : ℕ) → age_of ((table c).page page) ≡ age c.pages c.words page
+unfolding table_of
+page_age c page = λ i. age c.pages c.words page
 
 abbrev pub announced_now : Configuration → ℕ → ℕ
 announced_now c worker = word_in c.pages c.words (Announce worker)

@@ -2,7 +2,7 @@ use Rattle.std.proofs.Common.{◌++◌}
 use Rattle.std.specs.List.{flat_map}
 use Rattle.std.specs.String.{string_bytes}
 use Rattle.gc_core.specs.Readers.{kept_in}
-use Rattle.ael_cli.specs.Dump.{kept_line}
+use Rattle.dump_text.specs.Text.{kept_line}
 use Rattle.ael_cli.proofs.Seeing.{Told}
 use Rattle.ael_cli.proofs.dump.push_kept.Given as goal
 

@@ -1,4 +1,4 @@
-use Rattle.ael_cli.specs.Dump.{words_line}
+use Rattle.dump_text.specs.Text.{words_line}
 use Rattle.ael_cli.proofs.Seeing.{told_more}
 use Rattle.ael_cli.proofs.dump.push_registers.Goals as goal
 

@@ -2,7 +2,7 @@ use Rattle.std.proofs.Common.{◌++◌}
 use Rattle.std.specs.List.{flat_map}
 use Rattle.std.specs.String.{string_bytes}
 use Rattle.gc_core.specs.Readers.{registers_in}
-use Rattle.ael_cli.specs.Dump.{words_line}
+use Rattle.dump_text.specs.Text.{words_line}
 use Rattle.ael_cli.proofs.Seeing.{Told}
 use Rattle.ael_cli.proofs.dump.push_registers.Given as goal
 

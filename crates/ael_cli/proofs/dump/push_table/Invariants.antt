@@ -1,6 +1,6 @@
 use Rattle.std.proofs.Common.{◌≡◌, ◌++◌, drop}
 use Rattle.std.specs.String.{string_bytes}
-use Rattle.ael_cli.specs.Dump.{table_lines}
+use Rattle.dump_text.specs.Text.{table_lines}
 use Rattle.ael_cli.proofs.dump.push_table.Given as goal
 
 abbrev pub invariant-loop-word : goal.invariant-loop-word

@@ -1,7 +1,7 @@
 use Rattle.std.proofs.Common.{◌≡◌, ◌++◌, drop, codes}
 use Rattle.std.specs.List.{flat_map}
 use Rattle.std.specs.String.{string_bytes}
-use Rattle.ael_cli.specs.Dump.{word_text}
+use Rattle.dump_text.specs.Text.{word_text}
 use Rattle.ael_cli.proofs.dump.push_words.Given as goal
 
 abbrev pub invariant-loop-word : goal.invariant-loop-word

@@ -1,7 +1,7 @@
 use Rattle.std.proofs.Common.{◌∙◌, ap, ℕ}
 use Rattle.std.specs.Global.{Vec}
 use Rattle.std.proofs.lemmas.Result.{IfOk-weaker}
-use Rattle.ael_cli.specs.Simulation.{config, scheduled}
+use Rattle.ael_cli.specs.Simulation.{config, scheduled, IsCollected}
 use Rattle.ael_cli.proofs.Simulating.{simulated}
 use Rattle.ael_cli.proofs.sim.sim.Goals as goal
 
@@ -10,8 +10,18 @@ returns c =
     let options = c.args.options in
     let program = c.args.program.now.code in
     let items = c.args.program.now.schedule in
+    let schedule = scheduled options program items in
+    let formed = c.args.program.now.well_formed in
+    let pages = c.requires.pages in
+    let turns = c.requires.turns.1 in
+    let scanners = c.requires.scanners in
+    let collected : IsCollected options program items = record {
+      live = c.cycles_keep_what_is_live.ensures program items (config options) schedule options.steps formed pages turns scanners;
+      filled = c.full_heaps_are_filled.ensures.orders program items (config options) schedule options.steps formed pages turns scanners;
+      large = c.large_heaps_are_never_full.ensures.large program items (config options) schedule options.steps formed pages turns scanners;
+    } in
     IfOk-weaker c.new.result _ _ (λ answer new. simulated options program items _ c.in_ok-order.order.items _ _
-    (c.runs_follow.ensures program items (config options) (scheduled options program items) options.steps c.args.program.now.well_formed c.requires.pages c.requires.turns.1 c.requires.scanners)
+    (c.runs_follow.ensures program items (config options) schedule options.steps formed pages turns scanners) collected
     (rw (c.in_ok-core.ensures.opened, c.as_slice.ensures) at c.in_ok-order.ensures.core)
     (rw (c.in_ok-core.ensures.opened, c.as_slice.ensures) at c.in_ok-order.ensures.order)
     (new.0 ∙ ap (λ (v : Vec ℕ). v.items) c.into_bytes.ensures.value

@@ -1,15 +1,10 @@
-use Rattle.std.proofs.Common.{◌≡◌, ◌∙◌, ◌<◌, ◌≤◌, ◌++◌, [], ◌∷◌, ap, ap₂, arith, length, map}
-use Rattle.clap.specs.Simple.{App}
+use Rattle.std.proofs.Common.{◌∙◌, ◌<◌, ◌≤◌, ◌++◌, [], ap, arith, length, map}
 use Rattle.std.specs.Borrow.{Bor}
-use Rattle.clap.specs.Walk.{Rule, Text, texts}
+use Rattle.clap.specs.Walk.{Text, texts}
 use Rattle.clap.specs.Words.{app_of}
 use Rattle.simple_commands.specs.Options.{flag_rule, number_rule, row_of, wide_rule, with_rules}
-use Rattle.simple_commands.proofs.Adding.{all_added, none_more, one_more}
+use Rattle.simple_commands.proofs.Adding.{added, all_added, none_more, one_more}
 use Rattle.simple_commands.proofs.options.add_options.Goals as goal
-
--- a command to which an argument was added
-added : (a : App) (rule : Rule) (b : App) (r : Rule) → a ≡ b → rule ≡ r → with_rules a (rule ∷ []) ≡ with_rules b (r ∷ [])
-added a rule b r is same = ap₂ (λ (x : App) (y : Rule). with_rules x (y ∷ [])) is same
 
 pub loop-option-preserved : goal.loop-option-preserved
 loop-option-preserved c =

@@ -7,8 +7,9 @@ use Rattle.gc_core.specs.Core.{CoreState, workers_of}
 use Rattle.gc_core.specs.Event.{core_after, event_of}
 use Rattle.gc_core.specs.Law.{IsLawful}
 use Rattle.gc_core.specs.Run.{all_ended}
-use Rattle.gc_core.proofs.CoreSteps.{held_sound, held_counts, ready_sound, lawful_after, state, read_held, made_ready, may_make, made_room, made_told, made_core}
+use Rattle.gc_core.proofs.CoreSteps.{held_sound, held_counts, ready_sound, state, read_held, made_ready, may_make, made_room, made_told, made_core}
 use Rattle.gc_core.proofs.Ending.{ends_are_told}
+use Rattle.gc_core.proofs.Lawful.{lawful_after}
 use Rattle.gc_core.proofs.machine.Core.step.Goals as goal
 
 -- ---- the worker is made ready
@@ -61,7 +62,7 @@ invariant_of-self c =
     let ready_is = made_ready s w below c.index_mut-slot.result.now c.ready.new.self c.index_mut-slot.ensures.value c.ready.ensures in
     let z_is = c.step.ensures.state ∙ ap (λ (x : Held). (made x s.heap.words).held) ready_is in
     let words_are = c.step.ensures.words ∙ ap (λ (x : Held). (made x s.heap.words).words) ready_is in
-    (c.self.invariant.0, c.self.invariant.1, subst IsLawful (sym (made_core s w c.self.invariant.2 below c.step.new.self c.step.new.on z_is words_are)) (lawful_after s w c.self.invariant.2 below))
+    (c.self.invariant.0, c.self.invariant.1, subst IsLawful (sym (made_core s w c.self.invariant.2 below c.step.new.self c.step.new.on z_is words_are)) (lawful_after s w c.self.invariant.2))
 
 pub returns-clause-told : goal.returns-clause-told
 returns-clause-told c =

@@ -1,0 +1,2 @@
+pub mod Markups
+pub mod Clean

@@ -1,0 +1,93 @@
+-- What an act tells.
+use Rattle.std.proofs.Common.{Option, None, true, ◌≡◌, ℕ, ◌<◌, List, [], ◌∷◌, Some, sym, ◌∙◌, ap, subst, arith}
+use Rattle.atom_store.specs.declared.reply.Reply.{Reply}
+use Rattle.atom_store.specs.declared.step.Step.{Step}
+use Rattle.std.specs.Option.{is_some}
+use Rattle.plain_state.specs.declared.end.End.{End}
+use Rattle.gate_core.specs.declared.passage.Passage.{Passage}
+use Rattle.gate_core.specs.declared.passage.Passage.TheVariants.{Attach, Forwarded, Leave, Look, Park, Request, Resume}
+use Rattle.gc_worker.specs.declared.after.After.{After}
+use Rattle.gc_worker.specs.declared.stage.Stage.{Stage}
+use Rattle.gc_worker.specs.declared.stage.Stage.TheVariants.{Accesses, Evacuates, Flips, Forwards, Gone, Looks, Opens, Passes, Places, Scans, Serves}
+use Rattle.gc_worker.specs.declared.stepped.Stepped.{Stepped}
+use Rattle.gc_worker.specs.declared.stepped.Stepped.TheVariants as stepped
+use Rattle.gc_worker.specs.Fits.{Fits, FitsEnd, FitsTask, FitsTaskBefore, IsEndBefore}
+use Rattle.gc_worker.specs.Held.{Held}
+use Rattle.gc_worker.specs.Stepped.{stepped_by, uncounted}
+use Rattle.gc_worker.specs.Turned.{Effect, Ends, Told, Silent, Answers, Marks, told, turned}
+use Rattle.gc_worker.specs.Wanted.{wanted}
+use Rattle.gc_worker.proofs.Between.GoingOn.{workers_go_on}
+use Rattle.ael_threads.specs.declared.view.Hand.{Hand}
+use Rattle.ael_threads.specs.declared.view.Plan.{Plan}
+use Rattle.ael_threads.specs.Seats.{Acts, ActsBy, Heads, Moves, Seated, first_number}
+
+pub heads_fit : (plan : Plan) (x : Held) (hs : List Hand) → Heads plan x hs → Fits plan.spaces.pages plan.mutators (first_number hs) x
+heads_fit plan x [] h = absurd h
+heads_fit plan x (was ∷ others) h = h.fits
+
+pub heads_of : (a b : Seated) → a ≡ b → Heads a.knows.plan a.worker a.knows.hands → Heads b.knows.plan b.worker b.knows.hands
+heads_of a b same h = subst (λ (z : Seated). Heads z.knows.plan z.worker z.knows.hands) same h
+
+-- who has an end has no task
+pub no_task : (plan : Plan) (x : Held) (hs : List Hand) (end : End) → Heads plan x hs → x.account.end ≡ Some end → x.task ≡ None
+no_task plan x hs end heads is = by_stage x.stage (subst (λ (o : Option End). FitsEnd x.stage (is_some o)) is f.end) f.task
+  where
+    f : Fits plan.spaces.pages plan.mutators (first_number hs) x
+    f = heads_fit plan x hs heads
+
+    by_passage : (passage : Passage) (after : After) → IsEndBefore passage true → FitsTaskBefore x passage after → x.task ≡ None
+    by_passage Leave after e task = task
+    by_passage Look after e task = absurd (cc)
+    by_passage Attach after e task = absurd (cc)
+    by_passage Park after e task = absurd (cc)
+    by_passage Request after e task = absurd (cc)
+    by_passage (Resume epoch) after e task = absurd (cc)
+    by_passage Forwarded after e task = absurd (cc)
+
+    by_stage : (stage : Stage) → FitsEnd stage true → FitsTask x stage → x.task ≡ None
+    by_stage Gone e task = task
+    by_stage (Passes g after) e task = by_passage g.passage after e task
+    by_stage Looks e task = absurd (cc)
+    by_stage (Flips g) e task = absurd (cc)
+    by_stage (Forwards w) e task = absurd (cc)
+    by_stage (Accesses a) e task = absurd (cc)
+    by_stage (Places p) e task = absurd (cc)
+    by_stage (Serves d back) e task = absurd (cc)
+    by_stage (Scans g back) e task = absurd (cc)
+    by_stage (Evacuates v g back) e task = absurd (cc)
+    by_stage (Opens o g back) e task = absurd (cc)
+
+-- who makes a step is not idle
+not_idle : (k : ℕ) (t : Told) → stepped.Idle ≡ stepped_by k t → ⊥
+not_idle k Silent e = cc
+not_idle k (Answers task Effect) e = cc
+not_idle k (Answers task (Ends end)) e = cc
+not_idle k (Marks asked) e = cc
+
+by_stepped : (a : Seated) (r : Reply) (s : Stepped) (b : Seated) → ActsBy a r s b → Acts a s b
+by_stepped a r stepped.Idle b h = absurd (not_idle a.worker.number (told a.worker r) h.stepped)
+by_stepped a r stepped.Moved b h = (r, h)
+by_stepped a r (stepped.Effect m) b h = (r, h)
+by_stepped a r (stepped.Flipped n) b h = (r, h)
+by_stepped a r (stepped.Ended m end) b h = (r, h)
+
+pub acts : (a : Seated) (r : Reply) (s : Stepped) (b : Seated) (q : Step) → Heads a.knows.plan a.worker a.knows.hands → wanted a.worker ≡ Some q → s ≡ stepped_by a.worker.number (told a.worker r)
+    → b.worker ≡ uncounted (turned a.worker r) → Moves a.knows (first_number a.knows.hands) a.worker r b.knows → Acts a s b
+acts a r s b q heads wants is worker moves = by_stepped a r s b (record {
+  wants = (q, wants);
+  stepped = is;
+  worker = worker;
+  knows = moves;
+  goes_on = workers_go_on a.knows.plan.spaces.pages a.knows.plan.mutators (first_number a.knows.hands) a.worker r (heads_fit a.knows.plan a.worker a.knows.hands heads);
+})
+
+-- it stays on its side
+side_by : (a : Seated) (r : Reply) (s : Stepped) (b : Seated) → ActsBy a r s b → a.worker.number < a.worker.mutators → b.worker.number < b.worker.mutators
+side_by a r s b h below = let number = ap (λ (x : Held). x.number) h.worker ∙ h.goes_on.number in let mutators = ap (λ (x : Held). x.mutators) h.worker ∙ h.goes_on.mutators in omega (arith, below, number, mutators)
+
+pub acts_side : (a : Seated) (s : Stepped) (b : Seated) → Acts a s b → a.worker.number < a.worker.mutators → b.worker.number < b.worker.mutators
+acts_side a stepped.Idle b h below = subst (λ (z : Seated). z.worker.number < z.worker.mutators) (sym h.0) below
+acts_side a stepped.Moved b h below = side_by a h.0 stepped.Moved b h.1 below
+acts_side a (stepped.Effect m) b h below = side_by a h.0 (stepped.Effect m) b h.1 below
+acts_side a (stepped.Flipped n) b h below = side_by a h.0 (stepped.Flipped n) b h.1 below
+acts_side a (stepped.Ended m end) b h below = side_by a h.0 (stepped.Ended m end) b h.1 below

@@ -1,0 +1,200 @@
+-- From acts to a call.
+use Rattle.std.proofs.Common.{◌≡◌, ℕ, List, [], ◌∷◌, ◌++◌, drop, Some, None, refl, sym, ◌∙◌, ap, subst, slice_get}
+use Rattle.std.proofs.lemmas.Option.{same_Some}
+use Rattle.atom_store.specs.declared.reply.Reply.{Reply}
+use Rattle.std.specs.Option.{is_some}
+use Rattle.gc_worker.specs.declared.stage.Stage.{Stage}
+use Rattle.ael_threads.proofs.Showing.{none_of}
+use Rattle.plain_state.specs.declared.end.End.{End}
+use Rattle.heap_state.specs.Worker.{Account}
+use Rattle.mutator_asm.specs.declared.instr.Instr.TheVariants.{Halt}
+use Rattle.gc_worker.specs.declared.stepped.Stepped.{Stepped}
+use Rattle.gc_worker.specs.declared.stepped.Stepped.TheVariants as stepped
+use Rattle.gc_worker.specs.declared.task.Task.{Task}
+use Rattle.gc_worker.specs.declared.task.Task.TheVariants.{Calls}
+use Rattle.gc_worker.specs.Fits.{FitsCall, Fits, FitsEnd}
+use Rattle.plain_heap.specs.Action as plain_action
+use Rattle.gc_worker.specs.Between.{AreAlike, IsNoAnswer, Lands, with_task, RestsAfter}
+use Rattle.gc_worker.specs.Full.{FullWhereTold}
+use Rattle.gc_worker.specs.Held.{Held}
+use Rattle.gc_worker.specs.Stepped.{stepped_by, uncounted}
+use Rattle.gc_worker.specs.Turned.{Effect, Ends, Told, Silent, Answers, Marks, told, turned}
+use Rattle.ael_threads.specs.declared.view.Call.{Call}
+use Rattle.ael_threads.specs.declared.view.Did.{Did}
+use Rattle.ael_threads.specs.declared.view.Did.TheVariants.{Done, Trap}
+use Rattle.ael_threads.specs.declared.view.Entry.{Entry}
+use Rattle.ael_threads.specs.declared.view.Plan.{Plan}
+use Rattle.ael_threads.specs.declared.view.View.{View}
+use Rattle.ael_threads.specs.Calls.{Called, Departs, end_of, IsDone, IsQuiet, Rests, Waits, call_by}
+use Rattle.ael_threads.specs.Histories.{call, hand, outcome_of, own_after, first_plain, last_flip}
+use Rattle.ael_threads.specs.Seats.{Acts, ActsBy, Extends, IsEffect, Seated, Sees, ShowsSeen, first_number, first_own, plain_seen, LiveWhereTold}
+
+pub rests_same : (a b : Seated) → b.knows ≡ a.knows → Rests a b
+rests_same a b same = record {
+  plan = ap (λ (v : View). v.plan) same;
+  number = ap (λ (v : View). first_number v.hands) same;
+  own = ap (λ (v : View). first_own v.hands) same;
+  others = ap (λ (v : View). drop 1 v.hands) same;
+  seen = ap (λ (v : View). v.seen) same;
+}
+
+pub rests_more : (a b c : Seated) → Rests a b → Rests b c → Rests a c
+rests_more a b c r s = record {
+  plan = s.plan ∙ r.plan;
+  number = s.number ∙ r.number;
+  own = s.own ∙ r.own;
+  others = s.others ∙ r.others;
+  seen = s.seen ∙ r.seen;
+}
+
+pub waits_first : (a b : Seated) (task : Task) → b.worker ≡ with_task a.worker task → b.knows ≡ a.knows → Waits a task b
+waits_first a b task begins same = record { asks = ap (λ (x : Held). x.task) begins; rests = rests_same a b same }
+
+-- ---- a step that answers nothing
+
+own_kept : (m : ℕ) (own : List Call) (t : Told) → IsNoAnswer t → own_after m own t ≡ own
+own_kept m own Silent n = refl
+own_kept m own (Answers task outcome) n = absurd n
+own_kept m own (Marks asked) n = refl
+
+seen_kept : (v w : View) (m : ℕ) (t : Told) → IsNoAnswer t → Sees v m t w → w.seen ≡ v.seen
+seen_kept v w m Silent n s = s
+seen_kept v w m (Answers task outcome) n s = absurd n
+seen_kept v w m (Marks asked) n s = s
+
+pub rests_by : (b c : Seated) (r : Reply) (s : Stepped) → ActsBy b r s c → IsNoAnswer (told b.worker r) → Rests b c
+rests_by b c r s h none = let k = h.knows in record {
+  plan = k.plan;
+  number = ap first_number k.hands;
+  own = ap first_own k.hands ∙ own_kept (first_number b.knows.hands) (first_own b.knows.hands) (told b.worker r) none;
+  others = ap (drop 1) k.hands;
+  seen = seen_kept b.knows c.knows (first_number b.knows.hands) (told b.worker r) none k.seen;
+}
+
+-- neither an effect nor an end
+abbrev IsNeither : Stepped → Type 0
+IsNeither s = ((m : ℕ) → s ≡ stepped.Effect m → ⊥) × ((m : ℕ) (end : End) → s ≡ stepped.Ended m end → ⊥)
+
+no_answer : (k : ℕ) (t : Told) (s : Stepped) → s ≡ stepped_by k t → IsNeither s → IsNoAnswer t
+no_answer k Silent s is n = tt
+no_answer k (Answers task Effect) s is n = absurd (n.0 k is)
+no_answer k (Answers task (Ends end)) s is n = absurd (n.1 k end is)
+no_answer k (Marks asked) s is n = tt
+
+waits_by : (a b c : Seated) (task : Task) (r : Reply) (s : Stepped) → Waits a task b → ActsBy b r s c → IsNeither s → Waits a task c
+waits_by a b c task r s w h neither =
+    let none = no_answer b.worker.number (told b.worker r) s h.stepped neither in record {
+      asks = ap (λ (x : Held). x.task) h.worker ∙ (h.goes_on.kept none ∙ w.asks);
+      rests = rests_more a b c w.rests (rests_by b c r s h none);
+    }
+
+pub waits_more : (a b c : Seated) (task : Task) (s : Stepped) → Waits a task b → Acts b s c → ((m : ℕ) → s ≡ stepped.Effect m → ⊥) → ((m : ℕ) (end : End) → s ≡ stepped.Ended m end → ⊥) → Waits a task c
+waits_more a b c task stepped.Idle w h no_effect no_end = subst (Waits a task) (sym h.0) w
+waits_more a b c task stepped.Moved w h no_effect no_end = waits_by a b c task h.0 stepped.Moved w h.1 (no_effect, no_end)
+waits_more a b c task (stepped.Effect m) w h no_effect no_end = absurd (no_effect m refl)
+waits_more a b c task (stepped.Flipped n) w h no_effect no_end = waits_by a b c task h.0 (stepped.Flipped n) w h.1 (no_effect, no_end)
+waits_more a b c task (stepped.Ended m end) w h no_effect no_end = absurd (no_end m end refl)
+
+-- ---- the step that answers
+
+ends_by : (n mutators m : ℕ) (was z : Held) (did : Did) → RestsAfter was z (outcome_of did) → Fits n mutators m z → z.account.end ≡ end_of did
+ends_by n mutators m was z Done looks f = none_of z.account.end (subst (λ (stage : Stage). FitsEnd stage (is_some z.account.end)) looks f.end)
+ends_by n mutators m was z (Trap end) after f = ap (λ (a : Account). a.end) after.0
+
+done_is : (did : Did) (x : Held) (task : Task) → IsDone did → IsEffect (Answers task (outcome_of did))
+done_is Done x task h = tt
+done_is (Trap end) x task h = absurd h
+
+lands_uncounted : (n : ℕ) (words : List ℕ) (z : Held) → Lands n words z → Lands n words (uncounted z)
+lands_uncounted n words z l = record { in_space = l.in_space; header = l.header }
+
+calls : (a b c : Seated) (task : Task) (r : Reply) (s : Stepped) (did : Did) → Waits a task b → ActsBy b r s c → (other : Task) → told b.worker r ≡ Answers other (outcome_of did) → Called a task did c
+calls a b c task r s did w h other is =
+    let m = first_number b.knows.hands in
+    let k = h.knows in
+    let answer = h.goes_on.answers other (outcome_of did) is in
+    let same : other ≡ task = same_Some other task (sym answer.asked ∙ w.asks) in
+    let call_is : call m other (outcome_of did) ≡ call_by a task did = (λ i. call (w.rests.number i) (same i) (outcome_of did)) in
+    let pages : b.knows.plan.spaces.pages ≡ a.knows.plan.spaces.pages = ap (λ (p : Plan). p.spaces.pages) w.rests.plan in
+    record {
+      rests = ap (λ (x : Held). x.task) h.worker ∙ answer.rests;
+      ends = ap (λ (x : Held). x.account.end) h.worker ∙ ends_by b.knows.plan.spaces.pages b.knows.plan.mutators m b.worker (turned b.worker r) did answer.after k.fits;
+      plan = k.plan ∙ w.rests.plan;
+      hands = k.hands ∙ ((λ i. hand m (sym h.worker i) (own_after m (first_own b.knows.hands) (is i)) ∷ drop 1 b.knows.hands) ∙ (λ i. hand (w.rests.number i) c.worker (w.rests.own i ++ call_is i ∷ []) ∷ w.rests.others i));
+      history = subst (λ (z : Plan × (List Entry × Call)). Extends z.0 c.knows.hands z.1.0 z.1.1 c.knows.seen) (λ i. (w.rests.plan i, (w.rests.seen i, call_is i)))
+          (subst (λ (t : Told). Sees b.knows m t c.knows) is k.seen);
+      shows = subst (λ (x : Held). ShowsSeen x c.knows) (sym h.worker) k.shows;
+      before = k.before;
+      after = k.after;
+      asker = b.worker;
+      asked = w.asks;
+      full = subst (λ (z : ℕ × Told). FullWhereTold z.0 k.before b.worker z.1) (λ i. (pages i, is i)) k.full;
+      live = subst (λ (z : Plan × Told). LiveWhereTold (last_flip (first_plain z.0) c.knows.seen) z.1) (λ i. (w.rests.plan i, (is ∙ (λ j. Answers (same j) (outcome_of did))) i)) k.live;
+      lands = λ yes. subst (λ (z : ℕ × Held). Lands z.0 k.after z.1) (λ i. (pages i, sym h.worker i))
+          (lands_uncounted b.knows.plan.spaces.pages k.after (turned b.worker r) (k.lands (subst IsEffect (sym is) (done_is did b.worker other yes))));
+      alike = λ yes q its. subst (λ (x : Held). AreAlike x.registers q) (sym h.worker)
+          (k.alike (subst IsEffect (sym is) (done_is did b.worker other yes)) q (ap (λ (j : ℕ). slice_get (plain_seen c.knows).mutators j) w.rests.number ∙ its));
+    }
+
+by_effect : (a b c : Seated) (task : Task) (r : Reply) (m : ℕ) → Waits a task b → ActsBy b r (stepped.Effect m) c → (t : Told) → told b.worker r ≡ t → stepped.Effect m ≡ stepped_by b.worker.number t → Called a task Done c
+by_effect a b c task r m w h Silent is e = absurd (cc)
+by_effect a b c task r m w h (Answers other Effect) is e = calls a b c task r (stepped.Effect m) Done w h other is
+by_effect a b c task r m w h (Answers other (Ends end)) is e = absurd (cc)
+by_effect a b c task r m w h (Marks asked) is e = absurd (cc)
+
+by_end : (a b c : Seated) (task : Task) (r : Reply) (m : ℕ) (end : End) → Waits a task b → ActsBy b r (stepped.Ended m end) c → (t : Told) → told b.worker r ≡ t → stepped.Ended m end ≡ stepped_by b.worker.number t → Called a task (Trap end) c
+by_end a b c task r m end w h Silent is e = absurd (cc)
+by_end a b c task r m end w h (Answers other Effect) is e = absurd (cc)
+by_end a b c task r m end w h (Answers other (Ends why)) is e = let same : why ≡ end = cc in calls a b c task r (stepped.Ended m end) (Trap end) w h other (is ∙ ap (λ (z : End). Answers other (Ends z)) same)
+by_end a b c task r m end w h (Marks asked) is e = absurd (cc)
+
+pub executed : (a b c : Seated) (task : Task) (m : ℕ) → Waits a task b → Acts b (stepped.Effect m) c → Called a task Done c
+executed a b c task m w h = by_effect a b c task h.0 m w h.1 (told b.worker h.0) refl h.1.stepped
+
+pub ended : (a b c : Seated) (task : Task) (m : ℕ) (end : End) → Waits a task b → Acts b (stepped.Ended m end) c → Called a task (Trap end) c
+ended a b c task m end w h = by_end a b c task h.0 m end w h.1 (told b.worker h.0) refl h.1.stepped
+
+-- ---- a caller without a task
+
+quiet_by : (a b c : Seated) (r : Reply) (s : Stepped) → IsQuiet a b → ActsBy b r s c → IsQuiet a c
+quiet_by a b c r s q h = by_told (told b.worker r) refl
+  where
+    by_none : IsNoAnswer (told b.worker r) → IsQuiet a c
+    by_none none = record { none = ap (λ (x : Held). x.task) h.worker ∙ (h.goes_on.kept none ∙ q.none); rests = rests_more a b c q.rests (rests_by b c r s h none) }
+
+    by_told : (t : Told) → told b.worker r ≡ t → IsQuiet a c
+    by_told Silent is = by_none (subst IsNoAnswer (sym is) tt)
+    by_told (Answers task outcome) is = absurd (let some = (h.goes_on.answers task outcome is).asked in let none = q.none in cc)
+    by_told (Marks asked) is = by_none (subst IsNoAnswer (sym is) tt)
+
+pub quiet_first : (a : Seated) → a.worker.task ≡ None → IsQuiet a a
+quiet_first a none = record { none = none; rests = rests_same a a refl }
+
+pub quiet_more : (a b c : Seated) (s : Stepped) → IsQuiet a b → Acts b s c → IsQuiet a c
+quiet_more a b c stepped.Idle q h = subst (IsQuiet a) (sym h.0) q
+quiet_more a b c stepped.Moved q h = quiet_by a b c h.0 stepped.Moved q h.1
+quiet_more a b c (stepped.Effect m) q h = quiet_by a b c h.0 (stepped.Effect m) q h.1
+quiet_more a b c (stepped.Flipped n) q h = quiet_by a b c h.0 (stepped.Flipped n) q h.1
+quiet_more a b c (stepped.Ended m end) q h = quiet_by a b c h.0 (stepped.Ended m end) q h.1
+
+pub departs_more : (a b c : Seated) → Departs a b → IsQuiet b c → Departs a c
+departs_more a b c d q = record {
+  none = q.none;
+  ended = λ end is. rests_more a b c (d.ended end is) q.rests;
+  halts = λ no_end. let h = d.halts no_end in record { did = h.did; then = h.then; called = h.called; quiet = rests_more h.then b c h.quiet q.rests };
+}
+
+-- with an end it is on its way out
+pub departs_ended : (a : Seated) → (a.worker.account.end ≡ None → ⊥) → a.worker.task ≡ None → Departs a a
+departs_ended a end none = record { none = none; ended = λ e is. rests_same a a refl; halts = λ no_end. absurd (end no_end) }
+
+pub departs_halted : (a b : Seated) (did : Did) → a.worker.account.end ≡ None → Called a (Calls Halt) did b → Departs a b
+departs_halted a b did no_end called = record {
+  none = called.rests;
+  ended = λ end is. absurd (cc);
+  halts = λ none. record { did = did; then = b; called = called; quiet = rests_same b b refl };
+}
+
+pub halt_may_begin : (account : Account) (registers : List ℕ) → FitsCall account registers Halt
+unfolding plain_action.action
+halt_may_begin account registers = record { valid = refl; serial = λ m e. absurd (let no : None ≡ Some m = e in cc) }

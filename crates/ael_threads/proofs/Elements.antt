@@ -1,0 +1,42 @@
+-- Facts of each element of a list, and beginnings of lists.
+use Rattle.std.proofs.Common.{◌≡◌, List, [], ◌∷◌, ◌++◌, map, length, refl, sym, ◌∙◌, ap, append_assoc, append-nil, length-append, arith}
+use mathlib.Core.List.{IsPrefix}
+use Rattle.ael_threads.specs.Histories.{Each}
+
+module _ {A : Type 0} where
+  pub each_map : (P Q : A → Type 0) → ((x : A) → P x → Q x) → (xs : List A) → Each P xs → Each Q xs
+  each_map P Q f [] h = tt
+  each_map P Q f (x ∷ xs) h = (f x h.0, each_map P Q f xs h.1)
+
+  pub each_append : (P : A → Type 0) → (xs ys : List A) → Each P xs → Each P ys → Each P (xs ++ ys)
+  each_append P [] ys h k = k
+  each_append P (x ∷ xs) ys h k = (h.0, each_append P xs ys h.1 k)
+
+  pub each_of_map : {B : Type 0} (P : B → Type 0) (f : A → B) (xs : List A) → Each P (map f xs) → Each (λ (x : A). P (f x)) xs
+  each_of_map P f [] h = tt
+  each_of_map P f (x ∷ xs) h = (h.0, each_of_map P f xs h.1)
+
+  pub each_to_map : {B : Type 0} (P : B → Type 0) (f : A → B) (xs : List A) → Each (λ (x : A). P (f x)) xs → Each P (map f xs)
+  each_to_map P f [] h = tt
+  each_to_map P f (x ∷ xs) h = (h.0, each_to_map P f xs h.1)
+
+  pub each_both : (P Q : A → Type 0) (xs : List A) → Each P xs → Each Q xs → Each (λ (x : A). P x × Q x) xs
+  each_both P Q [] h k = tt
+  each_both P Q (x ∷ xs) h k = ((h.0, k.0), each_both P Q xs h.1 k.1)
+
+  pub each_at : (P : A → Type 0) (xs ys : List A) (y : A) → Each P (xs ++ y ∷ ys) → P y
+  each_at P [] ys y h = h.0
+  each_at P (x ∷ xs) ys y h = each_at P xs ys y h.1
+
+  pub prefix_more : (xs ys zs : List A) → IsPrefix xs ys → IsPrefix xs (ys ++ zs)
+  prefix_more xs ys zs h = (h.0 ++ zs, sym (append_assoc xs h.0 zs) ∙ ap (λ (z : List A). z ++ zs) h.1)
+
+  pub prefix_self : (xs : List A) → IsPrefix xs xs
+  prefix_self xs = ([], append-nil xs)
+
+  pub prefix_trans : (xs ys zs : List A) → IsPrefix xs ys → IsPrefix ys zs → IsPrefix xs zs
+  prefix_trans xs ys zs h k = (h.0 ++ k.0, sym (append_assoc xs h.0 k.0) ∙ (ap (λ z. z ++ k.0) h.1 ∙ k.1))
+
+  pub no_more : (xs ys : List A) → xs ++ ys ≡ xs → ys ≡ []
+  no_more xs [] e = refl
+  no_more xs (y ∷ ys) e = absurd (let a = length-append xs (y ∷ ys) in let b = ap length e in omega (arith, a, b))

@@ -1,0 +1,66 @@
+-- All callers in one, and what stands at the end.
+use Rattle.std.proofs.Common.{◌≡◌, ℕ, List, [], ◌∷◌, ◌++◌, take, ◌-◌, arith, refl, ◌∙◌, ap, subst, append_assoc}
+use mathlib.Core.List.{IsPrefix}
+use Rattle.atomic_table.specs.Table as table
+use Rattle.atomic_table.specs.Seated.{TableId}
+use Rattle.gc_worker.specs.Law.{WorkersStand}
+use Rattle.gc_worker.proofs.Between.Copied.{copied_was_live}
+use Rattle.ael_threads.specs.declared.view.Claim.{Claim}
+use Rattle.ael_threads.specs.declared.view.Hand.{Hand}
+use Rattle.ael_threads.specs.declared.view.Plan.{Plan}
+use Rattle.ael_threads.specs.Histories.{Each, IsOnce, after_all, first_plain, last_flip}
+use Rattle.ael_threads.specs.Rule.{Has, Kept, heap_of}
+use Rattle.ael_threads.specs.Seats.{Absorbs, Closes, Gathers, Seated, Stays}
+use Rattle.ael_threads.proofs.Elements.{each_at, each_map, prefix_self, prefix_trans}
+
+pub gathers_one : (t : TableId) (one : Seated) → one.table ≡ t → Gathers t (one ∷ []) one
+gathers_one t one same = record { table = same; hands = refl; claims = refl; seen = (prefix_self one.knows.seen, tt) }
+
+pub gathers_more : (t : TableId) (all : List Seated) (one other one' : Seated) → Gathers t all one → one'.table ≡ one.table → Absorbs one.knows other.knows one'.knows → Gathers t (other ∷ all) one'
+gathers_more t all one other one' g same a = record {
+  table = same ∙ g.table;
+  hands = a.hands ∙ ap (λ (z : List Hand). z ++ other.knows.hands) g.hands;
+  claims = a.claims ∙ ap (λ (z : List Claim). z ++ other.knows.claims) g.claims;
+  seen = (
+    a.other,
+    each_map (λ (s : Seated). IsPrefix s.knows.seen one.knows.seen) (λ (s : Seated). IsPrefix s.knows.seen one'.knows.seen)
+        (λ s h. prefix_trans s.knows.seen one.knows.seen one'.knows.seen h a.mine) all g.seen,
+  );
+}
+
+-- what the table's end tells of the caller that has taken in all
+pub closes : (plan : Plan) (id : ℕ) (t : TableId) (all : List Seated) (one : Seated) (words xs : List ℕ) → Gathers t all one → table.Final (table.Seen (Kept plan) id one.knows) words xs → Closes plan all words
+closes plan id t all one words xs g end =
+    let s = end.0 in
+    let b = end.1.0 in
+    let stands : WorkersStand (heap_of plan words b.workers) (after_all (first_plain plan) b.log) (last_flip (first_plain plan) b.log) =
+    subst (λ (z : List ℕ). WorkersStand (heap_of plan z b.workers) (after_all (first_plain plan) b.log) (last_flip (first_plain plan) b.log)) end.2 b.stands in
+    let f = b.seats id one.knows end.1.1 in record {
+      log = b.log;
+      workers = b.workers;
+      legal = b.legal;
+      count = b.count;
+      stands = stands;
+      copied = copied_was_live (heap_of plan words b.workers) (after_all (first_plain plan) b.log) (last_flip (first_plain plan) b.log) stands;
+      seen = each_map (λ (c : Seated). IsPrefix c.knows.seen one.knows.seen) (λ (c : Seated). IsPrefix c.knows.seen b.log) (λ c h. prefix_trans c.knows.seen one.knows.seen b.log h f.seen) all g.seen;
+      hands = subst (Each (Stays b.workers b.log)) g.hands (each_map (Has b.workers b.log b.owner id) (Stays b.workers b.log) (λ h k. record { state = k.state; calls = k.calls }) one.knows.hands f.hands);
+      once = subst IsOnce g.claims f.once;
+    }
+
+-- ---- the callers that are still to be taken in
+
+module _ {A : Type 0} where
+  -- the last of what was left goes in front of what was done
+  pub shifts : (all old new done : List A) (x : A) → all ≡ old ++ done → old ≡ new ++ x ∷ [] → all ≡ new ++ x ∷ done
+  shifts all old new done x is e = is ∙ (ap (λ z. z ++ done) e ∙ append_assoc new (x ∷ []) done)
+
+  -- all that were left were done
+  pub ends : (all old new done : List A) (n : ℕ) → all ≡ old ++ done → old ≡ new ++ [] → new ≡ take (n - 1) old → n ≡ 0 → all ≡ done
+  ends all old new done n is e rest none =
+      let none' : n - 1 ≡ 0 = omega arith in
+      let empty : new ≡ [] = rest ∙ ap (λ (k : ℕ). take k old) none' in
+      is ∙ (ap (λ z. z ++ done) e ∙ ap (λ z. (z ++ []) ++ done) empty)
+
+  -- a fact of all is one of the next
+  pub next_has : (P : A → Type 0) (all new done : List A) (x : A) → all ≡ new ++ x ∷ done → Each P all → P x
+  next_has P all new done x e h = each_at P new done x (subst (Each P) e h)

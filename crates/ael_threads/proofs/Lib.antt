@@ -1,0 +1,15 @@
+pub mod Places
+pub mod Elements
+pub mod Growing
+pub mod Winning
+pub mod Views
+pub mod Showing
+pub mod Turning
+pub mod Allowing
+pub mod Beginning
+pub mod Dealing
+pub mod Joining
+pub mod Readying
+pub mod Acting
+pub mod Calling
+pub mod Gathering

@@ -1,0 +1,15 @@
+use Rattle.std.proofs.Common.{◌≡◌, ◌∙◌, Some, ap, sym}
+use Rattle.ael_threads.specs.Seats.{Seated}
+use Rattle.ael_threads.specs.declared.mutator.Mutator.TheInside.{Inside}
+use Rattle.ael_threads.proofs.Acting.{heads_of, no_task}
+use Rattle.ael_threads.proofs.Readying.{shows_of}
+use Rattle.ael_threads.proofs.mutator.Mutator.ended.Goals as goal
+
+pub returns-clause-shows : goal.returns-clause-shows
+returns-clause-shows c = shows_of _ _ c.self.view_is (shows_of _ _ (ap (λ (z : Inside). z.caller) c.self-inside.view_is) c.self-inside.invariant.4)
+
+pub returns-clause-no_task : goal.returns-clause-no_task
+returns-clause-no_task c end is =
+    let a = c.args.self.now in
+    let same : a.worker.account.end ≡ Some end = ap (λ (z : Seated). z.worker.account.end) (sym c.self.view_is) ∙ (ap (λ (z : Inside). z.caller.worker.account.end) (sym c.self-inside.view_is) ∙ (sym c.ended.ensures ∙ is)) in
+    no_task a.knows.plan a.worker a.knows.hands end (heads_of _ _ c.self.view_is (heads_of _ _ (ap (λ (z : Inside). z.caller) c.self-inside.view_is) c.self-inside.invariant.1)) same

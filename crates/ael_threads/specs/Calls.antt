@@ -1,0 +1,86 @@
+-- What a call is to its caller.
+use Rattle.std.specs.Prelude.{◌≡◌, ℕ, ⊤, Option, Some, None, List, [], ◌∷◌, ◌++◌, drop, slice_get}
+use Rattle.plain_state.specs.declared.end.End.{End}
+use Rattle.plain_state.specs.State.{Mutator}
+use Rattle.mutator_asm.specs.declared.instr.Instr.TheVariants.{Halt}
+use Rattle.gc_worker.specs.declared.task.Task.{Task}
+use Rattle.gc_worker.specs.declared.task.Task.TheVariants.{Calls}
+use Rattle.gc_worker.specs.Between.{AreAlike, Lands}
+use Rattle.gc_worker.specs.Full.{FullByOutcome}
+use Rattle.gc_worker.specs.Held.{Held}
+use Rattle.gc_worker.specs.Turned.{Answers}
+use Rattle.ael_threads.specs.declared.view.Call.{Call}
+use Rattle.ael_threads.specs.declared.view.Did.{Did}
+use Rattle.ael_threads.specs.declared.view.Did.TheVariants.{Done, Trap}
+use Rattle.ael_threads.specs.Histories.{call, first_plain, hand, last_flip, outcome_of}
+use Rattle.ael_threads.specs.Seats.{Extends, LiveWhereTold, Seated, ShowsSeen, first_number, first_own, plain_seen}
+
+-- a caller's call that came to this
+abbrev pub call_by : Seated → Task → Did → Call
+call_by a task did = call (first_number a.knows.hands) task (outcome_of did)
+
+-- What the seat knows is as it was, but for the state of its own worker, pages won and what it has heard.
+pub record Rests (a b : Seated) : Type 0 where
+  pub plan : b.knows.plan ≡ a.knows.plan
+  pub number : first_number b.knows.hands ≡ first_number a.knows.hands
+  pub own : first_own b.knows.hands ≡ first_own a.knows.hands
+  pub others : drop 1 b.knows.hands ≡ drop 1 a.knows.hands
+  pub seen : b.knows.seen ≡ a.knows.seen
+
+-- a caller of which nothing was heard since it began a task
+pub record Waits (a : Seated) (task : Task) (b : Seated) : Type 0 where
+  pub asks : b.worker.task ≡ Some task
+  pub rests : Rests a b
+
+-- the end that the mutator then has
+abbrev pub end_of : Did → Option End
+end_of Done = None
+end_of (Trap end) = Some end
+
+abbrev pub IsDone : Did → Type 0
+IsDone Done = ⊤
+IsDone (Trap end) = ⊥
+
+-- THE CLAUSE OF EXEC: the call is one more of the caller's own, and the history that it has seen is legal, begins with all that it had
+-- seen before, and ends with the call; of the seat's workers it has just the calls that they made. What the caller shows is its plain
+-- mutator after it. Where the task was executed, each pointer in the registers leads to a record's header in the space of the caller's
+-- epoch, by the words after the call, and two registers hold one word exactly where the plain ones hold one value; where the heap is
+-- told to be full it was, by the words that the asking worker found, and what is told as live was live at the last flip.
+pub record Called (a : Seated) (task : Task) (did : Did) (b : Seated) : Type 0 where
+  pub rests : b.worker.task ≡ None
+  pub ends : b.worker.account.end ≡ end_of did
+  pub plan : b.knows.plan ≡ a.knows.plan
+  pub hands : b.knows.hands ≡ hand (first_number a.knows.hands) b.worker (first_own a.knows.hands ++ call_by a task did ∷ []) ∷ drop 1 a.knows.hands
+  pub history : Extends a.knows.plan b.knows.hands a.knows.seen (call_by a task did) b.knows.seen
+  pub shows : ShowsSeen b.worker b.knows
+  pub before : List ℕ
+  pub after : List ℕ
+  pub asker : Held
+  pub asked : asker.task ≡ Some task
+  pub full : FullByOutcome a.knows.plan.spaces.pages before asker (outcome_of did)
+  pub live : LiveWhereTold (last_flip (first_plain a.knows.plan) b.knows.seen) (Answers task (outcome_of did))
+  pub lands : IsDone did → Lands a.knows.plan.spaces.pages after b.worker
+  pub alike : IsDone did → (q : Mutator) → slice_get (plain_seen b.knows).mutators (first_number a.knows.hands) ≡ Some q → AreAlike b.worker.registers q
+
+-- what some acts came to: the call, or the caller still waits for it
+abbrev pub Tries : Seated → Task → Option Did → Seated → Type 0
+Tries a task (Some did) b = Called a task did b
+Tries a task None b = Waits a task b
+
+-- nothing is heard of a caller that has no task
+pub record IsQuiet (a b : Seated) : Type 0 where
+  pub none : b.worker.task ≡ None
+  pub rests : Rests a b
+
+-- THE CLAUSE OF LEAVE, of a caller without an end: it makes `halt`, and after that nothing is heard of it
+pub record Halts (a b : Seated) : Type 0 where
+  pub did : Did
+  pub then : Seated
+  pub called : Called a (Calls Halt) did then
+  pub quiet : Rests then b
+
+-- a caller that is about to leave
+pub record Departs (a b : Seated) : Type 0 where
+  pub none : b.worker.task ≡ None
+  pub ended : (end : End) → a.worker.account.end ≡ Some end → Rests a b
+  pub halts : a.worker.account.end ≡ None → Halts a b

@@ -1,0 +1,83 @@
+-- The rule of the table: what is so of the words, of all workers and of what each seat knows, between any two steps.
+use Rattle.std.specs.Prelude.{◌≡◌, ℕ, ◌+◌, ◌<◌, List, [], map, length}
+use mathlib.Core.Option.{some}
+use mathlib.Core.List.{IsPrefix}
+use lib.ListN.{get_elem?}
+use Rattle.atomic_table.specs.Table as table
+use Rattle.gc_worker.specs.Held.{Held}
+use Rattle.gc_worker.specs.Law.{Heap, IsOut, WorkersStand}
+use Rattle.gc_worker.specs.Stepped.{uncounted}
+use Rattle.gc_worker.specs.Turned.{PageWon}
+use Rattle.ael_threads.specs.declared.view.Claim.{Claim}
+use Rattle.ael_threads.specs.declared.view.Entry.{Entry}
+use Rattle.ael_threads.specs.declared.view.Hand.{Hand}
+use Rattle.ael_threads.specs.declared.view.Plan.{Plan}
+use Rattle.ael_threads.specs.declared.view.View.{View}
+use Rattle.ael_threads.specs.Histories.{Each, IsOnce, IsLegal, after_all, calls_of, first_plain, last_flip, new_hands, number}
+
+-- ---- views
+
+abbrev pub view : Plan → List Hand → (seen heard : List Entry) → List Claim → View
+view plan hands seen heard claims = record { plan = plan; hands = hands; seen = seen; heard = heard; claims = claims }
+
+-- the number of workers
+abbrev pub crew : Plan → ℕ
+crew plan = plan.mutators + plan.scanners
+
+-- the first seat has all workers
+abbrev pub first_view : Plan → View
+first_view plan = view plan (new_hands plan 0 (crew plan)) [] [] []
+
+-- a seat whose workers went to another seat
+abbrev pub no_plan : Plan
+no_plan = record { spaces = record { pages = 0 }; mutators = 0; scanners = 0 }
+
+abbrev pub spent_view : View
+spent_view = view no_plan [] [] [] []
+
+-- ---- the rule
+
+abbrev pub won_page : Claim → PageWon
+won_page c = record { page = c.page; epoch = c.epoch }
+
+-- A worker stands in the list with its count of instructions, which its code doesn't hold.
+pub record StandsAs (workers : List Held) (n : ℕ) (x : Held) : Type 0 where
+  pub held : Held
+  pub is : get_elem? workers n ≡ some held
+  pub shown : uncounted held ≡ x
+
+-- the seat id has this worker, whose code holds this, and the calls that it made
+pub record Has (workers : List Held) (log : List Entry) (owner : ℕ → ℕ) (id : ℕ) (h : Hand) : Type 0 where
+  pub owns : owner h.number ≡ id
+  pub state : StandsAs workers h.number h.worker
+  pub calls : calls_of h.number log ≡ h.own
+
+-- the seat id won this page
+pub record Won (n : ℕ) (words : List ℕ) (winner : Claim → ℕ) (id : ℕ) (c : Claim) : Type 0 where
+  pub owns : winner c ≡ id
+  pub out : IsOut n words (won_page c)
+
+-- what a seat knows fits the history, the workers, and whose they and the pages won are
+pub record FitsView (plan : Plan) (words : List ℕ) (workers : List Held) (log : List Entry) (owner : ℕ → ℕ) (winner : Claim → ℕ) (id : ℕ) (v : View) : Type 0 where
+  pub same : 0 < v.plan.spaces.pages → v.plan ≡ plan
+  pub seen : IsPrefix v.seen log
+  pub heard : IsPrefix v.heard log
+  pub hands : Each (Has workers log owner id) v.hands
+  pub apart : IsOnce (map number v.hands)
+  pub claims : Each (Won plan.spaces.pages words winner id) v.claims
+  pub once : IsOnce v.claims
+
+abbrev pub heap_of : Plan → (words : List ℕ) → (workers : List Held) → Heap
+heap_of plan words workers = record { pages = plan.spaces.pages; words = words; mutators = plan.mutators; workers = workers }
+
+-- THE RULE: with what all workers hold the words stand for the plain state after one legal history, and keep what a cycle keeps that
+-- began at its last flip; what each seat knows fits these.
+pub record Kept (plan : Plan) (s : table.State ℕ View) : Type 0 where
+  pub log : List Entry
+  pub workers : List Held
+  pub count : length workers ≡ crew plan
+  pub owner : ℕ → ℕ
+  pub winner : Claim → ℕ
+  pub legal : IsLegal (first_plain plan) log
+  pub stands : WorkersStand (heap_of plan s.words workers) (after_all (first_plain plan) log) (last_flip (first_plain plan) log)
+  pub seats : (id : ℕ) (v : View) → get_elem? s.views id ≡ some v → FitsView plan s.words workers log owner winner id v

@@ -1,0 +1,266 @@
+-- What a seat is told by a step, and by what it takes in.
+use Rattle.std.specs.Prelude.{◌≡◌, ℕ, zero, suc, ◌+◌, ◌==◌, ◌<◌, ⊤, Option, Some, None, List, [], ◌∷◌, ◌++◌, take, drop, slice_get, length, if◌then◌else◌}
+use mathlib.Core.List.{IsPrefix}
+use Rattle.atomic_table.specs.Table as table
+use Rattle.atomic_table.specs.Seated.{TableId}
+use Rattle.atom_store.specs.declared.reply.Reply.{Reply}
+use Rattle.atom_store.specs.declared.reply.Reply.TheVariants as replies
+use Rattle.atom_store.specs.declared.step.Step.{Step}
+use Rattle.atom_store.specs.declared.step.Step.TheVariants.{Load, Store, Exchange}
+use Rattle.space_map.specs.Table.{table_length}
+use Rattle.plain_state.specs.State.{Mutator, Plain, serial_of}
+use Rattle.plain_state.specs.State as plain
+use Rattle.gc_worker.specs.declared.stage.Stage.TheVariants.{Gone}
+use Rattle.gc_worker.specs.declared.stepped.Stepped.{Stepped}
+use Rattle.gc_worker.specs.declared.stepped.Stepped.TheVariants.{Idle}
+use Rattle.gc_worker.specs.Between.{AreAlike, GoesOn, Lands, Readies, Shows}
+use Rattle.gc_worker.specs.Counted.{counted}
+use Rattle.gc_worker.specs.Fits.{Fits, Takes}
+use Rattle.gc_worker.specs.Full.{FullWhereTold}
+use Rattle.gc_worker.specs.Held.{Held}
+use Rattle.plain_state.specs.declared.end.End.{End}
+use Rattle.plain_state.specs.declared.end.End.TheVariants.{HeapFull}
+use Rattle.heap_state.specs.Reachable as reachable
+use Rattle.gc_worker.specs.Copied.{IsTraced}
+use Rattle.gc_worker.specs.Law.{WorkersStand, read}
+use Rattle.heap_state.specs.Copies.{CopiedIsLive}
+use Rattle.gc_worker.specs.Stepped.{stepped_by, uncounted}
+use Rattle.gc_worker.specs.Turned.{Effect, Ends, PageWon, Told, Silent, Answers, Marks, told, turned, won}
+use Rattle.gc_worker.specs.Wanted.{wanted}
+use Rattle.ael_threads.specs.declared.view.Call.{Call}
+use Rattle.ael_threads.specs.declared.view.Claim.{Claim}
+use Rattle.ael_threads.specs.declared.view.Entry.{Entry}
+use Rattle.ael_threads.specs.declared.view.Entry.TheVariants.{Made}
+use Rattle.ael_threads.specs.declared.view.Hand.{Hand}
+use Rattle.ael_threads.specs.declared.view.Plan.{Plan}
+use Rattle.ael_threads.specs.declared.view.View.{View}
+use Rattle.ael_threads.specs.Histories.{Each, IsOnce, HasOwn, IsLegal, after_all, call, calls_of, first_held, first_plain, hand, last_flip, own_after}
+use Rattle.ael_threads.specs.Rule.{StandsAs, crew, heap_of, view}
+
+-- ---- a step by the word that it finds
+
+abbrev pub reply_to : Step → ℕ → Reply
+reply_to (Load place) x = replies.Value x
+reply_to (Store place v) x = replies.Done
+reply_to (Exchange place old new) x = if x == old then replies.Won else replies.Lost x
+
+-- ---- the seat's own worker, its first
+
+abbrev pub first_number : List Hand → ℕ
+first_number [] = 0
+first_number (h ∷ hs) = h.number
+
+abbrev pub first_own : List Hand → List Call
+first_own [] = []
+first_own (h ∷ hs) = h.own
+
+-- all its calls were seen
+abbrev pub IsMine : View → Type 0
+IsMine v = calls_of (first_number v.hands) v.seen ≡ first_own v.hands
+
+-- the plain state after all that was seen
+abbrev pub plain_seen : View → Plain
+plain_seen v = after_all (first_plain v.plan) v.seen
+
+-- Worker m, which holds x, is as its plain mutator q, and its registers show that one's, also once it has its end.
+pub record IsShown (records : plain.Heap) (m : ℕ) (x : Held) (q : Mutator) : Type 0 where
+  pub counter : x.account.counter ≡ q.counter
+  pub printed : x.account.printed ≡ q.printed
+  pub end : x.account.end ≡ q.end
+  pub serial : x.account.serial ≡ serial_of records m
+  pub registers : Shows x.registers q
+
+-- The seat's own worker is as its plain mutator after what was seen: whatever came since was none of its calls.
+abbrev pub ShowsSeen : Held → View → Type 0
+ShowsSeen x v = (q : Mutator) → slice_get (plain_seen v).mutators (first_number v.hands) ≡ Some q → IsShown (plain_seen v).heap (first_number v.hands) x q
+
+-- ---- what a step tells
+
+abbrev pub claim_of : PageWon → Claim
+claim_of w = record { page = w.page; epoch = w.epoch }
+
+abbrev pub with_claim : List Claim → Option PageWon → List Claim
+with_claim cs None = cs
+with_claim cs (Some w) = claim_of w ∷ cs
+
+-- what the seat has seen after a step, if the history is this then
+abbrev pub seen_after : (seen log : List Entry) → Told → List Entry
+seen_after seen log Silent = seen
+seen_after seen log (Answers task outcome) = log
+seen_after seen log (Marks asked) = seen
+
+-- THE CLAUSE OF A CALL: the history after it is legal, begins with all that was seen and ends with the call; of these workers it has
+-- just the calls that they made.
+pub record Extends (plan : Plan) (hands : List Hand) (seen : List Entry) (c : Call) (later : List Entry) : Type 0 where
+  pub between : List Entry
+  pub is : later ≡ (seen ++ between) ++ Made c ∷ []
+  pub own : HasOwn later hands
+  pub legal : IsLegal (first_plain plan) later
+
+-- what a step of worker m tells of the history
+abbrev pub Sees : View → (m : ℕ) → Told → View → Type 0
+Sees v m Silent w = w.seen ≡ v.seen
+Sees v m (Answers task outcome) w = Extends v.plan w.hands v.seen (call m task outcome) w.seen
+Sees v m (Marks asked) w = w.seen ≡ v.seen
+
+-- the words that the end of a full heap tells as live are those that were live in this plain state
+abbrev pub LiveByEnd : Plain → End → Type 0
+LiveByEnd o (HeapFull asked room live) = reachable.IsLive o live
+LiveByEnd o end = ⊤
+
+abbrev pub LiveWhereTold : Plain → Told → Type 0
+LiveWhereTold o Silent = ⊤
+LiveWhereTold o (Answers task Effect) = ⊤
+LiveWhereTold o (Answers task (Ends end)) = LiveByEnd o end
+LiveWhereTold o (Marks asked) = ⊤
+
+abbrev pub IsEffect : Told → Type 0
+IsEffect Silent = ⊥
+IsEffect (Answers task Effect) = ⊤
+IsEffect (Answers task (Ends end)) = ⊥
+IsEffect (Marks asked) = ⊥
+
+-- A step of worker m, whose code holds x and takes r. The words before and after it are those that the step found and left: where the
+-- heap is told to be full it was by the former, and what is told as live was live at the last flip; after an effect each pointer in the registers leads to a record's header in the
+-- latter, two registers holding one word exactly where the plain ones hold one value.
+pub record Moves (v : View) (m : ℕ) (x : Held) (r : Reply) (w : View) : Type 0 where
+  pub takes : Takes x r
+  pub fits : Fits v.plan.spaces.pages v.plan.mutators m (turned x r)
+  pub hands : w.hands ≡ hand m (uncounted (turned x r)) (own_after m (first_own v.hands) (told x r)) ∷ drop 1 v.hands
+  pub plan : w.plan ≡ v.plan
+  pub heard : w.heard ≡ v.heard
+  pub claims : w.claims ≡ with_claim v.claims (won x r)
+  pub seen : Sees v m (told x r) w
+  pub mine : IsMine w
+  pub shows : ShowsSeen (uncounted (turned x r)) w
+  pub before : List ℕ
+  pub after : List ℕ
+  pub full : FullWhereTold v.plan.spaces.pages before x (told x r)
+  pub live : LiveWhereTold (last_flip (first_plain v.plan) w.seen) (told x r)
+  pub lands : IsEffect (told x r) → Lands v.plan.spaces.pages after (turned x r)
+  pub alike : IsEffect (told x r) → (q : Mutator) → slice_get (plain_seen w).mutators m ≡ Some q → AreAlike (turned x r).registers q
+
+abbrev pub Me : Type 0
+Me = table.Me ℕ View
+
+-- What a seat is told by a step of its worker, which holds x and wants it.
+abbrev pub Plays : Held → table.Step ℕ → Me → ℕ → Me → Type 0
+Plays x st me found later = (later.1 ≡ me.1) × ((q : Step) → wanted x ≡ Some q → Moves me.0 (first_number me.0.hands) x (reply_to q found) later.0)
+
+-- ---- callers
+
+-- a caller: which table it is of, what its code holds, and what its seat knows
+pub record Seated : Type 0 where
+  pub table : TableId
+  pub worker : Held
+  pub knows : View
+
+-- Since its last step the worker may have been given a task; whatever it has counted, to the proofs of the heap it is as it was then.
+pub record Follows (plan : Plan) (m : ℕ) (was now : Held) : Type 0 where
+  pub readies : (count : ℕ) → Readies plan.spaces.pages plan.mutators m (counted count was) (counted count now)
+  pub fits : Fits plan.spaces.pages plan.mutators m now
+
+abbrev pub Heads : Plan → Held → List Hand → Type 0
+Heads plan x [] = ⊥
+Heads plan x (was ∷ others) = Follows plan was.number was.worker x
+
+-- the seat is of this heap
+abbrev pub IsLive : TableId → View → Type 0
+IsLive t v = (0 < v.plan.spaces.pages) × (t.words ≡ table_length v.plan.spaces.pages)
+
+-- what an act tells: the caller's code took this reply to the step that it wanted, and goes on with its task or has answered it
+pub record ActsBy (a : Seated) (r : Reply) (s : Stepped) (b : Seated) : Type 0 where
+  pub wants : (q : Step) × (wanted a.worker ≡ Some q)
+  pub stepped : s ≡ stepped_by a.worker.number (told a.worker r)
+  pub worker : b.worker ≡ uncounted (turned a.worker r)
+  pub knows : Moves a.knows (first_number a.knows.hands) a.worker r b.knows
+  pub goes_on : GoesOn a.worker r
+
+-- an act is idle exactly where a mutator has left, or a scanner has seen that all have
+abbrev pub Acts : Seated → Stepped → Seated → Type 0
+Acts a Idle b = (b ≡ a) × (a.worker.stage ≡ Gone)
+Acts a s b = (r : Reply) × ActsBy a r s b
+
+-- ---- how a seat's first worker goes to a new seat
+
+abbrev pub others_of : View → View
+others_of v = view v.plan (drop 1 v.hands) v.seen v.heard v.claims
+
+abbrev pub first_of : View → View
+first_of v = view v.plan (take 1 v.hands) v.seen v.heard []
+
+abbrev pub new_seated : TableId → Plan → ℕ → Seated
+new_seated t plan n = record { table = t; worker = first_held plan n; knows = view plan (hand n (first_held plan n) [] ∷ []) [] [] [] }
+
+-- so many callers from this number on
+abbrev pub new_callers : TableId → Plan → (from count : ℕ) → List Seated
+new_callers t plan from zero = []
+new_callers t plan from (suc n) = new_callers t plan from n ++ new_seated t plan (from + n) ∷ []
+
+-- ---- how a seat takes in what another knows
+
+-- it has heard of what the other has seen
+abbrev pub both_of : View → View → View
+both_of v w = view v.plan (v.hands ++ w.hands) v.seen w.seen (v.claims ++ w.claims)
+
+-- the whole history was seen, of which both lists are beginnings, and in which these workers' calls stand, each once
+pub record Learned (v w : View) : Type 0 where
+  pub plan : w.plan ≡ v.plan
+  pub hands : w.hands ≡ v.hands
+  pub claims : w.claims ≡ v.claims
+  pub seen : IsPrefix v.seen w.seen
+  pub heard : IsPrefix v.heard w.seen
+  pub own : HasOwn w.seen w.hands
+  pub once : IsOnce w.claims
+  pub legal : IsLegal (first_plain w.plan) w.seen
+
+abbrev pub Learns : table.Step ℕ → Me → ℕ → Me → Type 0
+Learns st me found later = (later.1 ≡ me.1) × Learned me.0 later.0
+
+-- THE CLAUSE OF ABSORB: one history for both callers, with just the calls that both made; no page won by both in one epoch
+pub record Absorbs (v u w : View) : Type 0 where
+  pub plan : w.plan ≡ v.plan
+  pub hands : w.hands ≡ v.hands ++ u.hands
+  pub claims : w.claims ≡ v.claims ++ u.claims
+  pub mine : IsPrefix v.seen w.seen
+  pub other : IsPrefix u.seen w.seen
+  pub own : HasOwn w.seen w.hands
+  pub once : IsOnce w.claims
+  pub legal : IsLegal (first_plain w.plan) w.seen
+
+-- ---- the end
+
+-- all workers of these callers, and all pages that they won
+abbrev pub all_hands : List Seated → List Hand
+all_hands [] = []
+all_hands (s ∷ ss) = all_hands ss ++ s.knows.hands
+
+abbrev pub all_claims : List Seated → List Claim
+all_claims [] = []
+all_claims (s ∷ ss) = all_claims ss ++ s.knows.claims
+
+-- one caller has taken in these, itself among them
+pub record Gathers (t : TableId) (all : List Seated) (one : Seated) : Type 0 where
+  pub table : one.table ≡ t
+  pub hands : one.knows.hands ≡ all_hands all
+  pub claims : one.knows.claims ≡ all_claims all
+  pub seen : Each (λ (s : Seated). IsPrefix s.knows.seen one.knows.seen) all
+
+-- a worker stands among these as its code has it, and its calls are all that the history has of it
+pub record Stays (workers : List Held) (log : List Entry) (h : Hand) : Type 0 where
+  pub state : StandsAs workers h.number h.worker
+  pub calls : calls_of h.number log ≡ h.own
+
+-- THE CLAUSE OF CLOSE: the calls of all these callers stand in one legal history, each once, of which what each has seen is a
+-- beginning; with what their codes hold the words stand for the plain state after it; what was copied in an epoch
+-- that is traced is what was live at the last flip of the history; no page was won twice in one epoch.
+pub record Closes (plan : Plan) (all : List Seated) (words : List ℕ) : Type 0 where
+  pub log : List Entry
+  pub workers : List Held
+  pub legal : IsLegal (first_plain plan) log
+  pub count : length workers ≡ crew plan
+  pub stands : WorkersStand (heap_of plan words workers) (after_all (first_plain plan) log) (last_flip (first_plain plan) log)
+  pub copied : IsTraced (heap_of plan words workers) → CopiedIsLive (read (heap_of plan words workers)) (last_flip (first_plain plan) log)
+  pub seen : Each (λ (s : Seated). IsPrefix s.knows.seen log) all
+  pub hands : Each (Stays workers log) (all_hands all)
+  pub once : IsOnce (all_claims all)

@@ -1,0 +1,82 @@
+//! A worker with its seat.
+
+ghost use Rattle.std.specs.Prelude.{◌≡◌, ◌<◌, [], Some, None};
+ghost use Rattle.gc_worker.specs.declared.task.Task.TheVariants.{Calls, Stops};
+ghost use Rattle.gc_worker.specs.Between.{IsIdle, with_task};
+ghost use Rattle.gc_worker.specs.Fits.{MayBegin, MayStop};
+ghost use Rattle.gc_worker.specs.Held.{Held};
+ghost use Rattle.gc_worker.specs.Wanted.{wanted};
+ghost use Rattle.ael_threads.specs.Seats.{Absorbs, Acts, Heads, IsLive, IsMine, Moves, Seated, ShowsSeen, first_number};
+
+use crate::shared::{Both, Learn, Shared};
+use crate::view::View;
+use atomic_table::Seat;
+use gc_worker::{Stepped, Worker};
+use mutator_asm::Instr;
+use plain_state::End;
+use std::marker::{Brand, Model};
+
+/// A worker with a seat. Contracts see which table it is of, what its code holds, and what its seat knows.
+#[derive(Drop)]
+pub(crate) struct Caller {
+    pub worker: Worker,
+    pub seat: Seat<u8, View>,
+}
+
+impl Model for Caller {
+    ghost use Rattle.std.specs.Prelude.{◌≡◌, []};
+    ghost use Rattle.ael_threads.specs.Seats.{Heads, IsLive, IsMine, Seated, ShowsSeen};
+
+    ghost Value = { Seated };
+
+    ghost view = { λ c. record { table = c.seat.table_id; worker = c.worker; knows = c.seat.me.0 } };
+
+    ghost invariant = { λ c. (c.seat.me.1 ≡ []) × Heads c.seat.me.0.plan c.worker c.seat.me.0.hands × IsLive c.seat.table_id c.seat.me.0 × IsMine c.seat.me.0 × ShowsSeen c.worker c.seat.me.0 };
+}
+
+impl Caller {
+    /// An instruction, which the next look at the gate begins.
+    pub fn begin(&mut self, instr: &Instr)
+        requires idle { IsIdle self.old.worker }
+        requires may_begin { MayBegin self.old.worker.account self.old.worker.registers (Some (Calls instr.now)) }
+        ensures begun { self.new.worker ≡ with_task self.old.worker (Calls instr.now) }
+        ensures same { (self.new.table ≡ self.old.table) × (self.new.knows ≡ self.old.knows) }
+    {
+        self.worker.begin(instr);
+    }
+
+    /// An end in place of an instruction.
+    pub fn begin_end(&mut self, end: End)
+        requires idle { IsIdle self.old.worker }
+        requires may_stop { MayStop end }
+        ensures begun { self.new.worker ≡ with_task self.old.worker (Stops end) }
+        ensures same { (self.new.table ≡ self.old.table) × (self.new.knows ≡ self.old.knows) }
+    {
+        self.worker.begin_end(end);
+    }
+
+    /// Makes one atomic step, and waits for nobody.
+    pub fn act(&mut self, h: &Shared) -> Stepped
+        requires { self.old.table ≡ h.now.table.shared.table_id }
+        ensures table { self.new.table ≡ self.old.table }
+        ensures act { Acts self.old result self.new }
+    {
+        let Some(step) = self.worker.want() else {
+            return Stepped::Idle;
+        };
+        let reply = h.step::<Brand>(&self.worker, &mut self.seat, step);
+        self.worker.take(reply)
+    }
+
+    /// Takes in another caller, with its calls.
+    pub fn absorb(&mut self, h: &Shared, other: Caller)
+        requires mine { self.old.table ≡ h.now.table.shared.table_id }
+        requires other { other.table ≡ h.now.table.shared.table_id }
+        ensures same { (self.new.table ≡ self.old.table) × (self.new.worker ≡ self.old.worker) }
+        ensures both { Absorbs self.old.knows other.knows self.new.knows }
+    {
+        let Caller { worker: _, seat } = other;
+        h.table.shared.join_seat::<Both>(&mut self.seat, seat);
+        h.table.shared.load::<Learn>(&mut self.seat, 0);
+    }
+}

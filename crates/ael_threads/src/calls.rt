@@ -1,0 +1,95 @@
+//! Whole calls of a mutator, which may wait for other workers.
+
+ghost use Rattle.std.specs.Prelude.{◌≡◌, true, None, Some};
+ghost use Rattle.plain_state.specs.declared.end.End.{End};
+ghost use Rattle.gc_worker.specs.declared.stage.Stage.TheVariants.{Gone};
+ghost use Rattle.gc_worker.specs.declared.task.Task.{Task};
+ghost use Rattle.gc_worker.specs.declared.task.Task.TheVariants.{Calls};
+ghost use Rattle.gc_worker.specs.Fits.{MayBegin};
+ghost use Rattle.ael_threads.specs.Calls.{Called, Halts, IsQuiet, Rests, Tries, Waits};
+ghost use Rattle.ael_threads.specs.Seats.{Seated};
+
+use crate::mutator::Mutator;
+use crate::shared::Shared;
+use crate::view::Did;
+use crossbeam_utils::Backoff;
+use gc_worker::Stepped;
+use mutator_asm::Instr;
+use std::sync::Wait;
+
+/// How many acts a try has. Most instructions need fewer; who needs more waits for another worker, or copies.
+const ACTS: u32 = 64;
+
+impl Mutator {
+    /// Makes one call: the instruction is begun, and acts are made up to its effect or end. Between two tries it backs off.
+    pub fn exec<R: Wait>(&mut self, rt: &R, h: &Shared, instr: &Instr) -> Did
+        requires table { self.old.table ≡ h.now.table.shared.table_id }
+        requires no_end { self.old.worker.account.end ≡ None }
+        requires no_task { self.old.worker.task ≡ None }
+        requires may_begin { MayBegin self.old.worker.account self.old.worker.registers (Some (Calls instr.now)) }
+        ensures table { self.new.table ≡ self.old.table }
+        ensures called { Called self.old (Calls instr.now) result self.new }
+    {
+        self.begin(instr);
+        let backoff = Backoff::new();
+        for _ in rt.forever() {
+            if let Some(did) = self.tries(h) {
+                return did;
+            }
+            backoff.snooze();
+        }
+        unreachable!()
+    }
+
+    /// Makes some acts, up to the effect or end of the task that it has begun.
+    fn tries(&mut self, h: &Shared) -> Option<Did>
+        requires table { self.old.table ≡ h.now.table.shared.table_id }
+        ensures table { self.new.table ≡ self.old.table }
+        ensures tries { (a : Seated) (task : Task) → Waits a task self.old → Tries a task result self.new }
+    {
+        for _ in 0..ACTS {
+            match self.act(h) {
+                Stepped::Effect(_) => return Some(Did::Done),
+                Stepped::Ended(_, end) => return Some(Did::Trap(end)),
+                _ => {}
+            }
+        }
+        None
+    }
+
+    /// Leaves the heap. A mutator without an end makes `halt` first.
+    pub fn leave<R: Wait>(&mut self, rt: &R, h: &Shared)
+        requires table { self.old.table ≡ h.now.table.shared.table_id }
+        requires no_task { self.old.worker.account.end ≡ None → self.old.worker.task ≡ None }
+        ensures table { self.new.table ≡ self.old.table }
+        ensures left { self.new.worker.stage ≡ Gone }
+        ensures ended { (end : End) → self.old.worker.account.end ≡ Some end → Rests self.old self.new }
+        ensures halts { self.old.worker.account.end ≡ None → Halts self.old self.new }
+    {
+        if self.ended().is_none() {
+            self.exec(rt, h, &Instr::Halt);
+        }
+        let backoff = Backoff::new();
+        for _ in rt.forever() {
+            if self.departs(h) {
+                return;
+            }
+            backoff.snooze();
+        }
+    }
+
+    /// Makes some acts, up to the one that finds that it has left.
+    fn departs(&mut self, h: &Shared) -> bool
+        requires table { self.old.table ≡ h.now.table.shared.table_id }
+        ensures table { self.new.table ≡ self.old.table }
+        ensures left { result ≡ true → self.new.worker.stage ≡ Gone }
+        ensures quiet { (a : Seated) → IsQuiet a self.old → IsQuiet a self.new }
+    {
+        for _ in 0..ACTS {
+            if let Stepped::Idle = self.act(h) {
+                return true;
+            }
+        }
+        false
+    }
+}

@@ -1,0 +1,21 @@
+//! The heap on real threads: each worker has a seat at the words that all share.
+//!
+//! What a seat knows is kept by a rule of the table of words. The rule rests on the one law of a worker's step, whatever the step is.
+#![tactic(auto)]
+
+mod caller;
+mod calls;
+mod closing;
+mod mutator;
+mod opening;
+mod scanner;
+mod shared;
+mod view;
+mod words;
+
+pub use mutator::{Mutator, Reg};
+pub use opening::Seats;
+pub use scanner::Scanner;
+pub use shared::{Rule, Shared};
+pub use view::{Call, Claim, Did, Entry, Hand, Plan, View};
+pub use words::Words;

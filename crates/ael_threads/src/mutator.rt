@@ -1,0 +1,153 @@
+//! A mutator of the heap.
+
+ghost use Rattle.std.specs.Prelude.{◌≡◌, ◌<◌, Some, None, slice_index};
+ghost use Rattle.plain_state.specs.declared.end.End.{End};
+ghost use Rattle.plain_state.specs.declared.sizes.TheConstants.{REGISTERS};
+ghost use Rattle.gc_worker.specs.declared.stage.Stage.TheVariants.{Gone};
+ghost use Rattle.gc_worker.specs.declared.task.Task.TheVariants.{Calls, Stops};
+ghost use Rattle.gc_worker.specs.Between.{with_task};
+ghost use Rattle.gc_worker.specs.Fits.{MayBegin, MayStop};
+ghost use Rattle.gc_worker.specs.Stepped.{header_kept, place_kept};
+ghost use Rattle.ael_threads.specs.Readers.{IsReg};
+ghost use Rattle.ael_threads.specs.Seats.{Absorbs, Acts, ShowsSeen};
+
+use crate::caller::Caller;
+use crate::shared::Shared;
+use gc_worker::Stepped;
+use heap_words::Word;
+use mutator_asm::Instr;
+use plain_state::End;
+use std::marker::Model;
+
+/// What a register holds.
+#[derive(Clone, Copy, Debug, PartialEq, Eq)]
+pub enum Reg {
+    Number(u64),
+    /// A pointer to the record whose header stands at this address.
+    Pointer(u32),
+}
+
+/// A mutator with its seat. Contracts see which table it is of, what its code holds, and what its seat knows.
+#[derive(Drop)]
+pub struct Mutator {
+    pub(crate) caller: Caller,
+}
+
+impl Model for Mutator {
+    ghost use Rattle.std.specs.Prelude.{◌<◌};
+    ghost use Rattle.ael_threads.specs.Seats.{Seated};
+
+    ghost Value = { Seated };
+
+    ghost view = { λ m. m.caller };
+
+    ghost invariant = { λ m. m.caller.worker.number < m.caller.worker.mutators };
+}
+
+impl Mutator {
+    /// An instruction, which the next look at the gate begins.
+    pub fn begin(&mut self, instr: &Instr)
+        requires no_end { self.old.worker.account.end ≡ None }
+        requires no_task { self.old.worker.task ≡ None }
+        requires may_begin { MayBegin self.old.worker.account self.old.worker.registers (Some (Calls instr.now)) }
+        ensures begun { self.new.worker ≡ with_task self.old.worker (Calls instr.now) }
+        ensures same { (self.new.table ≡ self.old.table) × (self.new.knows ≡ self.old.knows) }
+    {
+        self.caller.begin(instr);
+    }
+
+    /// An end in place of an instruction.
+    pub fn begin_end(&mut self, end: End)
+        requires no_end { self.old.worker.account.end ≡ None }
+        requires no_task { self.old.worker.task ≡ None }
+        requires may_stop { MayStop end }
+        ensures begun { self.new.worker ≡ with_task self.old.worker (Stops end) }
+        ensures same { (self.new.table ≡ self.old.table) × (self.new.knows ≡ self.old.knows) }
+    {
+        self.caller.begin_end(end);
+    }
+
+    /// Makes one atomic step, and waits for nobody. With no instruction begun it is a look at the gate, and what the gate then asks.
+    pub fn act(&mut self, h: &Shared) -> Stepped
+        requires { self.old.table ≡ h.now.table.shared.table_id }
+        ensures table { self.new.table ≡ self.old.table }
+        ensures act { Acts self.old result self.new }
+    {
+        self.caller.act(h)
+    }
+
+    /// Takes in another mutator, which has left, with its calls.
+    pub fn absorb(&mut self, h: &Shared, other: Mutator)
+        requires mine { self.old.table ≡ h.now.table.shared.table_id }
+        requires other { other.table ≡ h.now.table.shared.table_id }
+        requires left { other.worker.stage ≡ Gone }
+        ensures same { (self.new.table ≡ self.old.table) × (self.new.worker ≡ self.old.worker) }
+        ensures both { Absorbs self.old.knows other.knows self.new.knows }
+    {
+        let Mutator { caller } = other;
+        self.caller.absorb(h, caller);
+    }
+
+    /// What a register holds. It shows the plain mutator's after all that was seen.
+    pub fn reg(&self, i: u8) -> Reg
+        requires { i < REGISTERS }
+        ensures reg { IsReg (slice_index self.now.worker.registers i) result }
+        ensures shows { ShowsSeen self.now.worker self.now.knows }
+    {
+        let word = Word(self.caller.worker.regs()[usize::from(i)]);
+        if let Some(n) = word.as_number() {
+            return Reg::Number(n);
+        }
+        match word.as_pointer() {
+            Some(address) => Reg::Pointer(address),
+            None => unreachable!(),
+        }
+    }
+
+    /// The numbers that it has printed, which are the plain mutator's after all that was seen.
+    pub fn outputs(&self) -> &[u64]
+        ensures outputs { result.now ≡ self.now.worker.account.printed }
+        ensures shows { ShowsSeen self.now.worker self.now.knows }
+    {
+        self.caller.worker.outputs()
+    }
+
+    /// Its end, where it has one, which is the plain mutator's after all that was seen.
+    pub fn ended(&self) -> Option<End>
+        ensures ended { result ≡ self.now.worker.account.end }
+        ensures no_task { (end : End) → result ≡ Some end → self.now.worker.task ≡ None }
+        ensures shows { ShowsSeen self.now.worker self.now.knows }
+    {
+        self.caller.worker.ended()
+    }
+
+    /// The serial of its latest record, which is the plain mutator's after all that was seen.
+    pub fn serial(&self) -> u64
+        ensures serial { result ≡ self.now.worker.account.serial }
+        ensures shows { ShowsSeen self.now.worker self.now.knows }
+    {
+        self.caller.worker.serial()
+    }
+
+    pub fn epoch(&self) -> u32
+        ensures { result ≡ self.now.worker.epoch }
+    {
+        self.caller.worker.epoch()
+    }
+
+    /// The number of its next instruction, which is the plain mutator's after all that was seen.
+    pub fn pc(&self) -> u64
+        ensures pc { result ≡ self.now.worker.account.counter }
+        ensures shows { ShowsSeen self.now.worker self.now.knows }
+    {
+        self.caller.worker.pc()
+    }
+
+    /// The header that it keeps while it copies a record, and the address that it has reserved and one more; 0 for none.
+    pub fn kept(&self) -> (u64, u64)
+        ensures header { result.0 ≡ header_kept self.now.worker.stage }
+        ensures place { result.1 ≡ place_kept self.now.worker.stage }
+    {
+        self.caller.worker.kept()
+    }
+}

@@ -1,0 +1,117 @@
+//! How a heap is opened: its words, and a seat for each of its workers.
+
+ghost use Rattle.std.specs.Prelude.{◌≡◌, ◌+◌, ◌-◌, ◌≤◌, ◌<◌, ◌↔◌, [], IfOk, IsErrOf, IsTrue, not};
+ghost use Rattle.heap_laws.specs.Opening.{opening_entries};
+ghost use Rattle.heap_state.specs.Entries.{written};
+ghost use Rattle.space_map.specs.Table.{table_length};
+ghost use Rattle.ael_threads.specs.Histories.{first_held, new_hands};
+ghost use Rattle.ael_threads.specs.Opened.{is_size, new_scanners, plan_of};
+ghost use Rattle.ael_threads.specs.Rule.{crew, first_view, view};
+ghost use Rattle.ael_threads.specs.Seats.{new_callers, new_seated};
+
+use crate::caller::Caller;
+use crate::mutator::Mutator;
+use crate::scanner::Scanner;
+use crate::shared::{Deal, Shared};
+use crate::view::{Plan, View};
+use atomic_table::{Seat, Table};
+use gc_worker::{Config, OpenError, Worker};
+use mmu_model::unprotect;
+use space_map::{AreaWord, PAGE_WORDS, Spaces};
+use std::alloc::{AllocError, Global};
+
+/// The seats of a heap's workers.
+#[derive(Drop)]
+pub struct Seats {
+    pub mutators: Vec<Mutator>,
+    pub scanners: Vec<Scanner>,
+}
+
+/// The words before the first step: both spaces are empty, the epoch is traced, and the board is open.
+fn first_words(alloc: Global, spaces: Spaces) -> Result<Vec<u64>, AllocError>
+    ensures { IfOk result (λ words. words.items ≡ written spaces.pages (opening_entries spaces.pages)) }
+{
+    let pages = spaces.pages();
+    let area = AreaWord {
+        front: 0,
+        low: PAGE_WORDS * pages,
+        owed: 0,
+    };
+    let mut words = Vec::from_elem(alloc, 0u64, spaces.table_len())?;
+    words[spaces.page_place(spaces.board_page())] = unprotect(0);
+    words[spaces.area_place(1)] = area.pack();
+    words[spaces.area_place(0)] = area.pack();
+    words[spaces.traced_place()] = 1;
+    Ok(words)
+}
+
+impl Shared {
+    /// A heap in which nobody has made a step, and a seat for each of its workers. `BadPages` comes exactly for fewer than 4 pages or
+    /// more than 2048. The words and the room for the most numbers of each mutator are taken here; no later call takes memory.
+    pub fn open(alloc: Global, mutators: u8, config: &Config) -> Result<(Shared, Seats), OpenError>
+        requires mutators { (1 ≤ mutators) × (mutators ≤ 16) }
+        requires scanners { config.now.scanners ≤ 8 }
+        ensures key { IfOk result (λ o. o.0.table.shared.key ≡ plan_of mutators config.now) }
+        ensures mutators { IfOk result (λ o. o.1.mutators.items ≡ new_callers o.0.table.shared.table_id (plan_of mutators config.now) 0 mutators) }
+        ensures scanners { IfOk result (λ o. o.1.scanners.items ≡ new_scanners o.0.table.shared.table_id (plan_of mutators config.now) mutators config.now.scanners) }
+        ensures bad_pages { IsErrOf result OpenError.BadPages ↔ IsTrue (not (is_size config.now.pages)) }
+    {
+        let spaces = Spaces::new(config.pages)?;
+        let _pages = spaces.pages();
+        let plan = Plan {
+            spaces,
+            mutators,
+            scanners: config.scanners,
+        };
+        let words = first_words(alloc, spaces)?;
+        let (table, seat) = Table::of_words(alloc, words.as_slice(), &plan)?;
+        let shared = Shared { table };
+        let seats = shared.deal(alloc, seat, &plan)?;
+        Ok((shared, seats))
+    }
+
+    /// Gives each worker a seat of its own.
+    fn deal(&self, alloc: Global, mut seat: Seat<u8, View>, plan: &Plan) -> Result<Seats, OpenError>
+        requires few { (plan.now.mutators ≤ 16) × (crew plan.now ≤ 24) }
+        requires live { self.now.table.shared.table_id.words ≡ table_length plan.now.spaces.pages }
+        requires table { seat.table_id ≡ self.now.table.shared.table_id }
+        requires seat { seat.me ≡ (first_view plan.now, []) }
+        ensures mutators { IfOk result (λ all. all.mutators.items ≡ new_callers self.now.table.shared.table_id plan.now 0 plan.now.mutators) }
+        ensures scanners { IfOk result (λ all. all.scanners.items ≡ new_scanners self.now.table.shared.table_id plan.now plan.now.mutators plan.now.scanners) }
+        ensures error { IsErrOf result OpenError.BadPages → ⊥ }
+    {
+        let count = usize::from(plan.mutators);
+        let mut mutators = Vec::with_capacity(alloc, count)?;
+        for k in 0..plan.mutators {
+            let worker = Worker::mutator(alloc, plan.spaces, k, plan.mutators)?;
+            let caller = self.seated(&mut seat, worker, plan, k);
+            mutators.push_reserved(Mutator { caller });
+        }
+        let count = usize::from(plan.scanners);
+        let mut scanners = Vec::with_capacity(alloc, count)?;
+        for i in 0..plan.scanners {
+            let k = plan.mutators + i;
+            let worker = Worker::scanner(alloc, plan.spaces, k, plan.mutators);
+            let caller = self.seated(&mut seat, worker, plan, k);
+            scanners.push_reserved(Scanner { caller, steps: 0 });
+        }
+        Ok(Seats { mutators, scanners })
+    }
+
+    /// Gives the next worker a seat of its own.
+    fn seated(&self, seat: &mut Seat<u8, View>, worker: Worker, plan: &Plan, k: u8) -> Caller
+        requires few { (plan.now.mutators ≤ 16) × (crew plan.now ≤ 24) }
+        requires live { self.now.table.shared.table_id.words ≡ table_length plan.now.spaces.pages }
+        requires below { k < crew plan.now }
+        requires worker { worker ≡ first_held plan.now k }
+        requires table { seat.old.table_id ≡ self.now.table.shared.table_id }
+        requires seat { seat.old.me ≡ (view plan.now (new_hands plan.now k (crew plan.now - k)) [] [] [], []) }
+        ensures table { seat.new.table_id ≡ seat.old.table_id }
+        ensures left { seat.new.me ≡ (view plan.now (new_hands plan.now (k + 1) (crew plan.now - (k + 1))) [] [] [], []) }
+        ensures caller { result ≡ new_seated self.now.table.shared.table_id plan.now k }
+    {
+        let _pages = plan.spaces.pages();
+        let own = self.table.shared.split_seat::<Deal>(seat);
+        Caller { worker, seat: own }
+    }
+}

@@ -1,0 +1,117 @@
+//! The words that threads share, and how a step is made on them.
+
+ghost use Rattle.std.specs.Prelude.{◌≡◌, ◌<◌, ◌≤◌, ◌+◌, ℕ, [], Some, IfOk, IsOk, vec_len};
+ghost use Rattle.heap_laws.specs.Opening.{opening_entries};
+ghost use Rattle.heap_state.specs.Entries.{written};
+ghost use Rattle.space_map.specs.Table.{table_length};
+ghost use Rattle.gc_worker.specs.Between.{fresh_mutator};
+ghost use Rattle.gc_worker.specs.Held.{Held};
+ghost use Rattle.gc_worker.specs.Law.{nobody};
+ghost use Rattle.gc_worker.specs.Wanted.{wanted};
+ghost use Rattle.ael_threads.specs.Rule.{Kept, first_view, spent_view};
+ghost use Rattle.ael_threads.specs.Seats.{Heads, IsLive, IsMine, Learns, Moves, Plays, ShowsSeen, both_of, first_number, first_of, others_of};
+
+use crate::view::{Plan, View};
+use atom_store::{Reply, Step};
+use atomic_table::{Join, Play, Seat, Split, Table, TableRule};
+use gc_worker::Worker;
+use std::alloc::Global;
+use std::marker::{Brand, PhantomData};
+
+/// The rule of the words, and of what each seat knows.
+pub struct Rule;
+
+impl TableRule<u8, View, Plan> for Rule {
+    ghost holds = { Kept };
+
+    ghost first = { first_view };
+}
+
+/// What a worker's code holds as it steps: its seat knows what it held after its last step. Each call picks it.
+pub(crate) trait Now {
+    ghost now: { Held };
+}
+
+impl Now for Brand {
+    ghost now = { nobody };
+}
+
+struct Turn<J> {
+    of: PhantomData<J>,
+}
+
+impl<J: Now> Play<u8, View> for Turn<J> {
+    ghost then = { Plays J.now };
+}
+
+/// Gives the seat's first worker to a new seat.
+pub(crate) struct Deal;
+
+impl Split<View> for Deal {
+    ghost left = { others_of };
+
+    ghost right = { first_of };
+}
+
+/// Takes in what another seat knows.
+pub(crate) struct Both;
+
+impl Join<View> for Both {
+    ghost both = { both_of };
+
+    ghost spent = { spent_view };
+}
+
+/// Sees the whole history.
+pub(crate) struct Learn;
+
+impl Play<u8, View> for Learn {
+    ghost then = { Learns };
+}
+
+/// The words of a heap.
+#[derive(Drop)]
+pub struct Shared {
+    pub(crate) table: Table<u8, View, Plan, Rule, Global>,
+    ghost some: { 0 < table.shared.table_id.words },
+    ghost no_slots: { table.shared.table_id.slots ≡ 0 },
+}
+
+impl Shared {
+    /// Makes one step of the seat, whose worker wants it.
+    pub(crate) fn step<J: Now>(
+        &self,
+        worker: &Worker,
+        seat: &mut Seat<u8, View>,
+        step: Step,
+    ) -> Reply
+        requires table { seat.old.table_id ≡ self.now.table.shared.table_id }
+        requires worker { worker.now ≡ J.now }
+        requires want { wanted worker.now ≡ Some step }
+        requires heads { Heads seat.old.me.0.plan worker.now seat.old.me.0.hands }
+        requires live { IsLive seat.old.table_id seat.old.me.0 }
+        requires mine { IsMine seat.old.me.0 }
+        requires shows { ShowsSeen worker.now seat.old.me.0 }
+        ensures table { (seat.new.table_id ≡ seat.old.table_id) × (seat.new.id ≡ seat.old.id) × (seat.new.me.1 ≡ seat.old.me.1) }
+        ensures moved { Moves seat.old.me.0 (first_number seat.old.me.0.hands) worker.now result seat.new.me.0 }
+    {
+        match step {
+            Step::Load(place) => Reply::Value(self.table.shared.load::<Turn<J>>(seat, place)),
+            Step::Store(place, value) => {
+                self.table.shared.store::<Turn<J>>(seat, place, value);
+                Reply::Done
+            }
+            Step::Exchange(place, old, new) => {
+                let found = self
+                    .table
+                    .shared
+                    .compare_exchange::<Turn<J>>(seat, place, old, new);
+                if found == old {
+                    Reply::Won
+                } else {
+                    Reply::Lost(found)
+                }
+            }
+        }
+    }
+}

@@ -1,0 +1,103 @@
+use crate::rows::{FAN, GARBAGE, Row, check_end};
+use crate::stepping::{open, page_word, program, step, turn, until_all_came, until_cycle};
+use gc_core::Core;
+use space_map::{PageWord, Spaces};
+use std::process::Abort;
+use std::test::Fail;
+
+/// A row with so many scanners, the length of the first record that a scanner copies, and at which step after the record is
+/// busy its copy is published.
+#[derive(Clone, Copy)]
+struct Stops {
+    row: Row,
+    scanners: u8,
+    len: u32,
+    published: u32,
+}
+
+/// In the second row the first record that is copied off a page comes to lie on two pages, of which the first is full then.
+/// The next page has records to be copied off too, which fill the second.
+const ROWS: [Stops; 2] = [
+    Stops {
+        row: GARBAGE,
+        scanners: 1,
+        len: 2,
+        published: 9,
+    },
+    Stops {
+        row: FAN,
+        scanners: 2,
+        len: 1,
+        published: 8,
+    },
+];
+
+/// The scanner that stops.
+const SLEEPER: u8 = 1;
+
+/// How many turns the others make meanwhile.
+const TURNS: u32 = 5_000;
+
+/// More steps than the sleeper makes before its first copy.
+const MOST: u32 = 1_000;
+
+/// What the sleeper keeps: a header, and the place reserved for a copy and one more.
+fn kept(rt: &impl Abort, core: &Core<'_>) -> (u64, u64) {
+    assert!(rt; SLEEPER < core.workers());
+    core.kept(SLEEPER)
+}
+
+/// Steps the sleeper until it has made a record busy.
+fn until_busy(rt: &impl Abort, core: &mut Core<'_>) {
+    for _ in 0..MOST {
+        if kept(rt, core).0 != 0 {
+            return;
+        }
+        step(rt, core, SLEEPER);
+    }
+    panic!(rt; "nothing is copied");
+}
+
+/// Nobody but the sleeper itself has claimed the page of this word in epoch 1.
+fn check_page(rt: &impl Abort, core: &Core<'_>, spaces: Spaces, at: u32) {
+    let page = spaces.page_of(at);
+    let claimed = match page_word(core, spaces, page) {
+        Some(PageWord::Open(epoch)) => epoch == 1,
+        Some(PageWord::Scanning(epoch, worker)) => epoch == 1 && worker != SLEEPER,
+        _ => false,
+    };
+    assert!(rt; !claimed, "page {page} is claimed");
+}
+
+/// The sleeper stops so many steps after it has made its first record busy, and the others go on. At last all go on.
+fn check_stop(rt: &impl Abort, core: &mut Core<'_>, spaces: Spaces, stops: &Stops, steps: u32) {
+    until_cycle(rt, core, 0, 1);
+    until_all_came(rt, core, spaces, 1, 1);
+    until_busy(rt, core);
+    for _ in 0..steps {
+        step(rt, core, SLEEPER);
+    }
+    let place = u32::try_from(kept(rt, core).1).unwrap_or(0);
+    assert_eq!(rt; place != 0, 3 <= steps && steps < stops.published);
+    for _ in 0..TURNS {
+        turn(rt, core, Some(SLEEPER));
+        if place != 0 {
+            check_page(rt, core, spaces, place - 1);
+            check_page(rt, core, spaces, (place - 1).saturating_add(stops.len));
+        }
+    }
+    check_end(rt, core, &stops.row);
+}
+
+#[test]
+fn a_page_with_an_unfinished_copy_is_not_claimed(rt: HostRuntime) -> Result<(), Fail> {
+    for stops in &ROWS {
+        let spaces = Spaces::new(stops.row.pages)?;
+        let program = program(rt.alloc(), stops.row.lines)?;
+        for steps in 0..=stops.published {
+            let mut core = open(rt.alloc(), &program, stops.row.pages, stops.scanners)?;
+            check_stop(&rt, &mut core, spaces, stops, steps);
+        }
+    }
+    Ok(())
+}

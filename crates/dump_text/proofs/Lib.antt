@@ -1,0 +1,12 @@
+pub mod Options
+pub mod Hex
+pub mod Pieces
+pub mod Digits
+pub mod Numerals
+pub mod FirstLines
+pub mod Exact
+pub mod Loop
+pub mod FirstLine
+pub mod Whole
+pub mod Answering
+pub mod Laid

@@ -1,0 +1,15 @@
+//! The dump of a heap as it is printed, read back.
+#![tactic(auto)]
+
+mod dump;
+mod dump_error;
+mod head;
+mod kept;
+mod lines;
+mod reading;
+mod word;
+
+pub use dump::Dump;
+pub use dump_error::DumpError;
+pub use kept::Kept;
+pub use reading::read;

@@ -1,0 +1,52 @@
+//! A whole dump.
+
+ghost use Rattle.std.specs.Prelude.{◌≡◌, IfErr, IfOk, Ok};
+ghost use Rattle.dump_text.specs.Lines.{NamesFirstWrong};
+ghost use Rattle.dump_text.specs.Reading.{Gives, dump_at, dump_view};
+ghost use Rattle.dump_text.specs.Text.{Dumped, IsDump, dump_text};
+
+use crate::dump::Dump;
+use crate::dump_error::DumpError;
+use crate::head::first_line;
+use crate::lines::{all_kept, all_registers, table};
+use std::alloc::Global;
+
+/// Each line in turn.
+#[tactic(auto, unfolding(crate::specs::Reading::dump_at))]
+fn all(alloc: Global, bytes: &[u8]) -> Result<Dump, DumpError>
+    ensures { Gives dump_view result (dump_at bytes.now) }
+{
+    let Some((head, rest)) = first_line(bytes) else {
+        return Err(DumpError::Bad { line: 1 });
+    };
+    let mut line = 2;
+    let (registers, rest) = all_registers(alloc, head.mutators, line, rest)?;
+    line += head.mutators;
+    let (kept, rest) = all_kept(alloc, head.workers, line, rest)?;
+    line += head.workers;
+    let length = head.spaces.table_len() as u32;
+    let (words, rest) = table(alloc, length, line, rest)?;
+    if !rest.is_empty() {
+        return Err(DumpError::Bad {
+            line: line + length,
+        });
+    }
+    Ok(Dump {
+        pages: head.spaces.pages(),
+        registers,
+        kept,
+        words,
+    })
+}
+
+/// The dump that was printed as these bytes, all of them.
+pub fn read(alloc: Global, bytes: &[u8]) -> Result<Dump, DumpError>
+    // What is read is a dump that is printed so.
+    ensures found { IfOk result (λ d. IsDump (dump_view d) × (bytes.now ≡ dump_text (dump_view d))) }
+    // A dump that was printed is read back, unless memory runs out.
+    ensures only { (d : Dumped) → IsDump d → bytes.now ≡ dump_text d → Gives dump_view result (Ok d) }
+    // Else the first line by which the bytes differ from every dump is told.
+    ensures first_wrong { IfErr result (λ e. NamesFirstWrong bytes.now e) }
+{
+    all(alloc, bytes)
+}

@@ -1,0 +1,87 @@
+-- What is told of a core by its readers represents the plain state that the core represents.
+use Rattle.std.proofs.Common.{◌≡◌, ℕ, ◌<◌, ◌≤◌, List, [], length, get_or, sym, ap, subst, ◌∙◌, arith}
+use Rattle.std.proofs.lemmas.List.{get_or-map, get_or-take, length-map, length-take-le}
+use Rattle.std.proofs.lemmas.Option.{slice_get_within}
+use Rattle.plain_state.specs.State as plain
+use Rattle.plain_state.specs.declared.kind.Kind.{Kind}
+use Rattle.heap_state.specs.Dump.{Dump, dump_of}
+use Rattle.heap_state.specs.Represents.{DumpRepresents, RegisterShows, RecordShows, IsOwn, HasOwn, LeadsToRecord, denoted_in_dump}
+use Rattle.heap_state.specs.Walk.{Walked}
+use Rattle.heap_state.specs.Worker.{Scanner, Worker, fresh}
+use Rattle.gc_worker.specs.Held.{Held}
+use Rattle.gc_worker.specs.Knows.{knows}
+use Rattle.gc_worker.specs.Law.{held_at, nobody, read}
+use Rattle.gc_core.specs.Core.{CoreState, workers_of}
+use Rattle.gc_core.specs.Dumped.{dumped, dump_said, register_told}
+use Rattle.gc_core.specs.Readers.{mutators_in, registers_in}
+
+-- ---- other registers beside the same table
+
+module _ (d : Dump) (p : plain.Plain) (mutators : ℕ) (registers : ℕ → ℕ → ℕ) where
+  -- the dump with these registers of so many mutators
+  abbrev other : Dump
+  other = record { table = d.table; kept = d.kept; mutators = mutators; registers = registers }
+
+  own_back : (w : Walked) (kind : Kind) (len serial mutator : ℕ) → IsOwn other w kind len serial mutator → IsOwn d w kind len serial mutator
+  own_back w kind len serial mutator o = record { walked = o.walked; head = o.head; header = o.header; said = o.said }
+
+  has_own : (w : Walked) → HasOwn d w → HasOwn other w
+  has_own w h = record {
+    kind = h.kind;
+    len = h.len;
+    serial = h.serial;
+    mutator = h.mutator;
+    own = record { walked = h.own.walked; head = h.own.head; header = h.own.header; said = h.own.said };
+  }
+
+  record_shows : (w : Walked) → RecordShows d p w → RecordShows other p w
+  record_shows w r = record {
+    owns = λ walked. has_own w (r.owns walked);
+    shows = λ kind len serial mutator o. r.shows kind len serial mutator (own_back w kind len serial mutator o);
+    leads = λ kind len serial mutator i o field. r.leads kind len serial mutator i (own_back w kind len serial mutator o) field;
+    once = λ v kind more len longer serial mutator o other_own.
+        r.once v kind more len longer serial mutator (own_back w kind len serial mutator o) (own_back v more longer serial mutator other_own);
+  }
+
+  register_shows : (m j : ℕ) → (m < length p.mutators → registers m j ≡ d.registers m j) → RegisterShows d p m j → RegisterShows other p m j
+  register_shows m j same r = record {
+    shows = λ q is going. ap (denoted_in_dump d) (same (slice_get_within p.mutators m q is)) ∙ r.shows q is going;
+    leads = λ q is going. subst (LeadsToRecord d) (sym (same (slice_get_within p.mutators m q is))) (r.leads q is going);
+  }
+
+  -- where they are the same for each mutator that is there
+  with_registers : mutators ≡ d.mutators → ((m j : ℕ) → m < length p.mutators → j < 8 → registers m j ≡ d.registers m j) → DumpRepresents d p → DumpRepresents other p
+  with_registers as_many same r = record {
+    as_many = (r.as_many.0 ∙ sym as_many, r.as_many.1 ∙ sym as_many);
+    eight = r.eight;
+    sixteen = r.sixteen;
+    registers = λ m j few. register_shows m j (λ there. same m j there few) (r.registers m j few);
+    board = λ x few. let b = r.board x few in record { shows = b.shows; leads = b.leads };
+    readable = r.readable;
+    old_readable = r.old_readable;
+    records = λ w there. record_shows w (r.records w there);
+  }
+
+-- ---- the registers of a core
+
+abbrev registers_of : Held → List ℕ
+registers_of x = x.registers
+
+registers_length : (s : CoreState) → s.heap.mutators ≤ workers_of s → length (registers_in s) ≡ s.heap.mutators
+registers_length s enough = length-map (mutators_in s) registers_of ∙ length-take-le s.heap.mutators s.heap.workers enough
+
+registers_at : (s : CoreState) (m : ℕ) → s.heap.mutators ≤ workers_of s → m < s.heap.mutators → get_or (registers_in s) m [] ≡ (held_at s.heap m).registers
+registers_at s m enough few =
+    let there : m < length (mutators_in s) = omega (arith, few, length-take-le s.heap.mutators s.heap.workers enough) in
+    get_or-map registers_of (mutators_in s) m nobody [] there ∙ ap registers_of (get_or-take s.heap.mutators s.heap.workers m nobody few)
+
+register_is : (s : CoreState) (m j : ℕ) → s.heap.mutators ≤ workers_of s → m < s.heap.mutators → register_told (registers_in s) m j ≡ (dump_of (read s.heap)).registers m j
+register_is s m j enough few =
+    let there : m < length s.heap.workers = omega (arith, enough, few) in
+    ap (λ (rs : List ℕ). get_or rs j 0) (registers_at s m enough few)
+    ∙ sym (ap (λ (x : Worker). x.registers j) (get_or-map knows s.heap.workers m nobody (fresh Scanner) there))
+
+pub told_represents : (s : CoreState) (p : plain.Plain) → s.heap.mutators ≤ workers_of s → DumpRepresents (dump_of (read s.heap)) p → DumpRepresents (dump_said (dumped s)) p
+told_represents s p enough r =
+    with_registers (dump_of (read s.heap)) p (length (registers_in s)) (register_told (registers_in s)) (registers_length s enough)
+    (λ m j there few. register_is s m j enough (omega (arith, there, r.as_many.0))) r

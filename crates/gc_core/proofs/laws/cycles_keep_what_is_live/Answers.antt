@@ -1,0 +1,5 @@
+use Rattle.gc_core.proofs.Cycles.Whole.{cycles_keep_what_is_live}
+use Rattle.gc_core.proofs.laws.cycles_keep_what_is_live.Goals as goal
+
+pub returns : goal.returns
+returns c = cycles_keep_what_is_live

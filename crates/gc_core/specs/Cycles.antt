@@ -1,0 +1,105 @@
+-- What a cycle keeps, over whole runs: what was copied was live at the last flip, and a heap that is full has no word to waste.
+use Rattle.std.specs.Prelude.{◌≡◌, ℕ, ◌+◌, ◌*◌, ◌<◌, ◌≤◌, ◌==◌, List, Option, Some, None, if◌then◌else◌, zero, suc}
+use Rattle.plain_state.specs.declared.end.End.TheVariants as ends
+use Rattle.plain_state.specs.declared.sizes.TheConstants.{PAGE_WORDS}
+use Rattle.plain_state.specs.State.{Plain}
+use Rattle.mutator_asm.specs.declared.instr.Instr.{Instr}
+use Rattle.plain_heap.specs.Order.{Story, story}
+use Rattle.atom_store.specs.declared.step.Step.{Step}
+use Rattle.atom_store.specs.Step.{reply_of}
+use Rattle.heap_state.specs.Copies.{CopiedIsLive}
+use Rattle.heap_state.specs.Reachable.{IsLive}
+use Rattle.gc_worker.specs.Copied.{IsTraced}
+use Rattle.gc_worker.specs.Cycles.{claimed}
+use Rattle.gc_worker.specs.Law.{read}
+use Rattle.gc_worker.specs.Wanted.{wanted}
+use Rattle.gc_worker.specs.declared.config.Config.{Config}
+use Rattle.gc_worker.specs.declared.stepped.Stepped.{Stepped}
+use Rattle.gc_worker.specs.declared.stepped.Stepped.TheVariants.{Idle, Moved, Effect, Flipped, Ended}
+use Rattle.gc_core.specs.Core.{CoreState, opening_core}
+use Rattle.gc_core.specs.Event.{core_after, event_of, ready}
+use Rattle.gc_core.specs.Readers.{live_of}
+use Rattle.gc_core.specs.Run.{InEveryRun, all_ended, run_of}
+
+-- ---- runs from an opening
+
+-- the plain state at the last flip of its order, and that after all of it
+abbrev pub story_of : List (List Instr) → Config → (ℕ → ℕ) → ℕ → Story
+story_of code config schedule n = story code config.turns (run_of code config schedule n).order
+
+-- What is counted along a run from a position of the schedule on: by the core before each event, and its worker.
+unfoldable pub count_from : (next : CoreState → ℕ → ℕ → ℕ) → (ℕ → ℕ) → ℕ → ℕ → (count : ℕ) → CoreState → ℕ
+count_from next schedule at zero count s = count
+count_from next schedule at (suc n) count s =
+    if all_ended s then count else count_from next schedule (at + 1) n (next s (schedule at) count) (core_after s (schedule at))
+
+abbrev pub count_of : (next : CoreState → ℕ → ℕ → ℕ) → List (List Instr) → Config → (ℕ → ℕ) → ℕ → ℕ
+count_of next code config schedule n = count_from next schedule 0 n 0 (opening_core code config)
+
+-- ---- what a cycle copied
+
+-- Once the epoch is traced, what was copied in it is what was reachable at the last flip, and that many words are told as live; before
+-- that no number is told.
+pub record KeepsWhatIsLive (s : CoreState) (flip : Plain) : Type 0 where
+  pub copied : IsTraced s.heap → CopiedIsLive (read s.heap) flip
+  pub live : IsTraced s.heap → (words : ℕ) × (live_of s ≡ Some words) × IsLive flip words
+  pub untraced : ¬ (IsTraced s.heap) → live_of s ≡ None
+
+abbrev pub CyclesKeepWhatIsLive : Type 0
+CyclesKeepWhatIsLive = InEveryRun (λ code config schedule n. KeepsWhatIsLive (run_of code config schedule n).last (story_of code config schedule n).flip)
+
+-- ---- the words claimed for records
+
+abbrev pub claimed_if : CoreState → ℕ → Option Step → ℕ
+claimed_if s w None = 0
+claimed_if s w (Some q) = claimed (ready s w) (reply_of q s.heap.words)
+
+-- the words of the pages that the event of worker w claims for a record
+abbrev pub claimed_by : CoreState → ℕ → ℕ
+claimed_by s w = claimed_if s w (wanted (ready s w))
+
+-- the words claimed since the last flip, after an event that claims so many
+abbrev pub claims_after : (claims more : ℕ) → Stepped → ℕ
+claims_after claims more Idle = claims + more
+claims_after claims more Moved = claims + more
+claims_after claims more (Effect m) = claims + more
+claims_after claims more (Ended m why) = claims + more
+claims_after claims more (Flipped asked) = 0
+
+abbrev pub claims_next : CoreState → ℕ → (claims : ℕ) → ℕ
+claims_next s w claims = claims_after claims (claimed_by s w) (event_of s w).told
+
+-- the words claimed since the last flip of a run, in the opening's epoch since the opening
+abbrev pub claims_of : List (List Instr) → Config → (ℕ → ℕ) → ℕ → ℕ
+claims_of code config schedule n = count_of claims_next code config schedule n
+
+-- ---- a full heap
+
+-- What is told as live was live at the last flip. With the room that is left and the words claimed since then it fills the space; so the
+-- pages that were asked for don't fit beside it.
+pub record IsFilled (pages : ℕ) (flip : Plain) (claims asked room live : ℕ) : Type 0 where
+  pub live_is : IsLive flip live
+  pub filled : room + live + claims ≡ PAGE_WORDS * pages
+  pub short : PAGE_WORDS * pages < live + claims + PAGE_WORDS * asked
+
+abbrev pub FullHeapsAreFilled : Type 0
+FullHeapsAreFilled = InEveryRun (λ code config schedule n. (w m asked room live : ℕ)
+    → (event_of (run_of code config schedule n).last w).told ≡ Ended m (ends.HeapFull asked room live)
+    → IsFilled config.pages (story_of code config schedule n).flip (claims_of code config schedule n) asked room live)
+
+-- ---- flips
+
+-- how often mutator m flipped since its last answer, once this is told of an event of worker w
+abbrev pub flips_after : (m flips w : ℕ) → Stepped → ℕ
+flips_after m flips w Idle = flips
+flips_after m flips w Moved = flips
+flips_after m flips w (Effect j) = if j == m then 0 else flips
+flips_after m flips w (Ended j why) = if j == m then 0 else flips
+flips_after m flips w (Flipped asked) = if w == m then flips + 1 else flips
+
+abbrev pub flips_next : (m : ℕ) → CoreState → ℕ → (flips : ℕ) → ℕ
+flips_next m s w flips = flips_after m flips w (event_of s w).told
+
+-- a mutator flips at most once for an instruction
+abbrev pub InstructionsFlipOnce : Type 0
+InstructionsFlipOnce = InEveryRun (λ code config schedule n. (m : ℕ) → count_of (flips_next m) code config schedule n ≤ 1)

@@ -1,0 +1,5 @@
+pub mod Beside
+pub mod Lows
+pub mod SetAside
+pub mod Flips
+pub mod Calls

@@ -1,0 +1,156 @@
+-- What an allocation claims is set aside for the record that the mutator's instruction makes.
+use Rattle.std.proofs.Common.{◌≡◌, ℕ, ◌+◌, ◌*◌, ◌≤◌, Bool, true, false, cond, nat_lt, Option, Some, refl, ap, sym, subst, ◌∙◌, arith}
+use Rattle.plain_state.specs.State.{Plain}
+use Rattle.atom_store.specs.declared.reply.Reply.{Reply}
+use Rattle.atom_store.specs.declared.reply.Reply.TheVariants as replies
+use Rattle.space_map.specs.declared.spaces.TheConstants.{PAGE_WORDS}
+use Rattle.space_map.specs.Spaces.{page_of}
+use Rattle.record_layout.specs.declared.header.Header.{Header}
+use Rattle.atom_store.specs.declared.turn.Turn.{Turn}
+use Rattle.atom_store.specs.declared.turn.Turn.TheVariants.{More}
+use Rattle.alloc_end.specs.declared.allocated.Allocated.{Allocated}
+use Rattle.alloc_end.specs.declared.run.Run.{Run}
+use Rattle.alloc_end.specs.declared.new_pages.NewPages.{NewPages}
+use Rattle.alloc_end.specs.declared.place_stage.PlaceStage.{PlaceStage}
+use Rattle.alloc_end.specs.declared.place_stage.PlaceStage.TheVariants.{LoadsTraced, LoadsArea, ExchangesArea, StoresZero, OpensPage, StoresHeader, Ended}
+use Rattle.alloc_end.specs.Place.{Placing, pages_for, size_of, words_for}
+use Rattle.alloc_end.specs.Place as place
+use Rattle.alloc_end.specs.Soundness.{IsPlacingGoing}
+use Rattle.gc_worker.specs.Cycles.{Makes, IsForRecord, SetAsideIsForRecords, ClaimsAreSetAside, SetsAside, claimed, claimed_at, set_aside, set_aside_at, set_aside_by}
+use Rattle.gc_worker.specs.declared.stage.Stage.{Stage}
+use Rattle.gc_worker.specs.declared.stage.Stage.TheVariants.{Places}
+use Rattle.gc_worker.specs.declared.task.Task.{Task}
+use Rattle.gc_worker.specs.Fits.{Fits, FitsStage, FitsTask, IsMaking}
+use Rattle.gc_worker.specs.Goes.{Is}
+use Rattle.gc_worker.specs.Held.{Held, at_stage, asked_by, header_for, pages_asked}
+use Rattle.gc_worker.specs.Law.{Heap, WorkersStand, read}
+use Rattle.gc_worker.specs.Turned.{Told, Silent, Answers, Marks, Effect, Ends, told, told_effect, told_place, turned, turned_place}
+use Rattle.gc_worker.proofs.Answering.{its_mutator}
+use Rattle.gc_worker.proofs.Gate.Resuming.{end_none}
+use Rattle.gc_worker.proofs.Making.{asked_is, plain_pages}
+use Rattle.gc_worker.proofs.Members.{member}
+use Rattle.gc_worker.proofs.Place.Acts.{makes_alike}
+
+-- ---- a step
+
+-- nothing is claimed, and nothing was set aside
+nothing : (x y : Held) (claims : ℕ) → claims ≡ 0 → set_aside x ≡ 0 → (t : Told) → SetsAside x claims y t
+nothing x y claims none empty Silent = omega (arith, none, empty)
+nothing x y claims none empty (Answers task Effect) = none
+nothing x y claims none empty (Answers task (Ends end)) = omega (arith, none, empty)
+nothing x y claims none empty (Marks asked) = tt
+
+-- the pages that the record needs
+asks : (x : Held) (header : Header) → header_for x ≡ Some header → words_for header ≡ PAGE_WORDS * asked_by x
+asks x header is = let a : asked_by x ≡ pages_for (size_of header) = ap pages_asked is in omega (arith, a)
+
+module _ (x : Held) (z : Placing) (task : IsMaking x.account x.registers x.task) where
+  abbrev at : PlaceStage → Held
+  at stage = at_stage x (Places (record z { stage = stage }))
+
+  -- after a step of the allocation, which then is this
+  abbrev After : PlaceStage → (claims : ℕ) → Placing → Type 0
+  After stage claims next = SetsAside (at stage) claims (turned_place (at stage) next (place.told next)) (told_place (at stage) (place.told next))
+
+  -- where it goes on
+  within : (stage : PlaceStage) (claims : ℕ) (next : Placing) → place.told next ≡ More → claims + set_aside_by z stage ≤ set_aside_by next next.stage → After stage claims next
+  within stage claims next more keeps =
+      subst (λ (t : Turn Allocated). SetsAside (at stage) claims (turned_place (at stage) next t) (told_place (at stage) t)) (sym more) keeps
+
+  clears : (new some other : NewPages) (b : Bool) → After (StoresZero new) 0 (record z { stage = cond b (StoresZero some) (OpensPage other) })
+  clears new some other true = within (StoresZero new) 0 (record z { stage = StoresZero some }) refl (omega arith)
+  clears new some other false = within (StoresZero new) 0 (record z { stage = OpensPage other }) refl (omega arith)
+
+  opens : (new other : NewPages) (run : Run) (b : Bool) → After (OpensPage new) 0 (cond b (record z { stage = OpensPage other }) (record z { run = run; stage = StoresHeader }))
+  opens new other run true = within (OpensPage new) 0 (record z { stage = OpensPage other }) refl (omega arith)
+  opens new other run false = within (OpensPage new) 0 (record z { run = run; stage = StoresHeader }) refl (omega arith)
+
+  places : After StoresHeader 0 (place.placed z)
+  places =
+      subst (λ (o : Option Task). SetsAside (at StoresHeader) 0 (turned_place (at StoresHeader) (place.placed z) (place.told (place.placed z))) (told_effect o)) (sym task.executes.task_is) refl
+
+  by_place : (stage : PlaceStage) (reply : Reply) → IsPlacingGoing stage → SetsAside (at stage) (claimed (at stage) reply) (turned (at stage) reply) (told (at stage) reply)
+  by_place LoadsTraced reply going = nothing (at LoadsTraced) (turned (at LoadsTraced) reply) 0 refl refl (told (at LoadsTraced) reply)
+  by_place (LoadsArea traced) reply going = nothing (at (LoadsArea traced)) (turned (at (LoadsArea traced)) reply) 0 refl refl (told (at (LoadsArea traced)) reply)
+  by_place (ExchangesArea f) (replies.Value word) going = omega arith
+  by_place (ExchangesArea f) replies.Done going = omega arith
+  by_place (ExchangesArea f) replies.Won going = omega arith
+  by_place (ExchangesArea f) (replies.Lost word) going = omega arith
+  by_place (StoresZero new) (replies.Value word) going = omega arith
+  by_place (StoresZero new) replies.Done going =
+      clears new (record { first = new.first; next = new.next + 1 }) (record { first = new.first; next = page_of new.first }) (nat_lt (new.next + 1) (new.first + words_for z.header))
+  by_place (StoresZero new) replies.Won going = omega arith
+  by_place (StoresZero new) (replies.Lost word) going = omega arith
+  by_place (OpensPage new) (replies.Value word) going = omega arith
+  by_place (OpensPage new) replies.Done going =
+      opens new (record { first = new.first; next = new.next + 1 }) (record { at = new.first; end = new.first + words_for z.header }) (nat_lt (new.next + 1) (page_of new.first + pages_for (size_of z.header)))
+  by_place (OpensPage new) replies.Won going = omega arith
+  by_place (OpensPage new) (replies.Lost word) going = omega arith
+  by_place StoresHeader (replies.Value word) going = omega arith
+  by_place StoresHeader replies.Done going = places
+  by_place StoresHeader replies.Won going = omega arith
+  by_place StoresHeader (replies.Lost word) going = omega arith
+  by_place (Ended result) reply going = absurd going
+
+module _ (n mutators k : ℕ) (x : Held) (reply : Reply) (fits : Fits n mutators k x) where
+  -- at another stage nothing is claimed or set aside
+  elsewhere : claimed x reply ≡ 0 → set_aside x ≡ 0 → SetsAside x (claimed x reply) (turned x reply) (told x reply)
+  elsewhere none empty = nothing x (turned x reply) (claimed x reply) none empty (told x reply)
+
+  by_stage : (stage : Stage) → x.stage ≡ stage → SetsAside x (claimed x reply) (turned x reply) (told x reply)
+  by_stage (Places z) e =
+      let task = subst (FitsTask x) e fits.task in
+      let stage = subst (FitsStage x) e fits.stage in
+      let own : x ≡ at_stage x (Places z) = ap (at_stage x) e in
+      subst (λ (y : Held). SetsAside y (claimed y reply) (turned y reply) (told y reply)) (sym own) (by_place x z task.0 z.stage reply stage.going)
+  by_stage stage e = elsewhere (ap (λ (s : Stage). claimed_at s reply) e) (ap set_aside_at e)
+
+pub claims_are_set_aside : ClaimsAreSetAside
+claims_are_set_aside n mutators k x reply fits = by_stage n mutators k x reply fits x.stage refl
+
+-- ---- the record
+
+module _ (h : Heap) (p o : Plain) (k : ℕ) (x : Held) (st : WorkersStand h p o) (z : Placing) (is : Is (read h) k (at_stage x (Places z))) where
+  abbrev y : Held
+  y = at_stage x (Places z)
+
+  its_record : Makes p k y (asked_by y)
+  its_record =
+      let making = is.fits.task.0 in
+      let unended = end_none x.account.end is.fits.end in
+      let its = its_mutator (read h) p st.stands k y is refl unended in
+      let acts = makes_alike (read h) p st.stands k y is refl unended its.0 its.1 making in
+      record {
+        mutator = its.0;
+        is = its.1.is;
+        no_end = its.1.no_end;
+        instr = making.executes.instr;
+        task = making.executes.task_is;
+        pages_are = plain_pages y making its.0 acts ∙ ap (λ (n : ℕ). Some n) (sym (asked_is y making));
+      }
+
+  few_by : (stage : PlaceStage) → set_aside_by z stage ≤ PAGE_WORDS * asked_by y
+  few_by stage = let a = asks y z.header is.fits.task.1 in most a stage
+    where
+      most : words_for z.header ≡ PAGE_WORDS * asked_by y → (stage : PlaceStage) → set_aside_by z stage ≤ PAGE_WORDS * asked_by y
+      most a (StoresZero new) = omega (arith, a)
+      most a (OpensPage new) = omega (arith, a)
+      most a StoresHeader = omega (arith, a)
+      most a stage = omega arith
+
+  for_record : IsForRecord p k y
+  for_record = record { few = few_by z.stage; makes = λ some. its_record }
+
+-- nothing is set aside
+for_none : (p : Plain) (k : ℕ) (x : Held) → set_aside x ≡ 0 → IsForRecord p k x
+for_none p k x none = record { few = omega (arith, none); makes = λ some. absurd (omega (arith, none, some)) }
+
+module _ (h : Heap) (p o : Plain) (k : ℕ) (x : Held) (st : WorkersStand h p o) (there : Is (read h) k x) where
+  at_stages : (stage : Stage) → x.stage ≡ stage → IsForRecord p k x
+  at_stages (Places z) e =
+      let own : x ≡ at_stage x (Places z) = ap (at_stage x) e in
+      subst (IsForRecord p k) (sym own) (for_record h p o k x st z (subst (Is (read h) k) own there))
+  at_stages stage e = for_none p k x (ap set_aside_at e)
+
+pub set_aside_is_for_records : SetAsideIsForRecords
+set_aside_is_for_records h p o k x st l holds = at_stages h p o k x st (member h p o k x st l holds) x.stage refl

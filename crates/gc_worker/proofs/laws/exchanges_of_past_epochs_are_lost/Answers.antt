@@ -1,0 +1,11 @@
+use Rattle.gc_worker.proofs.Past.{past_claims_are_lost, past_marks_are_lost, pages_are_won_now}
+use Rattle.gc_worker.proofs.laws.exchanges_of_past_epochs_are_lost.Goals as goal
+
+pub returns-clause-pages : goal.returns-clause-pages
+returns-clause-pages c = past_claims_are_lost
+
+pub returns-clause-traced : goal.returns-clause-traced
+returns-clause-traced c = past_marks_are_lost
+
+pub returns-clause-won : goal.returns-clause-won
+returns-clause-won c = pages_are_won_now

@@ -1,0 +1,3 @@
+pub mod Claiming
+pub mod Clearing
+pub mod Stages

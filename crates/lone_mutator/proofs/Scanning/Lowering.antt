@@ -1,0 +1,152 @@
+-- What a scan has left goes down with each step, by six where it asks for a copy.
+use Rattle.std.proofs.Common.{◌≡◌, ℕ, ◌+◌, ◌-◌, ◌*◌, ◌<◌, ◌≤◌, Bool, true, false, cond, nat_eq, nat_lt, max, Option, Some, None, refl, arith}
+use Rattle.std.specs.Prelude.{is_some}
+use Rattle.std.proofs.lemmas.Bool.{ne_eqb, cond_both}
+use Rattle.std.proofs.lemmas.Bool.Decides.{nat_tests}
+use Rattle.atom_store.specs.declared.reply.Reply.{Reply}
+use Rattle.atom_store.specs.declared.reply.Reply.TheVariants.{Value, Done}
+use Rattle.heap_words.specs.declared.kind.Kind.{Kind}
+use Rattle.heap_words.specs.declared.kind.Kind.TheVariants.{Fields, Raw}
+use Rattle.heap_state.specs.FieldSpan.{first_field}
+use Rattle.heap_state.specs.Ghost.{said_kind}
+use Rattle.heap_words.specs.FirstWords.{is_header}
+use Rattle.heap_words.specs.Decoded.{Decoded, NumberWord, PointerWord, HeaderWord, ForwardWord, BusyWord, Malformed, decode}
+use Rattle.space_map.specs.declared.area_word.AreaWord.{AreaWord}
+use Rattle.space_map.specs.AreaWord.{decode_area}
+use Rattle.space_map.specs.Spaces.{Layout, board_page, first_word}
+use Rattle.page_scan.specs.declared.scan_stage.ScanStage.{ScanStage}
+use Rattle.page_scan.specs.declared.scan_stage.ScanStage.TheVariants.{LoadsCross, LoadsFirst, LoadsWord, Asks, StoresCopy, LoadsFront, LoadsNext}
+use Rattle.page_scan.specs.declared.scanned_record.ScannedRecord.{ScannedRecord}
+use Rattle.page_scan.specs.declared.spot.Spot.{Spot}
+use Rattle.page_scan.specs.declared.spot.Spot.TheVariants.{OnBoard, InRecord}
+use Rattle.page_scan.specs.Left.{left_at, advances}
+use Rattle.page_scan.specs.Scanning.{address_of}
+use Rattle.page_scan.specs.Soundness.{IsOnPage, FitsStage}
+use Rattle.page_scan.specs.Taken.{board_words, by_area, by_header, by_word, enters, goes_on, is_old, passes, record_at, scan_end, stage_after}
+use Rattle.page_scan.proofs.Lowering.{passes-lt}
+
+-- what a copy costs that is asked for, before its room is reserved
+abbrev pub asks_cost : ScanStage → ℕ
+asks_cost (Asks asked) = 5
+asks_cost stage = 0
+
+-- what is left with what it asks for
+abbrev pub cost : (end : ℕ) → ScanStage → ℕ
+cost end stage = left_at end stage + asks_cost stage
+
+-- ---- a word
+
+passes_cost : (page : ℕ) (in_place : Bool) (spot : Spot) → asks_cost (passes page in_place spot) ≡ 0
+passes_cost page in_place (OnBoard x) = grind (arith, nat_tests)
+passes_cost page in_place (InRecord r x) = grind (arith, nat_tests)
+
+passed-lt : (l : Layout) (p : ℕ) (in_place : Bool) (spot : Spot) → IsOnPage l.pages p spot
+    → cost (scan_end l p) (passes p in_place spot) < 7 * (scan_end l p - address_of spot)
+passed-lt l p in_place spot fits =
+    let none = passes_cost p in_place spot in let fewer = passes-lt l p in_place spot fits in omega (arith, none, fewer)
+
+asked-lt : (l : Layout) (p : ℕ) (spot : Spot) → IsOnPage l.pages p spot
+    → 7 * (scan_end l p - address_of spot - 1) + 1 + 5 < 7 * (scan_end l p - address_of spot)
+asked-lt l p (OnBoard x) fits = grind (arith, nat_tests)
+asked-lt l p (InRecord r x) fits = grind (arith, nat_tests)
+
+by_old : (l : Layout) (p : ℕ) (in_place old : Bool) (spot : Spot) (address : ℕ) → IsOnPage l.pages p spot
+    → cost (scan_end l p) (cond old (Asks (record { spot = spot; old = address })) (passes p in_place spot)) < 7 * (scan_end l p - address_of spot)
+by_old l p in_place true spot address fits = asked-lt l p spot fits
+by_old l p in_place false spot address fits = passed-lt l p in_place spot fits
+
+by_word-cost : (l : Layout) (p e : ℕ) (in_place : Bool) (spot : Spot) (d : Decoded) → IsOnPage l.pages p spot
+    → cost (scan_end l p) (by_word l p e in_place spot d) < 7 * (scan_end l p - address_of spot)
+by_word-cost l p e in_place spot (PointerWord address) fits = by_old l p in_place (is_old l e address) spot address fits
+by_word-cost l p e in_place spot (NumberWord n) fits = passed-lt l p in_place spot fits
+by_word-cost l p e in_place spot (HeaderWord kind len serial mutator) fits = passed-lt l p in_place spot fits
+by_word-cost l p e in_place spot (ForwardWord len address) fits = passed-lt l p in_place spot fits
+by_word-cost l p e in_place spot (BusyWord len worker) fits = passed-lt l p in_place spot fits
+by_word-cost l p e in_place spot Malformed fits = passed-lt l p in_place spot fits
+
+-- ---- a header
+
+scan_end-page : (l : Layout) (p : ℕ) → p < board_page l.pages → scan_end l p ≡ first_word (p + 1)
+scan_end-page l p low = let other = ne_eqb p (board_page l.pages) (λ (e : p ≡ board_page l.pages). absurd (omega (arith, low, e))) in rw other refl
+
+-- from a word on, it is no more than what the words from there on have left
+goes_on-cost : (end page : ℕ) (in_place : Bool) (r : ScannedRecord) (x from : ℕ) → from ≤ x → from ≤ r.next → cost end (goes_on page in_place r x) ≤ 7 * (end - from)
+goes_on-cost end page in_place r x from low next =
+    let P : (ScanStage → Type 0) = (λ (stage : ScanStage). cost end stage ≤ 7 * (end - from)) in
+    cond_both (nat_lt x r.fields_end) _ _ P
+    (λ _. cond_both (nat_lt x (first_word (page + 1))) _ _ P (λ _. omega (arith, low)) (λ _. omega arith))
+    (λ _. cond_both (nat_lt r.next (first_word (page + 1))) _ _ P
+    (λ _. cond_both in_place (LoadsFront r) (LoadsNext r) P (λ _. omega (arith, next)) (λ _. omega (arith, next))) (λ _. omega arith))
+
+-- on a page it is no more than what a page has
+entered-cost : (n page end : ℕ) (in_place : Bool) (r : ScannedRecord) (x : ℕ) → end ≡ first_word (page + 1) → FitsStage n page (goes_on page in_place r x)
+    → cost end (goes_on page in_place r x) ≤ 448
+entered-cost n page end in_place r x is =
+    let P : (ScanStage → Type 0) = (λ (stage : ScanStage). FitsStage n page stage → cost end stage ≤ 448) in
+    cond_both (nat_lt x r.fields_end) _ _ P
+    (λ _. cond_both (nat_lt x (first_word (page + 1))) _ _ P (λ _ fits. let low = fits.2 in omega (arith, low, is)) (λ _ fits. omega arith))
+    (λ _. cond_both (nat_lt r.next (first_word (page + 1))) _ _ P
+    (λ _. cond_both in_place (LoadsFront r) (LoadsNext r) P (λ _ fits. let low = fits.2 in omega (arith, low, is)) (λ _ fits. let low = fits.2 in omega (arith, low, is)))
+    (λ _ fits. omega arith))
+
+first_field-pos : (kind : Kind) → 1 ≤ first_field (said_kind kind 0)
+first_field-pos Fields = omega arith
+first_field-pos Raw = omega arith
+
+next-cost : (end page : ℕ) (in_place : Bool) (at : ℕ) (kind : Kind) (len : ℕ) → at < end → cost end (enters page in_place at kind len) < 7 * (end - at) - 1
+next-cost end page in_place at kind len inside =
+    let first = first_field-pos kind in
+    let fewer = goes_on-cost end page in_place (record_at at kind len) (max (at + first_field (said_kind kind 0)) (first_word page)) (at + 1) (omega (arith, first)) (omega arith) in
+    omega (arith, fewer, inside)
+
+-- ---- all
+
+area-cost : (l : Layout) (e end : ℕ) (r : ScannedRecord) (o : Option AreaWord) → is_some o ≡ true → r.next < end → cost end (by_area l e r o) < 7 * (end - r.next)
+area-cost l e end r (Some area) some inside =
+    cond_both (nat_eq _ r.next) _ (LoadsNext r) (λ (stage : ScanStage). cost end stage < 7 * (end - r.next)) (λ _. omega (arith, inside)) (λ _. omega (arith, inside))
+area-cost l e end r None some inside = absurd (cc)
+
+first-cost : (l : Layout) (p : ℕ) (in_place : Bool) (at : ℕ) (d : Decoded) → p < board_page l.pages → is_header d ≡ true
+    → FitsStage l.pages p (by_header p in_place at (LoadsFirst at) d) → cost (scan_end l p) (by_header p in_place at (LoadsFirst at) d) < 449
+first-cost l p in_place at (HeaderWord kind len serial mutator) low head fits =
+    let few = entered-cost l.pages p (scan_end l p) in_place (record_at at kind len) (max (at + first_field (said_kind kind 0)) (first_word p)) (scan_end-page l p low) fits in
+    omega (arith, few)
+first-cost l p in_place at (NumberWord n) low head fits = absurd (cc)
+first-cost l p in_place at (PointerWord address) low head fits = absurd (cc)
+first-cost l p in_place at (ForwardWord len address) low head fits = absurd (cc)
+first-cost l p in_place at (BusyWord len worker) low head fits = absurd (cc)
+first-cost l p in_place at Malformed low head fits = absurd (cc)
+
+header-cost : (end page : ℕ) (in_place : Bool) (r : ScannedRecord) (d : Decoded) → r.next < end → is_header d ≡ true
+    → cost end (by_header page in_place r.next (LoadsNext r) d) < 7 * (end - r.next) - 1
+header-cost end page in_place r (HeaderWord kind len serial mutator) inside head = next-cost end page in_place r.next kind len inside
+header-cost end page in_place r (NumberWord n) inside head = absurd (cc)
+header-cost end page in_place r (PointerWord address) inside head = absurd (cc)
+header-cost end page in_place r (ForwardWord len address) inside head = absurd (cc)
+header-cost end page in_place r (BusyWord len worker) inside head = absurd (cc)
+header-cost end page in_place r Malformed inside head = absurd (cc)
+
+stored-cost : (l : Layout) (p : ℕ) (in_place : Bool) (spot : Spot) → IsOnPage l.pages p spot
+    → cost (scan_end l p) (passes p in_place spot) < 7 * (scan_end l p - address_of spot - 1) + 1
+stored-cost l p in_place (OnBoard x) fits =
+    cond_both (nat_lt (x + 1) (first_word p + board_words)) (LoadsWord (OnBoard (x + 1))) _ (λ (stage : ScanStage). cost (scan_end l p) stage < 7 * (scan_end l p - x - 1) + 1)
+    (λ _. omega arith) (λ _. omega arith)
+stored-cost l p in_place (InRecord r x) fits =
+    let order = fits.0 in
+    let inside = fits.5 in
+    let few = goes_on-cost (scan_end l p) p in_place r (x + 1) (x + 1) (omega arith) (omega (arith, order, inside)) in
+    omega (arith, few)
+
+-- with each reply that takes the scan on
+pub lowers : (l : Layout) (p e : ℕ) (in_place : Bool) (stage : ScanStage) (reply : Reply) → FitsStage l.pages p stage
+    → FitsStage l.pages p (stage_after l p e in_place stage reply) → advances stage reply ≡ true
+    → cost (scan_end l p) (stage_after l p e in_place stage reply) < left_at (scan_end l p) stage
+lowers l p e in_place LoadsCross (Value w) fits after on = omega arith
+lowers l p e in_place (LoadsFirst at) (Value w) fits after on = first-cost l p in_place at (decode w) fits.0 on after
+lowers l p e in_place (LoadsWord spot) (Value w) fits after on = by_word-cost l p e in_place spot (decode w) fits
+lowers l p e in_place (StoresCopy asked to) Done fits after on = stored-cost l p in_place asked.spot fits
+lowers l p e in_place (LoadsFront r) (Value w) fits after on =
+    area-cost l e (scan_end l p) r (decode_area w) on (let end = scan_end-page l p fits.1 in let inside = fits.3 in omega (arith, end, inside))
+lowers l p e in_place (LoadsNext r) (Value w) fits after on =
+    header-cost (scan_end l p) p in_place r (decode w) (let end = scan_end-page l p fits.1 in let inside = fits.3 in omega (arith, end, inside)) on
+lowers l p e in_place stage reply fits after on = absurd (cc)

@@ -1,0 +1,32 @@
+-- What a mutator without company finds in a round, and what a round owes that goes on.
+use Rattle.std.proofs.Common.{◌≡◌, ◌≢◌, ℕ, ◌+◌, ◌*◌, ◌≤◌, true}
+use Rattle.atom_store.specs.declared.reply.Reply.{Reply}
+use Rattle.atom_store.specs.declared.turn.Turn.TheVariants.{More}
+use Rattle.space_map.specs.declared.page_word.PageWord.TheVariants.{Open}
+use Rattle.space_map.specs.PageWord.{age_of}
+use Rattle.fault_duty.specs.declared.caller.Caller.TheVariants.{Scans}
+use Rattle.fault_duty.specs.declared.duty_stage.DutyStage.{DutyStage}
+use Rattle.fault_duty.specs.Duty.{Round, at_stage, taken_at, told_at, advances_at, to_start}
+use Rattle.heap_state.specs.Era.{Era, Memory}
+use Rattle.lone_mutator.specs.Rounds.{FoundAt}
+
+-- The round is one of the gate's epoch by a mutator; nobody is behind, scans a page, or announces a place.
+pub record RoundIsAlone (E : Era) (m : Memory) (d : Round) : Type 0 where
+  pub mutator : (mutators : ℕ) → d.caller ≢ Scans mutators
+  pub gate : m.gate.epoch ≡ d.epoch
+  pub epoch : E.epoch ≡ d.epoch
+  pub behind : m.gate.behind ≡ 0
+  pub young : (p : ℕ) → age_of (m.page p) ≤ E.epoch + 1
+  pub opened : (p : ℕ) → age_of (m.page p) ≡ E.epoch + 1 → m.page p ≡ Open E.epoch
+  pub silent : (k : ℕ) → k ≤ 23 → m.announced k ≡ 0
+  pub board : E.board ≡ 64 * (2 * d.layout.pages)
+  pub start : E.start ≡ to_start d
+  pub untraced : m.traced ≢ E.epoch + 1
+
+-- the reply takes the round on to another stage, and what was found is so
+pub record RoundGoes (E : Era) (m : Memory) (d : Round) (stage : DutyStage) (reply : Reply) : Type 0 where
+  pub next : DutyStage
+  pub same : taken_at d stage reply ≡ at_stage d next
+  pub more : told_at next ≡ More
+  pub found : FoundAt E m (at_stage d next) next
+  pub advances : advances_at stage reply ≡ true

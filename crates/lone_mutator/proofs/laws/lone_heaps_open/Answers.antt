@@ -1,0 +1,5 @@
+use Rattle.lone_mutator.proofs.Opening.{heaps_open}
+use Rattle.lone_mutator.proofs.laws.lone_heaps_open.Goals as goal
+
+pub returns : goal.returns
+returns c = heaps_open

@@ -1,0 +1,5 @@
+use Rattle.lone_mutator.proofs.Beginning.{tasks_begin}
+use Rattle.lone_mutator.proofs.laws.lone_tasks_begin.Goals as goal
+
+pub returns : goal.returns
+returns c = tasks_begin

@@ -1,0 +1,73 @@
+use dump_text::{DumpError, Kept, read};
+use plain_state::NoMemory;
+use std::alloc::Global;
+
+/// A dump of 4 pages with one mutator and one worker, whose table has so many words, each 0.
+fn printed(alloc: Global, words: u32) -> Result<String, NoMemory> {
+    let mut out = String::new(alloc);
+    out.push_str("dump 4 1 1\n")?;
+    out.push_str("0000000000000401 000000000000001c 0000000000000601 0000000000000000 ")?;
+    out.push_str("0000000000000000 0000000000000000 0000000000000000 fedcba9876543210\n")?;
+    out.push_str("0000000000010022 0000000000000101\n")?;
+    for _ in 0..words {
+        out.push_str("0000000000000000\n")?;
+    }
+    Ok(out)
+}
+
+/// The first wrong line, where the text is no dump.
+fn wrong_line(alloc: Global, text: &str) -> Option<u32> {
+    match read(alloc, text.as_bytes()) {
+        Err(DumpError::Bad { line }) => Some(line),
+        _ => None,
+    }
+}
+
+#[test]
+fn a_dump_is_read_back(rt: HostRuntime) -> Result<(), NoMemory> {
+    let text = printed(rt.alloc(), 633)?;
+    match read(rt.alloc(), text.as_str().as_bytes()) {
+        Ok(dump) => {
+            assert_eq!(rt; dump.pages, 4);
+            assert_eq!(rt;
+                dump.registers.as_slice(),
+                [[0x401, 0x1c, 0x601, 0, 0, 0, 0, 0xfedc_ba98_7654_3210]].as_slice()
+            );
+            assert_eq!(rt;
+                dump.kept.as_slice(),
+                [Kept {
+                    header: 0x10022,
+                    place: 0x101,
+                }]
+                .as_slice()
+            );
+            assert_eq!(rt; dump.words.len(), 633);
+        }
+        Err(error) => assert_eq!(rt; error, DumpError::NoMemory),
+    }
+    Ok(())
+}
+
+#[test]
+fn the_first_wrong_line_is_told(rt: HostRuntime) -> Result<(), NoMemory> {
+    let rows = [
+        ("", 1),
+        ("dump 4 1 1", 1),
+        ("dump 4 1\n", 1),
+        ("dump 04 1 1\n", 1),
+        ("dump 3 1 1\n", 1),
+        ("dump 4 17 17\n", 1),
+        ("dump 4 1 10\n", 1),
+        ("dump 4 1 1\n", 2),
+        ("dump 4 1 1\n0000000000000000\n", 2),
+        ("dump 4 1 1\n000000000000000G", 2),
+    ];
+    for (text, line) in rows {
+        assert_eq!(rt; wrong_line(rt.alloc(), text), Some(line));
+    }
+    let short = printed(rt.alloc(), 632)?;
+    assert_eq!(rt; wrong_line(rt.alloc(), short.as_str()), Some(636));
+    let long = printed(rt.alloc(), 634)?;
+    assert_eq!(rt; wrong_line(rt.alloc(), long.as_str()), Some(637));
+    Ok(())
+}
