@@ -225,7 +225,7 @@ fn draw_page(
     let y = drawing.bottom;
     let wide = has_records(classes, first);
     let by_word = heap.spaces.pages() <= MOST_PAGES_BY_WORD;
-    let height = if wide && by_word { WIDE } else { NARROW };
+    let height = if wide { record_height(heap) } else { NARROW };
     let (class, worker) = page_class(heap, page);
     drawing.block(LEFT - 12, y, 10, height, class)?;
     if wide && by_word {
@@ -239,6 +239,15 @@ fn draw_page(
         draw_bars(classes, drawing, first, height)?;
     }
     Ok(height)
+}
+
+/// The height of a page that has records.
+fn record_height(heap: &Heap) -> u32 {
+    if heap.spaces.pages() <= MOST_PAGES_BY_WORD {
+        WIDE
+    } else {
+        NARROW
+    }
 }
 
 /// FRONT or LOW, so many words into a space: a line in the page where it lies.
@@ -288,7 +297,8 @@ fn draw_forwards(
                     let x = LEFT + CELL * (addr % PAGE_WORDS) + CELL / 2;
                     let to_x = LEFT + CELL * (forward.addr % PAGE_WORDS) + CELL / 2;
                     let (from, to) = (*from, *to);
-                    drawing.line(x, from.saturating_add(WIDE), to_x, to, Class::Forward)?;
+                    let from = from.saturating_add(record_height(heap));
+                    drawing.line(x, from, to_x, to, Class::Forward)?;
                 }
             }
         }
@@ -354,7 +364,7 @@ fn draw_registers(
                         x.saturating_add(54),
                         y,
                         to_x,
-                        top.saturating_add(WIDE),
+                        top.saturating_add(record_height(heap)),
                         class,
                     )?;
                 }
