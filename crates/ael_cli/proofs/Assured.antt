@@ -2,7 +2,7 @@
 use Rattle.std.proofs.Common.{◌≡◌, ◌≤◌, ℕ, List, [], length, Some, refl, inl, inr}
 use Rattle.std.specs.Prelude.{◌⊎◌}
 use Rattle.ael_cli.specs.declared.job.Job.{Job}
-use Rattle.ael_cli.specs.declared.job.Job.TheVariants.{Asm, Bench, Sim}
+use Rattle.ael_cli.specs.declared.job.Job.TheVariants.{Asm, Bench, Run, Sim}
 use Rattle.ael_cli.specs.declared.operands.BenchOperands.{BenchOperands}
 use Rattle.ael_cli.specs.declared.reading.TheConstants.{MAX_INPUT}
 use Rattle.ael_cli.specs.Call.{Call}
@@ -23,6 +23,8 @@ module _ (call : Call) (input : List ℕ) (complete : IsComplete call) (left : c
   goes_as Asm asked right = goes Asm input (complete Asm input (record { asked = asked; given = (left, few); right = right; read = read; printed = printed; told = told }))
   goes_as (Sim options) asked right =
       goes (Sim options) input (complete (Sim options) input (record { asked = asked; given = (left, few); right = right; read = read; printed = printed; told = told }))
+  goes_as (Run options) asked right =
+      goes (Run options) input (complete (Run options) input (record { asked = asked; given = (left, few); right = right; read = read; printed = printed; told = told }))
   goes_as (Bench operands) asked right =
       benched operands (complete (Bench operands) [] (record { asked = asked; given = refl; right = tt; read = read; printed = printed; told = told }))
     where

@@ -7,3 +7,4 @@ pub mod Simulating
 pub mod Plainly
 pub mod Parsed
 pub mod Assured
+pub mod Threading

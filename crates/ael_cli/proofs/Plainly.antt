@@ -9,7 +9,9 @@ use Rattle.mutator_asm.specs.Text.{IsText}
 use Rattle.mutator_asm.specs.Theorems.{MeansOneProgram, MeansWellFormed, HasNoFault, ListsText}
 use Rattle.plain_heap.specs.Alone.{AlwaysTheSame}
 use Rattle.ael_cli.specs.declared.job.Job.{Job}
-use Rattle.ael_cli.specs.declared.job.Job.TheVariants.{Asm, Bench, Sim}
+use Rattle.ael_cli.specs.declared.job.Job.TheVariants.{Asm, Bench, Run, Sim}
+use Rattle.ael_cli.specs.declared.operands.BenchOperands.{BenchOperands}
+use Rattle.ael_cli.specs.declared.options.RunOptions.{RunOptions}
 use Rattle.ael_cli.specs.declared.options.SimOptions.{SimOptions}
 use Rattle.ael_cli.specs.declared.status.Status.{Status}
 use Rattle.ael_cli.specs.declared.status.Status.TheVariants.{Done, Text, Usage, Ended, StepsOut, ReadFault, WriteFault, NoMemory, TooLong}
@@ -19,14 +21,15 @@ use Rattle.ael_cli.specs.Call.{Call}
 use Rattle.ael_cli.specs.Emits.{Emits, AllWritten, OutFailed, BothFailed, ErrFailed}
 use Rattle.ael_cli.specs.Ends.{Drawn, Filled, IsFaultless}
 use Rattle.ael_cli.specs.Headline.{Holds, IsAlwaysTheSame, IsAnswered, IsComplete, IsDone, PrintsListing, PrintsPlainly}
-use Rattle.ael_cli.specs.Jobs.{run_by, task_of}
+use Rattle.ael_cli.specs.Jobs.{run_by, task_of, text_of}
 use Rattle.ael_cli.specs.ProgramTask.{HasFault, IsMadeOf, IsProgram}
-use Rattle.ael_cli.specs.Simulation.{IsSimulated, order_of, plain_of}
+use Rattle.ael_cli.specs.Runs.{IsRun, Manner, Scheduled, Threaded, options_by}
 use Rattle.ael_cli.specs.Status.{code_of}
 use Rattle.ael_cli.specs.Stream.{Grows}
 use Rattle.ael_cli.specs.Success.{Succeeds}
 use Rattle.ael_cli.specs.Task.{Reads, Nothing, Everything, IsGiven, IsInput, IsUnread}
 use Rattle.ael_cli.specs.Words.{job_of}
+use Rattle.plain_heap.specs.Order.{plain}
 use Rattle.plain_heap.proofs.Staying.{plain_count}
 
 -- ---- the input
@@ -67,6 +70,7 @@ is_taken : {A : Type 0} → HasNoFault → (job : Job) (bytes : List ℕ) (statu
 is_taken no_fault (Bench operands) bytes status right fault = absurd fault
 is_taken no_fault Asm bytes status right fault = not_refused no_fault bytes status right fault
 is_taken no_fault (Sim options) bytes status right fault = not_refused no_fault bytes status right fault
+is_taken no_fault (Run options) bytes status right fault = not_refused no_fault bytes status right fault
 
 -- ---- the output
 
@@ -89,50 +93,72 @@ of_program {Makes} one bytes program items output status text made =
     let same = one bytes made.program program made.items items made.text text in
     rw (← same.0, ← same.1) made.made
 
+-- what a job makes is a run of its program, in this manner
+record RunsIn (job : Job) (manner : Manner) : Type 0 where
+  is_run : (bytes output : List ℕ) (status : Status) → (task_of job).Makes bytes output status → IsMadeOf (IsRun manner) (text_of job bytes) output status
+
+-- what is a run in one manner is one in the same
+run_in : (own manner : Manner) (bytes output : List ℕ) (status : Status) → Some own ≡ Some manner → IsMadeOf (IsRun own) bytes output status → IsMadeOf (IsRun manner) bytes output status
+run_in own manner bytes output status same made = subst (λ m. IsMadeOf (IsRun m) bytes output status) (same_Some own manner same) made
+
+asm_runs_in : (manner : Manner) → run_by Asm ≡ Some manner → RunsIn Asm manner
+asm_runs_in manner runs = cc
+
+bench_runs_in : (operands : BenchOperands) (manner : Manner) → run_by (Bench operands) ≡ Some manner → RunsIn (Bench operands) manner
+bench_runs_in operands manner runs = record {
+  is_run = λ bytes output status made. run_in (Scheduled (bench_options operands)) manner (bench_text operands.depth operands.seed) output status runs made;
+}
+
+sim_runs_in : (options : SimOptions) (manner : Manner) → run_by (Sim options) ≡ Some manner → RunsIn (Sim options) manner
+sim_runs_in options manner runs = record { is_run = λ bytes output status made. run_in (Scheduled options) manner bytes output status runs made }
+
+run_runs_in : (options : RunOptions) (manner : Manner) → run_by (Run options) ≡ Some manner → RunsIn (Run options) manner
+run_runs_in options manner runs = record { is_run = λ bytes output status made. run_in (Threaded options) manner bytes output status runs made }
+
+runs_in : (job : Job) (manner : Manner) → run_by job ≡ Some manner → RunsIn job manner
+runs_in Asm manner runs = asm_runs_in manner runs
+runs_in (Bench operands) manner runs = bench_runs_in operands manner runs
+runs_in (Sim options) manner runs = sim_runs_in options manner runs
+runs_in (Run options) manner runs = run_runs_in options manner runs
+
 module _ (one : MeansOneProgram) (no_fault : HasNoFault) (call : Call) (a : IsAnswered call) where
   -- the job is done, or there was no memory
   pub is_complete : IsComplete call
-  is_complete job bytes well = by (written a.output a.status a.final call.out call.err well.printed well.told a.emitted)
-      (answered (job_of call.words) job call.source a.output a.status well.asked a.answer)
+  is_complete job bytes well = by (written a.output a.status a.emitted.final call.out call.err well.printed well.told a.emitted.emitted)
+      (answered (job_of call.words) job call.source a.output a.status well.asked a.answer.answer)
     where
-      by : (a.final ≡ a.status) × Grows call.out.held a.output call.out.holds → IsCaused job call.source a.output a.status → IsDone call job bytes ⊎ (call.code ≡ 7)
+      by : (a.emitted.final ≡ a.status) × Grows call.out.held a.output call.out.holds → IsCaused job call.source a.output a.status → IsDone call job bytes ⊎ (call.code ≡ 7)
       by all (Made own input made) = inl (record {
         output = a.output;
         status = a.status;
         made = subst (λ bs. (task_of job).Makes bs a.output a.status) (input_is (task_of job).reads call.source bytes own well.given input) made;
         printed = all.1;
-        code_is = a.code_is ∙ ap code_of all.0;
+        code_is = a.emitted.code_is ∙ ap code_of all.0;
       })
       by all (Refused own input refused silent) =
           let its = subst (λ bs. (task_of job).Refuses bs a.status) (input_is (task_of job).reads call.source bytes own well.given input) refused in
           is_taken no_fault job bytes a.status well.right its
       by all (Unread unread silent) = is_read (task_of job).reads call.source bytes a.status well.given well.read unread
-      by all (OutOfMemory wanting silent) = inr (a.code_is ∙ ap code_of (all.0 ∙ wanting))
+      by all (OutOfMemory wanting silent) = inr (a.emitted.code_is ∙ ap code_of (all.0 ∙ wanting))
 
   -- where memory was not wanting, it is done
   done : (job : Job) (program : List (List Instr)) (items : List Item) (s : Succeeds call job program items) → IsDone call job s.bytes
   done job program items s = elim (is_complete job s.bytes s.well) [ inl is ↦ is | inr none ↦ absurd (s.memory none) ]
 
-  simulated : (job : Job) (options : SimOptions) (program : List (List Instr)) (items : List Item) → run_by job ≡ Some options → (s : Succeeds call job program items)
-      → ((d : IsDone call job s.bytes) × IsSimulated options program items d.output d.status)
-  simulated Asm options program items runs s = cc
-  simulated (Bench operands) options program items runs s =
-      let d = done (Bench operands) program items s in
-      let made = of_program one (bench_text operands.depth operands.seed) program items d.output d.status s.text d.made in
-      (d, subst (λ o. IsSimulated o program items d.output d.status) (same_Some (bench_options operands) options runs) made)
-  simulated (Sim own) options program items runs s =
-      let d = done (Sim own) program items s in
-      (d, subst (λ o. IsSimulated o program items d.output d.status) (same_Some own options runs) (of_program one s.bytes program items d.output d.status s.text d.made))
+  -- and a job that runs its program has run it
+  ran : (job : Job) (manner : Manner) (program : List (List Instr)) (items : List Item) → run_by job ≡ Some manner → (s : Succeeds call job program items)
+      → ((d : IsDone call job s.bytes) × IsRun manner program items d.output d.status)
+  ran job manner program items runs s =
+      let d = done job program items s in
+      (d, of_program one (text_of job s.bytes) program items d.output d.status s.text ((runs_in job manner runs).is_run s.bytes d.output d.status d.made))
 
   pub prints_plainly : PrintsPlainly call
-  prints_plainly job options program items runs s =
-      let d = simulated job options program items runs s in
+  prints_plainly job manner program items runs s =
+      let d = ran job manner program items runs s in
       record {
+        ran = d.1.ran;
+        is = d.1.is;
         prints = subst (λ output. Grows call.out.held output call.out.holds) d.1.prints d.0.printed;
-        acts = d.1.acts;
-        full = d.1.full;
-        dump = d.1.dump;
-        collected = d.1.collected;
       }
 
   pub prints_listing : MeansWellFormed → ListsText → PrintsListing call
@@ -142,12 +168,16 @@ module _ (one : MeansOneProgram) (no_fault : HasNoFault) (call : Call) (a : IsAn
       (subst (λ output. Grows call.out.held output call.out.holds) listed.listed d.printed, lists program items (well_formed s.bytes program items s.text))
 
   pub is_always_the_same : AlwaysTheSame → IsAlwaysTheSame call
-  is_always_the_same same job options program items runs s shares_nothing = record {
-    mutators = (plain_of options program items).mutators;
-    all = plain_count program options.turns (order_of options program items);
-    prints = (prints_plainly job options program items runs s).prints;
-    alone = λ m k at. same program options.turns (order_of options program items) m k shares_nothing at;
-  }
+  is_always_the_same same job manner program items runs s shares_nothing =
+      let plainly = prints_plainly job manner program items runs s in
+      record {
+        ran = plainly.ran;
+        is = plainly.is;
+        mutators = (plain program (options_by manner).turns plainly.ran.order).mutators;
+        all = plain_count program (options_by manner).turns plainly.ran.order;
+        prints = plainly.prints;
+        alone = λ m k at. same program (options_by manner).turns plainly.ran.order m k shares_nothing at;
+      }
 
 -- all that holds of a call
 pub holds : MeansOneProgram → HasNoFault → MeansWellFormed → ListsText → AlwaysTheSame → (call : Call) → IsAnswered call → Holds call

@@ -5,7 +5,8 @@ use Rattle.std.specs.Option.{option_map}
 use Rattle.std.proofs.lemmas.Option.{same_Some}
 use Rattle.plain_state.specs.declared.end.End.{End}
 use Rattle.plain_heap.specs.Print.{Seen, lines_of, lines_seen}
-use Rattle.ael_cli.specs.Seen.{is_halt, has_halted}
+use Rattle.ael_cli.specs.declared.status.Status.TheVariants.{Done, Ended, StepsOut}
+use Rattle.ael_cli.specs.Seen.{is_halt, has_ended, has_halted, status_seen}
 
 -- the element at m is the first of those from m on
 pub found-next : {A : Type 0} (xs : List A) (m : ℕ) (x : A) → slice_get xs m ≡ Some x → drop m xs ≡ x ∷ drop (m + 1) xs
@@ -71,3 +72,14 @@ halts_not m ks end is goes h =
 
 pub halts_all : (m : ℕ) (ks : List Seen) → length ks ≤ m → HaltsBelow m ks → list_all has_halted ks ≡ true
 halts_all m ks past h = sym (rw (found-end ks m past) at h.rest)
+
+-- ---- how a run went
+
+pub went_out : (ks : List Seen) → list_all has_ended ks ≡ false → StepsOut ≡ status_seen ks
+went_out ks out = rw out
+
+pub went_done : (ks : List Seen) → list_all has_ended ks ≡ true → list_all has_halted ks ≡ true → Done ≡ status_seen ks
+went_done ks over halts = rw (over, halts)
+
+pub went_otherwise : (ks : List Seen) → list_all has_ended ks ≡ true → list_all has_halted ks ≡ false → Ended ≡ status_seen ks
+went_otherwise ks over halts = rw (over, halts)

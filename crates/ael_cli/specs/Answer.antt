@@ -1,10 +1,10 @@
 -- What is answered to the words, and why.
-use Rattle.std.specs.Prelude.{◌≡◌, ◌⊎◌, ⊤, ℕ, List, [], Option, Some, None, Result, Ok, Err}
+use Rattle.std.specs.Prelude.{◌≡◌, ◌≢◌, ◌⊎◌, ⊤, ℕ, List, [], Option, Some, None, Result, Ok, Err}
 use Rattle.simple_commands.specs.declared.parsing.WordsError.{WordsError}
 use Rattle.simple_commands.specs.declared.parsing.WordsError.TheVariants as words
 use Rattle.ael_cli.specs.declared.job.Job.{Job}
 use Rattle.ael_cli.specs.declared.status.Status.{Status}
-use Rattle.ael_cli.specs.declared.status.Status.TheVariants.{Usage, NoMemory}
+use Rattle.ael_cli.specs.declared.status.Status.TheVariants.{NoMemory, ReadFault, Usage}
 use Rattle.ael_cli.specs.Ends.{Drawn}
 use Rattle.ael_cli.specs.Jobs.{task_of}
 use Rattle.ael_cli.specs.Task.{IsDrawn, IsInput, IsUnread}
@@ -32,3 +32,9 @@ IsAnswer (Some job) source output status = IsCaused job source output status
 abbrev pub IsDrawnFor : Option Job → Drawn → Type 0
 IsDrawnFor None source = source.rest ≡ source.left
 IsDrawnFor (Some job) source = IsDrawn (task_of job).reads source
+
+-- the words have this answer with its cause, and a read that failed is never passed over
+pub record IsAnswerTo (asked : Option Job) (source : Drawn) (output : List ℕ) (status : Status) : Type 0 where
+  pub drawn : IsDrawnFor asked source
+  pub steady : status ≢ ReadFault → source.after ≡ source.before
+  pub answer : IsAnswer asked source output status

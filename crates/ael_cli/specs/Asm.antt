@@ -1,5 +1,5 @@
 -- The task `asm`: a program is listed.
-use Rattle.std.specs.Prelude.{◌≡◌, ℕ, List}
+use Rattle.std.specs.Prelude.{◌≡◌, ℕ, false, List}
 use Rattle.mutator_asm.specs.declared.instr.Instr.{Instr}
 use Rattle.mutator_asm.specs.declared.item.Item.{Item}
 use Rattle.mutator_asm.specs.Listing.{listing}
@@ -14,4 +14,4 @@ pub record IsListed (program : List (List Instr)) (items : List Item) (output : 
   pub done : status ≡ Done
 
 abbrev pub asm_task : Task
-asm_task = program_task IsListed
+asm_task = program_task false IsListed

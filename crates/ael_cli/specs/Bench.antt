@@ -6,29 +6,25 @@ use Rattle.ael_cli.specs.declared.operands.TheConstants.{SPARE_PAGES}
 use Rattle.ael_cli.specs.declared.options.SimOptions.{SimOptions}
 use Rattle.ael_cli.specs.Options.{steps_option, turns_option}
 use Rattle.ael_cli.specs.ProgramTask.{IsMadeOf}
-use Rattle.ael_cli.specs.Simulation.{IsSimulated}
+use Rattle.ael_cli.specs.Runs.{IsRun, Scheduled}
 use Rattle.ael_cli.specs.Task.{Nothing, Task}
 
 -- How it is run: with some pages and one more for each key, one scanner, as many turns and steps as there may be, and by the words of the
 -- seed that the text doesn't take.
 abbrev pub bench_options : BenchOperands → SimOptions
 bench_options operands = record {
-  pages = SPARE_PAGES + 2 ^ operands.depth;
-  scanners = 1;
-  turns = turns_option.1.most;
+  run = record { pages = SPARE_PAGES + 2 ^ operands.depth; scanners = 1; turns = turns_option.1.most; cycles = true; dump = false };
   steps = steps_option.1.most;
   seed = Some (seed_behind operands.seed);
   order = false;
-  cycles = true;
-  dump = false;
 }
 
--- it reads nothing, and simulates the program of the benchmark's text
+-- it reads nothing, and runs the program of the benchmark's text
 abbrev pub bench_task : BenchOperands → Task
 bench_task operands = record {
   reads = Nothing;
   waits = false;
   IsRight = λ bytes. ⊤;
   Refuses = λ bytes status. ⊥;
-  Makes = λ bytes output status. IsMadeOf (IsSimulated (bench_options operands)) (bench_text operands.depth operands.seed) output status;
+  Makes = λ bytes output status. IsMadeOf (IsRun (Scheduled (bench_options operands))) (bench_text operands.depth operands.seed) output status;
 }

@@ -12,12 +12,9 @@ pub record Call : Type 0 where
   pub err : Filled
   pub code : ℕ
 
+abbrev pub call_with : List (List ℕ) → Drawn → Filled → Filled → ℕ → Call
+call_with words source out err code = record { words = words; source = source; out = out; err = err; code = code }
+
 -- the call with these words, by its ends before and after it
 abbrev pub call_of : {S O E : Type 0} → sources.Ghosts S → sinks.Ghosts O → sinks.Ghosts E → List (String Global) → S → S → O → O → E → E → ℕ → Call
-call_of s o e words src src' out out' err err' code = record {
-  words = map string_bytes words;
-  source = drawn s src src';
-  out = filled o out out';
-  err = filled e err err';
-  code = code;
-}
+call_of s o e words src src' out out' err err' code = call_with (map string_bytes words) (drawn s src src') (filled o out out') (filled e err err') code

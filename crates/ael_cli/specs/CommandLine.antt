@@ -2,11 +2,15 @@
 use Rattle.std.specs.Prelude.{true, false, [], ◌∷◌, codes}
 use Rattle.clap.specs.Simple.{App, new_app, new_shape}
 use Rattle.simple_commands.specs.Options.{operand_rules_of, rules_of, with_rules}
-use Rattle.ael_cli.specs.Options.{bench_numbers, bench_wide, sim_flags, sim_numbers, sim_wide}
+use Rattle.ael_cli.specs.Options.{bench_numbers, bench_wide, run_flags, run_numbers, run_wide, sim_flags, sim_numbers, sim_wide}
 
 -- `sim`, with its options and flags
 abbrev pub sim_app : App
 sim_app = with_rules (new_app (codes "sim")) (rules_of sim_numbers sim_wide sim_flags)
+
+-- `run`, with its options and flags
+abbrev pub run_app : App
+run_app = with_rules (new_app (codes "run")) (rules_of run_numbers run_wide run_flags)
 
 -- `bench`, with its operands
 abbrev pub bench_app : App
@@ -25,5 +29,5 @@ ael_app = record {
     disable_help_flag = true;
     disable_help_subcommand = true;
   };
-  subs = asm_app.top ∷ sim_app.top ∷ bench_app.top ∷ [];
+  subs = asm_app.top ∷ sim_app.top ∷ run_app.top ∷ bench_app.top ∷ [];
 }

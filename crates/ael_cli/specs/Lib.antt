@@ -2,9 +2,9 @@ pub mod Answer
 pub mod Asm
 pub mod Bench
 pub mod Call
+pub mod ClosedHeap
 pub mod Coming
 pub mod CommandLine
-pub mod Dump
 pub mod Emits
 pub mod Ends
 pub mod Headline
@@ -13,6 +13,7 @@ pub mod Jobs
 pub mod Memory
 pub mod Options
 pub mod ProgramTask
+pub mod Runs
 pub mod Schedule
 pub mod Scheduler
 pub mod Seen
@@ -23,4 +24,6 @@ pub mod Stream
 pub mod Success
 pub mod Sure
 pub mod Task
+pub mod Threads
+pub mod Told
 pub mod Words

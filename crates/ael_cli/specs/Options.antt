@@ -1,4 +1,4 @@
--- The options of a simulation, and the operands of the benchmark, by the rows of what was given.
+-- The options of runs, and the operands of the benchmark, by the rows of what was given.
 use Rattle.std.specs.Prelude.{ℕ, ◌≤◌, IsTrue, List, [], ◌∷◌, codes, unwrap_or}
 use Rattle.clap.specs.Walk.{Row, Text}
 use Rattle.gc_core.specs.Core.{is_size}
@@ -6,6 +6,7 @@ use Rattle.simple_commands.specs.Options.{number_given}
 use Rattle.simple_commands.specs.Readers.{number_of, was_given}
 use Rattle.simple_commands.specs.declared.options.Numbers.{Numbers}
 use Rattle.ael_cli.specs.declared.operands.BenchOperands.{BenchOperands}
+use Rattle.ael_cli.specs.declared.options.RunOptions.{RunOptions}
 use Rattle.ael_cli.specs.declared.options.SimOptions.{SimOptions}
 
 -- `--pages`
@@ -51,6 +52,16 @@ bench_numbers = depth_operand ∷ []
 abbrev pub bench_wide : List Text
 bench_wide = seed_option ∷ []
 
+-- the tables of `run`
+abbrev pub run_numbers : List (Text × Numbers)
+run_numbers = pages_option ∷ scanners_option ∷ turns_option ∷ []
+
+abbrev pub run_wide : List Text
+run_wide = []
+
+abbrev pub run_flags : List Text
+run_flags = cycles_flag ∷ dump_flag ∷ []
+
 -- the tables of `sim`
 abbrev pub sim_numbers : List (Text × Numbers)
 sim_numbers = pages_option ∷ scanners_option ∷ turns_option ∷ steps_option ∷ []
@@ -61,20 +72,25 @@ sim_wide = seed_option ∷ []
 abbrev pub sim_flags : List Text
 sim_flags = order_flag ∷ cycles_flag ∷ dump_flag ∷ []
 
-abbrev pub options_of : List Row → SimOptions
-options_of rows = record {
+abbrev pub run_options_of : List Row → RunOptions
+run_options_of rows = record {
   pages = number_given pages_option rows;
   scanners = number_given scanners_option rows;
   turns = number_given turns_option rows;
-  steps = number_given steps_option rows;
-  seed = number_of seed_option rows;
-  order = was_given order_flag rows;
   cycles = was_given cycles_flag rows;
   dump = was_given dump_flag rows;
 }
 
+abbrev pub sim_options_of : List Row → SimOptions
+sim_options_of rows = record {
+  run = run_options_of rows;
+  steps = number_given steps_option rows;
+  seed = number_of seed_option rows;
+  order = was_given order_flag rows;
+}
+
 -- a space may have so many pages, there may be so many scanners, and a mutator may execute so many instructions
-pub record AreInRange (options : SimOptions) : Type 0 where
+pub record AreInRange (options : RunOptions) : Type 0 where
   pub pages : IsTrue (is_size options.pages)
   pub scanners : options.scanners ≤ 8
   pub turns : (1 ≤ options.turns) × (options.turns ≤ 10000000)

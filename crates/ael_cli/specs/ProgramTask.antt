@@ -1,5 +1,5 @@
 -- Tasks whose input is the text of a program.
-use Rattle.std.specs.Prelude.{⊤, ℕ, false, List}
+use Rattle.std.specs.Prelude.{⊤, ℕ, Bool, List}
 use Rattle.mutator_asm.specs.declared.instr.Instr.{Instr}
 use Rattle.mutator_asm.specs.declared.item.Item.{Item}
 use Rattle.mutator_asm.specs.Text.{IsText, IsFault}
@@ -46,11 +46,11 @@ IsUnfit source TooLong = IsUnread Everything source TooLong
 IsUnfit source NoMemory = ⊤
 IsUnfit source _ = ⊥
 
--- the task that makes this of a program
-abbrev pub program_task : (List (List Instr) → List Item → List ℕ → Status → Type 0) → Task
-program_task Makes = record {
+-- the task that makes this of a program, waiting for other threads or not
+abbrev pub program_task : Bool → (List (List Instr) → List Item → List ℕ → Status → Type 0) → Task
+program_task waits Makes = record {
   reads = Everything;
-  waits = false;
+  waits = waits;
   IsRight = IsProgram;
   Refuses = HasFault;
   Makes = IsMadeOf Makes;

@@ -5,7 +5,7 @@ ghost use Rattle.benchmark.specs.Text.{bench_text};
 ghost use Rattle.ael_cli.specs.Bench.{bench_options};
 ghost use Rattle.ael_cli.specs.Options.{IsDepth};
 ghost use Rattle.ael_cli.specs.ProgramTask.{IsMadeOf};
-ghost use Rattle.ael_cli.specs.Simulation.{IsSimulated};
+ghost use Rattle.ael_cli.specs.Runs.{IsRun, Scheduled};
 ghost use Rattle.mutator_asm.specs.Text.{IsText};
 
 use crate::answer::Answer;
@@ -34,7 +34,7 @@ fn program(alloc: Global, operands: BenchOperands) -> Result<Program, NoMemory>
 /// Runs the benchmark, and prints what its mutators printed, and its cycles.
 pub fn bench(alloc: Global, operands: BenchOperands) -> Result<Answer, NoMemory>
     requires { IsDepth operands.depth }
-    ensures { IfOk result (λ answer. IsMadeOf (IsSimulated (bench_options operands)) (bench_text operands.depth operands.seed) answer.output.items answer.status) }
+    ensures { IfOk result (λ answer. IsMadeOf (IsRun (Scheduled (bench_options operands))) (bench_text operands.depth operands.seed) answer.output.items answer.status) }
 {
     let program = program(alloc, operands)?;
     sim(alloc, &program, operands.options())

@@ -1,7 +1,7 @@
 //! What the words of the command line ask for.
 
 use crate::operands::BenchOperands;
-use crate::options::SimOptions;
+use crate::options::{RunOptions, SimOptions};
 
 /// What a call of the program is to do.
 #[derive(Clone, Copy, Debug, PartialEq, Eq)]
@@ -12,6 +12,8 @@ pub enum Job {
     Bench(BenchOperands),
     /// To run a program by a schedule, and print what its mutators printed.
     Sim(SimOptions),
+    /// To run a program on threads, and print what its mutators printed.
+    Run(RunOptions),
 }
 
 impl Job {
@@ -24,6 +26,7 @@ impl Job {
     {
         match self {
             Job::Asm | Job::Bench(_) | Job::Sim(_) => false,
+            Job::Run(_) => true,
         }
     }
 }

@@ -1,19 +1,23 @@
-//! The program `ael`: mutators in a small register assembler, listed, or run over a bounded heap.
+//! The program `ael`: mutators in a small register assembler, listed, or run over a bounded heap, by a schedule or on threads.
 #![tactic(auto)]
 
 mod answer;
 mod answering;
 mod asm;
 mod bench;
+mod closed_heap;
 mod command_line;
 mod dump;
 mod flags;
 mod job;
 mod memory;
+mod mutators;
 mod operands;
 mod options;
 mod reading;
+mod report;
 mod run;
+mod scheduled;
 mod scheduler;
 mod sim;
 mod sink;

@@ -1,6 +1,6 @@
 //! The operands of `bench`.
 
-use crate::options::{SEED, STEPS, SimOptions, TURNS};
+use crate::options::{RunOptions, SEED, STEPS, SimOptions, TURNS};
 use benchmark::{key_count, seed_behind};
 use clap::ArgMatches;
 use simple_commands::{Numbers, number_of, wide_number};
@@ -57,17 +57,19 @@ impl BenchOperands {
     pub fn options(self) -> SimOptions
         requires { IsDepth self.depth }
         ensures value { result ≡ bench_options self }
-        ensures range { AreInRange result }
+        ensures range { AreInRange result.run }
     {
         SimOptions {
-            pages: SPARE_PAGES + key_count(self.depth),
-            scanners: 1,
-            turns: TURNS.1.most,
+            run: RunOptions {
+                pages: SPARE_PAGES + key_count(self.depth),
+                scanners: 1,
+                turns: TURNS.1.most,
+                cycles: true,
+                dump: false,
+            },
             steps: STEPS.1.most,
             seed: Some(seed_behind(self.seed)),
             order: false,
-            cycles: true,
-            dump: false,
         }
     }
 }

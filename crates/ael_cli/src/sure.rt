@@ -12,7 +12,9 @@ use crate::sink::{Put, Sink};
 use crate::source::{Got, Source};
 use crate::top_call::ael;
 use std::alloc::Global;
-use std::marker::Model;
+use std::marker::{Model, Sync};
+use std::sync::Wait;
+use std::thread::Threads;
 
 /// Gives the bytes of a list. Contracts see those still to come.
 #[derive(Debug, Drop)]
@@ -74,7 +76,12 @@ impl Sink for SureSink {
 
 /// The exit status of a call whose ends never fail: how that goes which the job makes of a right
 /// input, or 7.
-pub fn sure_status<R>(rt: &R, alloc: Global, words: &[String], input: Vec<u8>) -> u8
+pub fn sure_status<R: Threads + Wait + Sync>(
+    rt: &R,
+    alloc: Global,
+    words: &[String],
+    input: Vec<u8>,
+) -> u8
     ensures { (job : Job) → job_of (map string_bytes words.now) ≡ Some job → length input.items ≤ MAX_INPUT → (task_of job).IsRight input.items
         → GoesAs (task_of job) input.items result ⊎ (result ≡ 7) }
 {

@@ -10,6 +10,7 @@ mod listings;
 mod rows;
 mod schedules;
 mod texts;
+mod threads;
 mod words;
 
 use self::rows::{Row, check_long_rows, check_rows};
@@ -19,7 +20,10 @@ use crate::top_call::ael;
 use mutator_asm::{Program, assemble};
 use plain_heap::{Mark, PlainState, plain_run, plain_step, print};
 use std::alloc::Global;
+use std::marker::Sync;
+use std::sync::Wait;
 use std::test::Fail;
+use std::thread::Threads;
 
 /// What a call wrote, and its status.
 #[derive(Drop)]
@@ -76,8 +80,13 @@ fn words_of(alloc: Global, line: &str) -> Result<Vec<String>, Fail> {
 }
 
 /// Calls `ael` with these words, a source that gives this text, and ends with these limits.
-fn call(rt: &HostRuntime, line: &str, text: &str, limits: Limits) -> Result<Outcome, Fail> {
-    let alloc = rt.alloc();
+fn call<R: Threads + Wait + Sync>(
+    rt: &R,
+    alloc: Global,
+    line: &str,
+    text: &str,
+    limits: Limits,
+) -> Result<Outcome, Fail> {
     let words = words_of(alloc, line)?;
     let input = Vec::from_slice(alloc, text.as_bytes())?;
     let mut src = MemSource::new(input, Vec::from_slice(alloc, &[limits.read])?);
@@ -110,9 +119,10 @@ fn calls_give_what_they_should(rt: HostRuntime) -> Result<(), Fail> {
         texts::ROWS,
         texts::REFUSED,
         texts::ADDERS,
+        threads::ROWS,
     ];
     for table in tables {
-        check_rows(&rt, table)?;
+        check_rows(&rt, rt.alloc(), table)?;
     }
     Ok(())
 }
@@ -120,7 +130,24 @@ fn calls_give_what_they_should(rt: HostRuntime) -> Result<(), Fail> {
 #[test]
 fn a_lone_mutator_sees_no_scanners(rt: HostRuntime) -> Result<(), Fail> {
     for words in ["|sim ", "|sim --scanners 0 ", "|sim --scanners 8 "] {
-        check_rows(&rt, &collecting::LONE.replace(rt.alloc(), "|sim ", words)?)?;
+        check_rows(
+            &rt,
+            rt.alloc(),
+            &collecting::LONE.replace(rt.alloc(), "|sim ", words)?,
+        )?;
+    }
+    Ok(())
+}
+
+/// Nor on threads, whose order can't be told.
+#[test]
+fn a_lone_mutator_sees_no_threads(rt: HostRuntime) -> Result<(), Fail> {
+    for words in ["|run ", "|run --scanners 0 ", "|run --scanners 8 "] {
+        for row in collecting::LONE.split('\n') {
+            if !row.contains("--order") {
+                check_rows(&rt, rt.alloc(), &row.replace(rt.alloc(), "|sim ", words)?)?;
+            }
+        }
     }
     Ok(())
 }
@@ -133,7 +160,7 @@ const LENGTHS: &str = "\
 #[test]
 fn long_calls_give_what_they_should(rt: HostRuntime) -> Result<(), Fail> {
     for table in [LENGTHS, instructions::FULL, texts::LIMITS] {
-        check_long_rows(&rt, table)?;
+        check_long_rows(&rt, rt.alloc(), table)?;
     }
     Ok(())
 }
@@ -171,7 +198,7 @@ fn ends_that_fail_are_told(rt: HostRuntime) -> Result<(), Fail> {
             out: out.parse::<usize>()?,
             err: err.parse::<usize>()?,
         };
-        Row::read(rt.alloc(), row)?.check(&rt, limits)?;
+        Row::read(rt.alloc(), row)?.check(&rt, rt.alloc(), limits)?;
     }
     Ok(())
 }

@@ -1,29 +1,31 @@
 //! The top call, which `main` calls with the real ends.
 
-ghost use Rattle.std.specs.Prelude.{◌≡◌, IfSome, List, None, String, map, string_bytes, true};
-ghost use Rattle.std.specs.Result.{ForOk};
-ghost use Rattle.std.specs.declared.alloc.Global.{Global};
-ghost use Rattle.ael_cli.specs.Answer.{IsAsked};
-ghost use Rattle.ael_cli.specs.Call.{call_of};
-ghost use Rattle.ael_cli.specs.Headline.{Holds, IsAlwaysTheSame, IsAnswered, IsComplete, PrintsListing, PrintsPlainly};
+ghost use Rattle.std.specs.Prelude.{◌≡◌, IfSome, List, None, ℕ, map, string_bytes, true};
+ghost use Rattle.ael_cli.specs.Answer.{IsAnswerTo};
+ghost use Rattle.ael_cli.specs.Call.{call_of, call_with};
+ghost use Rattle.ael_cli.specs.Emits.{IsEmitted};
+ghost use Rattle.ael_cli.specs.Ends.{Drawn, filled};
+ghost use Rattle.ael_cli.specs.Headline.{Holds, IsAlwaysTheSame, IsAnswered, IsComplete, IsOutOfMemory, PrintsListing, PrintsPlainly};
 ghost use Rattle.ael_cli.specs.Jobs.{is_waiting};
-ghost use Rattle.ael_cli.specs.Words.{job_of, IsInRange};
+ghost use Rattle.ael_cli.specs.Words.{job_of};
 
-use crate::answering::answer;
-use crate::job::Job;
+use crate::answer::Answer;
+use crate::answering::{answer, answer_still};
 use crate::sink::Sink;
 use crate::source::Source;
 use crate::words::read_words;
 use crate::writing::emit;
 use mutator_asm::{listing_is_a_text, never_both, one_program};
 use plain_heap::alone_mutators_are_independent;
-use simple_commands::WordsError;
 use std::alloc::Global;
+use std::marker::Sync;
+use std::sync::Wait;
+use std::thread::Threads;
 
 /// Runs the command that the words after the program's name ask for, and answers the exit status.
 /// It reads `src`, writes the output to `out`, and a line to `err` where the status has one.
-pub fn ael<R, S: Source, O: Sink, E: Sink>(
-    _rt: &R,
+pub fn ael<R: Threads + Wait + Sync, S: Source, O: Sink, E: Sink>(
+    rt: &R,
     alloc: Global,
     words: &[String],
     src: &mut S,
@@ -38,12 +40,15 @@ pub fn ael<R, S: Source, O: Sink, E: Sink>(
 {
     match ael_still(alloc, words, src, out, err) {
         Some(code) => code,
-        None => call(alloc, read_words(alloc, words), src, out, err),
+        None => {
+            let answer = answer(rt, alloc, read_words(alloc, words), src);
+            finish(&answer, out, err)
+        }
     }
 }
 
 /// All of `ael` but for jobs that wait for other threads, for which it answers `None` and has done
-/// nothing.
+/// nothing, unless there was no memory to read the words.
 pub fn ael_still<S: Source, O: Sink, E: Sink>(
     alloc: Global,
     words: &[String],
@@ -53,31 +58,25 @@ pub fn ael_still<S: Source, O: Sink, E: Sink>(
 ) -> Option<u8>
     ensures holds { IfSome result (λ code. Holds (call_of S.Source O.Sink E.Sink words.now src.old src.new out.old out.new err.old err.new code)) }
     ensures none_only_for_what_waits { result ≡ None → is_waiting (job_of (map string_bytes words.now)) ≡ true }
+    ensures some_for_what_waits_only_without_memory { is_waiting (job_of (map string_bytes words.now)) ≡ true
+        → IfSome result (λ code. IsOutOfMemory (call_of S.Source O.Sink E.Sink words.now src.old src.new out.old out.new err.old err.new code)) }
     ensures nothing_done { result ≡ None → (src.new ≡ src.old) × (out.new ≡ out.old) × (err.new ≡ err.old) }
 {
     match read_words(alloc, words) {
         Ok(job) if job.waits() => None,
-        asked => Some(call(alloc, asked, src, out, err)),
+        asked => Some(finish(&answer_still(alloc, asked, src), out, err)),
     }
 }
 
-/// Does what was asked for, and writes the answer.
-fn call<S: Source, O: Sink, E: Sink>(
-    alloc: Global,
-    asked: Result<Job, WordsError>,
-    src: &mut S,
-    out: &mut O,
-    err: &mut E,
-) -> u8
-    requires { ForOk asked IsInRange }
-    ensures { (words : List (String Global)) → IsAsked (job_of (map string_bytes words)) asked
-        → Holds (call_of S.Source O.Sink E.Sink words src.old src.new out.old out.new err.old err.new result) }
+/// Writes an answer, and tells how that went.
+fn finish<O: Sink, E: Sink>(answer: &Answer, out: &mut O, err: &mut E) -> u8
+    ensures emitted { IsEmitted answer.now.output.items answer.now.status (filled O.Sink out.old out.new) (filled E.Sink err.old err.new) result }
+    ensures holds { (words : List (List ℕ)) (source : Drawn) → IsAnswerTo (job_of words) source answer.now.output.items answer.now.status
+        → Holds (call_with words source (filled O.Sink out.old out.new) (filled E.Sink err.old err.new) result) }
 {
     one_program();
     never_both();
     listing_is_a_text();
     alone_mutators_are_independent();
-    let answer = answer(alloc, asked, src);
-    let status = emit(&answer, out, err);
-    status.code()
+    emit(answer, out, err).code()
 }

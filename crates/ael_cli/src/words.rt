@@ -8,7 +8,7 @@ ghost use Rattle.ael_cli.specs.Answer.{IsAsked};
 use crate::command_line::command;
 use crate::job::Job;
 use crate::operands::BenchOperands;
-use crate::options::SimOptions;
+use crate::options::{RunOptions, SimOptions};
 use clap::ArgMatches;
 use simple_commands::{WordsError, parse};
 use std::alloc::Global;
@@ -24,6 +24,9 @@ fn job_in(matches: &ArgMatches) -> Option<Job>
     }
     if let Some(sim) = matches.subcommand_matches("sim") {
         return Some(Job::Sim(SimOptions::given(sim)));
+    }
+    if let Some(run) = matches.subcommand_matches("run") {
+        return Some(Job::Run(RunOptions::given(run)));
     }
     if let Some(bench) = matches.subcommand_matches("bench") {
         return Some(Job::Bench(BenchOperands::given(bench)));

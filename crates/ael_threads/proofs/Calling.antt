@@ -1,10 +1,13 @@
 -- From acts to a call.
-use Rattle.std.proofs.Common.{◌≡◌, ℕ, List, [], ◌∷◌, ◌++◌, drop, Some, None, refl, sym, ◌∙◌, ap, subst, slice_get}
+use Rattle.std.proofs.Common.{◌≡◌, ℕ, Bool, true, false, not, Option, List, [], ◌∷◌, ◌++◌, drop, Some, None, refl, sym, ◌∙◌, ap, subst, slice_get, append_assoc}
 use Rattle.std.proofs.lemmas.Option.{same_Some}
 use Rattle.atom_store.specs.declared.reply.Reply.{Reply}
 use Rattle.std.specs.Option.{is_some}
 use Rattle.gc_worker.specs.declared.stage.Stage.{Stage}
+use Rattle.ael_threads.proofs.Flipping.{answers_in_epoch}
+use Rattle.ael_threads.proofs.Growing.{legal_last}
 use Rattle.ael_threads.proofs.Showing.{none_of}
+use Rattle.ael_threads.proofs.Tallying.{entries_last}
 use Rattle.plain_state.specs.declared.end.End.{End}
 use Rattle.heap_state.specs.Worker.{Account}
 use Rattle.mutator_asm.specs.declared.instr.Instr.TheVariants.{Halt}
@@ -14,20 +17,39 @@ use Rattle.gc_worker.specs.declared.task.Task.{Task}
 use Rattle.gc_worker.specs.declared.task.Task.TheVariants.{Calls}
 use Rattle.gc_worker.specs.Fits.{FitsCall, Fits, FitsEnd}
 use Rattle.plain_heap.specs.Action as plain_action
-use Rattle.gc_worker.specs.Between.{AreAlike, IsNoAnswer, Lands, with_task, RestsAfter}
+use Rattle.gc_worker.specs.Answer.{ComesTo}
+use Rattle.gc_worker.specs.Between.{AreAlike, IsNoAnswer, Lands, with_task, RestsAfter, Shows}
 use Rattle.gc_worker.specs.Full.{FullWhereTold}
 use Rattle.gc_worker.specs.Held.{Held}
 use Rattle.gc_worker.specs.Stepped.{stepped_by, uncounted}
-use Rattle.gc_worker.specs.Turned.{Effect, Ends, Told, Silent, Answers, Marks, told, turned}
+use Rattle.gc_worker.specs.Turned.{Effect, Ends, Told, Silent, Answers, Marks, told, turned, PageWon, won}
 use Rattle.ael_threads.specs.declared.view.Call.{Call}
+use Rattle.ael_threads.specs.declared.view.Claim.{Claim}
 use Rattle.ael_threads.specs.declared.view.Did.{Did}
 use Rattle.ael_threads.specs.declared.view.Did.TheVariants.{Done, Trap}
 use Rattle.ael_threads.specs.declared.view.Entry.{Entry}
+use Rattle.ael_threads.specs.declared.view.Entry.TheVariants.{Made}
+use Rattle.ael_threads.specs.declared.view.Hand.{Hand}
 use Rattle.ael_threads.specs.declared.view.Plan.{Plan}
 use Rattle.ael_threads.specs.declared.view.View.{View}
-use Rattle.ael_threads.specs.Calls.{Called, Departs, end_of, IsDone, IsQuiet, Rests, Waits, call_by}
-use Rattle.ael_threads.specs.Histories.{call, hand, outcome_of, own_after, first_plain, last_flip}
-use Rattle.ael_threads.specs.Seats.{Acts, ActsBy, Extends, IsEffect, Seated, Sees, ShowsSeen, first_number, first_own, plain_seen, LiveWhereTold}
+use Rattle.ael_threads.specs.Calls.{Called, Departs, end_of, IsDone, IsQuiet, KnowsWorker, Rests, Waits, WinsMore, call_by}
+use Rattle.ael_threads.specs.Cycles.{EachEntry, EntryIs, IsFilledBy, Tasks, opened, tally, tasks_of}
+use Rattle.ael_threads.specs.Histories.{IsLegal, after_all, call, did_of, hand, outcome_of, own_after, first_plain, last_flip}
+use Rattle.ael_threads.specs.Seats.{Acts, ActsBy, Extends, IsEffect, Seated, Sees, ShowsSeen, first_number, first_own, plain_seen, seen_after, LiveWhereTold, claim_of, with_claim}
+
+-- ---- pages won
+
+wins_more : (a b c : Seated) → WinsMore a b → WinsMore b c → WinsMore a c
+wins_more a b c r s = (s.0 ++ r.0, s.1 ∙ (ap (λ (cs : List Claim). s.0 ++ cs) r.1 ∙ sym (append_assoc s.0 r.0 a.knows.claims)))
+
+with_claims : (cs : List Claim) (o : Option PageWon) → (more : List Claim) × (with_claim cs o ≡ more ++ cs)
+with_claims cs None = ([], refl)
+with_claims cs (Some w) = (claim_of w ∷ [], refl)
+
+wins_by : (b c : Seated) (r : Reply) (s : Stepped) → ActsBy b r s c → WinsMore b c
+wins_by b c r s h = let more = with_claims b.knows.claims (won b.worker r) in (more.0, h.knows.claims ∙ more.1)
+
+-- ---- what rests
 
 pub rests_same : (a b : Seated) → b.knows ≡ a.knows → Rests a b
 rests_same a b same = record {
@@ -36,6 +58,7 @@ rests_same a b same = record {
   own = ap (λ (v : View). first_own v.hands) same;
   others = ap (λ (v : View). drop 1 v.hands) same;
   seen = ap (λ (v : View). v.seen) same;
+  claims = ([], ap (λ (v : View). v.claims) same);
 }
 
 pub rests_more : (a b c : Seated) → Rests a b → Rests b c → Rests a c
@@ -45,6 +68,7 @@ rests_more a b c r s = record {
   own = s.own ∙ r.own;
   others = s.others ∙ r.others;
   seen = s.seen ∙ r.seen;
+  claims = wins_more a b c r.claims s.claims;
 }
 
 pub waits_first : (a b : Seated) (task : Task) → b.worker ≡ with_task a.worker task → b.knows ≡ a.knows → Waits a task b
@@ -69,6 +93,7 @@ rests_by b c r s h none = let k = h.knows in record {
   own = ap first_own k.hands ∙ own_kept (first_number b.knows.hands) (first_own b.knows.hands) (told b.worker r) none;
   others = ap (drop 1) k.hands;
   seen = seen_kept b.knows c.knows (first_number b.knows.hands) (told b.worker r) none k.seen;
+  claims = wins_by b c r s h;
 }
 
 -- neither an effect nor an end
@@ -105,6 +130,29 @@ done_is : (did : Did) (x : Held) (task : Task) → IsDone did → IsEffect (Answ
 done_is Done x task h = tt
 done_is (Trap end) x task h = absurd h
 
+-- the last call of a history comes to what it may at that point
+comes_last : (a : Seated) (task : Task) (did : Did) (hands : List Hand) (later : List Entry) (h : Extends a.knows.plan hands a.knows.seen (call_by a task did) later)
+    → ComesTo (after_all (first_plain a.knows.plan) (a.knows.seen ++ h.between)) (first_number a.knows.hands) task (outcome_of did)
+comes_last a task did hands later h = by_did did (legal_last (first_plain a.knows.plan) (a.knows.seen ++ h.between) (call_by a task did) (subst (IsLegal (first_plain a.knows.plan)) h.is h.legal))
+  where
+    by_did : (d : Did) → ComesTo (after_all (first_plain a.knows.plan) (a.knows.seen ++ h.between)) (first_number a.knows.hands) task (outcome_of (did_of (outcome_of d)))
+        → ComesTo (after_all (first_plain a.knows.plan) (a.knows.seen ++ h.between)) (first_number a.knows.hands) task (outcome_of d)
+    by_did Done c = c
+    by_did (Trap end) c = c
+
+-- and where it tells the heap to be full it is filled
+filled_last : (a : Seated) (task : Task) (did : Did) (tasks : Tasks) (before : List Entry)
+    → EachEntry (EntryIs a.knows.plan.spaces.pages tasks) (opened a.knows.plan) (before ++ Made (call_by a task did) ∷ [])
+    → IsFilledBy a.knows.plan.spaces.pages tasks (tally (opened a.knows.plan) before) (first_number a.knows.hands) task did []
+filled_last a task did tasks before h = by_did did (entries_last (EntryIs a.knows.plan.spaces.pages tasks) (opened a.knows.plan) before (Made (call_by a task did)) h)
+  where
+    IsFor : Did → Type 0
+    IsFor d = IsFilledBy a.knows.plan.spaces.pages tasks (tally (opened a.knows.plan) before) (first_number a.knows.hands) task d []
+
+    by_did : (d : Did) → IsFor (did_of (outcome_of d)) → IsFor d
+    by_did Done f = f
+    by_did (Trap end) f = f
+
 lands_uncounted : (n : ℕ) (words : List ℕ) (z : Held) → Lands n words z → Lands n words (uncounted z)
 lands_uncounted n words z l = record { in_space = l.in_space; header = l.header }
 
@@ -117,13 +165,17 @@ calls a b c task r s did w h other is =
     let answers : told b.worker r ≡ Answers task (outcome_of did) = is ∙ (λ j. Answers (same j) (outcome_of did)) in
     let call_is : call m other (outcome_of did) ≡ call_by a task did = (λ i. call (w.rests.number i) (same i) (outcome_of did)) in
     let pages : b.knows.plan.spaces.pages ≡ a.knows.plan.spaces.pages = ap (λ (p : Plan). p.spaces.pages) w.rests.plan in
+    let history : Extends a.knows.plan c.knows.hands a.knows.seen (call_by a task did) c.knows.seen =
+    subst (λ (z : Plan × (List Entry × Call)). Extends z.0 c.knows.hands z.1.0 z.1.1 c.knows.seen) (λ i. (w.rests.plan i, (w.rests.seen i, call_is i)))
+    (subst (λ (t : Told). Sees b.knows m t c.knows) is k.seen) in
+    let ends : k.stands.log ≡ (a.knows.seen ++ history.between) ++ Made (call_by a task did) ∷ [] = sym (k.sees ∙ ap (seen_after b.knows.seen k.stands.log) is) ∙ history.is in
     record {
       rests = ap (λ (x : Held). x.task) h.worker ∙ answer.rests;
       ends = ap (λ (x : Held). x.account.end) h.worker ∙ ends_by b.knows.plan.spaces.pages b.knows.plan.mutators m b.worker (turned b.worker r) did answer.after k.fits;
       plan = k.plan ∙ w.rests.plan;
+      claims = wins_more a b c w.rests.claims (wins_by b c r s h);
       hands = k.hands ∙ ((λ i. hand m (sym h.worker i) (own_after m (first_own b.knows.hands) (is i)) ∷ drop 1 b.knows.hands) ∙ (λ i. hand (w.rests.number i) c.worker (w.rests.own i ++ call_is i ∷ []) ∷ w.rests.others i));
-      history = subst (λ (z : Plan × (List Entry × Call)). Extends z.0 c.knows.hands z.1.0 z.1.1 c.knows.seen) (λ i. (w.rests.plan i, (w.rests.seen i, call_is i)))
-          (subst (λ (t : Told). Sees b.knows m t c.knows) is k.seen);
+      history = history;
       shows = subst (λ (x : Held). ShowsSeen x c.knows) (sym h.worker) k.shows;
       last = b;
       waits = w;
@@ -131,8 +183,12 @@ calls a b c task r s did w h other is =
       stepped = s;
       acts = h;
       answers = answers;
+      epoch = ap (λ (x : Held). x.epoch) h.worker ∙ answers_in_epoch b.worker r other (outcome_of did) is;
+      comes = comes_last a task did c.knows.hands c.knows.seen history;
       full = subst (λ (z : ℕ × Told). FullWhereTold z.0 k.before b.worker z.1) (λ i. (pages i, is i)) k.full;
       live = subst (λ (z : Plan × Told). LiveWhereTold (last_flip (first_plain z.0) c.knows.seen) z.1) (λ i. (w.rests.plan i, answers i)) k.live;
+      filled = filled_last a task did (tasks_of k.stands.workers) (a.knows.seen ++ history.between)
+          (subst (λ (z : Plan × List Entry). EachEntry (EntryIs z.0.spaces.pages (tasks_of k.stands.workers)) (opened z.0) z.1) (λ i. (w.rests.plan i, ends i)) k.stands.tallied.entries);
       lands = λ yes. subst (λ (z : ℕ × Held). Lands z.0 k.after z.1) (λ i. (pages i, sym h.worker i))
           (lands_uncounted b.knows.plan.spaces.pages k.after (turned b.worker r) (k.lands (subst IsEffect (sym is) (done_is did b.worker other yes))));
       alike = λ yes q its. subst (λ (x : Held). AreAlike x.registers q) (sym h.worker)
@@ -159,11 +215,30 @@ ended a b c task m end w h = by_end a b c task h.0 m end w h.1 (told b.worker h.
 
 -- ---- a caller without a task
 
+-- after an act the seat knows what the code holds
+knows_by : (b c : Seated) (r : Reply) (s : Stepped) → ActsBy b r s c → KnowsWorker c
+knows_by b c r s h = let k = h.knows in
+    k.hands ∙ (λ i. hand (sym (ap first_number k.hands) i) (sym h.worker i) (sym (ap first_own k.hands) i) ∷ sym (ap (drop 1) k.hands) i)
+
 quiet_by : (a b c : Seated) (r : Reply) (s : Stepped) → IsQuiet a b → ActsBy b r s c → IsQuiet a c
 quiet_by a b c r s q h = by_told (told b.worker r) refl
   where
     by_none : IsNoAnswer (told b.worker r) → IsQuiet a c
-    by_none none = record { none = ap (λ (x : Held). x.task) h.worker ∙ (h.goes_on.kept none ∙ q.none); rests = rests_more a b c q.rests (rests_by b c r s h none) }
+    by_none none = record {
+      none = ap (λ (x : Held). x.task) h.worker ∙ (h.goes_on.kept none ∙ q.none);
+      rests = rests_more a b c q.rests (rests_by b c r s h none);
+      ended = λ end is. let still = q.ended end is in ap (λ (x : Held). x.account.end) h.worker ∙ (ap (λ (k : Account). k.end) (h.goes_on.ended end still).0 ∙ still);
+      shown = λ end is records m p was.
+          let g = h.goes_on.ended end (q.ended end is) in
+          let old = q.shown end is records m p was in record {
+            counter = ap (λ (x : Held). x.account.counter) h.worker ∙ (ap (λ (k : Account). k.counter) g.0 ∙ old.counter);
+            printed = ap (λ (x : Held). x.account.printed) h.worker ∙ (ap (λ (k : Account). k.printed) g.0 ∙ old.printed);
+            end = ap (λ (x : Held). x.account.end) h.worker ∙ (ap (λ (k : Account). k.end) g.0 ∙ old.end);
+            serial = ap (λ (x : Held). x.account.serial) h.worker ∙ (ap (λ (k : Account). k.serial) g.0 ∙ old.serial);
+            registers = subst (λ (registers : List ℕ). Shows registers p) (sym (ap (λ (x : Held). x.registers) h.worker ∙ g.1)) old.registers;
+          };
+      known = λ was. knows_by b c r s h;
+    }
 
     by_told : (t : Told) → told b.worker r ≡ t → IsQuiet a c
     by_told Silent is = by_none (subst IsNoAnswer (sym is) tt)
@@ -171,7 +246,7 @@ quiet_by a b c r s q h = by_told (told b.worker r) refl
     by_told (Marks asked) is = by_none (subst IsNoAnswer (sym is) tt)
 
 pub quiet_first : (a : Seated) → a.worker.task ≡ None → IsQuiet a a
-quiet_first a none = record { none = none; rests = rests_same a a refl }
+quiet_first a none = record { none = none; rests = rests_same a a refl; ended = λ end is. is; shown = λ end is records m p was. was; known = λ was. was }
 
 pub quiet_more : (a b c : Seated) (s : Stepped) → IsQuiet a b → Acts b s c → IsQuiet a c
 quiet_more a b c stepped.Idle q h = subst (IsQuiet a) (sym h.0) q
@@ -180,22 +255,40 @@ quiet_more a b c (stepped.Effect m) q h = quiet_by a b c h.0 (stepped.Effect m) 
 quiet_more a b c (stepped.Flipped n) q h = quiet_by a b c h.0 (stepped.Flipped n) q h.1
 quiet_more a b c (stepped.Ended m end) q h = quiet_by a b c h.0 (stepped.Ended m end) q h.1
 
+quiet_all : (a b c : Seated) → IsQuiet a b → IsQuiet b c → IsQuiet a c
+quiet_all a b c q r = record {
+  none = r.none;
+  rests = rests_more a b c q.rests r.rests;
+  ended = λ end is. r.ended end (q.ended end is);
+  shown = λ end is records m p was. r.shown end (q.ended end is) records m p (q.shown end is records m p was);
+  known = λ was. r.known (q.known was);
+}
+
 pub departs_more : (a b c : Seated) → Departs a b → IsQuiet b c → Departs a c
 departs_more a b c d q = record {
   none = q.none;
-  ended = λ end is. rests_more a b c (d.ended end is) q.rests;
-  halts = λ no_end. let h = d.halts no_end in record { did = h.did; then = h.then; called = h.called; quiet = rests_more h.then b c h.quiet q.rests };
+  ended = λ end is. quiet_all a b c (d.ended end is) q;
+  halts = λ no_end. let h = d.halts no_end in record { did = h.did; then = h.then; called = h.called; quiet = quiet_all h.then b c h.quiet q };
 }
 
 -- with an end it is on its way out
 pub departs_ended : (a : Seated) → (a.worker.account.end ≡ None → ⊥) → a.worker.task ≡ None → Departs a a
-departs_ended a end none = record { none = none; ended = λ e is. rests_same a a refl; halts = λ no_end. absurd (end no_end) }
+departs_ended a end none = record { none = none; ended = λ e is. quiet_first a none; halts = λ no_end. absurd (end no_end) }
+
+-- as the code tests it
+pub no_end_by : (o : Option End) (none : Bool) → is_some o ≡ not none → none ≡ true → o ≡ None
+no_end_by None none is tested = refl
+no_end_by (Some end) none is tested = absurd (cc)
+
+pub departs_with : (a : Seated) (o : Option End) (none : Bool) → is_some o ≡ not none → none ≡ false → o ≡ a.worker.account.end → ((end : End) → o ≡ Some end → a.worker.task ≡ None) → Departs a a
+departs_with a None none is tested same task = absurd (cc)
+departs_with a (Some end) none is tested same task = departs_ended a (λ no_end. let never = same ∙ no_end in cc) (task end refl)
 
 pub departs_halted : (a b : Seated) (did : Did) → a.worker.account.end ≡ None → Called a (Calls Halt) did b → Departs a b
 departs_halted a b did no_end called = record {
   none = called.rests;
   ended = λ end is. absurd (cc);
-  halts = λ none. record { did = did; then = b; called = called; quiet = rests_same b b refl };
+  halts = λ none. record { did = did; then = b; called = called; quiet = quiet_first b called.rests };
 }
 
 pub halt_may_begin : (account : Account) (registers : List ℕ) → FitsCall account registers Halt

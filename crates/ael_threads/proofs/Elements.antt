@@ -12,6 +12,10 @@ module _ {A : Type 0} where
   each_append P [] ys h k = k
   each_append P (x ∷ xs) ys h k = (h.0, each_append P xs ys h.1 k)
 
+  pub each_apart : (P : A → Type 0) → (xs ys : List A) → Each P (xs ++ ys) → Each P xs × Each P ys
+  each_apart P [] ys h = (tt, h)
+  each_apart P (x ∷ xs) ys h = let both = each_apart P xs ys h.1 in ((h.0, both.0), both.1)
+
   pub each_of_map : {B : Type 0} (P : B → Type 0) (f : A → B) (xs : List A) → Each P (map f xs) → Each (λ (x : A). P (f x)) xs
   each_of_map P f [] h = tt
   each_of_map P f (x ∷ xs) h = (h.0, each_of_map P f xs h.1)

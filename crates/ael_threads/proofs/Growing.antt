@@ -2,7 +2,7 @@
 use Rattle.std.proofs.Common.{◌≡◌, ◌≢◌, ℕ, Bool, true, false, cond, ◌==◌, List, [], ◌∷◌, ◌++◌, refl, sym, ◌∙◌, ap, append-nil, ne_eqb, eq-eqb, slice_get, length}
 use mathlib.Core.List.{IsPrefix}
 use Rattle.plain_state.specs.State.{Plain, serial_of}
-use Rattle.gc_worker.specs.Answer.{IsAnswered, after_told}
+use Rattle.gc_worker.specs.Answer.{ComesTo, IsAnswered, after_told}
 use Rattle.gc_worker.specs.Law.{at_flip}
 use Rattle.gc_worker.specs.Turned.{Effect, Ends, Told, Silent, Answers, Marks}
 use Rattle.gc_worker.specs.Between.{LeavesTheOthers}
@@ -20,6 +20,11 @@ legal_more p [] m (Answers task (Ends end)) h e = (e, tt)
 legal_more p [] m (Marks asked) h e = tt
 legal_more p (Made c ∷ es) m t h e = (h.0, legal_more (after_call p c) es m t h.1 e)
 legal_more p (Exchanged asked ∷ es) m t h e = legal_more p es m t h e
+
+pub legal_last : (p : Plain) (log : List Entry) (c : Call) → IsLegal p (log ++ Made c ∷ []) → ComesTo (after_all p log) c.by c.task (outcome_of c.did)
+legal_last p [] c h = h.0
+legal_last p (Made d ∷ es) c h = legal_last (after_call p d) es c h.1
+legal_last p (Exchanged asked ∷ es) c h = legal_last p es c h
 
 pub after_more : (p : Plain) (log : List Entry) (m : ℕ) (t : Told) → after_all p (log ++ extra m t) ≡ after_told (after_all p log) m t
 after_more p [] m Silent = refl
@@ -42,7 +47,7 @@ cond_append : (b : Bool) (c : Call) (xs ys zs : List Call) → zs ≡ xs ++ ys �
 cond_append true c xs ys zs e = ap (λ (z : List Call). c ∷ z) e
 cond_append false c xs ys zs e = e
 
-calls_append : (n : ℕ) (xs ys : List Entry) → calls_of n (xs ++ ys) ≡ calls_of n xs ++ calls_of n ys
+pub calls_append : (n : ℕ) (xs ys : List Entry) → calls_of n (xs ++ ys) ≡ calls_of n xs ++ calls_of n ys
 calls_append n [] ys = refl
 calls_append n (Made c ∷ es) ys = cond_append (c.by == n) c (calls_of n es) (calls_of n ys) (calls_of n (es ++ ys)) (calls_append n es ys)
 calls_append n (Exchanged asked ∷ es) ys = calls_append n es ys
@@ -65,6 +70,10 @@ no_call : (b : Bool) (c : Call) (xs : List Call) → cond b (c ∷ xs) xs ≡ []
 no_call true c xs e = absurd (cc)
 no_call false c xs e = (refl, e)
 
+-- neither is the first call of worker m, nor any other
+pub none_first : (m : ℕ) (c : Call) (es : List Entry) → calls_of m (Made c ∷ es) ≡ [] → (m ≢ c.by) × (calls_of m es ≡ [])
+none_first m c es none = let h = no_call (c.by == m) c (calls_of m es) none in ((λ e. let y : (c.by == m) ≡ true = eq-eqb c.by m (sym e) in let z = h.0 in cc), h.1)
+
 -- mutator m and the number of its records are the same in both
 pub record Agrees (m : ℕ) (p q : Plain) : Type 0 where
   pub mutator : slice_get q.mutators m ≡ slice_get p.mutators m
@@ -73,14 +82,13 @@ pub record Agrees (m : ℕ) (p q : Plain) : Type 0 where
 pub others_keep : (p : Plain) (log : List Entry) (m : ℕ) → calls_of m log ≡ [] → Agrees m p (after_all p log)
 others_keep p [] m none = record { mutator = refl; serial = refl }
 others_keep p (Made c ∷ es) m none =
-    let h = no_call (c.by == m) c (calls_of m es) none in
-    let other : m ≢ c.by = (λ e. let y : (c.by == m) ≡ true = eq-eqb c.by m (sym e) in let z = h.0 in cc) in
+    let h = none_first m c es none in
     let step : LeavesTheOthers p (after_call p c) c.by = answers_leave_the_others p c.by (Answers c.task (outcome_of c.did)) in
     let rest = others_keep (after_call p c) es m h.1 in
-    record { mutator = rest.mutator ∙ step.mutator m other; serial = rest.serial ∙ step.serial m other }
+    record { mutator = rest.mutator ∙ step.mutator m h.0; serial = rest.serial ∙ step.serial m h.0 }
 others_keep p (Exchanged asked ∷ es) m none = others_keep p es m none
 
-after_append : (p : Plain) (xs ys : List Entry) → after_all p (xs ++ ys) ≡ after_all (after_all p xs) ys
+pub after_append : (p : Plain) (xs ys : List Entry) → after_all p (xs ++ ys) ≡ after_all (after_all p xs) ys
 after_append p [] ys = refl
 after_append p (Made c ∷ es) ys = after_append (after_call p c) es ys
 after_append p (Exchanged asked ∷ es) ys = after_append p es ys

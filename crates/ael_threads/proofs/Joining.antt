@@ -12,6 +12,7 @@ use Rattle.ael_threads.specs.declared.view.Entry.{Entry}
 use Rattle.ael_threads.specs.declared.view.Hand.{Hand}
 use Rattle.ael_threads.specs.declared.view.Plan.{Plan}
 use Rattle.ael_threads.specs.declared.view.View.{View}
+use Rattle.ael_threads.specs.Cycles.{IsTallied, opened}
 use Rattle.ael_threads.specs.Histories.{Each, IsLegal, IsOnce, after_all, calls_of, first_plain, last_flip, number}
 use Rattle.ael_threads.specs.Rule.{FitsView, Has, Kept, Won, heap_of, spent_view, view}
 use Rattle.ael_threads.specs.Seats.{Absorbs, Learned, Learns, Me, both_of}
@@ -99,6 +100,7 @@ joins plan id v other u s b at apart at' =
       winner = winner';
       legal = b.legal;
       stands = b.stands;
+      tallied = b.tallied;
       seats = λ j w at''. ⊎_elim
           (λ (t : (j ≡ other) × (spent_view ≡ w)). subst (FitsView plan s.words b.workers b.log owner' winner' j) t.1
           (record { same = λ none. absurd (omega arith); seen = (b.log, refl); heard = (b.log, refl); hands = tt; apart = tt; claims = tt; once = tt }))
@@ -136,6 +138,7 @@ learns plan slots id me st live s b homes at small =
         winner = b.winner;
         legal = b.legal;
         stands = subst (λ (z : List ℕ). WorkersStand (heap_of plan z b.workers) (after_all (first_plain plan) b.log) (last_flip (first_plain plan) b.log)) (sym (set-get_or s.words 0 0)) b.stands;
+        tallied = subst (λ (z : List ℕ). IsTallied (heap_of plan z b.workers) (opened plan) b.log) (sym (set-get_or s.words 0 0)) b.tallied;
         seats = λ j u at'. subst (λ (z : List ℕ). FitsView plan z b.workers b.log b.owner b.winner j u) (sym (set-get_or s.words 0 0))
             (⊎_elim (λ (t : (j ≡ id) × (w ≡ u)). subst (λ (z : ℕ × View). FitsView plan s.words b.workers b.log b.owner b.winner z.0 z.1) (λ i. (sym t.0 i, t.1 i)) fit)
             (λ (t : (j ≢ id) × (get_elem? s.views j ≡ some u)). b.seats j u t.1)

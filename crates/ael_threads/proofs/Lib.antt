@@ -4,8 +4,16 @@ pub mod Growing
 pub mod Winning
 pub mod Views
 pub mod Showing
+pub mod Tallying
+pub mod Making
+pub mod Aside
+pub mod Asking
+pub mod Filling
+pub mod Tasking
+pub mod Flipping
 pub mod Turning
 pub mod Allowing
+pub mod Unclaimed
 pub mod Beginning
 pub mod Dealing
 pub mod Joining
@@ -13,3 +21,10 @@ pub mod Readying
 pub mod Acting
 pub mod Calling
 pub mod Gathering
+pub mod MoreCalls
+pub mod Ordering
+pub mod Programs
+pub mod Along
+pub mod Telling
+pub mod Starting
+pub mod Alone

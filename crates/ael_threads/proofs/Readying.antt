@@ -1,5 +1,5 @@
 -- A caller between two steps.
-use Rattle.std.proofs.Common.{None, ◌≡◌, ℕ, ◌+◌, ◌<◌, ◌≤◌, Bool, true, false, nat_lt, List, [], ◌∷◌, ◌++◌, Some, refl, sym, ap, subst, ◌∙◌, slice_get, arith, lt-ltb}
+use Rattle.std.proofs.Common.{None, inl, inr, ◌≡◌, ℕ, ◌+◌, ◌<◌, ◌≤◌, Bool, true, false, nat_lt, List, [], ◌∷◌, ◌++◌, Some, refl, sym, ap, subst, ◌∙◌, slice_get, arith, lt-ltb}
 use Rattle.std.proofs.lemmas.Bool.{le-ltb}
 use Rattle.std.specs.Prelude.{if◌then◌else◌}
 use mathlib.Core.List.{IsPrefix}
@@ -26,7 +26,7 @@ use Rattle.ael_threads.specs.declared.view.Plan.{Plan}
 use Rattle.ael_threads.specs.declared.view.View.{View}
 use Rattle.ael_threads.specs.Histories.{HasOwn, after_all, calls_of, first_held, first_plain, hand}
 use Rattle.ael_threads.specs.Rule.{crew, view}
-use Rattle.ael_threads.specs.Seats.{Follows, Heads, IsLive, IsMine, IsShown, Learned, Moves, Seated, ShowsSeen, both_of, first_number, first_own}
+use Rattle.ael_threads.specs.Seats.{Begins, Follows, Heads, IsLive, IsMine, IsShown, Learned, Moves, Seated, ShowsSeen, both_of, first_number, first_own}
 use Rattle.ael_threads.proofs.Places.{get_of}
 use Rattle.ael_threads.proofs.Growing.{seen_keeps}
 use Rattle.ael_threads.proofs.Beginning.{uncounted_first, worker_at}
@@ -34,10 +34,16 @@ use Rattle.ael_threads.proofs.Showing.{shown_by}
 
 -- ---- its own worker
 
+-- one without a task was not given one since
+begins_more : (was x : Held) (task : Task) → Begins was x → x.task ≡ None → Begins was (with_task x task)
+begins_more was x task (inl same) none = inr (task, ap (λ (z : Held). z.task) (sym same) ∙ none, ap (λ (z : Held). with_task z task) same)
+begins_more was x task (inr given) none = absurd (let some : None ≡ Some given.0 = sym none ∙ ap (λ (z : Held). z.task) given.2 in cc)
+
 -- a worker that is given a task is to the proofs of the heap as it was
 pub begins : (plan : Plan) (x now : Held) (task : Task) (hs : List Hand) → now ≡ with_task x task → Heads plan x hs → IsIdle x → MayBegin x.account x.registers (Some task) → Heads plan now hs
 begins plan x now task [] is h idle may = absurd h
 begins plan x now task (was ∷ others) is h idle may = subst (Follows plan was.number was.worker) (sym is) (record {
+  begins = begins_more was.worker x task h.begins idle.no_task;
   readies = λ count.
       let r = h.readies count in
       let s = tasks_may_begin plan.spaces.pages plan.mutators was.number (counted count x) task ((counted_fit plan.spaces.pages plan.mutators was.number count x).1 h.fits)
@@ -61,7 +67,7 @@ shows_of a b same h = subst (λ (z : Seated). ShowsSeen z.worker z.knows) same h
 
 -- as it stands after a step
 stays : (plan : Plan) (m : ℕ) (x : Held) → Fits plan.spaces.pages plan.mutators m x → Follows plan m x x
-stays plan m x f = record { readies = λ count. record { same = refl; fits = λ g. g }; fits = f }
+stays plan m x f = record { begins = inl refl; readies = λ count. record { same = refl; fits = λ g. g }; fits = f }
 
 pub moved_heads : (v : View) (m : ℕ) (x now : Held) (r : Reply) (w : View) → Moves v m x r w → now ≡ uncounted (turned x r) → Heads w.plan now w.hands
 moved_heads v m x now r w t e =

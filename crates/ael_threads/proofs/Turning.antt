@@ -1,5 +1,5 @@
 -- A step keeps the rule.
-use Rattle.std.proofs.Common.{◌≡◌, ◌≢◌, ℕ, ◌<◌, Option, Some, None, List, [], ◌∷◌, ◌++◌, length, slice_get, slice_set, set, refl, sym, ◌∙◌, ap, subst, length-set, arith, get_or-set_same}
+use Rattle.std.proofs.Common.{◌≡◌, ◌≢◌, ℕ, ◌<◌, inl, inr, Option, Some, None, List, [], ◌∷◌, ◌++◌, length, slice_get, slice_set, set, refl, sym, ◌∙◌, ap, subst, length-set, arith, get_or-set_same}
 use mathlib.Core.Option.{some}
 use mathlib.Core.List.{IsPrefix}
 use Rattle.std.proofs.lemmas.Option.{slice_get_within}
@@ -18,7 +18,7 @@ use Rattle.gc_worker.specs.Counted.{CountsApart, counted, count_after}
 use Rattle.gc_worker.specs.Fits.{Fits}
 use Rattle.gc_worker.specs.Full.{FullWhereTold}
 use Rattle.gc_worker.specs.Held.{Held}
-use Rattle.gc_worker.specs.Law.{Heap, StepKeeps, WorkersStand, at_flip, held_at, nobody}
+use Rattle.gc_worker.specs.Law.{FlipsWhereTold, Heap, StepKeeps, WorkersStand, at_flip, held_at, nobody}
 use Rattle.gc_worker.specs.Stepped.{uncounted}
 use Rattle.gc_worker.specs.Turned.{Effect, Ends, Told, Silent, Answers, Marks, told, turned, won}
 use Rattle.gc_worker.specs.Wanted.{wanted}
@@ -35,13 +35,18 @@ use Rattle.ael_threads.specs.declared.view.Entry.TheVariants.{Made, Exchanged}
 use Rattle.ael_threads.specs.declared.view.Hand.{Hand}
 use Rattle.ael_threads.specs.declared.view.Plan.{Plan}
 use Rattle.ael_threads.specs.declared.view.View.{View}
+use Rattle.ael_threads.specs.Cycles.{IsTallied, opened}
 use Rattle.ael_threads.specs.Histories.{HasOwn, IsLegal, after_all, call, calls_of, extra, first_plain, hand, last_flip, own_after}
 use Rattle.ael_threads.specs.Rule.{FitsView, Has, Kept, crew, heap_of, view}
-use Rattle.ael_threads.specs.Seats.{Follows, IsEffect, IsShown, Moves, Sees, ShowsSeen, StandWith, plain_seen, seen_after, with_claim, LiveByEnd, LiveWhereTold}
+use Rattle.ael_threads.specs.Seats.{Begins, Follows, IsEffect, IsShown, Moves, Sees, ShowsSeen, StandWith, plain_seen, seen_after, with_claim, LiveByEnd, LiveWhereTold}
 use Rattle.ael_threads.proofs.Places.{at_inside, get_of, set_else, set_here}
 use Rattle.ael_threads.proofs.Elements.{each_map, prefix_more, prefix_self}
+use Rattle.ael_threads.proofs.Filling.{step_tallied}
+use Rattle.ael_threads.proofs.Flipping.{flips_by}
 use Rattle.ael_threads.proofs.Growing.{Agrees, after_more, calls_more, flip_more, legal_more, seen_keeps}
 use Rattle.ael_threads.proofs.Showing.{alike_by, effect_is, ends_with, full_by, lands_by, live_by, mutator_at, no_end, shown_by}
+use Rattle.ael_threads.proofs.Tallying.{tally_flip, tally_now}
+use Rattle.ael_threads.proofs.Tasking.{task_tallied}
 use Rattle.ael_threads.proofs.Views.{all_fit, my_fit}
 use Rattle.ael_threads.proofs.Winning.{Keeps, won_after}
 
@@ -82,6 +87,11 @@ live_seen p seen log m Silent h = tt
 live_seen p seen log m (Answers task Effect) h = tt
 live_seen p seen log m (Answers task (Ends end)) h = subst (λ (o : Plain). LiveByEnd o end) (sym (flip_more p p log m (Answers task (Ends end)))) h
 live_seen p seen log m (Marks asked) h = tt
+
+-- whatever it has counted, it was given a task or not
+begins_counted : (count : ℕ) (was now : Held) → Begins was now → Begins (counted count was) (counted count now)
+begins_counted count was now (inl same) = inl (ap (counted count) same)
+begins_counted count was now (inr given) = inr (given.0, given.1, ap (counted count) given.2)
 
 -- ---- the step of the seat's own worker, which held was.worker after its last step, and whose code holds x now
 
@@ -155,6 +165,9 @@ module _ (plan : Plan) (id : ℕ) (was : Hand) (x : Held) (others : List Hand) (
   apart : CountsApart count x
   apart = counts_are_apart n plan.mutators m count x follows.fits
 
+  readied_tallied : IsTallied (heap_of plan s.words workers1) (opened plan) b.log
+  readied_tallied = task_tallied (heap_of plan s.words b.workers) m y inside (subst (λ (w : Held). Begins w y) (sym old_is) (begins_counted count was.worker x follows.begins)) (opened plan) b.log b.tallied
+
   law : StepKeeps (heap_of plan s.words workers1) p o m y q
   law = steps_keep (heap_of plan s.words workers1) p o m y q readied inside1 (get_or-set_same b.workers m y nobody inside) (apart.wants ∙ want)
 
@@ -182,6 +195,11 @@ module _ (plan : Plan) (id : ℕ) (was : Hand) (x : Held) (others : List Hand) (
   stands' : WorkersStand heap' p' (last_flip (first_plain plan) log')
   stands' = subst (λ (w : Plain × Plain). WorkersStand heap' w.0 w.1)
       (λ i. ((ap (after_told p m) tells ∙ sym (after_more (first_plain plan) b.log m t)) i, (ap (at_flip p o) tells ∙ sym (flip_more (first_plain plan) (first_plain plan) b.log m t)) i)) law.stands
+
+  tallied' : IsTallied heap' (opened plan) log'
+  tallied' = subst (λ (u : Told). IsTallied heap' (opened plan) (b.log ++ extra m u)) tells
+      (step_tallied (heap_of plan s.words workers1) p o m y q readied inside1 (get_or-set_same b.workers m y nobody inside) (apart.wants ∙ want) (opened plan) b.log readied_tallied
+      (tally_now (opened plan) b.log) (tally_flip (opened plan) b.log))
 
   as_plain : (w : Mutator) → slice_get p'.mutators m ≡ Some w → IsAsPlain heap' p' m (counted count' z) w
   as_plain w its = subst (λ (h : Held). IsAsPlain heap' p' m h w) (get_or-set_same workers1 m (turned y r) nobody inside1 ∙ becomes)
@@ -282,6 +300,7 @@ module _ (plan : Plan) (id : ℕ) (was : Hand) (x : Held) (others : List Hand) (
     winner = won_after b.winner id (won x r);
     legal = legal';
     stands = stands';
+    tallied = tallied';
     seats = all_fit plan s.words later b.workers workers2 b.log t b.owner b.winner id m (won x r) keeps same has.owns s.views v' b.seats fit;
   }
 
@@ -312,6 +331,7 @@ module _ (plan : Plan) (id : ℕ) (was : Hand) (x : Held) (others : List Hand) (
     count = count1;
     here = record { held = y; is = set_here b.workers m y inside; shown = refl };
     stands = readied;
+    tallied = readied_tallied;
   }
 
   abbrev stands_after : StandWith plan m z seen' later
@@ -323,6 +343,7 @@ module _ (plan : Plan) (id : ℕ) (was : Hand) (x : Held) (others : List Hand) (
     count = count2;
     here = has'.state;
     stands = stands';
+    tallied = tallied';
   }
 
   pub moves : Came plan id v m x r s later
@@ -350,6 +371,7 @@ module _ (plan : Plan) (id : ℕ) (was : Hand) (x : Held) (others : List Hand) (
       grows = refl;
       sees = refl;
       others = λ j other. set_else workers1 m j (turned y r) other;
+      flips = flips_by n plan.mutators m count x r follows.fits s.words later t refl (subst (FlipsWhereTold n s.words later y) tells law.flips);
       full = full_by n s.words count x t (subst (FullWhereTold n s.words y) tells law.full);
       live = live_seen (first_plain plan) seen b.log m t (subst (LiveWhereTold o) tells (live_by (heap_of plan s.words workers1) p o readied y (told y r) law.full));
       lands = lands;

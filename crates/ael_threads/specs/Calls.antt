@@ -1,24 +1,32 @@
 -- What a call is to its caller.
-use Rattle.std.specs.Prelude.{◌≡◌, ⊤, Option, Some, None, [], ◌∷◌, ◌++◌, drop, slice_get}
+use Rattle.std.specs.Prelude.{◌≡◌, ℕ, ⊤, Option, Some, None, List, [], ◌∷◌, ◌++◌, drop, slice_get}
 use Rattle.atom_store.specs.declared.reply.Reply.{Reply}
 use Rattle.plain_state.specs.declared.end.End.{End}
 use Rattle.plain_state.specs.State.{Mutator}
+use Rattle.plain_state.specs.State as plain
 use Rattle.mutator_asm.specs.declared.instr.Instr.TheVariants.{Halt}
 use Rattle.gc_worker.specs.declared.stepped.Stepped.{Stepped}
 use Rattle.gc_worker.specs.declared.task.Task.{Task}
 use Rattle.gc_worker.specs.declared.task.Task.TheVariants.{Calls}
+use Rattle.gc_worker.specs.Answer.{ComesTo}
 use Rattle.gc_worker.specs.Between.{AreAlike, Lands}
 use Rattle.gc_worker.specs.Full.{FullByOutcome}
 use Rattle.gc_worker.specs.Turned.{Answers, told}
 use Rattle.ael_threads.specs.declared.view.Call.{Call}
+use Rattle.ael_threads.specs.declared.view.Claim.{Claim}
 use Rattle.ael_threads.specs.declared.view.Did.{Did}
 use Rattle.ael_threads.specs.declared.view.Did.TheVariants.{Done, Trap}
-use Rattle.ael_threads.specs.Histories.{call, first_plain, hand, last_flip, outcome_of}
-use Rattle.ael_threads.specs.Seats.{ActsBy, Extends, LiveWhereTold, Seated, ShowsSeen, first_number, first_own, plain_seen}
+use Rattle.ael_threads.specs.Cycles.{IsFilledBy, opened, tally, tasks_of}
+use Rattle.ael_threads.specs.Histories.{after_all, call, first_plain, hand, last_flip, outcome_of}
+use Rattle.ael_threads.specs.Seats.{ActsBy, Extends, IsShown, LiveWhereTold, Seated, ShowsSeen, first_number, first_own, plain_seen}
 
 -- a caller's call that came to this
 abbrev pub call_by : Seated → Task → Did → Call
 call_by a task did = call (first_number a.knows.hands) task (outcome_of did)
+
+-- these pages were won since
+abbrev pub WinsMore : Seated → Seated → Type 0
+WinsMore a b = (more : List Claim) × (b.knows.claims ≡ more ++ a.knows.claims)
 
 -- What the seat knows is as it was, but for the state of its own worker, pages won and what it has heard.
 pub record Rests (a b : Seated) : Type 0 where
@@ -27,6 +35,7 @@ pub record Rests (a b : Seated) : Type 0 where
   pub own : first_own b.knows.hands ≡ first_own a.knows.hands
   pub others : drop 1 b.knows.hands ≡ drop 1 a.knows.hands
   pub seen : b.knows.seen ≡ a.knows.seen
+  pub claims : WinsMore a b
 
 -- a caller of which nothing was heard since it began a task
 pub record Waits (a : Seated) (task : Task) (b : Seated) : Type 0 where
@@ -43,15 +52,19 @@ IsDone Done = ⊤
 IsDone (Trap end) = ⊥
 
 -- THE CLAUSE OF EXEC: the call is one more of the caller's own, and the history that it has seen is legal, begins with all that it had
--- seen before, and ends with the call; of the seat's workers it has just the calls that they made. What the caller shows is its plain
--- mutator after it. The last act is of the caller while it still waits, and answers the task. Where the task was executed, each pointer in the registers leads to a record's header in the space of the caller's
--- epoch, by the words after that act, and two registers hold one word exactly where the plain ones hold one value; where the heap is
--- told to be full it was, by the words that the act found, and what is told as live was live at the last flip.
+-- seen before, and ends with the call, which comes to what the plain machine's may at that point; of the seat's workers it has just the
+-- calls that they made. What the caller shows is its plain mutator after it. The last act is of the caller while it still waits, and
+-- answers the task in the epoch that the caller then has. Where the task was executed, each pointer in the registers leads to a record's
+-- header in the space of that epoch, by the words after that act, and two registers hold one word exactly where the plain ones hold one
+-- value; where the heap is told to be full it was, by the words that the act found, and what is told as live was live at the last flip,
+-- which came since the caller's last call if the epoch is not the last one: with records made since then, or being made by the others, it
+-- fills the space.
 pub record Called (a : Seated) (task : Task) (did : Did) (b : Seated) : Type 0 where
   pub rests : b.worker.task ≡ None
   pub ends : b.worker.account.end ≡ end_of did
   pub plan : b.knows.plan ≡ a.knows.plan
   pub hands : b.knows.hands ≡ hand (first_number a.knows.hands) b.worker (first_own a.knows.hands ++ call_by a task did ∷ []) ∷ drop 1 a.knows.hands
+  pub claims : WinsMore a b
   pub history : Extends a.knows.plan b.knows.hands a.knows.seen (call_by a task did) b.knows.seen
   pub shows : ShowsSeen b.worker b.knows
   pub last : Seated
@@ -60,8 +73,11 @@ pub record Called (a : Seated) (task : Task) (did : Did) (b : Seated) : Type 0 w
   pub stepped : Stepped
   pub acts : ActsBy last reply stepped b
   pub answers : told last.worker reply ≡ Answers task (outcome_of did)
+  pub epoch : b.worker.epoch ≡ last.worker.epoch
+  pub comes : ComesTo (after_all (first_plain a.knows.plan) (a.knows.seen ++ history.between)) (first_number a.knows.hands) task (outcome_of did)
   pub full : FullByOutcome a.knows.plan.spaces.pages acts.knows.before last.worker (outcome_of did)
   pub live : LiveWhereTold (last_flip (first_plain a.knows.plan) b.knows.seen) (Answers task (outcome_of did))
+  pub filled : IsFilledBy a.knows.plan.spaces.pages (tasks_of acts.knows.stands.workers) (tally (opened a.knows.plan) (a.knows.seen ++ history.between)) (first_number a.knows.hands) task did []
   pub lands : IsDone did → Lands a.knows.plan.spaces.pages acts.knows.after b.worker
   pub alike : IsDone did → (q : Mutator) → slice_get (plain_seen b.knows).mutators (first_number a.knows.hands) ≡ Some q → AreAlike b.worker.registers q
 
@@ -70,20 +86,27 @@ abbrev pub Tries : Seated → Task → Option Did → Seated → Type 0
 Tries a task (Some did) b = Called a task did b
 Tries a task None b = Waits a task b
 
--- nothing is heard of a caller that has no task
+-- the seat knows its worker as the code holds it
+abbrev pub KnowsWorker : Seated → Type 0
+KnowsWorker s = s.knows.hands ≡ hand (first_number s.knows.hands) s.worker (first_own s.knows.hands) ∷ drop 1 s.knows.hands
+
+-- nothing is heard of a caller that has no task; one with an end keeps that, and shows what it showed
 pub record IsQuiet (a b : Seated) : Type 0 where
   pub none : b.worker.task ≡ None
   pub rests : Rests a b
+  pub ended : (end : End) → a.worker.account.end ≡ Some end → b.worker.account.end ≡ Some end
+  pub shown : (end : End) → a.worker.account.end ≡ Some end → (records : plain.Heap) (m : ℕ) (q : Mutator) → IsShown records m a.worker q → IsShown records m b.worker q
+  pub known : KnowsWorker a → KnowsWorker b
 
 -- THE CLAUSE OF LEAVE, of a caller without an end: it makes `halt`, and after that nothing is heard of it
 pub record Halts (a b : Seated) : Type 0 where
   pub did : Did
   pub then : Seated
   pub called : Called a (Calls Halt) did then
-  pub quiet : Rests then b
+  pub quiet : IsQuiet then b
 
 -- a caller that is about to leave
 pub record Departs (a b : Seated) : Type 0 where
   pub none : b.worker.task ≡ None
-  pub ended : (end : End) → a.worker.account.end ≡ Some end → Rests a b
+  pub ended : (end : End) → a.worker.account.end ≡ Some end → IsQuiet a b
   pub halts : a.worker.account.end ≡ None → Halts a b

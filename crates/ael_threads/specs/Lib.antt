@@ -1,6 +1,11 @@
 pub mod Histories
+pub mod Cycles
 pub mod Rule
 pub mod Seats
 pub mod Readers
 pub mod Calls
 pub mod Opened
+pub mod Programs
+pub mod Running
+pub mod Outputs
+pub mod Alone

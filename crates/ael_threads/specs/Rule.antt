@@ -13,6 +13,7 @@ use Rattle.ael_threads.specs.declared.view.Entry.{Entry}
 use Rattle.ael_threads.specs.declared.view.Hand.{Hand}
 use Rattle.ael_threads.specs.declared.view.Plan.{Plan}
 use Rattle.ael_threads.specs.declared.view.View.{View}
+use Rattle.ael_threads.specs.Cycles.{IsTallied, opened}
 use Rattle.ael_threads.specs.Histories.{Each, IsOnce, IsLegal, after_all, calls_of, first_plain, last_flip, new_hands, number}
 
 -- ---- views
@@ -71,7 +72,7 @@ abbrev pub heap_of : Plan → (words : List ℕ) → (workers : List Held) → H
 heap_of plan words workers = record { pages = plan.spaces.pages; words = words; mutators = plan.mutators; workers = workers }
 
 -- THE RULE: with what all workers hold the words stand for the plain state after one legal history, and keep what a cycle keeps that
--- began at its last flip; what each seat knows fits these.
+-- began at its last flip; what is counted along the history fits the words and the workers; what each seat knows fits these.
 pub record Kept (plan : Plan) (s : table.State ℕ View) : Type 0 where
   pub log : List Entry
   pub workers : List Held
@@ -80,4 +81,5 @@ pub record Kept (plan : Plan) (s : table.State ℕ View) : Type 0 where
   pub winner : Claim → ℕ
   pub legal : IsLegal (first_plain plan) log
   pub stands : WorkersStand (heap_of plan s.words workers) (after_all (first_plain plan) log) (last_flip (first_plain plan) log)
+  pub tallied : IsTallied (heap_of plan s.words workers) (opened plan) log
   pub seats : (id : ℕ) (v : View) → get_elem? s.views id ≡ some v → FitsView plan s.words workers log owner winner id v

@@ -1,5 +1,5 @@
 -- What a seat is told by a step, and by what it takes in.
-use Rattle.std.specs.Prelude.{◌≡◌, ◌≢◌, ℕ, zero, suc, ◌+◌, ◌==◌, ◌<◌, ⊤, Option, Some, None, List, [], ◌∷◌, ◌++◌, map, take, drop, slice_get, length, if◌then◌else◌}
+use Rattle.std.specs.Prelude.{◌≡◌, ◌≢◌, ℕ, zero, suc, ◌+◌, ◌==◌, ◌<◌, ◌⊎◌, ⊤, Bool, false, Option, Some, None, List, [], ◌∷◌, ◌++◌, map, take, drop, slice_get, length, if◌then◌else◌}
 use mathlib.Core.List.{IsPrefix}
 use lib.ListN.{get_elem?}
 use Rattle.atomic_table.specs.Table as table
@@ -15,7 +15,8 @@ use Rattle.plain_state.specs.State as plain
 use Rattle.gc_worker.specs.declared.stage.Stage.TheVariants.{Gone}
 use Rattle.gc_worker.specs.declared.stepped.Stepped.{Stepped}
 use Rattle.gc_worker.specs.declared.stepped.Stepped.TheVariants.{Idle}
-use Rattle.gc_worker.specs.Between.{AreAlike, GoesOn, Lands, Readies, Shows}
+use Rattle.gc_worker.specs.declared.task.Task.{Task}
+use Rattle.gc_worker.specs.Between.{AreAlike, GoesOn, Lands, Readies, Shows, with_task}
 use Rattle.gc_worker.specs.Counted.{counted}
 use Rattle.gc_worker.specs.Fits.{Fits, Takes}
 use Rattle.gc_worker.specs.Full.{FullWhereTold}
@@ -24,7 +25,7 @@ use Rattle.plain_state.specs.declared.end.End.{End}
 use Rattle.plain_state.specs.declared.end.End.TheVariants.{HeapFull}
 use Rattle.heap_state.specs.Reachable as reachable
 use Rattle.gc_worker.specs.Copied.{IsTraced}
-use Rattle.gc_worker.specs.Law.{WorkersStand, read}
+use Rattle.gc_worker.specs.Law.{FlipsWhereTold, WorkersStand, read, epoch_of}
 use Rattle.heap_state.specs.Copies.{CopiedIsLive}
 use Rattle.gc_worker.specs.Stepped.{stepped_by, uncounted}
 use Rattle.gc_worker.specs.Turned.{Effect, Ends, PageWon, Told, Silent, Answers, Marks, told, turned, won}
@@ -36,6 +37,7 @@ use Rattle.ael_threads.specs.declared.view.Entry.TheVariants.{Made}
 use Rattle.ael_threads.specs.declared.view.Hand.{Hand}
 use Rattle.ael_threads.specs.declared.view.Plan.{Plan}
 use Rattle.ael_threads.specs.declared.view.View.{View}
+use Rattle.ael_threads.specs.Cycles.{AreAskedFor, EachEntry, EntryIs, IsTallied, opened, tasks_of, tally}
 use Rattle.ael_threads.specs.Histories.{Each, IsOnce, HasOwn, IsLegal, after_all, call, calls_of, extra, first_held, first_plain, hand, last_flip, number, own_after}
 use Rattle.ael_threads.specs.Rule.{StandsAs, crew, heap_of, view}
 
@@ -123,7 +125,7 @@ IsEffect (Answers task (Ends end)) = ⊥
 IsEffect (Marks asked) = ⊥
 
 -- With these words, and with worker m, which holds x but for its count, all workers stand for the plain state after a legal history
--- that begins with this.
+-- that begins with this; what is counted along it fits them.
 pub record StandWith (plan : Plan) (m : ℕ) (x : Held) (seen : List Entry) (words : List ℕ) : Type 0 where
   pub log : List Entry
   pub legal : IsLegal (first_plain plan) log
@@ -132,12 +134,13 @@ pub record StandWith (plan : Plan) (m : ℕ) (x : Held) (seen : List Entry) (wor
   pub count : length workers ≡ crew plan
   pub here : StandsAs workers m (uncounted x)
   pub stands : WorkersStand (heap_of plan words workers) (after_all (first_plain plan) log) (last_flip (first_plain plan) log)
+  pub tallied : IsTallied (heap_of plan words workers) (opened plan) log
 
 -- A step of worker m, whose code holds x and takes r. It is the step that x wants, on the words before it, and r is what that step replies;
 -- with the words before and after it the workers stand for histories of which the latter has what the step tells besides, and no other
--- worker has changed. Where the heap is told to be full it was by the words before, and what is told as live was live at the last
--- flip; after an effect each pointer in the registers leads to a record's header in the words after, two registers holding one word
--- exactly where the plain ones hold one value.
+-- worker has changed. A flip, and nothing else, raises the epoch by one, for the pages that the worker's task asks for. Where the heap
+-- is told to be full it was by the words before, and what is told as live was live at the last flip; after an effect each pointer in the
+-- registers leads to a record's header in the words after, two registers holding one word exactly where the plain ones hold one value.
 pub record Moves (v : View) (m : ℕ) (x : Held) (r : Reply) (w : View) : Type 0 where
   pub takes : Takes x r
   pub fits : Fits v.plan.spaces.pages v.plan.mutators m (turned x r)
@@ -159,6 +162,7 @@ pub record Moves (v : View) (m : ℕ) (x : Held) (r : Reply) (w : View) : Type 0
   pub grows : stands.log ≡ found.log ++ extra m (told x r)
   pub sees : w.seen ≡ seen_after v.seen stands.log (told x r)
   pub others : (j : ℕ) → j ≢ m → get_elem? stands.workers j ≡ get_elem? found.workers j
+  pub flips : FlipsWhereTold v.plan.spaces.pages before after x (told x r)
   pub full : FullWhereTold v.plan.spaces.pages before x (told x r)
   pub live : LiveWhereTold (last_flip (first_plain v.plan) w.seen) (told x r)
   pub lands : IsEffect (told x r) → Lands v.plan.spaces.pages after (turned x r)
@@ -179,8 +183,13 @@ pub record Seated : Type 0 where
   pub worker : Held
   pub knows : View
 
+-- it is as it was, or was given a task where it had none
+abbrev pub Begins : (was now : Held) → Type 0
+Begins was now = (now ≡ was) ⊎ ((task : Task) × (was.task ≡ None) × (now ≡ with_task was task))
+
 -- Since its last step the worker may have been given a task; whatever it has counted, to the proofs of the heap it is as it was then.
 pub record Follows (plan : Plan) (m : ℕ) (was now : Held) : Type 0 where
+  pub begins : Begins was now
   pub readies : (count : ℕ) → Readies plan.spaces.pages plan.mutators m (counted count was) (counted count now)
   pub fits : Fits plan.spaces.pages plan.mutators m now
 
@@ -280,7 +289,10 @@ pub record Stays (workers : List Held) (log : List Entry) (h : Hand) : Type 0 wh
 
 -- THE CLAUSE OF CLOSE: the calls of all these callers stand in one legal history, each once, of which what each has seen is a
 -- beginning; with what their codes hold the words stand for the plain state after it; what was copied in an epoch
--- that is traced is what was live at the last flip of the history; no worker stands twice, and no page was won twice in one epoch.
+-- that is traced is what was live at the last flip of the history; the gate's epoch is the number of its flips; each flip was for a record, and where a call told the heap to be full
+-- what was live at the flip before it filled the space, with records made since then or being made, by the history or else by the tasks
+-- that mutators have begun; no mutator asked for two flips between two of its calls; no worker stands twice, and no page was won twice in
+-- one epoch.
 pub record Closes (plan : Plan) (all : List Seated) (words : List ℕ) : Type 0 where
   pub log : List Entry
   pub workers : List Held
@@ -288,6 +300,10 @@ pub record Closes (plan : Plan) (all : List Seated) (words : List ℕ) : Type 0 
   pub count : length workers ≡ crew plan
   pub stands : WorkersStand (heap_of plan words workers) (after_all (first_plain plan) log) (last_flip (first_plain plan) log)
   pub copied : IsTraced (heap_of plan words workers) → CopiedIsLive (read (heap_of plan words workers)) (last_flip (first_plain plan) log)
+  pub epoch : epoch_of plan.spaces.pages words ≡ (tally (opened plan) log).flips
+  pub entries : EachEntry (EntryIs plan.spaces.pages (tasks_of workers)) (opened plan) log
+  pub asked : ℕ → Bool
+  pub flips : AreAskedFor (tasks_of workers) (λ j. false) asked (opened plan) log
   pub seen : Each (λ (s : Seated). IsPrefix s.knows.seen log) all
   pub hands : Each (Stays workers log) (all_hands all)
   pub apart : IsOnce (map number (all_hands all))

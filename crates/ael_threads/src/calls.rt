@@ -6,7 +6,7 @@ ghost use Rattle.gc_worker.specs.declared.stage.Stage.TheVariants.{Gone};
 ghost use Rattle.gc_worker.specs.declared.task.Task.{Task};
 ghost use Rattle.gc_worker.specs.declared.task.Task.TheVariants.{Calls};
 ghost use Rattle.gc_worker.specs.Fits.{MayBegin};
-ghost use Rattle.ael_threads.specs.Calls.{Called, Halts, IsQuiet, Rests, Tries, Waits};
+ghost use Rattle.ael_threads.specs.Calls.{Called, Halts, IsQuiet, Tries, Waits};
 ghost use Rattle.ael_threads.specs.Seats.{Seated};
 
 use crate::mutator::Mutator;
@@ -21,7 +21,8 @@ use std::sync::Wait;
 const ACTS: u32 = 64;
 
 impl Mutator {
-    /// Makes one call: the instruction is begun, and acts are made up to its effect or end. Between two tries it backs off.
+    /// Makes one call: the instruction is begun, and acts are made up to its effect or end. Between two tries it backs off. What `begin`
+    /// asks for is asked for here. `Trap` comes exactly where the plain machine's call has that end, or where the heap is full.
     pub fn exec<R: Wait>(&mut self, rt: &R, h: &Shared, instr: &Instr) -> Did
         requires table { self.old.table ≡ h.now.table.shared.table_id }
         requires no_end { self.old.worker.account.end ≡ None }
@@ -31,6 +32,15 @@ impl Mutator {
         ensures called { Called self.old (Calls instr.now) result self.new }
     {
         self.begin(instr);
+        self.comes_to(rt, h)
+    }
+
+    /// Makes acts, up to the effect or end of the task that it has begun.
+    pub(crate) fn comes_to<R: Wait>(&mut self, rt: &R, h: &Shared) -> Did
+        requires table { self.old.table ≡ h.now.table.shared.table_id }
+        ensures table { self.new.table ≡ self.old.table }
+        ensures called { (a : Seated) (task : Task) → Waits a task self.old → Called a task result self.new }
+    {
         let backoff = Backoff::new();
         for _ in rt.forever() {
             if let Some(did) = self.tries(h) {
@@ -41,7 +51,7 @@ impl Mutator {
         unreachable!()
     }
 
-    /// Makes some acts, up to the effect or end of the task that it has begun.
+    /// Makes some of them.
     fn tries(&mut self, h: &Shared) -> Option<Did>
         requires table { self.old.table ≡ h.now.table.shared.table_id }
         ensures table { self.new.table ≡ self.old.table }
@@ -57,13 +67,13 @@ impl Mutator {
         None
     }
 
-    /// Leaves the heap. A mutator without an end makes `halt` first.
+    /// Leaves the heap. A mutator without an end, which has no instruction begun, makes `halt` first.
     pub fn leave<R: Wait>(&mut self, rt: &R, h: &Shared)
         requires table { self.old.table ≡ h.now.table.shared.table_id }
         requires no_task { self.old.worker.account.end ≡ None → self.old.worker.task ≡ None }
         ensures table { self.new.table ≡ self.old.table }
         ensures left { self.new.worker.stage ≡ Gone }
-        ensures ended { (end : End) → self.old.worker.account.end ≡ Some end → Rests self.old self.new }
+        ensures ended { (end : End) → self.old.worker.account.end ≡ Some end → IsQuiet self.old self.new }
         ensures halts { self.old.worker.account.end ≡ None → Halts self.old self.new }
     {
         if self.ended().is_none() {

@@ -1,6 +1,6 @@
 //! How a heap is closed.
 
-ghost use Rattle.std.specs.Prelude.{◌≡◌, ◌<◌, ◌++◌, List, map, vec_len};
+ghost use Rattle.std.specs.Prelude.{◌≡◌, ◌<◌, ◌++◌, List, length, map, vec_len};
 ghost use Rattle.ael_threads.specs.Histories.{Each};
 ghost use Rattle.ael_threads.specs.Readers.{Scanning, seated};
 ghost use Rattle.ael_threads.specs.Seats.{Closes, Gathers, Seated};
@@ -13,12 +13,13 @@ use crate::shared::Shared;
 use crate::words::Words;
 
 impl Shared {
-    /// The words, once all seats are back. With what the seats know they stand for the plain state after one history of all calls.
+    /// The words, once all seats are back, at least one mutator's among them. With what the seats know they stand for the plain state after one history of all calls.
     pub fn close(self, seats: Seats) -> Words
         requires some { 0 < vec_len seats.mutators }
         requires mutators { Each (λ (m : Seated). m.table ≡ self.table.shared.table_id) seats.mutators.items }
         requires scanners { Each (λ (s : Scanning). s.seated.table ≡ self.table.shared.table_id) seats.scanners.items }
-        ensures { Closes self.table.shared.key (map seated seats.scanners.items ++ seats.mutators.items) result }
+        ensures closes { Closes self.table.shared.key (map seated seats.scanners.items ++ seats.mutators.items) result }
+        ensures whole { length result ≡ self.table.shared.table_id.words }
     {
         let Seats { mutators, scanners } = seats;
         let one = self.gather_mutators(mutators);

@@ -6,15 +6,25 @@
 mod caller;
 mod calls;
 mod closing;
+mod executing;
+mod job;
+mod laws;
 mod mutator;
 mod opening;
+mod outputs;
+mod pace;
+mod running;
 mod scanner;
 mod shared;
 mod view;
 mod words;
 
+pub use laws::lone_calls_come_to_the_same;
 pub use mutator::{Mutator, Reg};
 pub use opening::Seats;
+pub use outputs::{Outputs, Printed, RunError};
+pub use pace::{NoPace, Pace};
+pub use running::run;
 pub use scanner::Scanner;
 pub use shared::{Rule, Shared};
 pub use view::{Call, Claim, Did, Entry, Hand, Plan, View};

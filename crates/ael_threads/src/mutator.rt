@@ -22,6 +22,7 @@ use std::marker::Model;
 /// What a register holds.
 #[derive(Clone, Copy, Debug, PartialEq, Eq)]
 pub enum Reg {
+    /// A number below 2^62.
     Number(u64),
     /// A pointer to the record whose header stands at this address.
     Pointer(u32),
@@ -45,7 +46,9 @@ impl Model for Mutator {
 }
 
 impl Mutator {
-    /// An instruction, which the next look at the gate begins.
+    /// An instruction, which the next look at the gate begins. No instruction is begun yet, and the mutator has no end; the instruction is
+    /// one that a text can hold: registers 0 to 7, numbers below 2^62, a jump's target at most 65,536. Where it makes a record, the serial
+    /// is below 2^40 - 1.
     pub fn begin(&mut self, instr: &Instr)
         requires no_end { self.old.worker.account.end ≡ None }
         requires no_task { self.old.worker.task ≡ None }
@@ -56,7 +59,7 @@ impl Mutator {
         self.caller.begin(instr);
     }
 
-    /// An end in place of an instruction.
+    /// An end in place of an instruction, any but that the heap is full. No instruction is begun yet, and the mutator has no end.
     pub fn begin_end(&mut self, end: End)
         requires no_end { self.old.worker.account.end ≡ None }
         requires no_task { self.old.worker.task ≡ None }
@@ -67,7 +70,8 @@ impl Mutator {
         self.caller.begin_end(end);
     }
 
-    /// Makes one atomic step, and waits for nobody. With no instruction begun it is a look at the gate, and what the gate then asks.
+    /// Makes one atomic step, and waits for nobody. With no instruction begun it is a look at the gate, and what the gate then asks. It is
+    /// idle exactly where the mutator has left.
     pub fn act(&mut self, h: &Shared) -> Stepped
         requires { self.old.table ≡ h.now.table.shared.table_id }
         ensures table { self.new.table ≡ self.old.table }
@@ -88,7 +92,7 @@ impl Mutator {
         self.caller.absorb(h, caller);
     }
 
-    /// What a register holds. It shows the plain mutator's after all that was seen.
+    /// What register `i`, 0 to 7, holds. It shows the plain mutator's after all that was seen.
     pub fn reg(&self, i: u8) -> Reg
         requires { i < REGISTERS }
         ensures reg { IsReg (slice_index self.now.worker.registers i) result }
@@ -133,6 +137,7 @@ impl Mutator {
         self.caller.worker.serial()
     }
 
+    /// The epoch of the heap in which it is, 0 before the first flip: its pointers lead into the space of this epoch.
     pub fn epoch(&self) -> u32
         ensures { result ≡ self.now.worker.epoch }
     {

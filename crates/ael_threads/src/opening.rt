@@ -46,12 +46,13 @@ fn first_words(alloc: Global, spaces: Spaces) -> Result<Vec<u64>, AllocError>
 }
 
 impl Shared {
-    /// A heap in which nobody has made a step, and a seat for each of its workers. `BadPages` comes exactly for fewer than 4 pages or
-    /// more than 2048. The words and the room for the most numbers of each mutator are taken here; no later call takes memory.
+    /// A heap in which nobody has made a step, and a seat for each of its workers: 1 to 16 mutators, and at most 8 scanners. `BadPages`
+    /// comes exactly for fewer than 4 pages or more than 2048, else `NoMemory` where memory is wanting. The words and the room for the most numbers of each mutator are taken here; no later call takes memory.
     pub fn open(alloc: Global, mutators: u8, config: &Config) -> Result<(Shared, Seats), OpenError>
         requires mutators { (1 ≤ mutators) × (mutators ≤ 16) }
         requires scanners { config.now.scanners ≤ 8 }
         ensures key { IfOk result (λ o. o.0.table.shared.key ≡ plan_of mutators config.now) }
+        ensures words { IfOk result (λ o. o.0.table.shared.table_id.words ≡ table_length config.now.pages) }
         ensures mutators { IfOk result (λ o. o.1.mutators.items ≡ new_callers o.0.table.shared.table_id (plan_of mutators config.now) 0 mutators) }
         ensures scanners { IfOk result (λ o. o.1.scanners.items ≡ new_scanners o.0.table.shared.table_id (plan_of mutators config.now) mutators config.now.scanners) }
         ensures bad_pages { IsErrOf result OpenError.BadPages ↔ IsTrue (not (is_size config.now.pages)) }

@@ -26,7 +26,7 @@ impl Model for Scanner {
 }
 
 impl Scanner {
-    /// Makes one atomic step, and waits for nobody.
+    /// Makes one atomic step, and waits for nobody. It is idle exactly where the scanner has seen that all mutators have left.
     pub fn act(&mut self, h: &Shared) -> Stepped
         requires { self.old.seated.table ≡ h.now.table.shared.table_id }
         ensures table { self.new.seated.table ≡ self.old.seated.table }

@@ -24,13 +24,17 @@ pub enum Did {
 
 /// One call of the plain machine: a mutator's instruction, or an end in its place, and what came of it.
 pub struct Call {
+    /// The mutator's number.
     pub by: usize,
+    /// The instruction, or the end in its place.
     pub task: Task,
+    /// What came of it.
     pub did: Did,
 }
 
 /// What a history has.
 pub enum Entry {
+    /// A mutator made this call.
     Made(Call),
     /// The spaces were exchanged, since a mutator had asked for so many pages.
     Exchanged(usize),

@@ -26,7 +26,7 @@ impl Model for Words {
 }
 
 impl Words {
-    /// The word at this place.
+    /// The word at this place, which is below their number.
     pub fn word(&self, place: usize) -> u64
         requires { place < length self.now }
         ensures { get_elem? self.now place ≡ some result }

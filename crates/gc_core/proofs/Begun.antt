@@ -1,8 +1,7 @@
--- A core begins steady, for the plain state in which its program begins.
-use Rattle.std.proofs.Common.{◌≡◌, ℕ, zero, suc, ◌+◌, ◌++◌, ◌<◌, ◌≤◌, ◌&&◌, Bool, true, false, nat_le, List, [], ◌∷◌, length, replicate, refl, ap, sym, subst, ◌∙◌, arith, lt-ltb}
-use Rattle.std.specs.Prelude.{map, IsTrue, if◌then◌else◌}
+-- A core begins lawful, for the plain state in which its program begins.
+use Rattle.std.proofs.Common.{◌≡◌, ℕ, zero, suc, ◌+◌, ◌++◌, ◌<◌, ◌≤◌, ◌&&◌, Bool, true, false, nat_le, List, [], ◌∷◌, length, refl, ap, sym, subst, ◌∙◌, arith, lt-ltb}
+use Rattle.std.specs.Prelude.{IsTrue, if◌then◌else◌}
 use Rattle.std.proofs.lemmas.Bool.{leb-true, le-leb}
-use Rattle.plain_state.specs.declared.value.Value.TheVariants.{Number}
 use Rattle.plain_state.specs.State.{Plain}
 use Rattle.mutator_asm.specs.declared.instr.Instr.{Instr}
 use Rattle.mutator_asm.specs.declared.item.Item.{Item}
@@ -13,7 +12,7 @@ use Rattle.space_map.specs.Spaces.{IsPageCount}
 use Rattle.heap_state.specs.Configuration.{table}
 use Rattle.heap_state.specs.Table.{Table}
 use Rattle.heap_state.proofs.Table.Writing.{writes_tables}
-use Rattle.heap_laws.specs.Opening.{opening_plain, opening_entries}
+use Rattle.heap_laws.specs.Opening.{opening_entries}
 use Rattle.heap_laws.proofs.Opening.Heap.{entries_fit}
 use Rattle.gc_worker.specs.Between.{HeapsOpen, fresh_worker, fresh_workers, fresh_mutator, fresh_scanner}
 use Rattle.gc_worker.specs.Held.{Held}
@@ -22,20 +21,10 @@ use Rattle.gc_worker.specs.Turned.{epoch_in as epoch_in_gate}
 use Rattle.gc_worker.proofs.Gate.Words.{gate_says}
 use Rattle.gc_worker.proofs.Between.Opening.{is_there}
 use Rattle.gc_worker.specs.declared.config.Config.{Config}
+use Rattle.gc_worker.proofs.Outcomes.{opens_so}
 use Rattle.gc_core.specs.Core.{opening_core, is_size}
 use Rattle.gc_worker.specs.Claims.{epoch_in}
-use Rattle.gc_core.specs.Law.{IsSteady}
-
--- one for each element
-map_const : {A B : Type 0} (b : B) (xs : List A) → map (λ x. b) xs ≡ replicate (length xs) b
-map_const b [] = refl
-map_const b (x ∷ xs) = ap (λ rest. b ∷ rest) (map_const b xs)
-
-opens_so : (code : List (List Instr)) → opening_plain (length code) ≡ order.opening code
-opens_so code = λ i. record {
-  heap = record { records = sym (map_const [] code) i; board = replicate 16 (Number 0) };
-  mutators = sym (map_const order.fresh code) i;
-}
+use Rattle.gc_core.specs.Law.{IsLawful, IsSteady}
 
 pub size_fits : (pages : ℕ) → IsTrue (is_size pages) → IsPageCount pages
 size_fits pages e = by_tests (nat_le 4 pages) (nat_le pages 2048) refl refl e
@@ -75,6 +64,9 @@ module _ (opens : HeapsOpen) (code : List (List Instr)) (items : List Item) (con
     turns_fit = turns;
     on_task = λ m l. let e = mutator_there m l in record { counted = rw e (omega arith); within = rw e (omega arith); task = λ task t. none≢some (sym (ap (λ (h : Held). h.task) e) ∙ t) };
   }
+
+  pub opening_lawful : IsLawful (opening_core code config)
+  opening_lawful = record { steady = opening_steady; plain = order.opening code; flip = order.opening code; stands = opening_stands }
 
   -- it begins in the first epoch
   pub opening_epoch : epoch_in (opening_core code config).heap ≡ 0

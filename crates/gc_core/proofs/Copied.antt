@@ -21,11 +21,12 @@ use Rattle.gc_worker.specs.Law.{Heap, WorkersStand, nobody}
 use Rattle.gc_worker.specs.Turned.{Effect, Ends, PageWon, Told, Silent, Answers, Marks, told}
 use Rattle.gc_worker.specs.Wanted.{wanted}
 use Rattle.gc_worker.specs.declared.stepped.Stepped.TheVariants as tells
+use Rattle.gc_worker.specs.Marks.{mark_of}
 use Rattle.gc_core.specs.Claims.{AreApart, IsWonOnce, PagesAreWon, won_of, wins_from}
 use Rattle.gc_core.specs.Core.{CoreState}
 use Rattle.gc_core.specs.Event.{core_after, event_of, event_by, readied, ready}
 use Rattle.gc_core.specs.Law.{EventsKeep, IsSteady, story_by}
-use Rattle.gc_core.specs.Run.{Ran, after_event, all_ended, mark_of, run_from}
+use Rattle.gc_core.specs.Run.{Ran, after_event, all_ended, run_from}
 use Rattle.gc_core.proofs.Readied.{Ready, readied_stands}
 
 -- a page of the gate's epoch, of the core's heap

@@ -1,8 +1,8 @@
 -- What a core's step needs of its worker, and what it leaves.
-use Rattle.std.proofs.Common.{◌≡◌, ℕ, ◌<◌, ◌≤◌, Bool, true, false, nat_le, List, length, set, get_or, Option, Some, None, Err, refl, ap, sym, subst, ◌∙◌, arith, leb-false}
+use Rattle.std.proofs.Common.{◌≡◌, ℕ, ◌<◌, ◌≤◌, Bool, true, false, nat_le, List, length, set, Option, Some, None, Err, refl, ap, sym, subst, ◌∙◌, arith, leb-false}
 use Rattle.std.specs.Option.{ok_or}
 use Rattle.std.specs.Prelude.{if◌then◌else◌}
-use Rattle.std.proofs.lemmas.List.{get_or_default, set-get_or}
+use Rattle.std.proofs.lemmas.List.{set-get_or}
 use Rattle.std.proofs.lemmas.Option.{slice_get_within}
 use Rattle.plain_state.specs.declared.end.End.TheVariants.{TurnsOut, JumpOut}
 use Rattle.plain_state.specs.State.{Mutator}
@@ -10,7 +10,7 @@ use Rattle.mutator_asm.specs.declared.instr.Instr.{Instr}
 use Rattle.mutator_asm.specs.Program.{instr_at}
 use Rattle.atom_store.specs.declared.reply.Reply.{Reply}
 use Rattle.atom_store.specs.declared.step.Step.{Step}
-use Rattle.atom_store.specs.Step.{reply_of, words_after}
+use Rattle.atom_store.specs.Step.{reply_of}
 use Rattle.gc_worker.specs.declared.stage.Stage.{Stage}
 use Rattle.gc_worker.specs.declared.task.Task.{Task}
 use Rattle.gc_worker.specs.declared.task.Task.TheVariants.{Calls, Stops}
@@ -29,8 +29,9 @@ use Rattle.gc_worker.proofs.Between.Readying.{readying_stands}
 use Rattle.gc_worker.proofs.Between.Standing.{what_stands_is_so}
 use Rattle.gc_worker.proofs.Whole.{steps_keep}
 use Rattle.gc_worker.specs.declared.stepped.Stepped.TheVariants as tells
-use Rattle.gc_core.specs.Core.{CoreState}
-use Rattle.gc_core.specs.Event.{Event, core_after, event_of, next_task, readied, ready, task_of}
+use Rattle.gc_worker.specs.Marks.{task_of}
+use Rattle.gc_core.specs.Core.{CoreState, workers_of}
+use Rattle.gc_core.specs.Event.{Event, core_after, event_of, next_task, readied, ready}
 use Rattle.gc_core.specs.Law.{IsLawful}
 use Rattle.gc_core.proofs.Readied.{Due, Begins, Rests, Ready, due, readied_stands, ready_task, ready_account}
 use Rattle.gc_core.proofs.Counting.{idle_by}
@@ -63,10 +64,10 @@ module _ (s : CoreState) (w : ℕ) (lawful : IsLawful s) (below : w < length s.h
   abbrev y : Held
   y = ready s w
 
-  pub held_sound : IsSound x
+  held_sound : IsSound x
   held_sound = sound_by s.heap.pages s.heap.mutators w x (lawful.stands.fit w below)
 
-  pub held_counts : awaits x ≡ true → x.account.serial ≤ x.account.executed
+  held_counts : awaits x ≡ true → x.account.serial ≤ x.account.executed
   held_counts is =
       let idle = idle_by x held_sound is in
       let f = lawful.stands.fit w below in
@@ -78,7 +79,7 @@ module _ (s : CoreState) (w : ℕ) (lawful : IsLawful s) (below : w < length s.h
   fits : Fits s.heap.pages s.heap.mutators w y
   fits = ready_fits s w lawful below
 
-  pub ready_sound : IsSound y
+  ready_sound : IsSound y
   ready_sound = sound_by s.heap.pages s.heap.mutators w y fits
 
   -- ---- a step
@@ -110,7 +111,9 @@ module _ (s : CoreState) (w : ℕ) (lawful : IsLawful s) (below : w < length s.h
         by_task q (Calls instr) may is = has_turns s.code s.turns w x instr is
         by_task q (Stops end) may is = absurd may
 
--- ---- the list of the workers
+-- the core in which worker w holds x, on these words
+abbrev pub with_step : CoreState → ℕ → Held → List ℕ → CoreState
+with_step s w x words = record s { heap = record s.heap { words = words; workers = set s.heap.workers w x } }
 
 -- who wants nothing was given nothing
 pub idle_same : (s : CoreState) (w : ℕ) → wanted (ready s w) ≡ None → ready s w ≡ held_at s.heap w
@@ -120,76 +123,78 @@ idle_same s w none = by_due (due s.code s.turns w (held_at s.heap w))
     by_due (Rests is) = is
     by_due (Begins stage task is) = absurd (let e = sym none ∙ (ap wanted is ∙ ap (λ (stage : Stage). wanted_at (held_at s.heap w) stage) stage) in cc)
 
--- ---- by what the code reads
+-- ---- the step that a worker makes
 
--- a core by its parts
-abbrev pub state : List (List Instr) → (turns pages : ℕ) → List ℕ → List Held → CoreState
-state code turns pages words workers = record { code = code; turns = turns; heap = record { pages = pages; words = words; mutators = length code; workers = workers } }
-
-module _ (s : CoreState) (w : ℕ) (below : w < length s.heap.workers) where
-  -- the worker that is read is the one that is held
-  pub read_held : (z : Held) → z ≡ get_or s.heap.workers w z → z ≡ held_at s.heap w
-  read_held z is = is ∙ get_or_default s.heap.workers w z nobody below
-
-  -- it is made ready
-  pub made_ready : (old new : Held) → old ≡ get_or s.heap.workers w old → new ≡ readied s.code s.turns w old → new ≡ ready s w
-  made_ready old new is made = made ∙ ap (readied s.code s.turns w) (read_held old is)
-
-  idle_workers : (new : Held) → new ≡ ready s w → wanted (ready s w) ≡ None → set s.heap.workers w new ≡ s.heap.workers
-  idle_workers new made none = ap (set s.heap.workers w) (made ∙ idle_same s w none) ∙ set-get_or s.heap.workers w nobody
-
-module _ (s : CoreState) (w : ℕ) (lawful : IsLawful s) (below : w < length s.heap.workers) (q : Step) (asked : wanted (ready s w) ≡ Some q) where
-  -- the core after the step
-  moved_core : (z : Held) (words : List ℕ) → z ≡ turned (ready s w) (reply_of q s.heap.words) → words ≡ words_after q s.heap.words
-      → record { code = s.code; turns = s.turns; heap = record { pages = s.heap.pages; words = words; mutators = s.heap.mutators; workers = set s.heap.workers w z } } ≡ core_after s w
-  moved_core z words z_is words_is =
-      ap (λ (x : Held). record s { heap = record s.heap { words = words; workers = set s.heap.workers w x } }) z_is
-      ∙ (ap (λ (l : List ℕ). record s { heap = record s.heap { words = l; workers = set s.heap.workers w (turned (ready s w) (reply_of q s.heap.words)) } }) words_is
-      ∙ ap (λ (e : Event). record s { heap = e.after }) (sym (event_some s w q asked)))
-
--- ---- the worker's own step
-
-module _ (s : CoreState) (w : ℕ) (lawful : IsLawful s) (below : w < length s.heap.workers) where
+module _ (s : CoreState) (w : ℕ) (lawful : IsLawful s) (below : w < workers_of s) where
   abbrev worker : Held
   worker = ready s w
 
-  abbrev words : List ℕ
-  words = s.heap.words
+  abbrev on : List ℕ
+  on = s.heap.words
+
+  may_by : (o : Option Step) → wanted worker ≡ o → AllowsStep worker on o
+  may_by None none = tt
+  may_by (Some q) asked = let m = makes s w q lawful below asked in record { place = m.place; takes = m.takes; fits = turned_sound s w lawful below q asked }
+
+  room_by : (o : Option Step) → wanted worker ≡ o → (m : ℕ) → (made_by worker on o).told ≡ tells.Effect m → worker.account.executed < 4294967295
+  room_by None none m is = absurd (cc)
+  room_by (Some q) asked m is = room s w lawful below q asked m is
+
+  told_by : (o : Option Step) → wanted worker ≡ o → (made_by worker on o).told ≡ (event_of s w).told
+  told_by None none = sym (ap (λ (e : Event). e.told) (event_none s w none))
+  told_by (Some q) asked =
+      ap (λ (k : ℕ). stepped_by k (told worker (reply_of q on))) (ready_fits s w lawful below).number
+      ∙ ap (λ (e : Event). e.told) (sym (event_some s w q asked))
+
+  core_by : (o : Option Step) → wanted worker ≡ o → with_step s w (made_by worker on o).held (made_by worker on o).words ≡ core_after s w
+  core_by None none =
+      ap (λ (ks : List Held). record s { heap = record s.heap { workers = ks } }) (ap (set s.heap.workers w) (idle_same s w none) ∙ set-get_or s.heap.workers w nobody)
+      ∙ sym (ap (λ (e : Event). record s { heap = e.after }) (event_none s w none))
+  core_by (Some q) asked = sym (ap (λ (e : Event). record s { heap = e.after }) (event_some s w q asked))
+
+-- x is worker w of a lawful core
+pub record IsWorker (s : CoreState) (w : ℕ) (x : Held) : Type 0 where
+  pub lawful : IsLawful s
+  pub below : w < workers_of s
+  pub held : x ≡ held_at s.heap w
+
+-- and that worker, once it was made ready
+pub record IsReady (s : CoreState) (w : ℕ) (x : Held) : Type 0 where
+  pub lawful : IsLawful s
+  pub below : w < workers_of s
+  pub made_ready : x ≡ ready s w
+
+module _ (s : CoreState) (w : ℕ) (x : Held) (is : IsWorker s w x) where
+  -- it may be made ready
+  pub readies_soundly : IsSound x
+  readies_soundly = subst IsSound (sym is.held) (held_sound s w is.lawful is.below)
+
+  pub has_counted : awaits x ≡ true → x.account.serial ≤ x.account.executed
+  has_counted = subst (λ (y : Held). awaits y ≡ true → y.account.serial ≤ y.account.executed) (sym is.held) (held_counts s w is.lawful is.below)
+
+  pub is_ready : (y : Held) → y ≡ readied s.code s.turns w x → IsReady s w y
+  is_ready y made = record { lawful = is.lawful; below = is.below; made_ready = made ∙ ap (readied s.code s.turns w) is.held }
+
+module _ (s : CoreState) (w : ℕ) (x : Held) (is : IsReady s w x) where
+  pub steps_soundly : IsSound x
+  steps_soundly = subst IsSound (sym is.made_ready) (ready_sound s w is.lawful is.below)
 
   -- it may make its step
-  pub may_make : MayMake worker words
-  may_make = by_step (wanted worker) refl
-    where
-      by_step : (o : Option Step) → wanted worker ≡ o → AllowsStep worker words o
-      by_step None none = tt
-      by_step (Some q) asked = let m = makes s w q lawful below asked in record { place = m.place; takes = m.takes; fits = turned_sound s w lawful below q asked }
+  pub may_step : MayMake x s.heap.words
+  may_step = subst (λ (y : Held). MayMake y s.heap.words) (sym is.made_ready) (may_by s w is.lawful is.below (wanted (ready s w)) refl)
 
-  pub made_room : (m : ℕ) → (made worker words).told ≡ tells.Effect m → worker.account.executed < 4294967295
-  made_room m is = by_step (wanted worker) refl is
-    where
-      by_step : (o : Option Step) → wanted worker ≡ o → (made_by worker words o).told ≡ tells.Effect m → worker.account.executed < 4294967295
-      by_step None none is = absurd (cc)
-      by_step (Some q) asked is = room s w lawful below q asked m is
+  pub has_room : (m : ℕ) → (made x s.heap.words).told ≡ tells.Effect m → x.account.executed < 4294967295
+  has_room =
+      subst (λ (y : Held). (m : ℕ) → (made y s.heap.words).told ≡ tells.Effect m → y.account.executed < 4294967295) (sym is.made_ready)
+      (room_by s w is.lawful is.below (wanted (ready s w)) refl)
 
-  -- what is told of it is told of the event
-  pub made_told : (made worker words).told ≡ (event_of s w).told
-  made_told = by_step (wanted worker) refl
-    where
-      by_step : (o : Option Step) → wanted worker ≡ o → (made_by worker words o).told ≡ (event_of s w).told
-      by_step None none = sym (ap (λ (e : Event). e.told) (event_none s w none))
-      by_step (Some q) asked =
-          ap (λ (k : ℕ). stepped_by k (told worker (reply_of q words))) (ready_fits s w lawful below).number
-          ∙ ap (λ (e : Event). e.told) (sym (event_some s w q asked))
+  -- what is told of the step is told of the event
+  pub stepped_told : (made x s.heap.words).told ≡ (event_of s w).told
+  stepped_told = ap (λ (y : Held). (made y s.heap.words).told) is.made_ready ∙ told_by s w is.lawful is.below (wanted (ready s w)) refl
 
-  -- the core after it
-  pub made_core : (z : Held) (after : List ℕ) → z ≡ (made worker words).held → after ≡ (made worker words).words
-      → record { code = s.code; turns = s.turns; heap = record { pages = s.heap.pages; words = after; mutators = s.heap.mutators; workers = set s.heap.workers w z } } ≡ core_after s w
-  made_core z after z_is after_is = by_step (wanted worker) refl z_is after_is
-    where
-      by_step : (o : Option Step) → wanted worker ≡ o → z ≡ (made_by worker words o).held → after ≡ (made_by worker words o).words
-          → record { code = s.code; turns = s.turns; heap = record { pages = s.heap.pages; words = after; mutators = s.heap.mutators; workers = set s.heap.workers w z } } ≡ core_after s w
-      by_step None none z_is after_is =
-          ap (λ (ws : List Held). record s { heap = record s.heap { words = after; workers = ws } }) (idle_workers s w below z z_is none)
-          ∙ (ap (λ (l : List ℕ). record s { heap = record s.heap { words = l } }) after_is
-          ∙ sym (ap (λ (e : Event). record s { heap = e.after }) (event_none s w none)))
-      by_step (Some q) asked z_is after_is = moved_core s w lawful below q asked z after z_is after_is
+  -- and the core that it leaves is the one after the event
+  pub stepped_core : (z : Held) (words : List ℕ) → z ≡ (made x s.heap.words).held → words ≡ (made x s.heap.words).words → with_step s w z words ≡ core_after s w
+  stepped_core z words z_is words_is =
+      (λ i. with_step s w (z_is i) (words_is i))
+      ∙ (ap (λ (y : Held). with_step s w (made y s.heap.words).held (made y s.heap.words).words) is.made_ready
+      ∙ core_by s w is.lawful is.below (wanted (ready s w)) refl)

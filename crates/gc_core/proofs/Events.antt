@@ -27,15 +27,15 @@ use Rattle.gc_worker.specs.Turned.{Outcome, Effect, Ends, Told, Silent, Answers,
 use Rattle.gc_worker.specs.Wanted.{wanted}
 use Rattle.gc_worker.specs.declared.stepped.Stepped.{Stepped}
 use Rattle.gc_worker.specs.declared.stepped.Stepped.TheVariants as tells
+use Rattle.gc_worker.specs.Marks.{mark_of, task_of}
 use Rattle.gc_core.specs.Core.{CoreState}
-use Rattle.gc_core.specs.Event.{event_of, ready, task_of}
+use Rattle.gc_core.specs.Event.{event_of, ready}
 use Rattle.gc_worker.specs.Stepped.{stepped_by}
 use Rattle.gc_worker.specs.Claims.{epoch_in}
 use Rattle.gc_core.specs.Law.{IsOnTask, IsSteady, IsForWant, IsTold, Keeps, EventsKeep, EventsMeet, plain_after, story_by}
-use Rattle.gc_core.specs.Run.{mark_of}
 use Rattle.gc_core.specs.Whole.{MissingWorkersAreIdle}
 use Rattle.gc_worker.proofs.Represented.{represented_workers}
-use Rattle.gc_core.proofs.Outcomes.{Sort, IsFull, IsStep, sort, comes, end_then, asks_then, counted_then, was_running}
+use Rattle.gc_worker.proofs.Outcomes.{Sort, IsFull, IsStep, sort, comes, end_then, asks_then, counted_then, was_running}
 use Rattle.gc_core.proofs.Readied.{Ready, readied_stands, same_task, ready_task, ready_account}
 
 -- ---- idle

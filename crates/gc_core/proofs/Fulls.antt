@@ -28,14 +28,15 @@ use Rattle.gc_worker.specs.Law.{Heap, StepsKeep, StepKeeps, WorkersStand, FlipsW
 use Rattle.gc_worker.specs.Turned.{Outcome, Effect, Ends, Told, Silent, Answers, Marks, epoch_in as epoch_read, turned, told}
 use Rattle.gc_worker.specs.Wanted.{wanted}
 use Rattle.heap_state.specs.Worker.{Account, is_running}
+use Rattle.gc_worker.specs.Marks.{end_mark, mark_of}
 use Rattle.gc_core.specs.Core.{CoreState}
 use Rattle.gc_core.specs.Event.{core_after, event_of, readied, ready}
 use Rattle.gc_worker.specs.Stepped.{stepped_by}
 use Rattle.gc_core.specs.Fulls.{since_by, flips_by, MayCome, EachMayCome, AreSince, FullsComeAfterFlips}
 use Rattle.gc_worker.specs.Claims.{epoch_in}
 use Rattle.gc_core.specs.Law.{EventsKeep, IsSteady, story_by}
-use Rattle.gc_core.specs.Run.{Ran, after_event, all_ended, end_mark, mark_of, run_from}
-use Rattle.gc_core.proofs.Outcomes.{Sort, IsFull, IsStep, sort}
+use Rattle.gc_core.specs.Run.{Ran, after_event, all_ended, run_from}
+use Rattle.gc_worker.proofs.Outcomes.{Sort, IsFull, IsStep, sort}
 use Rattle.gc_core.proofs.Readied.{Due, Begins, Rests, Ready, due, ready_account, readied_stands}
 
 -- ---- an event's mark

@@ -4,7 +4,7 @@ use Rattle.std.specs.Prelude.{IsTrue}
 use Rattle.mutator_asm.specs.declared.instr.Instr.{Instr}
 use Rattle.mutator_asm.specs.declared.item.Item.{Item}
 use Rattle.mutator_asm.specs.Program.{IsWellFormed}
-use Rattle.plain_heap.specs.Order.{Story, opening}
+use Rattle.plain_heap.specs.Order.{Story}
 use Rattle.atom_store.specs.declared.step.Step.{Step}
 use Rattle.atom_store.specs.Step.{place_in, reply_of}
 use Rattle.gc_worker.specs.declared.stage.Stage.TheVariants.{Looks}
@@ -22,7 +22,7 @@ use Rattle.gc_core.specs.Core.{CoreState, opening_core, workers_of, is_size}
 use Rattle.gc_core.specs.Event.{Event, event_of, event_by, core_after, ready, next_task}
 use Rattle.gc_worker.specs.Stepped.{stepped_by}
 use Rattle.gc_core.specs.Law.{IsLawful, story_by}
-use Rattle.gc_core.proofs.Begun.{opening_stands, opening_steady}
+use Rattle.gc_core.proofs.Begun.{opening_lawful}
 use Rattle.gc_core.proofs.Readied.{readied_stands, looks_idle, may_begin}
 use Rattle.gc_core.proofs.Whole.{events_keep}
 
@@ -36,12 +36,7 @@ lawful_after s w l =
 
 pub lawful_opening : (code : List (List Instr)) (items : List Item) (config : Config) → IsWellFormed code items → IsTrue (is_size config.pages) → config.turns ≤ 10000000 → config.scanners ≤ 8
     → IsLawful (opening_core code config)
-lawful_opening code items config program size turns few = record {
-  steady = opening_steady heaps_open code items config program size turns few;
-  plain = opening code;
-  flip = opening code;
-  stands = opening_stands heaps_open code items config program size turns few;
-}
+lawful_opening = opening_lawful heaps_open
 
 pub event_none : (s : CoreState) (w : ℕ) → wanted (ready s w) ≡ None → event_of s w ≡ record { told = (event_by s.heap w (ready s w) None).told; after = s.heap }
 unfolding event_of

@@ -1,4 +1,3 @@
-pub mod Outcomes
 pub mod Readied
 pub mod Dumping
 pub mod Events
@@ -18,3 +17,4 @@ pub mod CoreReads
 pub mod Lone
 pub mod LoneEnds
 pub mod Ending
+pub mod Told

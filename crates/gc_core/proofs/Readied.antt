@@ -24,8 +24,9 @@ use Rattle.gc_worker.specs.Law.{Heap, nobody, held_at, moved, WorkersStand}
 use Rattle.gc_worker.specs.Seen.{seen}
 use Rattle.gc_worker.specs.Stepped.{awaits, awaits_at}
 use Rattle.gc_worker.specs.Turned.{turned}
+use Rattle.gc_worker.specs.Marks.{task_of}
 use Rattle.gc_core.specs.Core.{CoreState}
-use Rattle.gc_core.specs.Event.{task_of, next_task, readied, ready}
+use Rattle.gc_core.specs.Event.{next_task, readied, ready}
 use Rattle.gc_core.specs.Law.{IsSteady}
 use Rattle.gc_core.proofs.Counting.{at_look}
 

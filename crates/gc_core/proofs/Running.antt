@@ -16,12 +16,13 @@ use Rattle.gc_worker.specs.Held.{Held}
 use Rattle.gc_worker.specs.Law.{Heap, WorkersStand, nobody, held_at}
 use Rattle.gc_worker.specs.declared.stepped.Stepped.{Stepped}
 use Rattle.gc_worker.specs.declared.stepped.Stepped.TheVariants.{Idle, Moved, Effect, Flipped, Ended}
+use Rattle.gc_worker.specs.Marks.{Acts, EachActs, mark_of}
 use Rattle.gc_core.specs.Core.{CoreState}
 use Rattle.gc_core.specs.Event.{core_after, event_of}
 use Rattle.gc_core.specs.Law.{IsSteady, IsTold, EventsKeep, plain_after, story_by}
 use Rattle.gc_core.specs.Readers.{seen_of}
-use Rattle.gc_core.specs.Run.{Ran, run_from, all_ended, mark_of, EachEvent, Unless}
-use Rattle.gc_core.specs.Whole.{Acts, EachActs, IsFull}
+use Rattle.gc_core.specs.Run.{Ran, run_from, all_ended, EachEvent, Unless}
+use Rattle.gc_core.specs.Whole.{IsFull}
 
 -- ---- marks
 

@@ -2,9 +2,10 @@
 use Rattle.std.proofs.Common.{◌≡◌, ℕ, ◌+◌, ◌-◌, ◌<◌, ◌≤◌, List, [], ◌++◌, true, false, refl, sym, ◌∙◌, append_assoc, append-nil, arith, zero, suc}
 use Rattle.std.specs.Option.{option_to_list}
 use Rattle.plain_heap.specs.declared.mark.Mark.{Mark}
+use Rattle.gc_worker.specs.Marks.{mark_of}
 use Rattle.gc_core.specs.Core.{CoreState}
 use Rattle.gc_core.specs.Event.{event_of, core_after}
-use Rattle.gc_core.specs.Run.{Ran, run_from, all_ended, after_event, mark_of}
+use Rattle.gc_core.specs.Run.{Ran, run_from, all_ended, after_event}
 
 -- where every mutator has its end the run is over
 run_over : (schedule : ℕ → ℕ) (at n : ℕ) (s : CoreState) → all_ended s ≡ true → run_from schedule at n s ≡ record { last = s; order = [] }

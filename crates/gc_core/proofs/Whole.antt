@@ -10,14 +10,15 @@ use Rattle.gc_worker.proofs.Between.Opening.{heaps_open}
 use Rattle.gc_worker.proofs.Between.Readying.{readying_stands}
 use Rattle.gc_worker.proofs.Between.Standing.{what_stands_is_so}
 use Rattle.gc_worker.proofs.Between.Wanting.{workers_want}
+use Rattle.gc_worker.proofs.Represented.{represented_workers}
 use Rattle.gc_worker.proofs.Whole.{steps_keep}
 use Rattle.gc_core.specs.Core.{CoreState, opening_core}
 use Rattle.gc_worker.specs.Claims.{epoch_in}
 use Rattle.gc_core.specs.Law.{EventsKeep, EventsMeet}
 use Rattle.gc_core.specs.Run.{Ran, run_from}
-use Rattle.gc_core.specs.Whole.{RunsFollow, FullsFollowFlips, NoPageIsWonTwice, CopiedPagesAreWonOnce, FlipsAreOfTracedCores}
+use Rattle.gc_core.specs.Whole.{RunsArePlainRuns, RunsFollow, FullsFollowFlips, NoPageIsWonTwice, CopiedPagesAreWonOnce, FlipsAreOfTracedCores}
 use Rattle.gc_core.proofs.Events as events
-use Rattle.gc_core.proofs.Begun.{opening_stands, opening_steady, opening_epoch}
+use Rattle.gc_core.proofs.Begun.{opening_stands, opening_steady, opening_lawful, opening_epoch}
 use Rattle.gc_core.proofs.Claims.{pages_are_won_once}
 use Rattle.gc_core.proofs.Copied.{pages_are_won, flipped_of_traced}
 use Rattle.gc_core.proofs.Dumping.{told_represents}
@@ -31,23 +32,29 @@ events_keep = events.events_keep steps_keep readying_stands tasks_may_begin work
 pub events_meet : EventsMeet
 events_meet = events.events_meet steps_keep readying_stands tasks_may_begin workers_go_on workers_want what_stands_is_so
 
-pub runs_follow : RunsFollow
-runs_follow code items config schedule n program size turns few =
-    let s : CoreState = opening_core code config in
-    let story : Story = record { flip = opening code; now = opening code } in
-    let stands = opening_stands heaps_open code items config program size turns few in
-    let steady = opening_steady heaps_open code items config program size turns few in
-    let r : Ran = run_from schedule 0 n s in
-    let law = run_law events_keep schedule 0 n s story steady stands in
-    let now = story_after-now code config.turns story r.order in
+pub runs_are_plain_runs : RunsArePlainRuns
+runs_are_plain_runs schedule at n s p lawful represents =
+    let story : Story = record { flip = lawful.flip; now = p } in
+    let stands = represented_workers s.heap lawful.plain p lawful.flip lawful.stands represents in
+    let r : Ran = run_from schedule at n s in
+    let law = run_law events_keep schedule at n s story lawful.steady stands in
+    let now = story_after-now s.code s.turns story r.order in
     let all = what_stands_is_so r.last.heap _ _ law.stands in
     record {
+      lawful = record { steady = law.steady; plain = _; flip = _; stands = law.stands };
       represents = rw now at all.sound.represents;
       dump = told_represents r.last _ all.enough (rw now at all.sound.represents).dump;
       seen = rw now at (stands_seen what_stands_is_so r.last _ _ law.stands);
-      acts = run_acts events_keep schedule 0 n s story steady stands;
-      full = run_full events_keep schedule 0 n s story steady stands;
+      acts = run_acts events_keep schedule at n s story lawful.steady stands;
+      full = run_full events_keep schedule at n s story lawful.steady stands;
     }
+
+pub runs_follow : RunsFollow
+runs_follow code items config schedule n program size turns few =
+    let s : CoreState = opening_core code config in
+    let stands = opening_stands heaps_open code items config program size turns few in
+    runs_are_plain_runs schedule 0 n s (opening code) (opening_lawful heaps_open code items config program size turns few)
+    (what_stands_is_so s.heap _ _ stands).sound.represents
 
 -- ---- pages and flips
 

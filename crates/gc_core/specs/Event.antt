@@ -1,6 +1,5 @@
 -- The event of a worker: its next atomic step.
-use Rattle.std.specs.Prelude.{ℕ, List, Option, Some, None, Result, Ok, Err}
-use Rattle.plain_state.specs.declared.end.End.{End}
+use Rattle.std.specs.Prelude.{ℕ, List, Option, Some, None}
 use Rattle.mutator_asm.specs.declared.instr.Instr.{Instr}
 use Rattle.plain_heap.specs.Step.{fetch}
 use Rattle.atom_store.specs.declared.step.Step.{Step}
@@ -8,10 +7,10 @@ use Rattle.atom_store.specs.Step.{reply_of}
 use Rattle.gc_worker.specs.declared.stage.Stage.{Stage}
 use Rattle.gc_worker.specs.declared.stage.Stage.TheVariants.{Looks}
 use Rattle.gc_worker.specs.declared.task.Task.{Task}
-use Rattle.gc_worker.specs.declared.task.Task.TheVariants.{Calls, Stops}
 use Rattle.gc_worker.specs.Between.{with_task}
 use Rattle.gc_worker.specs.Held.{Held}
 use Rattle.gc_worker.specs.Law.{Heap, held_at, moved}
+use Rattle.gc_worker.specs.Marks.{task_of}
 use Rattle.gc_worker.specs.Seen.{seen}
 use Rattle.gc_worker.specs.Stepped.{stepped_by}
 use Rattle.gc_worker.specs.Turned.{told}
@@ -21,10 +20,6 @@ use Rattle.gc_worker.specs.declared.stepped.Stepped.{Stepped}
 use Rattle.gc_worker.specs.declared.stepped.Stepped.TheVariants.{Idle}
 
 -- ---- the next task
-
-abbrev pub task_of : Result Instr End → Task
-task_of (Ok instr) = Calls instr
-task_of (Err why) = Stops why
 
 -- the instruction that mutator m executes next, or the end that stands in its place
 abbrev pub next_task : List (List Instr) → (turns m : ℕ) → Held → Task

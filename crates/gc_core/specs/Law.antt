@@ -16,9 +16,9 @@ use Rattle.gc_worker.specs.Claims.{epoch_in}
 use Rattle.gc_worker.specs.Law.{Heap, WorkersStand, held_at, read}
 use Rattle.gc_worker.specs.declared.stepped.Stepped.{Stepped}
 use Rattle.gc_worker.specs.declared.stepped.Stepped.TheVariants.{Idle, Moved, Effect, Flipped, Ended}
+use Rattle.gc_worker.specs.Marks.{mark_of}
 use Rattle.gc_core.specs.Core.{CoreState}
 use Rattle.gc_core.specs.Event.{Event, next_task, ready, event_of, core_after}
-use Rattle.gc_core.specs.Run.{mark_of}
 
 -- ---- what a core keeps beside the plain state
 

@@ -10,3 +10,5 @@ pub mod Whole
 pub mod Cycles
 pub mod Needs
 pub mod Lone
+pub mod Inside
+pub mod Told

@@ -1,41 +1,16 @@
 -- A whole run: one event after another by a schedule, and the order of what happened.
-use Rattle.std.specs.Prelude.{ℕ, ◌+◌, ◌%◌, ◌≤◌, Bool, true, false, List, [], ◌++◌, ⊤, IsTrue, Option, Some, None, if◌then◌else◌, zero, suc}
+use Rattle.std.specs.Prelude.{ℕ, ◌+◌, ◌%◌, ◌≤◌, Bool, true, false, List, [], ◌++◌, ⊤, IsTrue, Option, if◌then◌else◌, zero, suc}
 use Rattle.std.specs.Option.{is_some, option_to_list}
 use Rattle.std.specs.List.{list_all}
-use Rattle.plain_state.specs.declared.end.End.{End}
-use Rattle.plain_state.specs.declared.end.End.TheVariants as ends
 use Rattle.mutator_asm.specs.declared.instr.Instr.{Instr}
 use Rattle.mutator_asm.specs.declared.item.Item.{Item}
 use Rattle.mutator_asm.specs.Program.{IsWellFormed}
 use Rattle.plain_heap.specs.declared.mark.Mark.{Mark}
-use Rattle.plain_heap.specs.declared.mark.Mark.TheVariants as marks
 use Rattle.gc_worker.specs.declared.config.Config.{Config}
-use Rattle.gc_worker.specs.declared.stepped.Stepped.{Stepped}
-use Rattle.gc_worker.specs.declared.stepped.Stepped.TheVariants.{Idle, Moved, Effect, Flipped, Ended}
+use Rattle.gc_worker.specs.Marks.{mark_of}
 use Rattle.gc_core.specs.Core.{CoreState, is_size, most_scanners, most_turns, opening_core}
 use Rattle.gc_core.specs.Event.{event_of, core_after}
 use Rattle.gc_core.specs.Readers.{seen_of}
-
--- the mark of an end that mutator m got
-abbrev pub end_mark : ℕ → End → Mark
-end_mark m ends.Halt = marks.Step m
-end_mark m ends.NotPointer = marks.Step m
-end_mark m ends.NotNumber = marks.Step m
-end_mark m ends.OutOfRange = marks.Step m
-end_mark m ends.IntoRaw = marks.Step m
-end_mark m ends.ZeroDivisor = marks.Step m
-end_mark m ends.JumpOut = marks.Step m
-end_mark m ends.TurnsOut = marks.Step m
-end_mark m ends.OutputFull = marks.Step m
-end_mark m (ends.HeapFull asked room live) = marks.Full m asked room live
-
--- the mark of an event, where the plain machine sees it
-abbrev pub mark_of : Stepped → Option Mark
-mark_of Idle = None
-mark_of Moved = None
-mark_of (Effect m) = Some (marks.Step m)
-mark_of (Flipped asked) = Some (marks.Flip asked)
-mark_of (Ended m why) = Some (end_mark m why)
 
 -- whether every mutator has its end
 abbrev pub all_ended : CoreState → Bool

@@ -1,19 +1,15 @@
 -- What holds of a whole run: the plain machine, executing its order, is what the core represents in the end, and each mark of the
 -- order acts.
-use Rattle.std.specs.Prelude.{◌≡◌, ⊤, false, ℕ, ◌*◌, ◌≤◌, ◌<◌, List, Some, None}
+use Rattle.std.specs.Prelude.{◌≡◌, false, ℕ, ◌≤◌, ◌<◌}
 use Rattle.plain_state.specs.declared.end.End.TheVariants as ends
-use Rattle.plain_state.specs.declared.sizes.TheConstants.{PAGE_WORDS}
-use Rattle.plain_state.specs.State as plain
-use Rattle.mutator_asm.specs.declared.instr.Instr.{Instr}
-use Rattle.plain_heap.specs.declared.mark.Mark.{Mark}
-use Rattle.plain_heap.specs.declared.mark.Mark.TheVariants.{Step, Flip, Full}
-use Rattle.plain_heap.specs.Step.{asked_by}
-use Rattle.plain_heap.specs.Order.{opening, plain, end_of, EachMark}
+use Rattle.plain_state.specs.State.{Plain}
+use Rattle.plain_heap.specs.Order.{opening, state_after}
 use Rattle.plain_heap.specs.Print.{plain_seen}
 use Rattle.heap_state.specs.Represents.{DumpRepresents, Represents}
 use Rattle.gc_worker.specs.Copied.{IsTraced}
 use Rattle.gc_worker.specs.Full.{FindsNoRoom}
 use Rattle.gc_worker.specs.Law.{read}
+use Rattle.gc_worker.specs.Marks.{EachActs}
 use Rattle.gc_worker.specs.declared.stepped.Stepped.TheVariants.{Idle, Flipped, Ended}
 use Rattle.gc_core.specs.Core.{CoreState, opening_core, workers_of}
 use Rattle.gc_core.specs.Dumped.{dump_said, dumped}
@@ -25,19 +21,6 @@ use Rattle.gc_core.specs.Law.{IsLawful}
 use Rattle.gc_core.specs.Readers.{seen_of}
 use Rattle.gc_core.specs.Run.{InEveryRun, run_from, run_of, EachEvent}
 
--- ---- the order
-
--- A mark acts: it is of a mutator that had no end. An end for want of room comes only where the mutator's next step asks for more
--- than there is. A flip changes nothing.
-abbrev pub Acts : List (List Instr) → ℕ → plain.Plain → Mark → Type 0
-Acts code turns s (Step m) = end_of s m ≡ Some None
-Acts code turns s (Flip asked) = ⊤
-Acts code turns s (Full m asked room live) = (end_of s m ≡ Some None) × (asked_by code turns s m ≡ Some asked) × (room < PAGE_WORDS * asked)
-
--- each mark of an order acts on the state that the marks before it leave
-abbrev pub EachActs : List (List Instr) → ℕ → plain.Plain → List Mark → Type 0
-EachActs code turns s order = EachMark (Acts code turns) code turns s order
-
 -- ---- heap full
 
 -- where the event of a worker is its end for want of room, its epoch is traced and has no room for the record, and no flip can help
@@ -46,18 +29,24 @@ IsFull s w = (asked room live : ℕ) → (event_of s w).told ≡ Ended w (ends.H
 
 -- ---- a run
 
--- A run of a program by turns from its opening: the core represents the plain machine that executed the run's order, and so does what a
--- dump tells of it.
-pub record Follows (code : List (List Instr)) (turns : ℕ) (schedule : ℕ → ℕ) (n : ℕ) (s : CoreState) : Type 0 where
-  pub represents : Represents (read (run_from schedule 0 n s).last.heap) (plain code turns (run_from schedule 0 n s).order)
-  pub dump : DumpRepresents (dump_said (dumped (run_from schedule 0 n s).last)) (plain code turns (run_from schedule 0 n s).order)
-  pub seen : seen_of (run_from schedule 0 n s).last ≡ plain_seen (plain code turns (run_from schedule 0 n s).order)
-  pub acts : EachActs code turns (opening code) (run_from schedule 0 n s).order
-  pub full : EachEvent IsFull schedule 0 n s
+-- So many events by a schedule, from a core that represents p: the last core is lawful, and represents the plain machine that executed the
+-- run's order from p on. So does what a dump tells of it; what is seen of it is what is seen of that machine, each mark of the order
+-- acts, and heap full is told where there is no room.
+pub record IsPlainRun (schedule : ℕ → ℕ) (at n : ℕ) (s : CoreState) (p : Plain) : Type 0 where
+  pub lawful : IsLawful (run_from schedule at n s).last
+  pub represents : Represents (read (run_from schedule at n s).last.heap) (state_after s.code s.turns p (run_from schedule at n s).order)
+  pub dump : DumpRepresents (dump_said (dumped (run_from schedule at n s).last)) (state_after s.code s.turns p (run_from schedule at n s).order)
+  pub seen : seen_of (run_from schedule at n s).last ≡ plain_seen (state_after s.code s.turns p (run_from schedule at n s).order)
+  pub acts : EachActs s.code s.turns p (run_from schedule at n s).order
+  pub full : EachEvent IsFull schedule at n s
 
--- every run of every program, by any schedule and for any number of steps
+-- from any lawful core and each plain state that it represents, by any schedule, from any place in it on and for any number of steps
+abbrev pub RunsArePlainRuns : Type 0
+RunsArePlainRuns = (schedule : ℕ → ℕ) (at n : ℕ) (s : CoreState) (p : Plain) → IsLawful s → Represents (read s.heap) p → IsPlainRun schedule at n s p
+
+-- and so of each program, from its opening
 abbrev pub RunsFollow : Type 0
-RunsFollow = InEveryRun (λ code config schedule n. Follows code config.turns schedule n (opening_core code config))
+RunsFollow = InEveryRun (λ code config schedule n. IsPlainRun schedule 0 n (opening_core code config) (opening code))
 
 -- a worker that isn't there is idle, and its step changes nothing
 abbrev pub MissingWorkersAreIdle : Type 0

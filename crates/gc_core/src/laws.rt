@@ -1,19 +1,38 @@
 //! What holds of all events and runs. Each function here does nothing: its contract is what is proved.
 
 ghost use Rattle.gc_core.specs.Cycles.{CyclesKeepWhatIsLive, FullHeapsAreFilled, InstructionsFlipOnce};
-ghost use Rattle.gc_core.specs.Law.{EventsMeet};
+ghost use Rattle.gc_core.specs.Law.{EventsMeet, IsLawful};
 ghost use Rattle.gc_core.specs.Lone.{LoneMutatorsGoOn, LoneRunsEnd};
 ghost use Rattle.gc_core.specs.Needs.{ClaimsAreForRecords, LargeHeapsAreNeverFull, LoneFullsFollowTheirFlips, LoneHeapsAreNeverFull, OrdersFillTheSpace};
-ghost use Rattle.gc_core.specs.Whole.{CopiedPagesAreWonOnce, FlipsAreOfTracedCores, FullsFollowFlips, MissingWorkersAreIdle, NoPageIsWonTwice, RunsFollow};
+ghost use Rattle.gc_core.specs.Told.{WhatStandsIsTold};
+ghost use Rattle.gc_core.specs.Whole.{CopiedPagesAreWonOnce, FlipsAreOfTracedCores, FullsFollowFlips, MissingWorkersAreIdle, NoPageIsWonTwice, RunsArePlainRuns, RunsFollow};
+
+use crate::machine::Core;
 
 /// The event of any worker does to each plain state that the core represents what the mark of it does, and what is told of it is so.
 pub fn events_meet()
     ensures { EventsMeet }
 {}
 
+impl<'p> Core<'p> {
+    /// A core is lawful, however it was stepped.
+    pub fn lawful(&self)
+        ensures { IsLawful self.now }
+    {
+        let _ = &self.program;
+    }
+}
+
+/// Whoever steps a core by hand, whichever worker comes next, makes a run of the plain machine. Up to the last mutator's end, from any
+/// lawful core and for each plain state that it represents, the core then represents what the plain machine comes to from there, which
+/// executes the same instructions in the order in which their marks came. It is lawful again, so the same holds of what follows; what
+/// is seen of each mutator is what is seen of its plain one, each mark acts, and a heap that is said to be full is.
+pub fn runs_are_plain_runs()
+    ensures { RunsArePlainRuns }
+{}
+
 /// In whatever order a schedule steps the workers of a core, from its opening on, the core represents the plain machine that
-/// executes the same instructions in one order, the order of the run; what is seen of each mutator is what is seen of its
-/// plain mutator, each mark of the order acts, and a heap that is said to be full is.
+/// executes the same instructions in one order, the order of the run: its run is a plain run.
 pub fn runs_follow()
     ensures { RunsFollow }
 {}
@@ -76,4 +95,10 @@ pub fn lone_mutators_go_on()
 /// It has its end after as many steps as the instructions for which it has turns, and one more, can take.
 pub fn lone_runs_end()
     ensures { LoneRunsEnd }
+{}
+
+/// What is told of a heap that stands for a plain state, whoever stepped its workers, is so: what is seen of the mutators, what a dump says,
+/// and the words that a cycle copied.
+pub fn what_stands_is_told()
+    ensures { WhatStandsIsTold }
 {}

@@ -26,14 +26,15 @@ pub struct Core<'p> {
 impl<'p> Model for Core<'p> {
     ghost use Rattle.std.specs.Prelude.{◌≤◌, length, vec_len};
     ghost use Rattle.gc_core.specs.Core.{CoreState};
-    ghost use Rattle.gc_core.specs.Law.{IsLawful};
 
     ghost Value = { CoreState };
 
-    ghost view = { λ c. record { code = c.program.now.code; turns = c.turns; heap = record { pages = c.spaces.pages; words = c.atoms; mutators = length c.program.now.code; workers = c.slots.items } } };
+    ghost use Rattle.gc_core.specs.Inside.{core_in};
+    ghost use Rattle.gc_core.specs.Law.{IsLawful};
 
-    ghost invariant = { λ c. (vec_len c.slots ≤ 24) × (length c.program.now.code ≤ vec_len c.slots)
-        × IsLawful (record { code = c.program.now.code; turns = c.turns; heap = record { pages = c.spaces.pages; words = c.atoms; mutators = length c.program.now.code; workers = c.slots.items } }) };
+    ghost view = { core_in };
+
+    ghost invariant = { λ c. (vec_len c.slots ≤ 24) × (length c.program.now.code ≤ vec_len c.slots) × IsLawful (core_in c) };
 }
 
 impl<'p> Core<'p> {

@@ -13,9 +13,9 @@ ghost use Rattle.gc_core.specs.Run.{all_ended};
 use crate::machine::Core;
 use crate::slot::Slot;
 use atom_store::Step;
+use gc_worker::{epoch_said, live_said};
 use plain_heap::End;
 use plain_state::REGISTERS;
-use space_map::{AreaWord, GateWord};
 
 impl Slot {
     pub(crate) fn regs(&self) -> [u64; REGISTERS]
@@ -134,10 +134,7 @@ impl<'p> Core<'p> {
     pub fn cycles(&self) -> u32
         ensures { result ≡ cycles_of self.now }
     {
-        match GateWord::read(self.atoms.words()[self.spaces.gate_place()]) {
-            Some(gate) => gate.epoch,
-            None => 0,
-        }
+        epoch_said(self.atoms.words()[self.spaces.gate_place()])
     }
 
     /// The words copied in this epoch, where it is traced.
@@ -146,10 +143,7 @@ impl<'p> Core<'p> {
     {
         let epoch = self.cycles();
         let words = self.atoms.words();
-        if words[self.spaces.traced_place()] != u64::from(epoch) + 1 {
-            return None;
-        }
-        let place = self.spaces.area_place(self.spaces.to_space(epoch));
-        Some(u64::from(AreaWord::read(words[place])?.front))
+        let area = self.spaces.area_place(self.spaces.to_space(epoch));
+        live_said(epoch, words[self.spaces.traced_place()], words[area])
     }
 }

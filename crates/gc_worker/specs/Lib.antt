@@ -20,3 +20,5 @@ pub mod FullTold
 pub mod Stepped
 pub mod Counted
 pub mod Made
+pub mod Marks
+pub mod Readers

@@ -24,6 +24,7 @@ mod looking;
 mod on_words;
 mod open_error;
 mod passing;
+mod readers;
 mod record_access;
 mod seen_value;
 mod serving;
@@ -52,6 +53,7 @@ pub use laws::{
     workers_want,
 };
 pub use open_error::OpenError;
+pub use readers::{epoch_said, live_said};
 pub use record_access::{RecordAccess, RecordUse};
 pub use stage::Stage;
 pub use stepped::Stepped;

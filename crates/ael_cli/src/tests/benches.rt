@@ -10,5 +10,5 @@ an input that isn't read|bench 3 1|.mutator/foo/|0: 8/0: halt/1: 8/1: halt/2: 8/
 
 #[test]
 fn benchmarks_give_what_they_should(rt: HostRuntime) -> Result<(), Fail> {
-    check_rows(&rt, ROWS)
+    check_rows(&rt, rt.alloc(), ROWS)
 }

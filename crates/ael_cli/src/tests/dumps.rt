@@ -44,6 +44,12 @@ pub fn dump_lines(alloc: Global) -> Result<String, Fail> {
 fn a_dump_has_each_word(rt: HostRuntime) -> Result<(), Fail> {
     let mut wanted = String::from_str(rt.alloc(), "0: 7\n0: halt\n")?;
     wanted.push_str(&dump_lines(rt.alloc())?)?;
-    let found = call(&rt, "sim --pages 4 --scanners 0 --dump", FIRST, AMPLE)?;
+    let found = call(
+        &rt,
+        rt.alloc(),
+        "sim --pages 4 --scanners 0 --dump",
+        FIRST,
+        AMPLE,
+    )?;
     found.check("a dump", wanted.as_bytes(), b"", 0)
 }

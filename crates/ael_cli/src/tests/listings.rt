@@ -2,7 +2,11 @@
 
 use super::rows::{Row, long_row};
 use super::{AMPLE, call};
+use std::alloc::Global;
+use std::marker::Sync;
+use std::sync::Wait;
 use std::test::Fail;
+use std::thread::Threads;
 
 const ROWS: &str = "\
 a jump to itself|asm|.mutator/l: jmp l ; x|.mutator/L0: jmp L0/||0
@@ -36,20 +40,20 @@ the command twice|asm asm|.mutator/halt/||usage: ael asm, sim, run, concord or b
 an option of another command|asm --order|.mutator/halt/||usage: ael asm, sim, run, concord or bench/|2";
 
 /// Checks a row, and that the listing of a listing is itself.
-fn check_listing(rt: &HostRuntime, row: &str) -> Result<(), Fail> {
-    let row = Row::read(rt.alloc(), row)?;
-    row.check(rt, AMPLE)?;
+fn check_listing<R: Threads + Wait + Sync>(rt: &R, alloc: Global, row: &str) -> Result<(), Fail> {
+    let row = Row::read(alloc, row)?;
+    row.check(rt, alloc, AMPLE)?;
     if row.status != 0 {
         return Ok(());
     }
-    let again = call(rt, "asm", &row.out, AMPLE)?;
+    let again = call(rt, alloc, "asm", &row.out, AMPLE)?;
     again.check(row.name, row.out.as_bytes(), b"", 0)
 }
 
 #[test]
 fn programs_are_listed(rt: HostRuntime) -> Result<(), Fail> {
     for row in ROWS.split('\n') {
-        check_listing(&rt, row)?;
+        check_listing(&rt, rt.alloc(), row)?;
     }
     Ok(())
 }
@@ -65,7 +69,7 @@ const LONG_ROWS: &str = "\
 #[test]
 fn long_programs_are_listed(rt: HostRuntime) -> Result<(), Fail> {
     for line in LONG_ROWS.split('\n') {
-        check_listing(&rt, &long_row(rt.alloc(), line)?)?;
+        check_listing(&rt, rt.alloc(), &long_row(rt.alloc(), line)?)?;
     }
     Ok(())
 }

@@ -2,7 +2,10 @@
 
 use super::{AMPLE, Limits, call};
 use std::alloc::Global;
+use std::marker::Sync;
+use std::sync::Wait;
 use std::test::Fail;
+use std::thread::Threads;
 
 /// A call, and what it gives.
 #[derive(Drop)]
@@ -39,8 +42,13 @@ impl<'a> Row<'a> {
     }
 
     /// Makes the call, with ends of these limits.
-    pub fn check(&self, rt: &HostRuntime, limits: Limits) -> Result<(), Fail> {
-        let found = call(rt, self.words, &self.text, limits)?;
+    pub fn check<R: Threads + Wait + Sync>(
+        &self,
+        rt: &R,
+        alloc: Global,
+        limits: Limits,
+    ) -> Result<(), Fail> {
+        let found = call(rt, alloc, self.words, &self.text, limits)?;
         found.check(
             self.name,
             self.out.as_bytes(),
@@ -51,9 +59,13 @@ impl<'a> Row<'a> {
 }
 
 /// Makes the call of each row of a table.
-pub fn check_rows(rt: &HostRuntime, table: &str) -> Result<(), Fail> {
+pub fn check_rows<R: Threads + Wait + Sync>(
+    rt: &R,
+    alloc: Global,
+    table: &str,
+) -> Result<(), Fail> {
     for row in table.split('\n') {
-        Row::read(rt.alloc(), row)?.check(rt, AMPLE)?;
+        Row::read(alloc, row)?.check(rt, alloc, AMPLE)?;
     }
     Ok(())
 }
@@ -67,9 +79,13 @@ pub fn long_row(alloc: Global, line: &str) -> Result<String, Fail> {
 }
 
 /// Makes the call of each long row of a table.
-pub fn check_long_rows(rt: &HostRuntime, table: &str) -> Result<(), Fail> {
+pub fn check_long_rows<R: Threads + Wait + Sync>(
+    rt: &R,
+    alloc: Global,
+    table: &str,
+) -> Result<(), Fail> {
     for line in table.split('\n') {
-        check_rows(rt, &long_row(rt.alloc(), line)?)?;
+        check_rows(rt, alloc, &long_row(alloc, line)?)?;
     }
     Ok(())
 }

@@ -58,7 +58,7 @@ const ARITHMETIC: &str =
 #[test]
 fn seeds_change_nothing_alone(rt: HostRuntime) -> Result<(), Fail> {
     for seed in "0 1 2 3 4 5 6 7 8 9".split(' ') {
-        check_rows(&rt, &ARITHMETIC.replace(rt.alloc(), '@', seed)?)?;
+        check_rows(&rt, rt.alloc(), &ARITHMETIC.replace(rt.alloc(), '@', seed)?)?;
     }
     Ok(())
 }

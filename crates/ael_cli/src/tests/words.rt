@@ -3,14 +3,14 @@
 use super::{same, words_of};
 use crate::job::Job;
 use crate::operands::BenchOperands;
-use crate::options::SimOptions;
+use crate::options::{RunOptions, SimOptions};
 use crate::words::read_words;
 use simple_commands::WordsError;
 use std::alloc::Global;
 use std::test::Fail;
 
 /// Words and their job: a simulation's pages, scanners, turns, steps, seed and order, and the flags
-/// besides that were given; or a benchmark's depth and seed.
+/// besides that were given; a run's pages, scanners, turns and flags; or a benchmark's depth and seed.
 const ROWS: &str = "\
 sim|256 1 1000000 10000000 None false
 sim --|256 1 1000000 10000000 None false
@@ -39,6 +39,16 @@ sim --order --seed 1 --steps 6 --turns 5 --scanners 0 --pages 8|8 0 5 6 Some(1) 
 sim --cycles|256 1 1000000 10000000 None false cycles
 sim --dump --order|256 1 1000000 10000000 None true dump
 sim --dump --cycles|256 1 1000000 10000000 None false cycles dump
+run|run 256 1 1000000
+run --|run 256 1 1000000
+run --pages 8|run 8 1 1000000
+run --pages=+08 --|run 8 1 1000000
+run --scanners 0|run 256 0 1000000
+run --scanners=-0|run 256 0 1000000
+run --turns 10000000|run 256 1 10000000
+run --cycles|run 256 1 1000000 cycles
+run --dump|run 256 1 1000000 dump
+run --dump --turns 5 --cycles --scanners 8 --pages 2048|run 2048 8 5 cycles dump
 asm|asm
 asm --|asm
 |refused
@@ -74,6 +84,23 @@ sim --order=|refused
 sim --page 8|refused
 sim --cycles --cycles|refused
 sim --dump=1|refused
+run --pages 3|refused
+run --pages 2049|refused
+run --scanners 9|refused
+run --turns 0|refused
+run --turns 10000001|refused
+run --steps 5|refused
+run --seed 1|refused
+run --order|refused
+run --cycles --cycles|refused
+run --dump=1|refused
+run --pages|refused
+run x|refused
+run sim|refused
+sim run|refused
+run --help|refused
+--cycles run|refused
+Run|refused
 sim x|refused
 sim -- x|refused
 sim -- --order|refused
@@ -128,21 +155,44 @@ as|refused
 sim_--order|refused
 sim --pages=_8|refused";
 
+/// The text of the flags that a run has besides.
+fn flags_text(options: RunOptions) -> &'static str {
+    match (options.cycles, options.dump) {
+        (true, true) => " cycles dump",
+        (true, false) => " cycles",
+        (false, true) => " dump",
+        (false, false) => "",
+    }
+}
+
 /// The text of a simulation's options.
-fn options_text(alloc: Global, options: SimOptions) -> Result<String, Fail> {
+fn sim_text(alloc: Global, options: SimOptions) -> Result<String, Fail> {
     let SimOptions {
-        pages,
-        scanners,
-        turns,
+        run,
         steps,
         seed,
         order,
-        cycles,
-        dump,
     } = options;
-    let cycles = if cycles { " cycles" } else { "" };
-    let dump = if dump { " dump" } else { "" };
-    Ok(format!(in alloc; "{pages} {scanners} {turns} {steps} {seed:?} {order}{cycles}{dump}")?)
+    let flags = flags_text(run);
+    let RunOptions {
+        pages,
+        scanners,
+        turns,
+        ..
+    } = run;
+    Ok(format!(in alloc; "{pages} {scanners} {turns} {steps} {seed:?} {order}{flags}")?)
+}
+
+/// The text of a run's options.
+fn run_text(alloc: Global, options: RunOptions) -> Result<String, Fail> {
+    let flags = flags_text(options);
+    let RunOptions {
+        pages,
+        scanners,
+        turns,
+        ..
+    } = options;
+    Ok(format!(in alloc; "run {pages} {scanners} {turns}{flags}")?)
 }
 
 /// The text of what words were read to.
@@ -152,7 +202,8 @@ fn found_text(alloc: Global, found: Result<Job, WordsError>) -> Result<String, F
         Ok(Job::Bench(BenchOperands { depth, seed })) => {
             Ok(format!(in alloc; "bench {depth} {seed}")?)
         }
-        Ok(Job::Sim(options)) => options_text(alloc, options),
+        Ok(Job::Sim(options)) => sim_text(alloc, options),
+        Ok(Job::Run(options)) => run_text(alloc, options),
         Err(WordsError::Refused) => Ok(String::from_str(alloc, "refused")?),
         Err(WordsError::NoMemory) => Ok(String::from_str(alloc, "no memory")?),
     }

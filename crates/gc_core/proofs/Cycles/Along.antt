@@ -6,12 +6,13 @@ use Rattle.plain_heap.specs.declared.mark.Mark.{Mark}
 use Rattle.plain_heap.specs.Order.{Story, story_after, turned}
 use Rattle.plain_heap.proofs.Stories.{story_after-append}
 use Rattle.gc_worker.specs.Law.{WorkersStand}
+use Rattle.gc_worker.specs.Marks.{mark_of}
 use Rattle.gc_core.specs.Core.{CoreState}
 use Rattle.gc_core.specs.Cycles.{count_from}
 use Rattle.gc_core.specs.Event.{core_after, event_of}
 use Rattle.gc_core.specs.Law.{EventsKeep, IsSteady, story_by}
 use Rattle.gc_core.specs.Needs.{made_after, made_by, EachFullIs}
-use Rattle.gc_core.specs.Run.{Ran, run_from, all_ended, mark_of}
+use Rattle.gc_core.specs.Run.{Ran, run_from, all_ended}
 
 -- what is made in two orders
 pub made_after-append : (code : List (List Instr)) (turns : ℕ) (s : Story) (made : ℕ) (xs ys : List Mark)

@@ -16,9 +16,9 @@ use Rattle.plain_heap.proofs.Staying.{plain_count}
 use Rattle.plain_heap.proofs.Stories.{story-now, story_after-append}
 use Rattle.heap_state.specs.Functions.{sum_below}
 use Rattle.heap_state.specs.Reachable.{IsLive}
+use Rattle.gc_worker.specs.Marks.{EachActs}
 use Rattle.gc_core.specs.Fulls.{EachMayCome, flips_by, flips_in, since_by, since_in}
 use Rattle.gc_core.specs.Needs.{EachFullIs, EndsWithFlip, HasNoFull, IsEnoughForOne, being_made, made_since, opened}
-use Rattle.gc_core.specs.Whole.{EachActs}
 use Rattle.gc_core.proofs.Cycles.Along.{made_after-append}
 use Rattle.gc_core.proofs.Cycles.Orders.{at_full, may_come_at}
 

@@ -13,13 +13,14 @@ use Rattle.gc_worker.specs.Cycles.{ClaimsAreSetAside, LowFallsByClaims, SetAside
 use Rattle.gc_worker.specs.Law.{WorkersStand}
 use Rattle.gc_worker.specs.declared.stepped.Stepped.{Stepped}
 use Rattle.gc_worker.specs.declared.stepped.Stepped.TheVariants.{Idle, Moved, Effect, Flipped, Ended}
+use Rattle.gc_worker.specs.Marks.{mark_of}
 use Rattle.gc_core.specs.Core.{CoreState}
 use Rattle.gc_core.specs.Cycles.{claims_next}
 use Rattle.gc_core.specs.Event.{core_after, event_of}
 use Rattle.gc_core.specs.Fulls.{EachMayCome, MayCome, flips_by, flips_in, since_by, since_in}
 use Rattle.gc_core.specs.Law.{EventsKeep, IsSteady, IsTold, story_by}
 use Rattle.gc_core.specs.Needs.{EachFullIs, HasNoFull, IsFullAt, IsLargeEnough, being_made, made_after, made_by, opened}
-use Rattle.gc_core.specs.Run.{all_ended, mark_of, run_from}
+use Rattle.gc_core.specs.Run.{all_ended, run_from}
 use Rattle.gc_core.proofs.Cycles.Along.{EachFullIs-append, made_then}
 use Rattle.gc_core.proofs.Cycles.Filling.{Fills, event_fills, full_is_filled}
 use Rattle.gc_core.proofs.Cycles.Records.{Covers, covers_others, event_covers}

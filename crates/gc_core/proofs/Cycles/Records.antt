@@ -25,16 +25,16 @@ use Rattle.gc_worker.specs.Turned.{Effect, Ends, Told, Silent, Answers, Marks, t
 use Rattle.gc_worker.specs.Wanted.{wanted}
 use Rattle.gc_worker.specs.declared.stepped.Stepped.{Stepped}
 use Rattle.gc_worker.specs.declared.stepped.Stepped.TheVariants as tells
+use Rattle.gc_worker.specs.Marks.{mark_of, task_of}
 use Rattle.gc_core.specs.Core.{CoreState}
 use Rattle.gc_core.specs.Cycles.{claims_after, claims_next}
 use Rattle.gc_worker.specs.Stepped.{stepped_by}
-use Rattle.gc_core.specs.Event.{core_after, event_of, next_task, readied, ready, task_of}
+use Rattle.gc_core.specs.Event.{core_after, event_of, next_task, readied, ready}
 use Rattle.gc_core.specs.Law.{IsSteady}
 use Rattle.gc_core.specs.Needs.{being_made, made_after, pages_next}
-use Rattle.gc_core.specs.Run.{mark_of}
 use Rattle.gc_core.proofs.Cycles.Along.{made_then}
 use Rattle.gc_core.proofs.Fulls.{ready_as}
-use Rattle.gc_core.proofs.Outcomes.{Sort, IsFull, IsStep, asks, sort}
+use Rattle.gc_worker.proofs.Outcomes.{Sort, IsFull, IsStep, asks, sort}
 use Rattle.gc_core.proofs.Readied.{Ready, readied_stands}
 
 -- ---- sums

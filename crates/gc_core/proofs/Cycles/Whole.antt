@@ -22,6 +22,7 @@ use Rattle.gc_worker.proofs.Whole.{steps_keep}
 use Rattle.gc_worker.specs.Law.{WorkersStand}
 use Rattle.gc_worker.specs.declared.config.Config.{Config}
 use Rattle.gc_worker.specs.declared.stepped.Stepped.TheVariants.{Ended}
+use Rattle.gc_worker.specs.Marks.{EachActs}
 use Rattle.gc_core.specs.Core.{CoreState, is_size, opening_core}
 use Rattle.gc_core.specs.Cycles.{CyclesKeepWhatIsLive, FullHeapsAreFilled, InstructionsFlipOnce, claims_next, claims_of, flips_next, story_of}
 use Rattle.gc_core.specs.Event.{event_of}
@@ -29,7 +30,6 @@ use Rattle.gc_core.specs.Fulls.{EachMayCome}
 use Rattle.gc_core.specs.Law.{IsSteady, IsTold}
 use Rattle.gc_core.specs.Needs.{ClaimsAreForRecords, LargeHeapsAreNeverFull, LoneFullsFollowTheirFlips, LoneHeapsAreNeverFull, OrdersFillTheSpace, being_made, made_since, opened}
 use Rattle.gc_core.specs.Run.{run_of, Ran}
-use Rattle.gc_core.specs.Whole.{EachActs}
 use Rattle.gc_core.proofs.Begun.{opening_stands, opening_steady}
 use Rattle.gc_core.proofs.Cycles.Along.{holds_after}
 use Rattle.gc_core.proofs.Cycles.Filling.{Fills, event_fills, full_is_filled, opening_fills}

@@ -3,7 +3,7 @@ use Rattle.std.proofs.lemmas.Result.{IfOk-weaker}
 use Rattle.clap.specs.Simple.{App, Shape, app_of_fields, on_top}
 use Rattle.clap.specs.Words.{with_subcommand}
 use Rattle.simple_commands.specs.Options.{operand_rules_of, rules_of, with_rules}
-use Rattle.ael_cli.specs.Options.{bench_numbers, bench_wide, sim_flags, sim_numbers, sim_wide}
+use Rattle.ael_cli.specs.Options.{bench_numbers, bench_wide, run_flags, run_numbers, run_wide, sim_flags, sim_numbers, sim_wide}
 use Rattle.ael_cli.proofs.command_line.command.Goals as goal
 
 pub returns : goal.returns
@@ -14,6 +14,8 @@ returns c =
     let bare = ap app_of_fields c.disable_help_subcommand.ensures ∙ ap (on_top (λ (s : Shape). record s { disable_help_subcommand = true })) no_flag in
     let asm = c.in_ok-subcommand.ensures.shape c.new-asm.ensures.local ∙ ap₂ with_subcommand bare (ap top c.new-asm.ensures.app) in
     let sim = c.in_ok-sim.ensures.app ∙ ap (λ (a : App). with_rules a (rules_of sim_numbers sim_wide sim_flags)) c.new-sim.ensures.app in
+    let run = c.in_ok-run.ensures.app ∙ ap (λ (a : App). with_rules a (rules_of run_numbers run_wide run_flags)) c.new-run.ensures.app in
     let bench = c.in_ok-bench.ensures.app ∙ ap (λ (a : App). with_rules a (operand_rules_of bench_numbers bench_wide)) c.new-bench.ensures.app in
-    let both = c.in_ok-subcommand-2.ensures.shape c.in_ok-sim.ensures.local ∙ ap₂ with_subcommand asm (ap top sim) in
-    IfOk-weaker c.subcommand-3.result _ _ (λ r h. h.shape c.in_ok-bench.ensures.local ∙ ap₂ with_subcommand both (ap top bench)) c.subcommand-3.ensures
+    let two = c.in_ok-subcommand-2.ensures.shape c.in_ok-sim.ensures.local ∙ ap₂ with_subcommand asm (ap top sim) in
+    let three = c.in_ok-subcommand-3.ensures.shape c.in_ok-run.ensures.local ∙ ap₂ with_subcommand two (ap top run) in
+    IfOk-weaker c.subcommand-4.result _ _ (λ r h. h.shape c.in_ok-bench.ensures.local ∙ ap₂ with_subcommand three (ap top bench)) c.subcommand-4.ensures

@@ -3,4 +3,4 @@ use Rattle.ael_cli.proofs.Seeing.{told_more}
 use Rattle.ael_cli.proofs.dump.push_registers.Goals as goal
 
 pub loop-m-preserved : goal.loop-m-preserved
-loop-m-preserved c = rw c.in_ok-push_words.ensures (told_more words_line _ _ _ _ _ c.regs.ensures c.loop-m.invariant)
+loop-m-preserved g c = rw c.in_ok-push_words.ensures (told_more words_line _ _ _ _ _ c.registers.ensures c.loop-m.invariant)

@@ -1,7 +1,8 @@
-use Rattle.std.proofs.Common.{◌∙◌, ap, ℕ}
+use Rattle.std.proofs.Common.{refl, ◌∙◌, ap, ℕ}
 use Rattle.std.specs.Global.{Vec}
 use Rattle.std.proofs.lemmas.Result.{IfOk-weaker}
-use Rattle.ael_cli.specs.Simulation.{config, scheduled, IsCollected}
+use Rattle.ael_cli.specs.Runs.{IsRunOf, Scheduled}
+use Rattle.ael_cli.specs.Simulation.{config, run_of, scheduled}
 use Rattle.ael_cli.proofs.Simulating.{simulated}
 use Rattle.ael_cli.proofs.sim.sim.Goals as goal
 
@@ -15,15 +16,21 @@ returns c =
     let pages = c.requires.pages in
     let turns = c.requires.turns.1 in
     let scanners = c.requires.scanners in
-    let collected : IsCollected options program items = record {
-      live = c.cycles_keep_what_is_live.ensures program items (config options) schedule options.steps formed pages turns scanners;
-      filled = c.full_heaps_are_filled.ensures.orders program items (config options) schedule options.steps formed pages turns scanners;
-      large = c.large_heaps_are_never_full.ensures.large program items (config options) schedule options.steps formed pages turns scanners;
+    let follows = c.runs_follow.ensures program items (config options.run) schedule options.steps formed pages turns scanners in
+    let is : IsRunOf (Scheduled options) program items (run_of options program items) = record {
+      made = record {
+        is = refl;
+        full = follows.full;
+        filled = c.full_heaps_are_filled.ensures.orders program items (config options.run) schedule options.steps formed pages turns scanners;
+        large = c.large_heaps_are_never_full.ensures.large program items (config options.run) schedule options.steps formed pages turns scanners;
+      };
+      acts = follows.acts;
+      dump = follows.dump;
+      live = c.cycles_keep_what_is_live.ensures program items (config options.run) schedule options.steps formed pages turns scanners;
     } in
-    IfOk-weaker c.new.result _ _ (λ answer new. simulated options program items _ c.in_ok-order.order.items _ _
-    (c.runs_follow.ensures program items (config options) schedule options.steps formed pages turns scanners) collected
+    IfOk-weaker c.new.result _ _ (λ answer new. simulated options program items _ c.in_ok-order.order.items _ _ is follows.seen
     (rw (c.in_ok-core.ensures.opened, c.as_slice.ensures) at c.in_ok-order.ensures.core)
     (rw (c.in_ok-core.ensures.opened, c.as_slice.ensures) at c.in_ok-order.ensures.order)
     (new.0 ∙ ap (λ (v : Vec ℕ). v.items) c.into_bytes.ensures.value
-    ∙ rw (c.in_ok-push_flags.ensures, c.in_ok-push_mutators.ensures, c.new-output.ensures.bytes, c.deref.ensures.value))
+    ∙ rw (c.in_ok-push_heap.ensures, c.in_ok-push_order_if.ensures, c.in_ok-push_mutators.ensures, c.new-output.ensures.bytes, c.deref.ensures.value))
     (new.1 ∙ c.verdict.ensures)) c.new.ensures.whole

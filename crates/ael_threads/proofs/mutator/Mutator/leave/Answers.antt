@@ -1,9 +1,29 @@
-use Rattle.std.proofs.Common.{◌∙◌}
-use Rattle.ael_threads.proofs.Calling.{departs_more, halt_may_begin, quiet_first}
+use Rattle.std.proofs.Common.{◌∙◌, sym, ap, subst}
+use Rattle.ael_threads.specs.Calls.{Departs}
+use Rattle.ael_threads.specs.Seats.{Seated}
+use Rattle.ael_threads.proofs.Calling.{departs_halted, departs_more, departs_with, halt_may_begin, no_end_by, quiet_first}
 use Rattle.ael_threads.proofs.mutator.Mutator.leave.Goals as goal
+use Rattle.ael_threads.proofs.mutator.Mutator.leave.Goals.{then-is_none, else-is_none}
 
 pub exec-requires-clause-may_begin : goal.exec-requires-clause-may_begin
 exec-requires-clause-may_begin g c = halt_may_begin c.args.self.now.worker.account c.args.self.now.worker.registers
+
+pub loop-init : goal.loop-init
+loop-init g c =
+    let a : Seated = c.args.self.now in
+    let ended = c.ended.ensures in
+    let tested = c.is_none.ensures in
+    elim c.if-is_none.branch [
+      | then-is_none w ↦ (
+        ap (λ (z : Seated). z.table) w.self-is ∙ w.exec.ensures.table,
+        subst (Departs a) (sym w.self-is)
+            (departs_halted a w.exec.new.self w.exec.result (sym ended.ended ∙ no_end_by c.ended.result c.is_none.result tested w.if-is_none.true) w.exec.ensures.called),
+      )
+      | else-is_none w ↦ (
+        ap (λ (z : Seated). z.table) w.self-is,
+        subst (Departs a) (sym w.self-is) (departs_with a c.ended.result c.is_none.result tested w.if-is_none.false ended.ended ended.no_task),
+      )
+    ]
 
 pub loop-preserved : goal.loop-preserved
 loop-preserved g c = let d = c.loop.invariant.1 in (

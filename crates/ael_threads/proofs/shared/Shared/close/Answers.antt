@@ -4,8 +4,8 @@ use Rattle.ael_threads.specs.Seats.{Gathers, Seated}
 use Rattle.ael_threads.proofs.Gathering.{closes}
 use Rattle.ael_threads.proofs.shared.Shared.close.Goals as goal
 
-pub returns : goal.returns
-returns c =
+pub returns-clause-closes : goal.returns-clause-closes
+returns-clause-closes c =
     let t = c.args.self.table.shared.table_id in
     let all : List Seated = map seated c.args.seats.scanners.items ++ c.args.seats.mutators.items in
     let g = subst (Gathers t all) (sym c.one.view_is) (c.gather_scanners-one.ensures c.args.seats.mutators.items c.gather_mutators-one.ensures) in

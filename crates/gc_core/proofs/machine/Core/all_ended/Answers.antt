@@ -3,9 +3,9 @@ use Rattle.std.specs.Prelude.{take}
 use Rattle.std.specs.List.{list_all}
 use Rattle.std.specs.Option.{is_some}
 use Rattle.gc_worker.specs.Held.{Held}
+use Rattle.gc_core.specs.Inside.{core_in}
 use Rattle.gc_core.specs.Run.{all_ended}
 use Rattle.gc_core.proofs.CoreReads.{ends_seen}
-use Rattle.gc_core.proofs.CoreSteps.{state}
 use Rattle.gc_core.proofs.machine.Core.all_ended.Goals as goal
 
 abbrev ended : Held → Bool
@@ -15,4 +15,4 @@ pub returns : goal.returns
 returns c =
     c.have_ended.ensures ∙ (ap (λ (n : ℕ). list_all ended (take n c.deref.result.now)) c.len.ensures
     ∙ (ap (λ (xs : List Held). list_all ended (take (length c.self.inside.program.now.code) xs)) c.deref.ensures.value
-    ∙ (ends_seen (state c.self.inside.program.now.code c.self.inside.turns c.self.inside.spaces.pages c.self.inside.atoms c.self.inside.slots.items) ∙ ap all_ended c.self.view_is)))
+    ∙ (ends_seen (core_in c.self.inside) ∙ ap all_ended c.self.view_is)))

@@ -2,14 +2,14 @@ use Rattle.std.proofs.Common.{◌≡◌, ◌<◌, length, slice_get, Some, sym, 
 use Rattle.std.specs.Option.{option_map}
 use Rattle.plain_heap.specs.Print.{Seen}
 use Rattle.gc_core.specs.Core.{CoreState}
+use Rattle.gc_core.specs.Inside.{core_in}
 use Rattle.gc_core.specs.Readers.{seen_of}
 use Rattle.gc_core.proofs.CoreReads.{end_there}
-use Rattle.gc_core.proofs.CoreSteps.{state}
 use Rattle.gc_core.proofs.machine.Core.ended.Goals as goal
 
 pub returns : goal.returns
 returns c =
-    let s = state c.self.inside.program.now.code c.self.inside.turns c.self.inside.spaces.pages c.self.inside.atoms c.self.inside.slots.items in
+    let s = core_in c.self.inside in
     let vec = c.self.inside.slots.ok.0 in
     let some = c.self.invariant.1 in
     subst (λ (s : CoreState). option_map (λ (k : Seen). k.end) (slice_get (seen_of s) c.args.m) ≡ Some c.ended.result) c.self.view_is

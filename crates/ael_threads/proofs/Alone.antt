@@ -1,0 +1,5 @@
+pub mod Sparing
+pub mod Matching
+pub mod Going
+pub mod Replying
+pub mod Whole

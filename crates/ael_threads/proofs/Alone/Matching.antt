@@ -1,0 +1,145 @@
+-- Two states in which mutator m is the same, which shares nothing: a step of it, and one of another in one of the states.
+use Rattle.std.proofs.Common.{◌≡◌, ◌≢◌, ℕ, ◌<◌, ◌⊎◌, inl, inr, true, List, [], length, replicate, Some, Result, Ok, Err, slice_get, slice_set, refl, ap, sym, ◌∙◌, subst, length-set}
+use Rattle.std.specs.List.{All}
+use Rattle.std.specs.Result.{IfOk}
+use Rattle.std.proofs.lemmas.Bool.{cases_eq}
+use Rattle.std.proofs.lemmas.List.{length-replicate, get_or-set_same, get_or-set_other, set-get_or}
+use Rattle.std.proofs.lemmas.List.Elements.{All-nil, All-replicate}
+use Rattle.std.proofs.lemmas.Option.{slice_get_within}
+use Rattle.plain_state.specs.declared.end.End.{End}
+use Rattle.plain_state.specs.declared.value.Value.{Value}
+use Rattle.plain_state.specs.State.{Record, Mutator, Plain, made_by}
+use Rattle.plain_state.specs.Writing.{with_records}
+use Rattle.plain_state.proofs.Lists.{set-found, slice_get-replicate, slice_get-set_other, slice_get-set_same}
+use Rattle.mutator_asm.specs.declared.instr.Instr.{Instr}
+use Rattle.plain_heap.specs.Alone.{leaves_board}
+use Rattle.plain_heap.specs.Call.{After, call}
+use Rattle.plain_heap.specs.Step.{ended, settled}
+use Rattle.plain_heap.proofs.Alike.{Alike, Same, call-alike}
+use Rattle.plain_heap.proofs.Apart.{moved}
+use Rattle.plain_heap.proofs.Owning.{AllOf, IsOf, IsOwn, read_all}
+use Rattle.ael_threads.proofs.Alone.Sparing.{AllElse, IsElse, IsSpared, Spares, call-spares}
+
+-- Mutator m of state p is that of state u, with the same records; it is led to these alone, and nobody else in p is led to one of them.
+pub record Matches (m : ℕ) (p u : Plain) : Type 0 where
+  pub mutator : slice_get u.mutators m ≡ slice_get p.mutators m
+  pub records : made_by u.heap m ≡ made_by p.heap m
+  pub as_many : length p.heap.records ≡ length p.mutators
+  pub as_many_there : length u.heap.records ≡ length u.mutators
+  pub words : All (AllOf m) (made_by p.heap m)
+  pub registers : (k : Mutator) → slice_get p.mutators m ≡ Some k → All (IsOf m) k.registers
+  pub spared : IsSpared m p.heap
+  pub others : (j : ℕ) (k : Mutator) → j ≢ m → slice_get p.mutators j ≡ Some k → All (IsElse m) k.registers
+
+-- ---- a step of another
+
+module _ (m j : ℕ) (other : j ≢ m) (p u : Plain) (same : Matches m p u) (k : Mutator) (is : slice_get p.mutators j ≡ Some k) where
+  becomes : (after : After) → Spares m p.heap after → Matches m (record { heap = after.heap; mutators = slice_set p.mutators j after.mutator }) u
+  becomes after spares =
+      let stays : slice_get (slice_set p.mutators j after.mutator) m ≡ slice_get p.mutators m = slice_get-set_other p.mutators j m after.mutator (λ e. other (sym e)) in
+      record {
+        mutator = same.mutator ∙ sym stays;
+        records = same.records ∙ sym spares.same;
+        as_many = spares.as_many ∙ same.as_many ∙ sym (length-set p.mutators j after.mutator);
+        as_many_there = same.as_many_there;
+        words = subst (All (AllOf m)) (sym spares.same) same.words;
+        registers = λ n at. same.registers n (sym stays ∙ at);
+        spared = spares.spared;
+        others = λ i n else at. by_number i n else at (cases_eq i j);
+      }
+    where
+      by_number : (i : ℕ) (n : Mutator) → i ≢ m → slice_get (slice_set p.mutators j after.mutator) i ≡ Some n → (i ≡ j) ⊎ (i ≡ j → ⊥) → All (IsElse m) n.registers
+      by_number i n else at (inl e) =
+          subst (λ (k : Mutator). All (IsElse m) k.registers) (set-found p.mutators j i after.mutator n e (slice_get_within p.mutators j k is) at) spares.registers
+      by_number i n else at (inr elsewhere) = same.others i n else (sym (slice_get-set_other p.mutators j i after.mutator elsewhere) ∙ at)
+
+  -- it has its end
+  pub other-ends : (why : End) → Matches m (ended p j k why) u
+  other-ends why = becomes (record { heap = p.heap; mutator = record k { end = Some why } })
+      (record { same = refl; as_many = refl; spared = same.spared; registers = same.others j k other is })
+
+  settles : (o : Result After End) → IfOk o (Spares m p.heap) → Matches m (settled p j k o) u
+  settles (Ok after) spares = becomes after spares
+  settles (Err why) spares = other-ends why
+
+  -- it executes an instruction
+  pub other-calls : (instr : Instr) → Matches m (settled p j k (call j p.heap k instr)) u
+  other-calls instr = settles (call j p.heap k instr) (call-spares m j other p.heap k same.spared (same.others j k other is) instr)
+
+-- ---- a step of mutator m
+
+module _ (m : ℕ) (p u : Plain) (same : Matches m p u) (k : Mutator) (is : slice_get p.mutators m ≡ Some k) where
+  pub is_there : slice_get u.mutators m ≡ Some k
+  is_there = same.mutator ∙ is
+
+  own : IsOwn m (made_by p.heap m) k
+  own = record { registers = same.registers k is; words = same.words }
+
+  -- in both states it becomes this, with these records
+  moves : (records : List Record) (next : Mutator) → IsOwn m records next → Matches m (moved p m records next) (moved u m records next)
+  moves records next its =
+      let within : m < length p.mutators = slice_get_within p.mutators m k is in
+      let within_there : m < length u.mutators = slice_get_within u.mutators m k is_there in
+      let made : made_by (with_records p.heap m records) m ≡ records = get_or-set_same p.heap.records m records [] (subst (λ n. m < n) (sym same.as_many) within) in
+      let made_there : made_by (with_records u.heap m records) m ≡ records = get_or-set_same u.heap.records m records [] (subst (λ n. m < n) (sym same.as_many_there) within_there) in
+      record {
+        mutator = slice_get-set_same u.mutators m next within_there ∙ sym (slice_get-set_same p.mutators m next within);
+        records = made_there ∙ sym made;
+        as_many = length-set p.heap.records m records ∙ same.as_many ∙ sym (length-set p.mutators m next);
+        as_many_there = length-set u.heap.records m records ∙ same.as_many_there ∙ sym (length-set u.mutators m next);
+        words = subst (All (AllOf m)) (sym made) its.words;
+        registers = λ n at. subst (λ (k : Mutator). All (IsOf m) k.registers) (set-found p.mutators m m next n refl within at) its.registers;
+        spared = record {
+          board = same.spared.board;
+          records = λ j else. subst (All (AllElse m)) (sym (get_or-set_other p.heap.records m j records [] else)) (same.spared.records j else);
+        };
+        others = λ j n else at. same.others j n else (sym (slice_get-set_other p.mutators m j next else) ∙ at);
+      }
+
+  comes : (p_after u_after : Plain) (records : List Record) (next : Mutator) → p_after ≡ moved p m records next → u_after ≡ moved u m records next → IsOwn m records next → Matches m p_after u_after
+  comes p_after u_after records next e f its = rw (e, f) (moves records next its)
+
+  -- it has its end
+  pub own-ends : (why : End) → Matches m (ended p m k why) (ended u m k why)
+  own-ends why = comes (ended p m k why) (ended u m k why) (made_by p.heap m) (record k { end = Some why })
+      (rw (set-get_or p.heap.records m []) refl) (rw (← same.records, set-get_or u.heap.records m []) refl) (record { registers = own.registers; words = own.words })
+
+  both_settle : (o v : Result After End) → Same (Alike m p.heap u.heap) o v → Matches m (settled p m k o) (settled u m k v)
+  both_settle (Ok a) (Ok b) alike = comes (settled p m k (Ok a)) (settled u m k (Ok b)) alike.records a.mutator
+      (ap (λ heap. let t : Plain = record { heap = heap; mutators = slice_set p.mutators m a.mutator } in t) alike.heap_is)
+      (rw (alike.mutator_is) (ap (λ heap. let t : Plain = record { heap = heap; mutators = slice_set u.mutators m a.mutator } in t) alike.other_is))
+      alike.own
+  both_settle (Ok a) (Err why) alike = absurd alike
+  both_settle (Err why) (Ok b) alike = absurd alike
+  both_settle (Err why) (Err other) alike = rw (← alike) (own-ends why)
+
+  module _ (instr : Instr) (leaves : leaves_board instr ≡ true) where
+    -- both heaps answer the same
+    pub answers-alike : Same (Alike m p.heap u.heap) (call m p.heap k instr) (call m u.heap k instr)
+    answers-alike = call-alike m p.heap u.heap k same.records own instr leaves
+
+    -- it executes an instruction
+    pub own-calls : Matches m (settled p m k (call m p.heap k instr)) (settled u m k (call m u.heap k instr))
+    own-calls = both_settle (call m p.heap k instr) (call m u.heap k instr) answers-alike
+
+-- ---- the opening
+
+module _ (m n : ℕ) (board : List Value) (k : Mutator) (of : All (IsOf m) k.registers) (else : All (IsElse m) k.registers) (none : All (IsElse m) board) where
+  -- nobody has a record, and all mutators are this
+  abbrev begun : Plain
+  begun = record { heap = record { records = replicate n []; board = board }; mutators = replicate n k }
+
+  pub begins : Matches m begun begun
+  begins = record {
+    mutator = refl;
+    records = refl;
+    as_many = length-replicate n [] ∙ sym (length-replicate n k);
+    as_many_there = length-replicate n [] ∙ sym (length-replicate n k);
+    words = read_all (All (AllOf m)) (replicate n []) m [] (All-replicate (All (AllOf m)) n [] (All-nil (AllOf m))) (All-nil (AllOf m));
+    registers = λ q at. subst (λ (q : Mutator). All (IsOf m) q.registers) (sym (slice_get-replicate n m k q at)) of;
+    spared = record {
+      board = none;
+      records = λ j apart. read_all (All (AllElse m)) (replicate n []) j [] (All-replicate (All (AllElse m)) n [] (All-nil (AllElse m))) (All-nil (AllElse m));
+    };
+    others = λ j q apart at. subst (λ (q : Mutator). All (IsElse m) q.registers) (sym (slice_get-replicate n j k q at)) else;
+  }

@@ -1,0 +1,84 @@
+-- Who is in a call has begun its instruction, and a full heap is found by one that makes a record.
+use Rattle.std.proofs.Common.{◌≡◌, ℕ, Some, refl, sym, subst, ◌∙◌}
+use Rattle.std.proofs.lemmas.Option.{same_Some}
+use Rattle.plain_state.specs.declared.end.End.TheVariants as ends
+use Rattle.plain_state.specs.State.{Plain}
+use Rattle.mutator_asm.specs.declared.instr.Instr.{Instr}
+use Rattle.atom_store.specs.declared.reply.Reply.{Reply}
+use Rattle.gate_core.specs.declared.passage.Passage.{Passage}
+use Rattle.gate_core.specs.declared.passage.Passage.TheVariants.{Look, Attach, Park, Request, Resume, Forwarded, Leave}
+use Rattle.gc_worker.specs.declared.after.After.{After}
+use Rattle.gc_worker.specs.declared.stage.Stage.{Stage}
+use Rattle.gc_worker.specs.declared.stage.Stage.TheVariants.{Looks, Passes, Flips, Forwards, Accesses, Places, Serves, Scans, Evacuates, Opens, Gone}
+use Rattle.gc_worker.specs.declared.task.Task.{Task}
+use Rattle.gc_worker.specs.declared.task.Task.TheVariants.{Calls, Stops}
+use Rattle.gc_worker.specs.Answer.{ComesTo}
+use Rattle.gc_worker.specs.Begun.{IsPastAfter, IsPastLook}
+use Rattle.gc_worker.specs.Cycles.{IsInCall, IsInPassage}
+use Rattle.gc_worker.specs.Fits.{Fits, FitsTask}
+use Rattle.gc_worker.specs.Held.{Held}
+use Rattle.gc_worker.specs.Turned.{Ends, Answers, told, told_at}
+use Rattle.gc_worker.proofs.Between.Begun.{full_is_found_later}
+use Rattle.gc_worker.proofs.Between.GoingOn.{workers_go_on}
+use Rattle.ael_threads.specs.Cycles.{asked_by}
+use Rattle.ael_threads.specs.Histories.{call}
+use Rattle.ael_threads.proofs.Tallying.{asks_as}
+
+-- ---- who is in a call has begun its instruction
+
+past_passage : (passage : Passage) (after : After) → IsInPassage passage after → IsPastAfter after
+past_passage Look after call = absurd call
+past_passage Attach after call = absurd call
+past_passage Park after call = call
+past_passage Request after call = call
+past_passage (Resume epoch) after call = call
+past_passage Forwarded after call = call
+past_passage Leave after call = absurd call
+
+pub past_look : (stage : Stage) → IsInCall stage → IsPastLook stage
+past_look Looks call = absurd call
+past_look (Passes g after) call = past_passage g.passage after call
+past_look (Flips f) call = tt
+past_look (Forwards w) call = call
+past_look (Accesses a) call = tt
+past_look (Places p) call = tt
+past_look (Serves d back) call = call
+past_look (Scans s back) call = call
+past_look (Evacuates v s back) call = call
+past_look (Opens o s back) call = call
+past_look Gone call = absurd call
+
+-- ---- a full heap is found by an instruction
+
+pub full_asks : (p : Plain) (k : ℕ) (task : Task) (instr : Instr) (asked room live : ℕ) → task ≡ Calls instr → ComesTo p k task (Ends (ends.HeapFull asked room live))
+    → asked_by p k (Some task) ≡ Some asked
+full_asks p k (Calls other) instr asked room live is c = asks_as p k c.mutator other asked c.is c.no_end c.may
+full_asks p k (Stops end) instr asked room live is c = absurd (cc)
+
+module _ (n mutators k : ℕ) (y : Held) (reply : Reply) (fits : Fits n mutators k y) (task : Task) (asked room live : ℕ)
+    (e : told y reply ≡ Answers task (Ends (ends.HeapFull asked room live))) where
+  later : IsPastLook y.stage
+  later = full_is_found_later n mutators k y reply task asked room live fits e
+
+  its_task : y.task ≡ Some task
+  its_task = ((workers_go_on n mutators k y reply fits).answers task (Ends (ends.HeapFull asked room live)) e).asked
+
+  pub full_calls : (instr : Instr) × (task ≡ Calls instr)
+  full_calls = by_stage y.stage refl fits.task e
+    where
+      by_task : (instr : Instr) → y.task ≡ Some (Calls instr) → (instr : Instr) × (task ≡ Calls instr)
+      by_task instr is = (instr, same_Some task (Calls instr) (sym its_task ∙ is))
+
+      by_stage : (stage : Stage) → y.stage ≡ stage → FitsTask y stage → told_at y stage reply ≡ Answers task (Ends (ends.HeapFull asked room live))
+          → (instr : Instr) × (task ≡ Calls instr)
+      by_stage Looks at fit tells = absurd (subst IsPastLook at later)
+      by_stage (Accesses a) at fit tells = by_task fit.executes.instr fit.executes.task_is
+      by_stage (Places p) at fit tells = by_task fit.0.executes.instr fit.0.executes.task_is
+      by_stage (Flips f) at fit tells = by_task fit.0.executes.instr fit.0.executes.task_is
+      by_stage (Passes g after) at fit tells = absurd (cc)
+      by_stage (Forwards w) at fit tells = absurd (cc)
+      by_stage (Serves d back) at fit tells = absurd (cc)
+      by_stage (Scans s back) at fit tells = absurd (cc)
+      by_stage (Evacuates v s back) at fit tells = absurd (cc)
+      by_stage (Opens o s back) at fit tells = absurd (cc)
+      by_stage Gone at fit tells = absurd (cc)

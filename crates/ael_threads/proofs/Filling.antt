@@ -1,0 +1,471 @@
+-- What a step does to what is counted along the history, and what its entry tells.
+use Rattle.std.proofs.Common.{◌≡◌, ◌≢◌, ℕ, ◌+◌, ◌-◌, ◌*◌, ◌^◌, ◌<◌, ◌≤◌, ◌==◌, ◌⊎◌, inl, inr, Bool, true, false, cond, nat_lt, is_some, List, [], ◌++◌, length, Option, Some, None, slice_get, refl, sym, ap, subst, ◌∙◌, arith, ⊎_elim, eq-eqb, ne_eqb, ltb-true, get_or-set_same, get_or-set_other, length-set}
+use Rattle.std.proofs.lemmas.Bool.{cases_eq}
+use Rattle.std.proofs.lemmas.Option.{slice_get_within}
+use Rattle.plain_state.specs.declared.end.End.{End}
+use Rattle.plain_state.specs.declared.end.End.TheVariants as ends
+use Rattle.plain_state.specs.declared.sizes.TheConstants.{PAGE_WORDS}
+use Rattle.plain_state.specs.State.{Mutator, Plain}
+use Rattle.atom_store.specs.declared.reply.Reply.{Reply}
+use Rattle.atom_store.specs.declared.step.Step.{Step}
+use Rattle.atom_store.specs.Step.{words_after, reply_of}
+use Rattle.space_map.specs.Spaces.{to_space}
+use Rattle.gate_core.specs.Flip.{Flipping}
+use Rattle.heap_state.specs.Reachable.{IsLive}
+use Rattle.heap_state.specs.Worker.{Account, is_running}
+use Rattle.gc_worker.specs.declared.stage.Stage.{Stage}
+use Rattle.gc_worker.specs.declared.stage.Stage.TheVariants.{Looks, Flips}
+use Rattle.gc_worker.specs.declared.task.Task.{Task}
+use Rattle.gc_worker.specs.Answer.{ComesTo, IsAnswered}
+use Rattle.gc_worker.specs.Begun.{IsPastLook}
+use Rattle.gc_worker.specs.Between.{GoesOn, IsAsPlain, IsNoAnswer, IsSo}
+use Rattle.gc_worker.specs.Cycles.{IsFirst, IsInCall, LowGoes, SetsAside, claimed, low_at, low_of, low_said, set_aside}
+use Rattle.gc_worker.specs.Fits.{Fits, FitsEnd, FitsTask, IsMaking, IsOnSide}
+use Rattle.gc_worker.specs.Full.{FindsNoRoom, FullWhereTold}
+use Rattle.gc_worker.specs.Held.{Held}
+use Rattle.gc_worker.specs.Knows.{post_in}
+use Rattle.gc_worker.specs.Law.{FlipsOnce, FlipsWhereTold, Heap, StepKeeps, WorkersStand, epoch_of, held_at, moved, nobody}
+use Rattle.gc_worker.specs.Turned.{Effect, Ends, Told, Silent, Answers, Marks, epoch_in, told, turned}
+use Rattle.gc_worker.specs.Wanted.{wanted}
+use Rattle.gc_worker.proofs.Between.Begun.{beginnings_are_kept, full_is_found_later}
+use Rattle.gc_worker.proofs.Between.Claims.{flips_at}
+use Rattle.gc_worker.proofs.Between.Copied.{full_tells_live}
+use Rattle.gc_worker.proofs.Between.GoingOn.{workers_go_on}
+use Rattle.gc_worker.proofs.Between.Standing.{what_stands_is_so}
+use Rattle.gc_worker.proofs.Cycles.Calls.{calls_go_on}
+use Rattle.gc_worker.proofs.Cycles.Flips.{flips_are_first, flips_stay_first}
+use Rattle.gc_worker.proofs.Cycles.Lows.{low_falls_by_claims}
+use Rattle.gc_worker.proofs.Cycles.SetAside.{claims_are_set_aside}
+use Rattle.gc_worker.proofs.Gate.Resuming.{end_none}
+use Rattle.gc_worker.proofs.Making.{asked_is, plain_pages}
+use Rattle.gc_worker.proofs.Whole.{steps_keep}
+use Rattle.ael_threads.specs.declared.view.Entry.{Entry}
+use Rattle.ael_threads.specs.Cycles.{AreAskedFor, Counts, EachEntry, EntryIs, IsAskedFor, IsFilled, IsFilledByEnd, IsTallied, Tally, Tasks, aside_in, asked_by, being_made, next_task, pages_by, tally, tasks_of}
+use Rattle.ael_threads.specs.Histories.{call, extra}
+use Rattle.ael_threads.proofs.Aside.{aside_changes, aside_most, aside_of_others}
+use Rattle.ael_threads.proofs.Asking.{full_asks, full_calls, past_look}
+use Rattle.ael_threads.proofs.Making.{makes_its_record}
+use Rattle.ael_threads.proofs.Showing.{mutator_at}
+use Rattle.ael_threads.proofs.Tallying.{asks_as, entries_on, flips_on, tally_append}
+
+-- ---- the step of worker k, which holds y
+
+module _ (h : Heap) (p o : Plain) (k : ℕ) (y : Held) (q : Step) (st : WorkersStand h p o) (below : k < length h.workers) (holds : held_at h k ≡ y) (want : wanted y ≡ Some q)
+    (first : Tally) (log : List Entry) (b : IsTallied h first log) (now : (tally first log).now ≡ p) (flip : (tally first log).flip ≡ o) where
+  abbrev n : ℕ
+  n = h.pages
+
+  abbrev t : Tally
+  t = tally first log
+
+  abbrev c : Counts h t b.asked
+  c = b.counts
+
+  abbrev reply : Reply
+  reply = reply_of q h.words
+
+  abbrev words' : List ℕ
+  words' = words_after q h.words
+
+  abbrev z : Held
+  z = turned y reply
+
+  abbrev after : Heap
+  after = moved h k y q
+
+  -- what is counted then, by what the step tells
+  abbrev then_by : Told → Tally
+  then_by u = tally t (extra k u)
+
+  law : StepKeeps h p o k y q
+  law = steps_keep h p o k y q st below holds want
+
+  fits : Fits n h.mutators k y
+  fits = subst (Fits n h.mutators k) holds (st.fit k below)
+
+  so : IsSo h p
+  so = what_stands_is_so h p o st
+
+  as_plain : (w : Mutator) → slice_get p.mutators k ≡ Some w → IsAsPlain h p k y w
+  as_plain w its = subst (λ (x : Held). IsAsPlain h p k x w) holds (so.mutators k w its)
+
+  its_mutator : k < h.mutators → (w : Mutator) × (slice_get p.mutators k ≡ Some w)
+  its_mutator few = mutator_at p.mutators k (let many = so.as_many in omega (arith, few, many))
+
+  goes : GoesOn y reply
+  goes = workers_go_on n h.mutators k y reply fits
+
+  it_holds : held_at after k ≡ z
+  it_holds = get_or-set_same h.workers k z nobody below
+
+  -- the others hold what they held
+  other_holds : (m : ℕ) → m ≢ k → held_at after m ≡ held_at h m
+  other_holds m other = get_or-set_other h.workers k m z nobody other
+
+  -- ---- the words claimed
+
+  abbrev claims_after : Told → ℕ
+  claims_after Silent = c.claims + claimed y reply
+  claims_after (Answers task outcome) = c.claims + claimed y reply
+  claims_after (Marks asked) = 0
+
+  low_after : (u : Told) → LowGoes n h.words words' (claimed y reply) u → low_of n words' + claims_after u ≡ PAGE_WORDS * n
+  low_after Silent low = let was = c.low in omega (arith, low, was)
+  low_after (Answers task outcome) low = let was = c.low in omega (arith, low, was)
+  low_after (Marks asked) low = omega (arith, low)
+
+  its_most : (task : Task) → y.task ≡ Some task → set_aside y ≤ PAGE_WORDS * pages_by t.now k (Some task)
+  its_most task is =
+      subst (λ (w : Plain × Option Task). set_aside y ≤ PAGE_WORDS * pages_by w.0 k w.1) (λ i. (sym now i, is i))
+      (subst (λ (x : Held). set_aside x ≤ PAGE_WORDS * pages_by p k x.task) holds (aside_most h p o st k below))
+
+  covers_after : (u : Told) → told y reply ≡ u → SetsAside y (claimed y reply) z u → claims_after u ≤ PAGE_WORDS * (then_by u).made + aside_in after
+  covers_after Silent e sets = let was = c.for_records in let change = aside_changes h k y q below holds in omega (arith, sets, was, change)
+  covers_after (Answers task Effect) e sets =
+      let was = c.for_records in
+      let change = aside_changes h k y q below holds in
+      let most = its_most task (goes.answers task Effect e).asked in
+      omega (arith, sets, was, change, most)
+  covers_after (Answers task (Ends end)) e sets = let was = c.for_records in let change = aside_changes h k y q below holds in omega (arith, sets, was, change)
+  covers_after (Marks asked) e sets = omega arith
+
+  -- where all have a flip since their last call no record was made since it
+  none_after : (u : Told) → told y reply ≡ u → ((m : ℕ) → m < h.mutators → (then_by u).since m ≡ true) → (then_by u).made ≡ 0
+  none_after Silent e all = c.none_made all
+  none_after (Answers task outcome) e all =
+      let comes = subst (IsAnswered p k) e law.answered in
+      let inside = slice_get_within p.mutators k comes.mutator comes.is in
+      let many = so.as_many in
+      let has = all k (omega (arith, inside, many)) in
+      let not : cond (k == k) false (t.since k) ≡ false = ap (λ (b : Bool). cond b false (t.since k)) (eq-eqb k k refl) in
+      absurd (let never = sym not ∙ has in cc)
+  none_after (Marks asked) e all = refl
+
+  -- ---- flips
+
+  epoch_after : (u : Told) → FlipsWhereTold n h.words words' y u → epoch_of n words' ≡ (then_by u).flips
+  epoch_after Silent f = f ∙ c.epoch
+  epoch_after (Answers task outcome) f = f ∙ c.epoch
+  epoch_after (Marks asked) f = let is = f.epoch in let next = f.next in let was = c.epoch in omega (arith, is, next, was)
+
+  -- a mutator that looks is of the gate's epoch
+  at_look : k < h.mutators → y.stage ≡ Looks → t.flips ≡ y.epoch
+  at_look few looks = let w = its_mutator few in sym c.epoch ∙ (as_plain w.0 w.1).epoch (ap (λ (s : Stage). is_running (post_in y s)) looks)
+
+  -- who has no end had none
+  had_no_end : z.account.end ≡ None → y.account.end ≡ None
+  had_no_end none = by_end y.account.end refl
+    where
+      by_end : (end : Option End) → y.account.end ≡ end → y.account.end ≡ None
+      by_end None e = e
+      by_end (Some why) e = absurd (let kept : None ≡ Some why = sym none ∙ (ap (λ (a : Account). a.end) (goes.ended why e).0 ∙ e) in cc)
+
+  -- worker m, where it holds x, has this since its last call
+  abbrev IsSince : (ℕ → Bool) → (m : ℕ) → Held → Type 0
+  IsSince since m x = m < h.mutators → x.account.end ≡ None → IsPastLook x.stage → x.begun < t.flips → since m ≡ true
+
+  -- it looked, in the gate's epoch; or it began before this step
+  began : k < h.mutators → z.account.end ≡ None → IsPastLook z.stage → (z.begun ≡ t.flips) ⊎ (IsPastLook y.stage × (z.begun ≡ y.begun))
+  began few none past = ⊎_elim
+      (λ (looks : (y.stage ≡ Looks) × (z.begun ≡ y.epoch)). inl (looks.1 ∙ sym (at_look few looks.0)))
+      (λ (goes_on : IsPastLook y.stage × (z.begun ≡ y.begun)). inr goes_on)
+      (beginnings_are_kept n h.mutators k y reply fits past)
+
+  -- worker m, where it holds x, began in no later epoch than that
+  abbrev IsBegun : ℕ → (m : ℕ) → Held → Type 0
+  IsBegun flips m x = m < h.mutators → x.account.end ≡ None → IsPastLook x.stage → x.begun ≤ flips
+
+  own_begun : IsBegun t.flips k z
+  own_begun few none past = ⊎_elim
+      (λ (looks : z.begun ≡ t.flips). omega (arith, looks))
+      (λ (goes_on : IsPastLook y.stage × (z.begun ≡ y.begun)).
+      let was = subst (IsBegun t.flips k) holds (c.begun k) few (had_no_end none) goes_on.0 in let same = goes_on.1 in omega (arith, was, same))
+      (began few none past)
+
+  more_flips : (u : Told) → t.flips ≤ (then_by u).flips
+  more_flips Silent = omega arith
+  more_flips (Answers task outcome) = omega arith
+  more_flips (Marks asked) = omega arith
+
+  begun_after : (u : Told) (m : ℕ) → IsBegun (then_by u).flips m (held_at after m)
+  begun_after u m few none past = let up = more_flips u in let was = by_worker few none past in omega (arith, up, was)
+    where
+      by_worker : IsBegun t.flips m (held_at after m)
+      by_worker = ⊎_elim
+          (λ (same : m ≡ k). subst (λ (j : ℕ). IsBegun t.flips j (held_at after j)) (sym same) (subst (IsBegun t.flips k) (sym it_holds) own_begun))
+          (λ (other : m ≢ k). subst (IsBegun t.flips m) (sym (other_holds m other)) (c.begun m))
+          (cases_eq m k)
+
+  own_since : IsSince t.since k z
+  own_since few none past early = ⊎_elim
+      (λ (looks : z.begun ≡ t.flips). absurd (omega (arith, looks, early)))
+      (λ (goes_on : IsPastLook y.stage × (z.begun ≡ y.begun)).
+      subst (IsSince t.since k) holds (c.since k) few (had_no_end none) goes_on.0 (subst (λ (begun : ℕ). begun < t.flips) goes_on.1 early))
+      (began few none past)
+
+  all_since : (since : ℕ → Bool) → ((m : ℕ) → m ≢ k → since m ≡ t.since m) → IsSince since k z → (m : ℕ) → IsSince since m (held_at after m)
+  all_since since beside self m = ⊎_elim
+      (λ (same : m ≡ k). subst (λ (j : ℕ). IsSince since j (held_at after j)) (sym same) (subst (IsSince since k) (sym it_holds) self))
+      (λ (other : m ≢ k) few none past early. beside m other ∙ subst (IsSince t.since m) (sym (other_holds m other)) (c.since m) few none past early)
+      (cases_eq m k)
+
+  -- of the caller nothing came since
+  abbrev since_call : ℕ → Bool
+  since_call j = cond (j == k) false (t.since j)
+
+  beside_call : (m : ℕ) → m ≢ k → since_call m ≡ t.since m
+  beside_call m other = ap (λ (b : Bool). cond b false (t.since m)) (ne_eqb m k other)
+
+  since_after : (u : Told) → told y reply ≡ u → (m : ℕ) → m < h.mutators → (held_at after m).account.end ≡ None → IsPastLook (held_at after m).stage
+      → (held_at after m).begun < (then_by u).flips → (then_by u).since m ≡ true
+  since_after Silent e = all_since t.since (λ m other. refl) own_since
+  since_after (Answers task Effect) e = all_since since_call beside_call (λ few none past early. absurd (subst IsPastLook (goes.answers task Effect e).after past))
+  since_after (Answers task (Ends end)) e = all_since since_call beside_call
+      (λ few none past early. absurd (let ended : None ≡ Some end = sym none ∙ ap (λ (a : Account). a.end) (goes.answers task (Ends end) e).after.0 in cc))
+  since_after (Marks asked) e = λ m few none past early. refl
+
+  -- ---- who asks for a flip
+
+  first_after : (m : ℕ) → m < length after.workers → IsFirst (held_at after m)
+  first_after m inside = ⊎_elim
+      (λ (same : m ≡ k). subst (λ (j : ℕ). IsFirst (held_at after j)) (sym same) (subst IsFirst (sym it_holds) (flips_stay_first y reply (subst IsFirst holds (c.first k below)))))
+      (λ (other : m ≢ k). subst IsFirst (sym (other_holds m other)) (c.first m (let many = length-set h.workers k z in omega (arith, many, inside))))
+      (cases_eq m k)
+
+  -- who has asked for one since its last call
+  abbrev asked_after : Told → ℕ → Bool
+  asked_after Silent = b.asked
+  asked_after (Answers task outcome) = λ j. cond (j == k) false (b.asked j)
+  asked_after (Marks asked) = λ j. cond (j == k) true (b.asked j)
+
+  -- worker m, where it holds x, is in its call, and has seen a flip
+  abbrev HasSeen : ℕ → Held → Type 0
+  HasSeen flips x = IsInCall x.stage × (x.begun < flips)
+
+  -- its own step, where it doesn't answer
+  own_call : (flips : ℕ) → IsNoAnswer (told y reply) → IsInCall y.stage → y.begun < flips → HasSeen flips z
+  own_call flips none call early = (on, omega (arith, early, kept))
+    where
+      on : IsInCall z.stage
+      on = calls_go_on n h.mutators k y reply fits law.fits call none
+
+      kept : z.begun ≡ y.begun
+      kept = ⊎_elim
+          (λ (looks : (y.stage ≡ Looks) × (z.begun ≡ y.epoch)). absurd (subst IsInCall looks.0 call))
+          (λ (goes_on : IsPastLook y.stage × (z.begun ≡ y.begun)). goes_on.1)
+          (beginnings_are_kept n h.mutators k y reply fits (past_look z.stage on))
+
+  -- the others are where they were
+  other_call : (u : Told) (m : ℕ) → m ≢ k → b.asked m ≡ true → HasSeen (then_by u).flips (held_at after m)
+  other_call u m other has =
+      let was = c.call m has in
+      let up = more_flips u in
+      let early = was.1 in
+      subst (HasSeen (then_by u).flips) (sym (other_holds m other)) (was.0, omega (arith, early, up))
+
+  -- with what is so of worker k itself
+  all_call : (u : Told) (has : ℕ → Bool) → ((m : ℕ) → m ≢ k → has m ≡ b.asked m) → (has k ≡ true → HasSeen (then_by u).flips z) → (m : ℕ) → has m ≡ true
+      → HasSeen (then_by u).flips (held_at after m)
+  all_call u has beside self m = ⊎_elim
+      (λ (same : m ≡ k). subst (λ (j : ℕ). has j ≡ true → HasSeen (then_by u).flips (held_at after j)) (sym same) (λ is. subst (HasSeen (then_by u).flips) (sym it_holds) (self is)))
+      (λ (other : m ≢ k) is. other_call u m other (sym (beside m other) ∙ is))
+      (cases_eq m k)
+
+  its_call : b.asked k ≡ true → HasSeen t.flips y
+  its_call has = subst (HasSeen t.flips) holds (c.call k has)
+
+  -- a flip
+  module _ (asked : ℕ) (e : told y reply ≡ Marks asked) where
+    at_flip : (f : Flipping) × (y.stage ≡ Flips f)
+    at_flip = flips_at y reply asked y.stage e
+
+    once : FlipsOnce n h.words words' y asked
+    once = subst (FlipsWhereTold n h.words words' y) e law.flips
+
+    making : IsMaking y.account y.registers y.task
+    making = (subst (FitsTask y) at_flip.1 fits.task).0
+
+    unended : y.account.end ≡ None
+    unended = end_none y.account.end (subst (λ (s : Stage). FitsEnd s (is_some y.account.end)) at_flip.1 fits.end)
+
+    is_mutator : k < h.mutators
+    is_mutator =
+        let side : nat_lt y.number y.mutators ≡ true = subst (λ (s : Stage). IsOnSide s (nat_lt y.number y.mutators) (is_some y.account.end)) at_flip.1 fits.side in
+        let less = ltb-true y.number y.mutators side in
+        let number = fits.number in
+        let beside = fits.beside in
+        omega (arith, less, number, beside)
+
+    in_call : IsInCall y.stage
+    in_call = subst IsInCall (sym at_flip.1) tt
+
+    flipper_seen : HasSeen (t.flips + 1) z
+    flipper_seen =
+        let was = subst (IsBegun t.flips k) holds (c.begun k) is_mutator unended (past_look y.stage in_call) in
+        own_call (t.flips + 1) (subst IsNoAnswer (sym e) tt) in_call (omega (arith, was))
+
+    -- it has asked for none
+    none_asked : b.asked k ≡ false
+    none_asked = by_asked (b.asked k) refl
+      where
+        by_asked : (has : Bool) → b.asked k ≡ has → b.asked k ≡ false
+        by_asked false is = is
+        by_asked true is = absurd
+            (let seen = (its_call is).1 in
+            let own = flips_are_first y reply asked (subst IsFirst holds (c.first k below)) e in
+            let epoch = once.epoch in
+            let flips = c.epoch in
+            omega (arith, seen, own, epoch, flips))
+
+  call_after : (u : Told) → told y reply ≡ u → (m : ℕ) → asked_after u m ≡ true → HasSeen (then_by u).flips (held_at after m)
+  call_after Silent e = all_call Silent b.asked (λ m other. refl) (λ has. let was = its_call has in own_call t.flips (subst IsNoAnswer (sym e) tt) was.0 was.1)
+  call_after (Answers task outcome) e = all_call (Answers task outcome) (asked_after (Answers task outcome)) (λ m other. ap (λ (s : Bool). cond s false (b.asked m)) (ne_eqb m k other))
+      (λ has. absurd (let not : cond (k == k) false (b.asked k) ≡ false = ap (λ (s : Bool). cond s false (b.asked k)) (eq-eqb k k refl) in let never = sym not ∙ has in cc))
+  call_after (Marks asked) e = all_call (Marks asked) (asked_after (Marks asked)) (λ m other. ap (λ (s : Bool). cond s true (b.asked m)) (ne_eqb m k other)) (λ has. flipper_seen asked e)
+
+  counts_by : (u : Told) → told y reply ≡ u → Counts after (then_by u) (asked_after u)
+  counts_by u e = record {
+    claims = claims_after u;
+    low = low_after u (subst (LowGoes n h.words words' (claimed y reply)) e (low_falls_by_claims h p o k y q st below holds want));
+    for_records = covers_after u e (subst (SetsAside y (claimed y reply) z) e (claims_are_set_aside n h.mutators k y reply fits));
+    none_made = none_after u e;
+    epoch = epoch_after u (subst (FlipsWhereTold n h.words words' y) e law.flips);
+    begun = begun_after u;
+    since = since_after u e;
+    first = first_after;
+    call = call_after u e;
+  }
+
+  -- ---- the entry
+
+  abbrev tasks : Tasks
+  tasks = tasks_of after.workers
+
+  -- a full heap
+  module _ (task : Task) (asked room live : ℕ) (e : told y reply ≡ Answers task (Ends (ends.HeapFull asked room live))) where
+    found : FindsNoRoom n h.words y asked room live
+    found = subst (FullWhereTold n h.words y) e law.full
+
+    comes : ComesTo p k task (Ends (ends.HeapFull asked room live))
+    comes = subst (IsAnswered p k) e law.answered
+
+    of_now : epoch_of n h.words ≡ y.epoch
+    of_now = ap (epoch_in 0) found.gate_is ∙ found.epoch
+
+    few : k < h.mutators
+    few = let inside = slice_get_within p.mutators k comes.mutator comes.is in let many = so.as_many in omega (arith, inside, many)
+
+    no_flip : (t.since k ≡ true) ⊎ (t.flips ≡ 2 ^ 32 - 1)
+    no_flip =
+        let same : t.flips ≡ y.epoch = sym c.epoch ∙ of_now in
+        let none : y.account.end ≡ None = (as_plain comes.mutator comes.is).account.end ∙ comes.no_end in
+        let past = full_is_found_later n h.mutators k y reply task asked room live fits e in
+        ⊎_elim
+        (λ (early : y.begun < y.epoch). inl (subst (IsSince t.since k) holds (c.since k) few none past (omega (arith, early, same))))
+        (λ (last : y.epoch ≡ 2 ^ 32 - 1). inr (same ∙ last))
+        found.no_flip
+
+    none_aside : set_aside (held_at h k) ≡ 0
+    none_aside =
+        let sets : claimed y reply + set_aside y ≡ 0 = subst (SetsAside y (claimed y reply) z) e (claims_are_set_aside n h.mutators k y reply fits) in
+        ap set_aside holds ∙ (omega (arith, sets))
+
+    for_others : c.claims ≤ PAGE_WORDS * (t.made + being_made t.now tasks k [])
+    for_others =
+        let was = c.for_records in
+        let aside = subst (λ (s : Plain). aside_in h ≤ PAGE_WORDS * being_made s tasks k []) (sym now)
+        (aside_of_others h p o st k tasks below none_aside (λ j other. ap (λ (x : Held). x.task) (other_holds j other))) in
+        omega (arith, was, aside)
+
+    -- of a single mutator
+    single : length t.now.mutators ≡ 1 → t.since k ≡ true → t.made ≡ 0
+    single one has =
+        let many = so.as_many in
+        let same : length t.now.mutators ≡ length p.mutators = ap (λ (s : Plain). length s.mutators) now in
+        let here = few in
+        c.none_made (λ m inside. subst (λ (j : ℕ). t.since j ≡ true) (let only : k ≡ m = omega (arith, one, many, same, here, inside) in only) has)
+
+    is_filled : IsFilled n tasks t k task asked room live []
+    is_filled =
+        let calls = full_calls n h.mutators k y reply fits task asked room live e in
+        let low : low_of n h.words ≡ found.area.low = ap (λ (epoch : ℕ). low_at n h.words (to_space epoch)) of_now ∙ ap low_said found.area_is in
+        let whole = c.low in
+        let room_is = found.room_is in
+        let live_is = found.live_is in
+        record {
+          asked_is = subst (λ (s : Plain). asked_by s k (Some task) ≡ Some asked) (sym now) (full_asks p k task calls.0 asked room live calls.1 comes);
+          short = found.short;
+          no_flip = no_flip;
+          live_is = subst (λ (s : Plain). IsLive s live) (sym flip) (full_tells_live h p o y asked room live st found);
+          claims = c.claims;
+          filled = omega (arith, low, whole, room_is, live_is);
+          for_records = for_others;
+          single = single;
+        }
+
+  end_is : (task : Task) (end : End) → told y reply ≡ Answers task (Ends end) → IsFilledByEnd n tasks t k task end []
+  end_is task (ends.HeapFull asked room live) e = is_filled task asked room live e
+  end_is task ends.Halt e = tt
+  end_is task ends.NotPointer e = tt
+  end_is task ends.NotNumber e = tt
+  end_is task ends.OutOfRange e = tt
+  end_is task ends.IntoRaw e = tt
+  end_is task ends.ZeroDivisor e = tt
+  end_is task ends.JumpOut e = tt
+  end_is task ends.TurnsOut e = tt
+  end_is task ends.OutputFull e = tt
+
+  -- a flip
+  module _ (asked : ℕ) (e : told y reply ≡ Marks asked) where
+    -- the plain mutator's record takes as many pages
+    its_pages : asked_by p k y.task ≡ Some asked
+    its_pages =
+        let w = its_mutator (is_mutator asked e) in
+        let plain = as_plain w.0 w.1 in
+        let none : w.0.end ≡ None = sym plain.account.end ∙ unended asked e in
+        let makes = making asked e in
+        let pages = plain_pages y makes w.0 (makes_its_record y w.0 fits.eight fits.registers (plain.shows none) makes) in
+        ap (asked_by p k) makes.executes.task_is ∙ asks_as p k w.0 makes.executes.instr asked w.1 none (pages ∙ ap (λ (a : ℕ). Some a) (sym ((once asked e).asked_is ∙ asked_is y makes)))
+
+    is_asked_for : IsAskedFor tasks b.asked t k asked []
+    is_asked_for =
+        let same : tasks k ≡ y.task = ap (λ (x : Held). x.task) it_holds ∙ goes.kept (subst IsNoAnswer (sym e) tt) in
+        record { first = none_asked asked e; makes = subst (λ (w : Plain × Option Task). asked_by w.0 k w.1 ≡ Some asked) (λ i. (sym now i, sym same i)) its_pages }
+
+  entry_is : (u : Told) → told y reply ≡ u → EachEntry (EntryIs n tasks) t (extra k u)
+  entry_is Silent e = tt
+  entry_is (Answers task Effect) e = (tt, tt)
+  entry_is (Answers task (Ends end)) e = (end_is task end e, tt)
+  entry_is (Marks asked) e = (tt, tt)
+
+  flip_is : (u : Told) → told y reply ≡ u → AreAskedFor tasks b.asked (asked_after u) t (extra k u)
+  flip_is Silent e = refl
+  flip_is (Answers task outcome) e = refl
+  flip_is (Marks asked) e = (k, is_asked_for asked e, refl)
+
+  -- ---- the tasks go on
+
+  same_task : IsNoAnswer (told y reply) → (j : ℕ) → tasks j ≡ tasks_of h.workers j
+  same_task none j = ⊎_elim
+      (λ (same : j ≡ k). subst (λ (i : ℕ). tasks i ≡ tasks_of h.workers i) (sym same) (ap (λ (x : Held). x.task) it_holds ∙ (goes.kept none ∙ sym (ap (λ (x : Held). x.task) holds))))
+      (λ (other : j ≢ k). ap (λ (x : Held). x.task) (other_holds j other))
+      (cases_eq j k)
+
+  tasks_go_on : (u : Told) → told y reply ≡ u → (j : ℕ) (task : Task) → tasks_of h.workers j ≡ Some task → next_task j (extra k u) (tasks j) ≡ Some task
+  tasks_go_on Silent e j task is = same_task (subst IsNoAnswer (sym e) tt) j ∙ is
+  tasks_go_on (Marks asked) e j task is = same_task (subst IsNoAnswer (sym e) tt) j ∙ is
+  tasks_go_on (Answers done outcome) e j task is = ⊎_elim
+      (λ (same : j ≡ k).
+      let was : Some done ≡ Some task = sym (goes.answers done outcome e).asked ∙ (sym (ap (λ (x : Held). x.task) holds) ∙ (ap (tasks_of h.workers) (sym same) ∙ is)) in
+      ap (λ (b : Bool). cond b (Some done) (tasks j)) (eq-eqb k j (sym same)) ∙ was)
+      (λ (other : j ≢ k). ap (λ (b : Bool). cond b (Some done) (tasks j)) (ne_eqb k j (λ f. other (sym f))) ∙ (ap (λ (x : Held). x.task) (other_holds j other) ∙ is))
+      (cases_eq j k)
+
+  pub step_tallied : IsTallied after first (log ++ extra k (told y reply))
+  step_tallied = record {
+    entries = entries_on (tasks_of h.workers) tasks (extra k (told y reply)) (tasks_go_on (told y reply) refl) n first log b.entries (entry_is (told y reply) refl);
+    asked = asked_after (told y reply);
+    flips = flips_on (tasks_of h.workers) tasks (extra k (told y reply)) (tasks_go_on (told y reply) refl) first (λ j. false) b.asked (asked_after (told y reply)) log
+        b.flips (flip_is (told y reply) refl);
+    counts = subst (λ (s : Tally). Counts after s (asked_after (told y reply))) (sym (tally_append first log (extra k (told y reply)))) (counts_by (told y reply) refl);
+  }

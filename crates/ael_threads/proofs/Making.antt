@@ -1,0 +1,123 @@
+-- A mutator whose registers show those of its plain one makes the record that the plain one makes.
+use Rattle.std.proofs.Common.{◌≡◌, ℕ, ◌<◌, ◌&&◌, Bool, true, false, cond, nat_lt, length, Result, Ok, Err, slice_index, refl, sym, ap, ◌∙◌, arith}
+use Rattle.std.specs.Prelude.{⊤, IsTrue}
+use Rattle.std.specs.Result.{IfOk}
+use Rattle.std.proofs.lemmas.Bool.{and_parts, ltb-true}
+use Rattle.std.proofs.lemmas.List.{get_or-map}
+use Rattle.std.proofs.lemmas.Option.{get_or_from_slice_get}
+use Rattle.heap_words.specs.Decoded.{Decoded, NumberWord, PointerWord, HeaderWord, ForwardWord, BusyWord, Malformed, decode}
+use Rattle.plain_state.specs.declared.end.End.{End}
+use Rattle.plain_state.specs.declared.end.End.TheVariants.{OutputFull}
+use Rattle.plain_state.specs.declared.kind.Kind.{Kind}
+use Rattle.plain_state.specs.declared.kind.Kind.TheVariants.{Fields, Raw}
+use Rattle.plain_state.specs.declared.operation.Operation.{Operation}
+use Rattle.plain_state.specs.declared.operation.Operation.TheVariants as operations
+use Rattle.plain_state.specs.declared.sizes.TheConstants.{MOST_PRINTED, REGISTERS}
+use Rattle.plain_state.specs.declared.value.Value.TheVariants.{Number}
+use Rattle.plain_state.specs.Operation.{applied}
+use Rattle.plain_state.specs.State.{Mutator}
+use Rattle.mutator_asm.specs.declared.instr.Instr.{Instr}
+use Rattle.mutator_asm.specs.declared.instr.Instr.TheVariants as instrs
+use Rattle.mutator_asm.specs.declared.operand.Operand.{Operand}
+use Rattle.mutator_asm.specs.declared.operand.Operand.TheVariants as operands
+use Rattle.mutator_asm.specs.Program.{is_operand, is_register, is_valid}
+use Rattle.plain_heap.specs.declared.action.Action.{Action}
+use Rattle.plain_heap.specs.declared.action.Action.TheVariants.{Makes, Prints}
+use Rattle.plain_heap.specs.Action.{◌>>=◌, action, allocates, board_place, computes, length_of, number_in, operand, reference_in, register}
+use Rattle.plain_heap.proofs.Outcomes.{if_ok-bind, if_ok-is}
+use Rattle.gc_worker.specs.Between.{Shows}
+use Rattle.gc_worker.specs.Fits.{IsMaking}
+use Rattle.gc_worker.specs.Held.{Held}
+use Rattle.gc_worker.specs.Seen.{IsValueAs, IsValueWord, seen, seen_as, value_seen}
+
+-- a record that is made is made there too
+abbrev IsSameRecord : Result Action End → Action → Type 0
+IsSameRecord theirs (Makes kind d n) = theirs ≡ Ok (Makes kind d n)
+IsSameRecord theirs act = ⊤
+
+module _ (x : Held) (q : Mutator) (eight : length x.registers ≡ REGISTERS) (values : (r : ℕ) → r < REGISTERS → IsValueWord (slice_index x.registers r)) (shows : Shows x.registers q) where
+  -- as the worker sees it
+  abbrev sight : Mutator
+  sight = seen x.account x.registers
+
+  abbrev word : ℕ → ℕ
+  word r = slice_index x.registers r
+
+  sees : (r : ℕ) → r < REGISTERS → register sight r ≡ value_seen (word r)
+  sees r small = get_or-map value_seen x.registers r 0 (Number 0) (omega (arith, eight, small))
+
+  number_of : (r n : ℕ) → r < REGISTERS → number_in (register sight r) ≡ Ok n → number_in (register q r) ≡ Ok n
+  number_of r n small e = by_word (decode (word r)) refl (values r small) (sym (ap number_in (sees r small)) ∙ e)
+    where
+      by_word : (d : Decoded) → decode (word r) ≡ d → IsValueAs d → number_in (seen_as d) ≡ Ok n → number_in (register q r) ≡ Ok n
+      by_word (NumberWord m) is value e = ap number_in (get_or_from_slice_get q.registers r (Number m) (Number 0) (shows.numbers r m small is)) ∙ e
+      by_word (PointerWord a) is value e = absurd (let never = e in cc)
+      by_word (HeaderWord kind len serial mutator) is value e = absurd value
+      by_word (ForwardWord len a) is value e = absurd value
+      by_word (BusyWord len k) is value e = absurd value
+      by_word Malformed is value e = absurd value
+
+  operand_of : (y : Operand) (n : ℕ) → is_operand y ≡ true → operand sight y ≡ Ok n → operand q y ≡ Ok n
+  operand_of (operands.Reg r) n valid e = number_of r n (ltb-true r REGISTERS valid) e
+  operand_of (operands.Number m) n valid e = e
+
+  -- ---- by instructions
+
+  allocated : (kind : Kind) (d : ℕ) (y : Operand) → is_operand y ≡ true → IfOk (allocates sight kind d y) (IsSameRecord (allocates q kind d y))
+  allocated kind d y valid = by_operand (operand sight y) refl
+    where
+      by_length : (o : Result ℕ End) → IfOk (o >>= (λ len. Ok (Makes kind d len))) (IsSameRecord (o >>= (λ len. Ok (Makes kind d len))))
+      by_length (Ok len) = refl
+      by_length (Err why) = tt
+
+      by_operand : (o : Result ℕ End) → operand sight y ≡ o → IfOk (o >>= (λ n. length_of n >>= (λ len. Ok (Makes kind d len)))) (IsSameRecord (allocates q kind d y))
+      by_operand (Ok n) is = rw (operand_of y n valid is) (by_length (length_of n))
+      by_operand (Err why) is = tt
+
+  -- what makes no record
+  module _ (theirs : Result Action End) where
+    abbrev IsSo : Result Action End → Type 0
+    IsSo o = IfOk o (IsSameRecord theirs)
+
+    computed : (operation : Operation) (d a b : ℕ) → IsSo (computes operation sight d a b)
+    computed operation d a b =
+        if_ok-bind _ (number_in (register sight a)) _ (λ y. if_ok-bind _ (number_in (register sight b)) _ (λ z. if_ok-bind _ (applied operation y z) _ (λ n. tt)))
+
+    printed : (n : ℕ) (fits : Bool) → IsSo (cond fits (Ok (Prints n)) (Err OutputFull))
+    printed n true = tt
+    printed n false = tt
+
+  second : (d : ℕ) (b : Bool) → (is_register d && b) ≡ true → b ≡ true
+  second d b valid = (and_parts (is_register d) b valid).1
+
+  makes_same : (i : Instr) → IsTrue (is_valid i) → IfOk (action sight i) (IsSameRecord (action q i))
+  unfolding action
+  makes_same (instrs.New d y) valid = allocated Fields d y (second d _ valid)
+  makes_same (instrs.Raw d y) valid = allocated Raw d y (second d _ valid)
+  makes_same (instrs.Li d n) valid = tt
+  makes_same (instrs.Mov d a) valid = tt
+  makes_same (instrs.Add d a b) valid = computed _ operations.Add d a b
+  makes_same (instrs.Sub d a b) valid = computed _ operations.Sub d a b
+  makes_same (instrs.Mul d a b) valid = computed _ operations.Mul d a b
+  makes_same (instrs.Div d a b) valid = computed _ operations.Div d a b
+  makes_same (instrs.Rem d a b) valid = computed _ operations.Rem d a b
+  makes_same (instrs.Lt d a b) valid = computed _ operations.Lt d a b
+  makes_same (instrs.Eq d a b) valid = tt
+  makes_same (instrs.Jmp target) valid = tt
+  makes_same (instrs.Jz a target) valid = tt
+  makes_same (instrs.Jal d target) valid = tt
+  makes_same (instrs.Jr a) valid = if_ok-bind _ (number_in (register sight a)) _ (λ n. tt)
+  makes_same (instrs.Ld d a y) valid = if_ok-bind _ (reference_in (register sight a)) _ (λ i. if_ok-bind _ (operand sight y) _ (λ n. tt))
+  makes_same (instrs.St a y b) valid = if_ok-bind _ (reference_in (register sight a)) _ (λ i. if_ok-bind _ (operand sight y) _ (λ n. tt))
+  makes_same (instrs.Len d a) valid = if_ok-bind _ (reference_in (register sight a)) _ (λ i. tt)
+  makes_same (instrs.Isp d a) valid = tt
+  makes_same (instrs.Get d y) valid = if_ok-bind _ (board_place sight y) _ (λ n. tt)
+  makes_same (instrs.Put y a) valid = if_ok-bind _ (board_place sight y) _ (λ n. tt)
+  makes_same (instrs.Swap d y) valid = if_ok-bind _ (board_place sight y) _ (λ n. tt)
+  makes_same (instrs.Out a) valid = if_ok-bind _ (number_in (register sight a)) _ (λ n. printed _ n (nat_lt (length sight.printed) MOST_PRINTED))
+  makes_same instrs.Halt valid = tt
+
+  pub makes_its_record : (making : IsMaking x.account x.registers x.task) → action q making.executes.instr ≡ Ok (Makes making.making.kind making.making.into making.making.len)
+  makes_its_record making =
+      if_ok-is (IsSameRecord (action q making.executes.instr)) (action sight making.executes.instr) (Makes making.making.kind making.making.into making.making.len)
+      (makes_same making.executes.instr making.executes.call.valid) making.executes.acts

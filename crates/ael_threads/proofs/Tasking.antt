@@ -1,0 +1,122 @@
+-- A worker that is given a task leaves what is counted.
+use Rattle.std.proofs.Common.{◌≡◌, ◌≢◌, ℕ, ◌<◌, ◌≤◌, inl, inr, List, [], length, true, false, Some, None, refl, sym, ap, subst, ◌∙◌, arith, ⊎_elim, append-nil, get_or-set_same, get_or-set_other, length-set}
+use Rattle.std.proofs.lemmas.Bool.{cases_eq}
+use Rattle.heap_state.specs.Functions.{sum_below}
+use Rattle.heap_state.proofs.Puts.{sum_below-same}
+use Rattle.gate_core.specs.declared.passage.Passage.{Passage}
+use Rattle.gate_core.specs.declared.passage.Passage.TheVariants.{Look, Attach, Park, Request, Resume, Forwarded, Leave}
+use Rattle.gc_worker.specs.declared.stage.Stage.{Stage}
+use Rattle.gc_worker.specs.declared.stage.Stage.TheVariants.{Looks, Passes, Flips, Forwards, Accesses, Places, Serves, Scans, Evacuates, Opens, Gone}
+use Rattle.gc_worker.specs.declared.task.Task.{Task}
+use Rattle.gc_worker.specs.Begun.{IsPastLook}
+use Rattle.gc_worker.specs.Between.{with_task, with_worker}
+use Rattle.gc_worker.specs.Cycles.{IsFirst, IsFirstAt, IsFirstBy, IsInCall, set_aside, set_aside_at}
+use Rattle.gc_worker.specs.Held.{Held}
+use Rattle.gc_worker.specs.Law.{Heap, held_at, nobody}
+use Rattle.heap_state.specs.Worker.{Account}
+use Rattle.ael_threads.specs.declared.view.Entry.{Entry}
+use Rattle.ael_threads.specs.Cycles.{AreAskedFor, EachEntry, EntryIs, IsTallied, Tally, aside_in, tally, tasks_of}
+use Rattle.ael_threads.specs.Seats.{Begins}
+use Rattle.ael_threads.proofs.Tallying.{entries_on, flips_on}
+
+-- all but the task is as it was, and a task stays
+record IsBut (was now : Held) : Type 0 where
+  first : IsFirst was → IsFirst now
+  stage : now.stage ≡ was.stage
+  account : now.account ≡ was.account
+  begun : now.begun ≡ was.begun
+  task : (task : Task) → was.task ≡ Some task → now.task ≡ Some task
+
+first_passage : (x : Held) (task : Task) (passage : Passage) → IsFirstBy x passage → IsFirstBy (with_task x task) passage
+first_passage x task Request f = f
+first_passage x task Look f = tt
+first_passage x task Attach f = tt
+first_passage x task Park f = tt
+first_passage x task (Resume epoch) f = tt
+first_passage x task Forwarded f = tt
+first_passage x task Leave f = tt
+
+first_given : (x : Held) (task : Task) (stage : Stage) → IsFirstAt x stage → IsFirstAt (with_task x task) stage
+first_given x task (Passes g after) f = first_passage x task g.passage f
+first_given x task (Flips g) f = f
+first_given x task Looks f = tt
+first_given x task (Forwards w) f = tt
+first_given x task (Accesses a) f = tt
+first_given x task (Places p) f = tt
+first_given x task (Serves d back) f = tt
+first_given x task (Scans s back) f = tt
+first_given x task (Evacuates v s back) f = tt
+first_given x task (Opens o s back) f = tt
+first_given x task Gone f = tt
+
+is_but : (was now : Held) → Begins was now → IsBut was now
+is_but was now (inl same) = record {
+  first = subst IsFirst (sym same);
+  stage = ap (λ (x : Held). x.stage) same;
+  account = ap (λ (x : Held). x.account) same;
+  begun = ap (λ (x : Held). x.begun) same;
+  task = λ task is. ap (λ (x : Held). x.task) same ∙ is;
+}
+is_but was now (inr given) = record {
+  first = λ f. subst IsFirst (sym given.2) (first_given was given.0 was.stage f);
+  stage = ap (λ (x : Held). x.stage) given.2;
+  account = ap (λ (x : Held). x.account) given.2;
+  begun = ap (λ (x : Held). x.begun) given.2;
+  task = λ task is. absurd (let none : None ≡ Some task = sym given.1 ∙ is in cc);
+}
+
+module _ (h : Heap) (k : ℕ) (now : Held) (below : k < length h.workers) (begins : Begins (held_at h k) now) (first : Tally) (log : List Entry) (b : IsTallied h first log) where
+  abbrev after : Heap
+  after = with_worker h k now
+
+  -- each worker is as it was but for its task
+  all_but : (j : ℕ) → IsBut (held_at h j) (held_at after j)
+  all_but j = ⊎_elim
+      (λ (same : j ≡ k). subst (λ (i : ℕ). IsBut (held_at h i) (held_at after i)) (sym same)
+      (subst (IsBut (held_at h k)) (sym (get_or-set_same h.workers k now nobody below)) (is_but (held_at h k) now begins)))
+      (λ (other : j ≢ k). subst (IsBut (held_at h j)) (sym (get_or-set_other h.workers k j now nobody other)) (is_but (held_at h j) (held_at h j) (inl refl)))
+      (cases_eq j k)
+
+  same_aside : aside_in after ≡ aside_in h
+  same_aside =
+      ap (λ (n : ℕ). sum_below n (λ j. set_aside (held_at after j))) (length-set h.workers k now)
+      ∙ sum_below-same (length h.workers) (λ j. set_aside (held_at after j)) (λ j. set_aside (held_at h j)) (λ j inside. ap set_aside_at (all_but j).stage)
+
+  abbrev t : Tally
+  t = tally first log
+
+  since : (m : ℕ) → m < h.mutators → (held_at after m).account.end ≡ None → IsPastLook (held_at after m).stage → (held_at after m).begun < t.flips → t.since m ≡ true
+  since m few none past early =
+      let same = all_but m in
+      b.counts.since m few (ap (λ (a : Account). a.end) (sym same.account) ∙ none) (subst IsPastLook same.stage past) (subst (λ (begun : ℕ). begun < t.flips) same.begun early)
+
+  begun : (m : ℕ) → m < h.mutators → (held_at after m).account.end ≡ None → IsPastLook (held_at after m).stage → (held_at after m).begun ≤ t.flips
+  begun m few none past =
+      let same = all_but m in
+      subst (λ (begun : ℕ). begun ≤ t.flips) (sym same.begun) (b.counts.begun m few (ap (λ (a : Account). a.end) (sym same.account) ∙ none) (subst IsPastLook same.stage past))
+
+  call : (m : ℕ) → b.asked m ≡ true → IsInCall (held_at after m).stage × ((held_at after m).begun < t.flips)
+  call m has =
+      let same = all_but m in
+      let was = b.counts.call m has in
+      (subst IsInCall (sym same.stage) was.0, subst (λ (begun : ℕ). begun < t.flips) (sym same.begun) was.1)
+
+  pub task_tallied : IsTallied after first log
+  task_tallied = record {
+    entries = subst (EachEntry (EntryIs h.pages (tasks_of after.workers)) first) (append-nil log)
+        (entries_on (tasks_of h.workers) (tasks_of after.workers) [] (λ j task is. (all_but j).task task is) h.pages first log b.entries tt);
+    asked = b.asked;
+    flips = subst (AreAskedFor (tasks_of after.workers) (λ j. false) b.asked first) (append-nil log)
+        (flips_on (tasks_of h.workers) (tasks_of after.workers) [] (λ j task is. (all_but j).task task is) first (λ j. false) b.asked b.asked log b.flips refl);
+    counts = record {
+      claims = b.counts.claims;
+      low = b.counts.low;
+      for_records = (let was = b.counts.for_records in let same = same_aside in omega (arith, was, same));
+      none_made = b.counts.none_made;
+      epoch = b.counts.epoch;
+      begun = begun;
+      since = since;
+      first = λ m inside. (all_but m).first (b.counts.first m (let same = length-set h.workers k now in omega (arith, inside, same)));
+      call = call;
+    };
+  }

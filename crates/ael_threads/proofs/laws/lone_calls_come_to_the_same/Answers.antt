@@ -1,0 +1,5 @@
+use Rattle.ael_threads.proofs.Alone.Whole.{lone_calls_come_to_the_same}
+use Rattle.ael_threads.proofs.laws.lone_calls_come_to_the_same.Goals as goal
+
+pub returns : goal.returns
+returns c = lone_calls_come_to_the_same

@@ -1,0 +1,164 @@
+-- What a history tells of its cycles, beside that it is legal: for which record each flip came, and what fills the space where the heap is full.
+use Rattle.std.specs.Prelude.{◌≡◌, ⊤, ℕ, ◌+◌, ◌-◌, ◌*◌, ◌^◌, ◌<◌, ◌≤◌, ◌==◌, ◌⊎◌, Bool, true, false, cond, List, [], ◌∷◌, length, Option, Some, None, slice_get, slice_index_or, unwrap_or}
+use Rattle.std.specs.Option.{option_and_then, option_map}
+use Rattle.plain_state.specs.declared.end.End.{End}
+use Rattle.plain_state.specs.declared.end.End.TheVariants.{HeapFull}
+use Rattle.plain_state.specs.declared.sizes.TheConstants.{PAGE_WORDS}
+use Rattle.plain_state.specs.State.{Mutator, Plain}
+use Rattle.plain_heap.specs.Step.{new_record, pages_of}
+use Rattle.heap_state.specs.Functions.{sum_below}
+use Rattle.heap_state.specs.Reachable.{IsLive}
+use Rattle.gc_worker.specs.declared.task.Task.{Task}
+use Rattle.gc_worker.specs.declared.task.Task.TheVariants.{Calls, Stops}
+use Rattle.gc_worker.specs.Begun.{IsPastLook}
+use Rattle.gc_worker.specs.Cycles.{IsFirst, IsInCall, low_of, set_aside}
+use Rattle.gc_worker.specs.Held.{Held}
+use Rattle.gc_worker.specs.Law.{Heap, epoch_of, held_at, nobody}
+use Rattle.ael_threads.specs.declared.view.Did.{Did}
+use Rattle.ael_threads.specs.declared.view.Did.TheVariants.{Done, Trap}
+use Rattle.ael_threads.specs.declared.view.Entry.{Entry}
+use Rattle.ael_threads.specs.declared.view.Entry.TheVariants.{Made, Exchanged}
+use Rattle.ael_threads.specs.declared.view.Plan.{Plan}
+use Rattle.ael_threads.specs.Histories.{after_call, first_plain}
+
+-- ---- what a mutator does next
+
+-- the tasks that workers have begun and not answered, by their numbers
+abbrev pub Tasks : Type 0
+Tasks = ℕ → Option Task
+
+abbrev pub tasks_of : List Held → Tasks
+tasks_of workers j = (slice_index_or workers j nobody).task
+
+-- the task of worker j's first call here; where it makes none, this
+abbrev pub next_task : (j : ℕ) → List Entry → Option Task → Option Task
+next_task j [] now = now
+next_task j (Made c ∷ es) now = cond (c.by == j) (Some c.task) (next_task j es now)
+next_task j (Exchanged asked ∷ es) now = next_task j es now
+
+-- the pages of the record that a mutator's task makes
+abbrev pub asked_for : Mutator → Option Task → Option ℕ
+asked_for q (Some (Calls instr)) = option_map pages_of (new_record q instr)
+asked_for q (Some (Stops end)) = None
+asked_for q None = None
+
+-- one with an end makes none
+abbrev pub asked_if : Option End → Mutator → Option Task → Option ℕ
+asked_if None q task = asked_for q task
+asked_if (Some end) q task = None
+
+-- by mutator j
+abbrev pub asked_by : Plain → (j : ℕ) → Option Task → Option ℕ
+asked_by p j task = option_and_then (λ (q : Mutator). asked_if q.end q task) (slice_get p.mutators j)
+
+abbrev pub pages_by : Plain → (j : ℕ) → Option Task → ℕ
+pages_by p j task = unwrap_or (asked_by p j task) 0
+
+-- the pages of the records that the mutators other than m make next: by their calls here, or else by their tasks
+abbrev pub being_made : Plain → Tasks → (m : ℕ) → List Entry → ℕ
+being_made p tasks m es = sum_below (length p.mutators) (λ j. cond (j == m) 0 (pages_by p j (next_task j es (tasks j))))
+
+-- ---- what is counted along a history
+
+-- The plain state now and at the last flip; the pages of the records made since then; how many flips came, and of which workers one
+-- came since their last call.
+pub record Tally : Type 0 where
+  pub now : Plain
+  pub flip : Plain
+  pub made : ℕ
+  pub flips : ℕ
+  pub since : ℕ → Bool
+
+-- before the first entry
+abbrev pub opened : Plan → Tally
+opened plan = record { now = first_plain plan; flip = first_plain plan; made = 0; flips = 0; since = λ j. false }
+
+abbrev pub made_if : Did → (pages : ℕ) → ℕ
+made_if Done pages = pages
+made_if (Trap end) pages = 0
+
+-- after one
+abbrev pub after_entry : Tally → Entry → Tally
+after_entry t (Made c) = record t {
+  now = after_call t.now c;
+  made = t.made + made_if c.did (pages_by t.now c.by (Some c.task));
+  since = λ j. cond (j == c.by) false (t.since j);
+}
+after_entry t (Exchanged asked) = record t { flip = t.now; made = 0; flips = t.flips + 1; since = λ j. true }
+
+abbrev pub tally : Tally → List Entry → Tally
+tally t [] = t
+tally t (e ∷ es) = tally (after_entry t e) es
+
+-- a fact of each entry, by what is counted before it and by the entries after it
+abbrev pub EachEntry : (Tally → Entry → List Entry → Type 0) → Tally → List Entry → Type 0
+EachEntry P t [] = ⊤
+EachEntry P t (e ∷ es) = P t e es × EachEntry P (after_entry t e) es
+
+-- ---- what each entry is
+
+-- Mutator by has no end, and the record that it makes next takes so many pages; it has asked for no other flip since its last call.
+pub record IsAskedFor (tasks : Tasks) (has : ℕ → Bool) (t : Tally) (by asked : ℕ) (es : List Entry) : Type 0 where
+  pub first : has by ≡ false
+  pub makes : asked_by t.now by (next_task by es (tasks by)) ≡ Some asked
+
+-- Each flip came for the record of some mutator. Who has asked for one since its last call is said before these entries, and after them.
+abbrev pub AreAskedFor : Tasks → (has then : ℕ → Bool) → Tally → List Entry → Type 0
+AreAskedFor tasks has then t [] = then ≡ has
+AreAskedFor tasks has then t (Made c ∷ es) = AreAskedFor tasks (λ j. cond (j == c.by) false (has j)) then (after_entry t (Made c)) es
+AreAskedFor tasks has then t (Exchanged asked ∷ es) =
+    (by : ℕ) × IsAskedFor tasks has t by asked es × AreAskedFor tasks (λ j. cond (j == by) true (has j)) then (after_entry t (Exchanged asked)) es
+
+-- Mutator m finds too few words for the record that its task makes, in an epoch whose flip came since its last call, or in the last one.
+-- What is told as live was live at the last flip. With the room that is left and the words claimed since then it fills the space; and
+-- those were claimed for records made since then, of which a single mutator made none, or that the other mutators make next.
+pub record IsFilled (pages : ℕ) (tasks : Tasks) (t : Tally) (m : ℕ) (task : Task) (asked room live : ℕ) (es : List Entry) : Type 0 where
+  pub asked_is : asked_by t.now m (Some task) ≡ Some asked
+  pub short : room < PAGE_WORDS * asked
+  pub no_flip : (t.since m ≡ true) ⊎ (t.flips ≡ 2 ^ 32 - 1)
+  pub live_is : IsLive t.flip live
+  pub claims : ℕ
+  pub filled : room + live + claims ≡ PAGE_WORDS * pages
+  pub for_records : claims ≤ PAGE_WORDS * (t.made + being_made t.now tasks m es)
+  pub single : length t.now.mutators ≡ 1 → t.since m ≡ true → t.made ≡ 0
+
+abbrev pub IsFilledByEnd : (pages : ℕ) → Tasks → Tally → (m : ℕ) → Task → End → List Entry → Type 0
+IsFilledByEnd pages tasks t m task (HeapFull asked room live) es = IsFilled pages tasks t m task asked room live es
+IsFilledByEnd pages tasks t m task end es = ⊤
+
+abbrev pub IsFilledBy : (pages : ℕ) → Tasks → Tally → (m : ℕ) → Task → Did → List Entry → Type 0
+IsFilledBy pages tasks t m task Done es = ⊤
+IsFilledBy pages tasks t m task (Trap end) es = IsFilledByEnd pages tasks t m task end es
+
+-- where a call tells the heap to be full it is filled
+abbrev pub EntryIs : (pages : ℕ) → Tasks → Tally → Entry → List Entry → Type 0
+EntryIs pages tasks t (Made c) es = IsFilledBy pages tasks t c.by c.task c.did es
+EntryIs pages tasks t (Exchanged asked) es = ⊤
+
+-- ---- between two steps
+
+-- by all workers
+abbrev pub aside_in : Heap → ℕ
+aside_in h = sum_below (length h.workers) (λ k. set_aside (held_at h k))
+
+-- What was claimed since the last flip is all that LOW has fallen, and is for records made since then or for which pages are set aside.
+-- Where all mutators have a flip since their last call none was made. The gate's epoch is the number of flips; no instruction began in a
+-- later one, and a mutator whose instruction began in an earlier one has a flip since its last call. Who asks for a flip has seen none
+-- since it began its instruction; who has asked for one is still in its call, and has seen one.
+pub record Counts (h : Heap) (t : Tally) (asked : ℕ → Bool) : Type 0 where
+  pub claims : ℕ
+  pub low : low_of h.pages h.words + claims ≡ PAGE_WORDS * h.pages
+  pub for_records : claims ≤ PAGE_WORDS * t.made + aside_in h
+  pub none_made : ((m : ℕ) → m < h.mutators → t.since m ≡ true) → t.made ≡ 0
+  pub epoch : epoch_of h.pages h.words ≡ t.flips
+  pub begun : (m : ℕ) → m < h.mutators → (held_at h m).account.end ≡ None → IsPastLook (held_at h m).stage → (held_at h m).begun ≤ t.flips
+  pub since : (m : ℕ) → m < h.mutators → (held_at h m).account.end ≡ None → IsPastLook (held_at h m).stage → (held_at h m).begun < t.flips → t.since m ≡ true
+  pub first : (m : ℕ) → m < length h.workers → IsFirst (held_at h m)
+  pub call : (m : ℕ) → asked m ≡ true → IsInCall (held_at h m).stage × ((held_at h m).begun < t.flips)
+
+-- what a history tells of its cycles, from what is counted before it
+pub record IsTallied (h : Heap) (first : Tally) (log : List Entry) : Type 0 where
+  pub entries : EachEntry (EntryIs h.pages (tasks_of h.workers)) first log
+  pub asked : ℕ → Bool
+  pub flips : AreAskedFor (tasks_of h.workers) (λ j. false) asked first log
+  pub counts : Counts h (tally first log) asked

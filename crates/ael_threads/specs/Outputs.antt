@@ -1,0 +1,117 @@
+-- What a run tells of itself at its end.
+use Rattle.std.specs.Prelude.{◌≡◌, ℕ, Bool, false, List, ◌++◌, Some, IsSome, length, map, slice_get}
+use Rattle.plain_state.specs.declared.end.End.{End}
+use Rattle.plain_state.specs.State.{Mutator}
+use Rattle.mutator_asm.specs.declared.instr.Instr.{Instr}
+use Rattle.plain_heap.specs.Order.{opening, plain, story}
+use Rattle.plain_heap.specs.Print.{Seen}
+use Rattle.heap_state.specs.Copies.{CopiedIsLive}
+use Rattle.heap_state.specs.Kept.{Kept}
+use Rattle.heap_state.specs.Table.{word_in}
+use Rattle.space_map.specs.Spaces.{to_space}
+use Rattle.space_map.specs.Table.{Area, Traced, table_length}
+use Rattle.gc_worker.specs.declared.config.Config.{Config}
+use Rattle.gc_worker.specs.declared.open_error.OpenError.{OpenError}
+use Rattle.gc_worker.specs.declared.open_error.OpenError.TheVariants as opens
+use Rattle.gc_worker.specs.declared.stage.Stage.TheVariants.{Gone}
+use Rattle.gc_worker.specs.Between.{Shows}
+use Rattle.gc_worker.specs.Copied.{IsTraced}
+use Rattle.gc_worker.specs.Held.{Held}
+use Rattle.gc_worker.specs.Law.{Heap, WorkersStand, epoch_of, read}
+use Rattle.gc_worker.specs.Marks.{EachActs}
+use Rattle.gc_worker.specs.Readers.{cycles_in, kept_in, live_in, live_said, registers_in, seen_in}
+use Rattle.gc_worker.specs.Stepped.{header_kept, place_kept}
+use Rattle.ael_threads.specs.declared.view.Entry.{Entry}
+use Rattle.ael_threads.specs.declared.view.Plan.{Plan}
+use Rattle.ael_threads.specs.declared.outputs.Outputs.{Outputs}
+use Rattle.ael_threads.specs.declared.outputs.Printed.{Printed}
+use Rattle.ael_threads.specs.declared.outputs.RunError.{RunError}
+use Rattle.ael_threads.specs.declared.outputs.RunError.TheVariants as runs
+use Rattle.ael_threads.specs.Cycles.{AreAskedFor, EachEntry, EntryIs, opened, tasks_of, tally}
+use Rattle.ael_threads.specs.Histories.{Each, IsLegal, after_all, last_flip}
+use Rattle.ael_threads.specs.Opened.{plan_of}
+use Rattle.ael_threads.specs.Programs.{order_of}
+use Rattle.ael_threads.specs.Readers.{Scanning, seated}
+use Rattle.ael_threads.specs.Rule.{crew, heap_of}
+use Rattle.ael_threads.specs.Running.{FullIn}
+use Rattle.ael_threads.specs.Seats.{Closes, Seated}
+
+-- ---- what is read of a worker
+
+abbrev pub HasEnd : Seated → Type 0
+HasEnd s = IsSome s.worker.account.end
+
+abbrev pub seen_by : Seated → Seen
+seen_by s = record { printed = s.worker.account.printed; end = s.worker.account.end }
+
+abbrev pub registers_by : Seated → List ℕ
+registers_by s = s.worker.registers
+
+abbrev pub kept_by : Seated → ℕ × ℕ
+kept_by s = (header_kept s.worker.stage, place_kept s.worker.stage)
+
+-- ---- what is told
+
+abbrev pub printed_by : Printed → Seen
+printed_by p = record { printed = p.numbers.items; end = Some p.end }
+
+abbrev pub as_kept : ℕ × ℕ → Kept
+as_kept k = record { header = k.0; place = k.1 }
+
+-- a heap's words and its workers tell this
+pub record Tells (h : Heap) (told : Outputs) : Type 0 where
+  pub mutators : map printed_by told.mutators.items ≡ seen_in h
+  pub cycles : told.cycles ≡ cycles_in h
+  pub live : told.live ≡ live_in h
+  pub registers : told.regs.items ≡ registers_in h
+  pub kept : map as_kept told.kept.items ≡ kept_in h
+
+-- what is told of a heap that was closed, by these mutators and scanners and by its words
+pub record IsTold (plan : Plan) (mutators : List Seated) (scanners : List Scanning) (told : Outputs) : Type 0 where
+  pub closes : Closes plan (map seated scanners ++ mutators) told.words
+  pub all_words : length told.words ≡ table_length plan.spaces.pages
+  pub printed : map printed_by told.mutators.items ≡ map seen_by mutators
+  pub registers : told.regs.items ≡ map registers_by mutators
+  pub kept : told.kept.items ≡ map kept_by (mutators ++ map seated scanners)
+  pub cycles : told.cycles ≡ epoch_of plan.spaces.pages told.words
+  pub live : told.live ≡ live_said told.cycles (word_in plan.spaces.pages told.words Traced) (word_in plan.spaces.pages told.words (Area (to_space told.cycles)))
+
+-- the registers told of mutator m show those of q
+pub record TellsRegisters (told : Outputs) (m : ℕ) (q : Mutator) : Type 0 where
+  pub words : List ℕ
+  pub is : slice_get told.regs.items m ≡ Some words
+  pub shows : Shows words q
+
+-- THE CLAUSE OF RUN: all calls of its mutators stand in one legal history. In the order of that history the plain machine executes the
+-- program, each mutator its section from the start, none of its instructions skipped and none executed twice, to its end. The words that
+-- are told, with what all workers hold, which have left, stand for the plain state after it, and registers show the plain ones; what was copied in an epoch that is traced is what was live
+-- at its last flip; what else is told is what these say. Each flip was for a record, an instruction asking for one at most; where a
+-- mutator's end is that the heap is full, it was, by the words that its own seat read, and what was live at the flip before filled the
+-- space, with records made since then or being made.
+pub record Runs (code : List (List Instr)) (config : Config) (told : Outputs) : Type 0 where
+  pub log : List Entry
+  pub workers : List Held
+  pub legal : IsLegal (opening code) log
+  pub plain_is : plain code config.turns (order_of log) ≡ after_all (opening code) log
+  pub acts : EachActs code config.turns (opening code) (order_of log)
+  pub flip_is : last_flip (opening code) log ≡ (story code config.turns (order_of log)).flip
+  pub ended : (m : ℕ) (q : Mutator) → slice_get (after_all (opening code) log).mutators m ≡ Some q → IsSome q.end
+  pub count : length workers ≡ crew (plan_of (length code) config)
+  pub stands : WorkersStand (heap_of (plan_of (length code) config) told.words workers) (after_all (opening code) log) (last_flip (opening code) log)
+  pub copied : IsTraced (heap_of (plan_of (length code) config) told.words workers)
+      → CopiedIsLive (read (heap_of (plan_of (length code) config) told.words workers)) (last_flip (opening code) log)
+  pub epoch : told.cycles ≡ (tally (opened (plan_of (length code) config)) log).flips
+  pub left : Each (λ (x : Held). x.stage ≡ Gone) workers
+  pub shows : (m : ℕ) (q : Mutator) → slice_get (after_all (opening code) log).mutators m ≡ Some q → TellsRegisters told m q
+  pub entries : EachEntry (EntryIs config.pages (tasks_of workers)) (opened (plan_of (length code) config)) log
+  pub asked : ℕ → Bool
+  pub flips : AreAskedFor (tasks_of workers) (λ j. false) asked (opened (plan_of (length code) config)) log
+  pub all_words : length told.words ≡ table_length config.pages
+  pub tells : Tells (heap_of (plan_of (length code) config) told.words workers) told
+  pub full : (m : ℕ) (q : Mutator) (end : End) → slice_get (after_all (opening code) log).mutators m ≡ Some q → q.end ≡ Some end → FullIn (plan_of (length code) config) m log end
+
+-- ---- errors
+
+abbrev pub as_run_error : OpenError → RunError
+as_run_error opens.BadPages = runs.BadPages
+as_run_error opens.NoMemory = runs.NoMemory

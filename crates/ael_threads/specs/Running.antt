@@ -1,0 +1,133 @@
+-- A program that is run: what each mutator and scanner comes to on its thread, and what is told in the end.
+use Rattle.std.specs.Prelude.{◌≡◌, ⊤, ℕ, ◌+◌, List, [], ◌∷◌, ◌++◌, Some, None}
+use mathlib.Core.List.{IsPrefix}
+use Rattle.atomic_table.specs.Seated.{TableId}
+use Rattle.plain_state.specs.declared.end.End.{End}
+use Rattle.plain_state.specs.declared.end.End.TheVariants.{HeapFull}
+use Rattle.mutator_asm.specs.declared.instr.Instr.{Instr}
+use Rattle.heap_state.specs.Reachable.{IsLive}
+use Rattle.gc_worker.specs.declared.stage.Stage.TheVariants.{Gone}
+use Rattle.gc_worker.specs.Full.{FindsNoRoom}
+use Rattle.gc_worker.specs.Held.{Held}
+use Rattle.gc_worker.specs.Law.{WorkersStand}
+use Rattle.gc_worker.specs.Stepped.{uncounted}
+use Rattle.gc_worker.specs.Turned.{Ends}
+use Rattle.gc_worker.specs.declared.task.Task.{Task}
+use Rattle.ael_threads.specs.declared.view.Call.{Call}
+use Rattle.ael_threads.specs.declared.view.Entry.{Entry}
+use Rattle.ael_threads.specs.declared.view.Entry.TheVariants.{Made}
+use Rattle.ael_threads.specs.declared.view.Plan.{Plan}
+use Rattle.ael_threads.specs.Histories.{IsLegal, after_all, call, first_plain, hand, last_flip}
+use Rattle.ael_threads.specs.Programs.{HasExecuted}
+use Rattle.ael_threads.specs.Readers.{Scanning}
+use Rattle.ael_threads.specs.Rule.{StandsAs, heap_of}
+use Rattle.ael_threads.specs.Seats.{IsMine, Seated, ShowsSeen}
+
+-- ---- a full heap
+
+-- The heap was full for mutator m at its call with which the history ends: by words that its own seat read, with which all workers stood
+-- for the history before the call; and what is told as live was live at the last flip.
+pub record FoundFull (plan : Plan) (m : ℕ) (log : List Entry) (asked room live : ℕ) : Type 0 where
+  pub before : List Entry
+  pub task : Task
+  pub is : log ≡ before ++ Made (call m task (Ends (HeapFull asked room live))) ∷ []
+  pub words : List ℕ
+  pub workers : List Held
+  pub held : Held
+  pub here : StandsAs workers m (uncounted held)
+  pub stands : WorkersStand (heap_of plan words workers) (after_all (first_plain plan) before) (last_flip (first_plain plan) before)
+  pub no_room : FindsNoRoom plan.spaces.pages words held asked room live
+  pub was_live : IsLive (last_flip (first_plain plan) log) live
+
+-- at a call of this history
+abbrev pub FullByEnd : Plan → (m : ℕ) → List Entry → End → Type 0
+FullByEnd plan m log (HeapFull asked room live) = FoundFull plan m log asked room live
+FullByEnd plan m log end = ⊤
+
+-- Mutator m found the heap full, where this is its end, at a call with which a beginning of the history ends.
+pub record FullIn (plan : Plan) (m : ℕ) (log : List Entry) (end : End) : Type 0 where
+  pub upto : List Entry
+  pub begins : IsPrefix upto log
+  pub full : FullByEnd plan m upto end
+
+-- ---- what the threads of a run share
+
+-- a program, the most instructions that a mutator may execute of it, the table of the heap and its plan
+pub record Work : Type 0 where
+  pub code : List (List Instr)
+  pub turns : ℕ
+  pub table : TableId
+  pub plan : Plan
+
+-- ---- a mutator
+
+-- Mutator m has executed so many instructions of the program, and is at the next one: its seat has it alone, each of its calls was of
+-- what it fetched there, and the history that was seen has them all.
+pub record Executing (w : Work) (m count : ℕ) (s : Seated) : Type 0 where
+  pub table : s.table ≡ w.table
+  pub plan : s.knows.plan ≡ w.plan
+  pub own : List Call
+  pub hands : s.knows.hands ≡ hand m s.worker own ∷ []
+  pub mine : IsMine s.knows
+  pub task : s.worker.task ≡ None
+  pub going : s.worker.account.end ≡ None
+  pub legal : IsLegal (first_plain w.plan) s.knows.seen
+  pub executed : HasExecuted w.code w.turns count s
+
+-- It has executed the program to its end.
+pub record Executed (w : Work) (m : ℕ) (s : Seated) : Type 0 where
+  pub table : s.table ≡ w.table
+  pub plan : s.knows.plan ≡ w.plan
+  pub own : List Call
+  pub hands : s.knows.hands ≡ hand m s.worker own ∷ []
+  pub mine : IsMine s.knows
+  pub task : s.worker.task ≡ None
+  pub end : End
+  pub ended : s.worker.account.end ≡ Some end
+  pub shows : ShowsSeen s.worker s.knows
+  pub legal : IsLegal (first_plain w.plan) s.knows.seen
+  pub count : ℕ
+  pub executed : HasExecuted w.code w.turns count s
+  pub full : FullByEnd w.plan m s.knows.seen end
+
+-- and has left
+pub record HasRun (w : Work) (m : ℕ) (s : Seated) : Type 0 where
+  pub executed : Executed w m s
+  pub gone : s.worker.stage ≡ Gone
+
+-- ---- a scanner
+
+-- worker k, which its seat has alone, makes no calls
+pub record IsScanning (w : Work) (k : ℕ) (s : Seated) : Type 0 where
+  pub table : s.table ≡ w.table
+  pub plan : s.knows.plan ≡ w.plan
+  pub hands : s.knows.hands ≡ hand k s.worker [] ∷ []
+  pub task : s.worker.task ≡ None
+
+-- and has seen that all mutators have left
+pub record HasScanned (w : Work) (k : ℕ) (s : Seated) : Type 0 where
+  pub scanning : IsScanning w k s
+  pub gone : s.worker.stage ≡ Gone
+
+-- ---- all workers
+
+-- a fact of each element and its number, counted from this one
+abbrev pub EachFrom : {A : Type 0} → (ℕ → A → Type 0) → ℕ → List A → Type 0
+EachFrom P n [] = ⊤
+EachFrom P n (x ∷ xs) = P n x × EachFrom P (n + 1) xs
+
+-- mutators, numbered from this one on, that are about to execute the program
+abbrev pub AreReady : Work → (from : ℕ) → List Seated → Type 0
+AreReady w from mutators = EachFrom (λ m s. Executing w m 0 s) from mutators
+
+-- and that have executed it
+abbrev pub HaveRun : Work → (from : ℕ) → List Seated → Type 0
+HaveRun w from mutators = EachFrom (HasRun w) from mutators
+
+-- scanners, numbered from this one on
+abbrev pub AreScanning : Work → (from : ℕ) → List Scanning → Type 0
+AreScanning w from scanners = EachFrom (λ k (s : Scanning). IsScanning w k s.seated) from scanners
+
+-- and after their last act
+abbrev pub HaveScanned : Work → (from : ℕ) → List Scanning → Type 0
+HaveScanned w from scanners = EachFrom (λ k (s : Scanning). HasScanned w k s.seated) from scanners

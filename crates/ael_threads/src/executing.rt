@@ -1,0 +1,74 @@
+//! How a mutator executes a program on its thread, and what a scanner does meanwhile.
+
+ghost use Rattle.std.specs.Prelude.{◌≡◌, ℕ, None};
+ghost use Rattle.gc_worker.specs.declared.task.Task.TheVariants.{Stops};
+ghost use Rattle.gc_worker.specs.Fits.{MayStop};
+ghost use Rattle.ael_threads.specs.Calls.{Called};
+ghost use Rattle.ael_threads.specs.Running.{Executed, Executing, HasRun, HasScanned, IsScanning};
+
+use crate::job::Job;
+use crate::mutator::Mutator;
+use crate::pace::Pace;
+use crate::scanner::Scanner;
+use crate::shared::Shared;
+use crate::view::Did;
+use gc_worker::Stepped;
+use plain_state::End;
+use std::sync::Wait;
+
+impl Mutator {
+    /// Executes its section of the program to its end, and leaves.
+    pub(crate) fn runs<R: Wait, P: Pace>(&mut self, rt: &R, job: &Job, pace: &P, m: u8)
+        requires executing { Executing job.now m 0 self.old }
+        ensures { HasRun job.now m self.new }
+    {
+        self.executes(rt, job, pace, m);
+        self.leave(rt, job.heap);
+    }
+
+    /// Executes its section of the program to its end, which comes after as many instructions as it may execute or before.
+    fn executes<R: Wait, P: Pace>(&mut self, rt: &R, job: &Job, pace: &P, m: u8)
+        requires executing { Executing job.now m 0 self.old }
+        ensures { Executed job.now m self.new }
+    {
+        for executed in 0..job.turns {
+            let Some(instr) = job.program.instr(m, self.pc()) else {
+                self.stop(rt, job.heap, End::JumpOut);
+                return;
+            };
+            pace.pass(m, u64::from(executed) + 1);
+            if let Did::Trap(_) = self.exec(rt, job.heap, &instr) {
+                return;
+            }
+        }
+        self.stop(rt, job.heap, End::TurnsOut);
+    }
+
+    /// Gets an end in place of an instruction.
+    fn stop<R: Wait>(&mut self, rt: &R, h: &Shared, end: End)
+        requires table { self.old.table ≡ h.now.table.shared.table_id }
+        requires no_end { self.old.worker.account.end ≡ None }
+        requires no_task { self.old.worker.task ≡ None }
+        requires may_stop { MayStop end }
+        ensures table { self.new.table ≡ self.old.table }
+        ensures called { Called self.old (Stops end) (Did.Trap end) self.new }
+    {
+        self.begin_end(end);
+        self.comes_to(rt, h);
+    }
+}
+
+impl Scanner {
+    /// Makes acts until it has seen that all mutators have left.
+    pub(crate) fn runs<R: Wait, P: Pace>(&mut self, rt: &R, job: &Job, pace: &P)
+        requires { self.old.seated.table ≡ job.now.table }
+        ensures { (k : ℕ) → IsScanning job.now k self.old.seated → HasScanned job.now k self.new.seated }
+    {
+        for _ in rt.forever() {
+            pace.scan(self);
+            if let Stepped::Idle = self.act(job.heap) {
+                return;
+            }
+        }
+    }
+}

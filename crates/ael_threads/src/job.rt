@@ -1,0 +1,24 @@
+//! What all threads of a run share.
+
+ghost use Rattle.std.specs.Prelude.{◌≤◌};
+
+use crate::shared::Shared;
+use mutator_asm::Program;
+use std::marker::Model;
+
+/// A heap, and a program with the most instructions that a mutator may execute of it.
+#[derive(Drop)]
+pub(crate) struct Job<'a> {
+    pub heap: &'a Shared,
+    pub program: &'a Program,
+    pub turns: u32,
+    pub ghost few: { turns ≤ 10000000 },
+}
+
+impl<'a> Model for Job<'a> {
+    ghost use Rattle.ael_threads.specs.Running.{Work};
+
+    ghost Value = { Work };
+
+    ghost view = { λ j. record { code = j.program.now.code; turns = j.turns; table = j.heap.now.table.shared.table_id; plan = j.heap.now.table.shared.key } };
+}

@@ -1,0 +1,152 @@
+//! A runtime of two actors on one heap, each on a thread of its own.
+//!
+//! The sender builds lists of numbers, and leaves each in a box. The receiver takes it out, and makes a checksum of the numbers.
+//! The heap is so small that lists are moved while both work, and those that were read make room for new ones.
+#![tactic(auto)]
+
+mod actor;
+
+ghost use Rattle.std.specs.Prelude.{◌≡◌};
+
+use crate::actor::{Actor, Stop};
+use ael_threads::{Mutator, Reg, Shared};
+use gc_worker::Config;
+use mutator_asm::Instr::{Add, Get, Ld, Li, Mov, Mul, New, Out, Put, St, Swap};
+use mutator_asm::Operand;
+use std::sync::Wait;
+use std::thread::{join, yield_now};
+
+/// How many lists are sent, and how many numbers each has.
+const LISTS: u64 = 40;
+
+const EACH: u64 = 10;
+
+/// A link of a list is a record: a number, and the rest of the list, which is 0 at the end.
+const LINK_LENGTH: Operand = Operand::Number(2);
+
+const NUMBER_FIELD: Operand = Operand::Number(0);
+
+const REST_FIELD: Operand = Operand::Number(1);
+
+/// The box is a word of the board, which holds a list, or 0 where it is empty.
+const LETTERS: Operand = Operand::Number(0);
+
+// What an actor keeps in which register.
+const LIST: u8 = 0;
+
+const LINK: u8 = 1;
+
+const NUMBER: u8 = 2;
+
+const SUM: u8 = 3;
+
+const BASE: u8 = 4;
+
+/// Sends the numbers from 1 on, in lists.
+fn send<R: Wait>(rt: &R, actor: &mut Actor<'_>) -> Result<(), Stop>
+    ensures { actor.new.table ≡ actor.old.table }
+{
+    for list in 0..LISTS {
+        actor.call(rt, Li(LIST, 0))?;
+        for k in 1..=EACH {
+            actor.call(rt, New(LINK, LINK_LENGTH))?;
+            actor.call(rt, Li(NUMBER, list * EACH + k))?;
+            actor.call(rt, St(LINK, NUMBER_FIELD, NUMBER))?;
+            actor.call(rt, St(LINK, REST_FIELD, LIST))?;
+            actor.call(rt, Mov(LIST, LINK))?;
+        }
+        until_empty(rt, actor)?;
+        actor.call(rt, Put(LETTERS, LIST))?;
+    }
+    Ok(())
+}
+
+/// Waits until the box is empty.
+fn until_empty<R: Wait>(rt: &R, actor: &mut Actor<'_>) -> Result<(), Stop>
+    ensures { actor.new.table ≡ actor.old.table }
+{
+    for _ in rt.forever() {
+        actor.call(rt, Get(LINK, LETTERS))?;
+        if actor.reg(LINK) == Reg::Number(0) {
+            break;
+        }
+        yield_now();
+    }
+    Ok(())
+}
+
+/// Takes each list, and makes the checksum: for each number it is multiplied by 31, and the number is added. It is printed.
+fn receive<R: Wait>(rt: &R, actor: &mut Actor<'_>) -> Result<(), Stop>
+    ensures { actor.new.table ≡ actor.old.table }
+{
+    actor.call(rt, Li(BASE, 31))?;
+    for _ in 0..LISTS {
+        take(rt, actor)?;
+        for _ in 0..EACH {
+            actor.call(rt, Ld(NUMBER, LIST, NUMBER_FIELD))?;
+            actor.call(rt, Mul(SUM, SUM, BASE))?;
+            actor.call(rt, Add(SUM, SUM, NUMBER))?;
+            actor.call(rt, Ld(LIST, LIST, REST_FIELD))?;
+        }
+    }
+    actor.call(rt, Out(SUM))
+}
+
+/// Waits for a list, and takes it out of the box.
+fn take<R: Wait>(rt: &R, actor: &mut Actor<'_>) -> Result<(), Stop>
+    ensures { actor.new.table ≡ actor.old.table }
+{
+    actor.call(rt, Li(LIST, 0))?;
+    for _ in rt.forever() {
+        actor.call(rt, Swap(LIST, LETTERS))?;
+        if actor.reg(LIST) != Reg::Number(0) {
+            break;
+        }
+        yield_now();
+    }
+    Ok(())
+}
+
+/// Sends all, and leaves.
+fn sends<R: Wait>(rt: &R, mut actor: Actor<'_>) -> (Mutator, Result<(), Stop>)
+    ensures { result.0.table ≡ actor.entry.table }
+{
+    let sent = send(rt, &mut actor);
+    (actor.leave(rt), sent)
+}
+
+/// Receives all, and leaves.
+fn receives<R: Wait>(rt: &R, mut actor: Actor<'_>) -> (Mutator, Result<(), Stop>)
+    ensures { result.0.table ≡ actor.entry.table }
+{
+    let received = receive(rt, &mut actor);
+    (actor.leave(rt), received)
+}
+
+fn main(rt: HostRuntime) -> Result<(), anyhow::Error> {
+    let config = Config {
+        pages: 4,
+        scanners: 0,
+        turns: 1,
+    };
+    let (heap, mut seats) = Shared::open(rt.alloc(), 2, &config)?;
+    let (Some(receiver), Some(sender)) = (seats.mutators.pop(), seats.mutators.pop()) else {
+        unreachable!()
+    };
+    let ((sender, sent), (receiver, received)) = join(
+        &rt,
+        || sends(&rt, Actor::new(&heap, sender)),
+        || receives(&rt, Actor::new(&heap, receiver)),
+    );
+    sent?;
+    received?;
+    if let [sum] = receiver.outputs() {
+        println!(rt; "checksum {sum}")?;
+    }
+    let moved = sender.epoch() > 0;
+    println!(rt; "records {}, moved {moved}", sender.serial())?;
+    seats.mutators.push(sender)?;
+    seats.mutators.push(receiver)?;
+    let _words = heap.close(seats);
+    Ok(())
+}

@@ -1,0 +1,12 @@
+//! Tests of the heap on threads, over what `ael_threads` offers. They are a crate of their own, since a crate with tests is
+//! proved twice.
+#![tactic(auto)]
+
+#[cfg(test)]
+mod calling;
+#[cfg(test)]
+mod programs;
+#[cfg(test)]
+mod turns;
+#[cfg(test)]
+mod two_threads;

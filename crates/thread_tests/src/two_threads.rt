@@ -1,0 +1,68 @@
+//! Callers on threads of their own.
+
+ghost use Rattle.std.specs.Prelude.{◌≡◌, ◌≤◌, None};
+ghost use Rattle.gc_worker.specs.declared.stage.Stage.TheVariants.{Gone};
+
+use crate::calling::make;
+use ael_threads::{Mutator, Reg, Shared};
+use gc_worker::Config;
+use mutator_asm::{Instr, Operand};
+use plain_state::End;
+use std::process::Abort;
+use std::sync::Wait;
+use std::test::Fail;
+use std::thread::join;
+
+/// How many records of four words each of them makes, which take 13 pages. Of both that is more than a space of 16 pages, so that
+/// the spaces are exchanged; once, since there is room then for what is left, whoever is first.
+const RECORDS: u64 = 200;
+
+const PAGES: u32 = 16;
+
+/// Makes records, reads back what it has stored in each, prints the last one's number, and leaves.
+fn work<R: Wait + Abort>(rt: &R, h: &Shared, mut mutator: Mutator, first: u64) -> Mutator
+    requires table { mutator.table ≡ h.now.table.shared.table_id }
+    requires rests { mutator.worker.task ≡ None }
+    requires small { first ≤ 10000 }
+    ensures table { result.table ≡ mutator.table }
+    ensures left { result.worker.stage ≡ Gone }
+{
+    for k in first..first + RECORDS {
+        make(rt, h, &mut mutator, Instr::New(0, Operand::Number(3)));
+        make(rt, h, &mut mutator, Instr::Li(1, k));
+        make(rt, h, &mut mutator, Instr::St(0, Operand::Number(2), 1));
+        make(rt, h, &mut mutator, Instr::Ld(2, 0, Operand::Number(2)));
+        assert_eq!(rt; mutator.reg(2), Reg::Number(k));
+    }
+    make(rt, h, &mut mutator, Instr::Out(2));
+    mutator.leave(rt, h);
+    mutator
+}
+
+#[test]
+fn callers_on_two_threads_keep_their_own(rt: HostRuntime) -> Result<(), Fail> {
+    let config = Config {
+        pages: PAGES,
+        scanners: 0,
+        turns: 1,
+    };
+    let (h, mut seats) = Shared::open(rt.alloc(), 2, &config)?;
+    let (Some(second), Some(first)) = (seats.mutators.pop(), seats.mutators.pop()) else {
+        unreachable!()
+    };
+    let (mut first, second) = join(
+        &rt,
+        || work(&rt, &h, first, 1000),
+        || work(&rt, &h, second, 5000),
+    );
+    let printed = (first.outputs(), second.outputs());
+    assert_eq!(rt; printed, (&[1199][..], &[5199][..]));
+    assert_eq!(rt; (first.serial(), second.serial()), (RECORDS, RECORDS));
+    let halted = Some(End::Halt);
+    assert_eq!(rt; (first.ended(), second.ended()), (halted, halted));
+    assert_eq!(rt; first.epoch().max(second.epoch()), 1);
+    first.absorb(&h, second);
+    seats.mutators.push(first)?;
+    let _words = h.close(seats);
+    Ok(())
+}
