@@ -14,7 +14,5 @@ pub mod Counting
 pub mod CoreSteps
 pub mod Telling
 pub mod CoreReads
-pub mod Lone
-pub mod LoneEnds
 pub mod Ending
 pub mod Told

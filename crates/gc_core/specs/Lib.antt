@@ -9,6 +9,5 @@ pub mod Fulls
 pub mod Whole
 pub mod Cycles
 pub mod Needs
-pub mod Lone
 pub mod Inside
 pub mod Told

@@ -2,7 +2,6 @@
 
 ghost use Rattle.gc_core.specs.Cycles.{CyclesKeepWhatIsLive, FullHeapsAreFilled, InstructionsFlipOnce};
 ghost use Rattle.gc_core.specs.Law.{EventsMeet, IsLawful};
-ghost use Rattle.gc_core.specs.Lone.{LoneMutatorsGoOn, LoneRunsEnd};
 ghost use Rattle.gc_core.specs.Needs.{ClaimsAreForRecords, LargeHeapsAreNeverFull, LoneFullsFollowTheirFlips, LoneHeapsAreNeverFull, OrdersFillTheSpace};
 ghost use Rattle.gc_core.specs.Told.{WhatStandsIsTold};
 ghost use Rattle.gc_core.specs.Whole.{CopiedPagesAreWonOnce, FlipsAreOfTracedCores, FullsFollowFlips, MissingWorkersAreIdle, NoPageIsWonTwice, RunsArePlainRuns, RunsFollow};
@@ -84,17 +83,6 @@ pub fn large_heaps_are_never_full()
 pub fn copied_pages_are_won_once()
     ensures won { CopiedPagesAreWonOnce }
     ensures flips { FlipsAreOfTracedCores }
-{}
-
-/// A mutator that has the core to itself gets on: in any number of steps it comes to its end, or has executed an instruction for each time
-/// that the most steps of one are in them.
-pub fn lone_mutators_go_on()
-    ensures { LoneMutatorsGoOn }
-{}
-
-/// It has its end after as many steps as the instructions for which it has turns, and one more, can take.
-pub fn lone_runs_end()
-    ensures { LoneRunsEnd }
 {}
 
 /// What is told of a heap that stands for a plain state, whoever stepped its workers, is so: what is seen of the mutators, what a dump says,

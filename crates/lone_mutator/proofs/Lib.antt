@@ -19,3 +19,5 @@ pub mod Executing
 pub mod Whole
 pub mod Opening
 pub mod Beginning
+pub mod Runs
+pub mod Ends

@@ -5,3 +5,4 @@ pub mod Copies
 pub mod Potential
 pub mod Lone
 pub mod Law
+pub mod Runs

@@ -2,16 +2,16 @@
 use Rattle.std.proofs.Common.{◌≡◌, ℕ, zero, suc, ◌+◌, ◌*◌, ◌/◌, ◌<◌, ◌≤◌, inl, inr, Bool, true, false, cond, List, [], ◌∷◌, length, refl, ap, arith}
 use Rattle.std.proofs.Math.Nat.{div-lt_iff_lt-mul}
 use Rattle.mutator_asm.specs.declared.instr.Instr.{Instr}
-use Rattle.lone_mutator.specs.Bound.{most_steps}
-use Rattle.lone_mutator.proofs.Bound.{costs_lt_most}
 use Rattle.gc_worker.specs.Marks.{mark_of}
 use Rattle.gc_core.specs.Core.{CoreState, opening_core}
 use Rattle.gc_core.specs.Event.{core_after, event_of}
 use Rattle.gc_core.specs.Law.{IsLawful}
-use Rattle.gc_core.specs.Lone.{KeepsPace, LoneMutatorsGoOn, LoneRunsEnd, executed_by, has_end}
 use Rattle.gc_core.specs.Run.{Ran, after_event, all_ended, run_from}
 use Rattle.gc_core.proofs.Begun.{size_fits}
 use Rattle.gc_core.proofs.Lawful.{lawful_after, lawful_opening}
+use Rattle.lone_mutator.specs.Bound.{most_steps}
+use Rattle.lone_mutator.specs.Runs.{KeepsPace, LoneMutatorsGoOn, LoneRunsEnd, executed_by, has_end}
+use Rattle.lone_mutator.proofs.Bound.{costs_lt_most}
 
 -- ---- the last core
 

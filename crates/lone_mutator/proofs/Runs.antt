@@ -23,21 +23,21 @@ use Rattle.gc_worker.specs.Wanted.{wanted}
 use Rattle.gc_worker.proofs.Between.Beginning.{tasks_may_begin}
 use Rattle.gc_worker.proofs.Between.Readying.{readying_stands}
 use Rattle.gc_worker.proofs.Between.Wanting.{workers_want}
-use Rattle.lone_mutator.specs.Bound.{most_steps}
-use Rattle.lone_mutator.specs.Law.{AfterStep}
-use Rattle.lone_mutator.specs.Lone.{IsLone, potential}
-use Rattle.lone_mutator.proofs.Beginning.{tasks_begin}
-use Rattle.lone_mutator.proofs.Opening.{heaps_open}
-use Rattle.lone_mutator.proofs.Whole.{lone_steps_lower}
 use Rattle.gc_core.specs.Core.{CoreState, opening_core, is_size}
 use Rattle.gc_core.specs.Event.{Event, event_of, core_after, ready, next_task}
 use Rattle.gc_core.specs.Law.{IsLawful}
-use Rattle.gc_core.specs.Lone.{has_end, executed_by, KeepsPace, LoneMutatorsGoOn}
 use Rattle.gc_core.specs.Run.{all_ended, run_from}
 use Rattle.gc_core.proofs.Begun.{size_fits}
 use Rattle.gc_core.proofs.Counting.{at_look}
 use Rattle.gc_core.proofs.Readied.{readied_awaits, readied_rests}
 use Rattle.gc_core.proofs.Lawful.{event_none, event_some, lawful_after, lawful_opening, may_be_given, workers_after}
+use Rattle.lone_mutator.specs.Bound.{most_steps}
+use Rattle.lone_mutator.specs.Law.{AfterStep}
+use Rattle.lone_mutator.specs.Lone.{IsLone, potential}
+use Rattle.lone_mutator.specs.Runs.{has_end, executed_by, KeepsPace, LoneMutatorsGoOn}
+use Rattle.lone_mutator.proofs.Beginning.{tasks_begin}
+use Rattle.lone_mutator.proofs.Opening.{heaps_open}
+use Rattle.lone_mutator.proofs.Whole.{lone_steps_lower}
 
 -- ---- its end
 

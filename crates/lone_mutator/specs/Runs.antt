@@ -5,9 +5,9 @@ use Rattle.mutator_asm.specs.declared.item.Item.{Item}
 use Rattle.mutator_asm.specs.Program.{IsWellFormed}
 use Rattle.gc_worker.specs.declared.config.Config.{Config}
 use Rattle.gc_worker.specs.Law.{held_at}
-use Rattle.lone_mutator.specs.Bound.{most_steps}
 use Rattle.gc_core.specs.Core.{CoreState, most_turns, opening_core, is_size}
 use Rattle.gc_core.specs.Run.{run_from}
+use Rattle.lone_mutator.specs.Bound.{most_steps}
 
 -- mutator m has its end
 abbrev pub has_end : CoreState → (m : ℕ) → Bool
