@@ -25,6 +25,20 @@ fn loses(rt: &impl Abort, core: &mut Core<'_>, worker: u8, place: usize) {
     assert_eq!(rt; word(core, place), before);
 }
 
+/// So many scanners sleep before their claims of the board, whose word is at this place, until the next flip is past.
+fn check_past(rt: &impl Abort, core: &mut Core<'_>, scanners: u8, board: usize) {
+    until_cycle(rt, core, 0, 1);
+    assert_eq!(rt; core.live_words(), None, "the epoch is not traced");
+    for scanner in 1..=scanners {
+        until_exchange(rt, core, scanner, board);
+    }
+    until_cycle(rt, core, 0, 2);
+    for scanner in 1..=scanners {
+        loses(rt, core, scanner, board);
+    }
+    check_end(rt, core, &GARBAGE);
+}
+
 #[test]
 fn claims_of_an_epoch_that_is_past_are_lost(rt: HostRuntime) -> Result<(), Fail> {
     let spaces = Spaces::new(GARBAGE.pages)?;
@@ -32,43 +46,49 @@ fn claims_of_an_epoch_that_is_past_are_lost(rt: HostRuntime) -> Result<(), Fail>
     let program = program(rt.alloc(), GARBAGE.lines)?;
     for scanners in [1, 8] {
         let mut core = open(rt.alloc(), &program, GARBAGE.pages, scanners)?;
-        until_cycle(&rt, &mut core, 0, 1);
-        assert_eq!(rt; core.live_words(), None, "the epoch is not traced");
-        for scanner in 1..=scanners {
-            until_exchange(&rt, &mut core, scanner, board);
-        }
-        until_cycle(&rt, &mut core, 0, 2);
-        for scanner in 1..=scanners {
-            loses(&rt, &mut core, scanner, board);
-        }
-        check_end(&rt, &mut core, &GARBAGE);
+        check_past(&rt, &mut core, scanners, board);
     }
     Ok(())
 }
 
-/// All workers are about to claim the board, after the first flip, and this one claims it first.
+/// All workers are about to claim the board, whose word is at this place.
+fn all_claim(rt: &impl Abort, core: &mut Core<'_>, board: usize) {
+    for worker in 0..core.workers() {
+        let old = until_exchange(rt, core, worker, board);
+        assert_eq!(rt; word(core, board), old, "{worker} would lose");
+    }
+}
+
+/// The board was claimed by this worker, so that all others lose.
+fn others_lose(rt: &impl Abort, core: &mut Core<'_>, first: u8, board: usize) {
+    for worker in 0..core.workers() {
+        if worker != first {
+            loses(rt, core, worker, board);
+        }
+    }
+}
+
+/// Both mutators come to their ends, and have printed what they read.
+fn check_printed(rt: &impl Abort, core: &mut Core<'_>) {
+    by_turns_to_the_end(rt, core);
+    for m in 0..2 {
+        assert_eq!(rt; printed(rt, core, m), (&[7][..], Some(End::Halt)));
+    }
+}
+
+/// After the first flip all workers are about to claim the board, and this one claims it first.
 fn check_first(rt: &impl Abort, core: &mut Core<'_>, spaces: Spaces, first: u8) {
     let board = spaces.page_place(spaces.board_page());
     executes(rt, core, 0, 4);
     executes(rt, core, 1, 5);
     until_request(rt, core, spaces, 0);
     until_all_came(rt, core, spaces, 2, 1);
-    for worker in 0..core.workers() {
-        let old = until_exchange(rt, core, worker, board);
-        assert_eq!(rt; word(core, board), old, "{worker} would lose");
-    }
+    all_claim(rt, core, board);
     assert_eq!(rt; step(rt, core, first), Stepped::Moved);
     let claimed = Some(PageWord::Scanning(1, first));
     assert_eq!(rt; page_word(core, spaces, spaces.board_page()), claimed);
-    for worker in 0..core.workers() {
-        if worker != first {
-            loses(rt, core, worker, board);
-        }
-    }
-    by_turns_to_the_end(rt, core);
-    for m in 0..2 {
-        assert_eq!(rt; printed(rt, core, m), (&[7][..], Some(End::Halt)));
-    }
+    others_lose(rt, core, first, board);
+    check_printed(rt, core);
 }
 
 #[test]

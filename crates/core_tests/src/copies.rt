@@ -2,6 +2,7 @@ use crate::rows::{FAN, GARBAGE, Row, check_end};
 use crate::stepping::{open, page_word, program, step, turn, until_all_came, until_cycle};
 use gc_core::Core;
 use space_map::{PageWord, Spaces};
+use std::alloc::Global;
 use std::process::Abort;
 use std::test::Fail;
 
@@ -89,15 +90,21 @@ fn check_stop(rt: &impl Abort, core: &mut Core<'_>, spaces: Spaces, stops: &Stop
     check_end(rt, core, &stops.row);
 }
 
+/// The sleeper stops after each of its steps up to the copy's publishing, in a heap of its own each time.
+fn check_stops(rt: &impl Abort, alloc: Global, stops: &Stops) -> Result<(), Fail> {
+    let spaces = Spaces::new(stops.row.pages)?;
+    let program = program(alloc, stops.row.lines)?;
+    for steps in 0..=stops.published {
+        let mut core = open(alloc, &program, stops.row.pages, stops.scanners)?;
+        check_stop(rt, &mut core, spaces, stops, steps);
+    }
+    Ok(())
+}
+
 #[test]
 fn a_page_with_an_unfinished_copy_is_not_claimed(rt: HostRuntime) -> Result<(), Fail> {
     for stops in &ROWS {
-        let spaces = Spaces::new(stops.row.pages)?;
-        let program = program(rt.alloc(), stops.row.lines)?;
-        for steps in 0..=stops.published {
-            let mut core = open(rt.alloc(), &program, stops.row.pages, stops.scanners)?;
-            check_stop(&rt, &mut core, spaces, stops, steps);
-        }
+        check_stops(&rt, rt.alloc(), stops)?;
     }
     Ok(())
 }

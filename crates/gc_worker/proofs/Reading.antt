@@ -18,16 +18,24 @@ use Rattle.plain_heap.specs.Action.{action, register}
 use Rattle.gc_worker.specs.Fits.{FitsStage, IsMaking}
 use Rattle.gc_worker.specs.Held.{Held, at_stage, header_of, making_for}
 use Rattle.gc_worker.specs.declared.stage.Stage.{Stage}
-use Rattle.gc_worker.specs.Turned.{back_from, first_pointer, places, scans, served_by}
-use Rattle.gc_worker.specs.Stepped.{IsOfTask, seen_by, served_in}
+use Rattle.gc_worker.specs.declared.stage.Stage.TheVariants.{Forwards, Serves}
+use Rattle.gc_worker.specs.Turned.{Pointed, back_from, first_pointer, forwarded_to, forwards_from, forwards_it, places, scans, served_by, turned, turned_at, turned_register, turned_round, with_evac}
+use Rattle.gc_worker.specs.Stepped.{IsOfTask, seen_by, served_in, uncounted}
 use Rattle.gc_worker.specs.declared.task.Task.TheVariants.{Calls}
 use Rattle.mutator_asm.specs.declared.instr.Instr.{Instr}
 use Rattle.plain_heap.specs.declared.action.Action.{Action}
 use Rattle.plain_heap.specs.declared.action.Action.TheVariants.{Sets, Jumps, Links, Prints, Makes, Measures, Loads, Stores, Gets, Puts, Swaps}
 use Rattle.plain_state.specs.declared.end.End.{End}
+use Rattle.gc_worker.specs.declared.after.After.{After}
+use Rattle.gc_worker.specs.declared.forwarding_register.ForwardingRegister.{ForwardingRegister}
 use Rattle.gc_worker.specs.declared.back.Back.{Back}
 use Rattle.gc_worker.specs.declared.back.Back.TheVariants.{ToAccess, ToPlace, ToScanner}
 use Rattle.fault_duty.specs.Duty.{Round}
+use Rattle.fault_duty.specs.Duty as duty
+use Rattle.forwarding.specs.declared.to.To.{To}
+use Rattle.forwarding.specs.Taken as evac_taken
+use Rattle.atom_store.specs.declared.reply.Reply.{Reply}
+use Rattle.atom_store.specs.declared.turn.Turn.TheVariants.{Finished}
 use Rattle.fault_duty.specs.declared.round_end.RoundEnd.{RoundEnd}
 use Rattle.fault_duty.specs.declared.round_end.RoundEnd.TheVariants.{ScanPage, ScanInPlace, Marked, AllLeft, NothingNow}
 use Rattle.gc_worker.specs.declared.task.Task.{Task}
@@ -162,6 +170,22 @@ pub no_pointer_left : (rs : List ℕ) (i : ℕ) → 8 ≤ i → first_pointer rs
 unfolding first_pointer
 no_pointer_left rs i past = let n : 8 - i ≡ 0 = omega arith in rw n
 
+forwards_anywhere : (x : Held) (was : Stage) (after : After) (o : Option Pointed) → forwards_it (at_stage x was) after o ≡ forwards_it x after o
+forwards_anywhere x was after (Some p) = refl
+forwards_anywhere x was after None = refl
+
+-- the next registers are forwarded whatever the stage was before
+pub forwards_on : (x : Held) (was : Stage) (after : After) (j : ℕ)
+    → at_stage x (forwards_from (at_stage x was) after j) ≡ at_stage x (forwards_from x after j)
+forwards_on x was after j = ap (at_stage x) (forwards_anywhere x was after (first_pointer x.registers (8 - j) j))
+
+-- the worker after the last step of a register's copy
+pub register_turned : (x : Held) (w : ForwardingRegister) (reply : Reply) (to : To)
+    → x.stage ≡ Forwards w → evac_taken.told (evac_taken.taken w.evac reply).stage ≡ Finished to → turned x reply ≡ forwarded_to x w to
+register_turned x w reply to at ends =
+    ap (λ (s : Stage). turned_at x s reply) at
+    ∙ ap (turned_register x (with_evac w (evac_taken.taken w.evac reply))) ends
+
 -- ---- who makes a record
 
 -- the serial of the record fits a header
@@ -206,6 +230,26 @@ pub served_fits : (x : Held) (was : Stage) (d : Round) (epoch : ℕ) (back : Bac
     → FitsStage (served_in (at_stage x was) epoch back end) (served_in (at_stage x was) epoch back end).stage
 served_fits x was d epoch back end is fits =
     let Fitting : Held → Type 0 = λ y. FitsStage y y.stage in subst Fitting (sym (served_after x was d epoch back end is)) fits
+
+pub served_uncounted : (x : Held) (d : Round) (back : Back) (end : RoundEnd)
+    → uncounted (served_by (uncounted x) d back end) ≡ served_by (uncounted x) d back end
+served_uncounted x d back (ScanPage page) = refl
+served_uncounted x d back (ScanInPlace page) = refl
+served_uncounted x d (ToAccess access) Marked = refl
+served_uncounted x d ToPlace Marked = refl
+served_uncounted x d ToScanner Marked = refl
+served_uncounted x d (ToAccess access) (NothingNow word) = refl
+served_uncounted x d ToPlace (NothingNow word) = refl
+served_uncounted x d ToScanner (NothingNow word) = refl
+served_uncounted x d back (AllLeft word) = refl
+
+-- the worker after the last step of a round
+pub round_turned : (x : Held) (d done : Round) (back : Back) (reply : Reply) (end : RoundEnd)
+    → x.stage ≡ Serves d back → done ≡ duty.taken d reply → duty.told done ≡ Finished end → turned x reply ≡ served_by x done back end
+round_turned x d done back reply end at steps ends =
+    ap (λ (s : Stage). turned_at x s reply) at
+    ∙ ap (λ (r : Round). turned_round x r back (duty.told r)) (sym steps)
+    ∙ ap (turned_round x done back) ends
 
 -- ---- actions
 

@@ -1,6 +1,7 @@
 pub mod Passing
 pub mod Firsts
 pub mod Lists
+pub mod OperandLists
 pub mod Options
 pub mod Numerals
 pub mod Programs

@@ -8,7 +8,7 @@ ghost use Rattle.mutator_asm.specs.Text.{items_on};
 use crate::line::Line;
 
 /// How much stands before a line.
-#[derive(Clone, Copy, Debug, PartialEq, Eq)]
+#[derive(Clone, Copy)]
 pub struct Before {
     /// The sections that were begun.
     pub sections: usize,

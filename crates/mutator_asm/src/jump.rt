@@ -6,7 +6,7 @@ ghost use Rattle.mutator_asm.specs.Instr.{jump_to};
 use crate::instr::Instr;
 
 /// A jump, without its target.
-#[derive(Clone, Copy, Debug, PartialEq, Eq)]
+#[derive(Clone, Copy)]
 pub enum Jump {
     /// `jmp L`.
     Always,

@@ -19,7 +19,7 @@ use crate::token::{is_name, label, register, tokens};
 use std::alloc::{AllocError, Global};
 
 /// What a line has beside its label.
-#[derive(Debug, Drop)]
+#[derive(Drop)]
 pub enum Word<'a> {
     /// Nothing.
     Nothing,
@@ -37,7 +37,7 @@ pub enum Word<'a> {
 }
 
 /// A line.
-#[derive(Debug, Drop)]
+#[derive(Drop)]
 pub struct Line<'a> {
     pub label: Option<&'a [u8]>,
     pub word: Word<'a>,

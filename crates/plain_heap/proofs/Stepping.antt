@@ -6,6 +6,7 @@ use Rattle.std.proofs.lemmas.Option.{slice_get_read}
 use Rattle.plain_state.specs.declared.end.End.{End}
 use Rattle.plain_state.specs.State.{Heap, Mutator, Plain}
 use Rattle.mutator_asm.specs.declared.instr.Instr.{Instr}
+use Rattle.plain_heap.specs.Memory.{StepTakesMemory, TurnTakesMemory}
 use Rattle.plain_heap.specs.Step.{executes, settled, stepped_if, stepped_as, mutator_in, stepped}
 
 cond_same : (b : Bool) (k : Option Mutator) → cond b k k ≡ k
@@ -37,14 +38,26 @@ stepped_if-none : (code : List (List Instr)) (turns : ℕ) (s : Plain) (m : ℕ)
 stepped_if-none code turns s m k None h = refl
 stepped_if-none code turns s m k (Some why) h = cc
 
+-- nothing changes where mutator m stays as it is
+pub written_back : (heap : Heap) (ks : List Mutator) (m : ℕ) (k : Mutator) → k ≡ get_or ks m k → state heap (slice_set ks m k) ≡ state heap ks
+written_back heap ks m k is = rw is (ap (state heap) (set-get_or ks m k))
+
+none_if : (end : Option End) → is_some end ≡ false → end ≡ None
+none_if None h = refl
+none_if (Some why) h = cc
+
 module _ (code : List (List Instr)) (turns : ℕ) (heap : Heap) (ks : List Mutator) (m : ℕ) (k : Mutator) (has : m < length code) (within : m < length ks) (is : k ≡ get_or ks m k) where
   found : mutator_in code (state heap ks) m ≡ Some k
   found = rw (lt-ltb m (length code) has) (slice_get_read ks (length ks) m k refl within is)
 
+  -- its turn is the step
+  pub step-takes_memory : is_some k.end ≡ false → TurnTakesMemory code turns m heap k → StepTakesMemory code turns (state heap ks) m
+  step-takes_memory no_end takes = record { mutator = k; is_there = slice_get_read ks (length ks) m k refl within is; no_end = none_if k.end no_end; turn = takes }
+
   -- it has its end
   pub stepped-ended : is_some k.end ≡ true → state heap (slice_set ks m k) ≡ stepped code turns (state heap ks) m
   unfolding stepped
-  stepped-ended has_end = rw (found, stepped_if-some code turns (state heap ks) m k k.end has_end) (rw is (ap (state heap) (set-get_or ks m k)))
+  stepped-ended has_end = rw (found, stepped_if-some code turns (state heap ks) m k k.end has_end) (written_back heap ks m k is)
 
   stepped-settled : is_some k.end ≡ false → stepped code turns (state heap ks) m ≡ settled (state heap ks) m k (executes code turns m heap k)
   unfolding stepped

@@ -1,26 +1,46 @@
+use crate::asserting::assert_same;
 use dump_text::{DumpError, Kept, read};
 use plain_state::NoMemory;
 use std::alloc::Global;
 
+/// Adds the text so many times.
+fn add(out: &mut String, text: &str, times: u32) -> Result<(), NoMemory> {
+    for _ in 0..times {
+        out.push_str(text)?;
+    }
+    Ok(())
+}
+
 /// A dump of 4 pages with one mutator and one worker, whose table has so many words, each 0.
 fn printed(alloc: Global, words: u32) -> Result<String, NoMemory> {
     let mut out = String::new(alloc);
-    out.push_str("dump 4 1 1\n")?;
-    out.push_str("0000000000000401 000000000000001c 0000000000000601 0000000000000000 ")?;
-    out.push_str("0000000000000000 0000000000000000 0000000000000000 fedcba9876543210\n")?;
-    out.push_str("0000000000010022 0000000000000101\n")?;
-    for _ in 0..words {
-        out.push_str("0000000000000000\n")?;
-    }
+    add(&mut out, "dump 4 1 1\n", 1)?;
+    add(
+        &mut out,
+        "0000000000000401 000000000000001c 0000000000000601 ",
+        1,
+    )?;
+    add(&mut out, "0000000000000000 ", 4)?;
+    add(
+        &mut out,
+        "fedcba9876543210\n0000000000010022 0000000000000101\n",
+        1,
+    )?;
+    add(&mut out, "0000000000000000\n", words)?;
     Ok(out)
+}
+
+/// The line that an error names.
+fn named(error: DumpError) -> Option<u32> {
+    match error {
+        DumpError::Bad { line } => Some(line),
+        DumpError::NoMemory => None,
+    }
 }
 
 /// The first wrong line, where the text is no dump.
 fn wrong_line(alloc: Global, text: &str) -> Option<u32> {
-    match read(alloc, text.as_bytes()) {
-        Err(DumpError::Bad { line }) => Some(line),
-        _ => None,
-    }
+    named(read(alloc, text.as_bytes()).err()?)
 }
 
 #[test]
@@ -28,22 +48,20 @@ fn a_dump_is_read_back(rt: HostRuntime) -> Result<(), NoMemory> {
     let text = printed(rt.alloc(), 633)?;
     match read(rt.alloc(), text.as_str().as_bytes()) {
         Ok(dump) => {
-            assert_eq!(rt; dump.pages, 4);
-            assert_eq!(rt;
-                dump.registers.as_slice(),
-                [[0x401, 0x1c, 0x601, 0, 0, 0, 0, 0xfedc_ba98_7654_3210]].as_slice()
+            assert_same(&rt, &dump.pages, &4);
+            assert_same(
+                &rt,
+                &dump.registers.as_slice(),
+                &[[0x401, 0x1c, 0x601, 0, 0, 0, 0, 0xfedc_ba98_7654_3210]].as_slice(),
             );
-            assert_eq!(rt;
-                dump.kept.as_slice(),
-                [Kept {
-                    header: 0x10022,
-                    place: 0x101,
-                }]
-                .as_slice()
-            );
-            assert_eq!(rt; dump.words.len(), 633);
+            let kept = Kept {
+                header: 0x10022,
+                place: 0x101,
+            };
+            assert_same(&rt, &dump.kept.as_slice(), &[kept].as_slice());
+            assert_same(&rt, &dump.words.len(), &633);
         }
-        Err(error) => assert_eq!(rt; error, DumpError::NoMemory),
+        Err(error) => assert_same(&rt, &error, &DumpError::NoMemory),
     }
     Ok(())
 }
@@ -63,11 +81,11 @@ fn the_first_wrong_line_is_told(rt: HostRuntime) -> Result<(), NoMemory> {
         ("dump 4 1 1\n000000000000000G", 2),
     ];
     for (text, line) in rows {
-        assert_eq!(rt; wrong_line(rt.alloc(), text), Some(line));
+        assert_same(&rt, &wrong_line(rt.alloc(), text), &Some(line));
     }
     let short = printed(rt.alloc(), 632)?;
-    assert_eq!(rt; wrong_line(rt.alloc(), short.as_str()), Some(636));
+    assert_same(&rt, &wrong_line(rt.alloc(), short.as_str()), &Some(636));
     let long = printed(rt.alloc(), 634)?;
-    assert_eq!(rt; wrong_line(rt.alloc(), long.as_str()), Some(637));
+    assert_same(&rt, &wrong_line(rt.alloc(), long.as_str()), &Some(637));
     Ok(())
 }

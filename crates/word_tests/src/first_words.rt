@@ -1,3 +1,4 @@
+use crate::asserting::assert_same;
 use record_layout::{
     Busy, Forward, Header, Kind, pack, pack_busy, pack_forward, read, read_busy, read_forward,
 };
@@ -16,15 +17,17 @@ fn first_words_are_spelled_as_their_format_says(rt: HostRuntime) {
         serial: 3,
         mutator: 1,
     };
-    assert_eq!(rt; pack(&fields), 0x0000_0000_0001_0022);
-    assert_eq!(rt; pack(&raw), 0x0100_0000_0003_0646);
-    assert_eq!(rt;
-        pack_forward(&Forward { len: 2, addr: 512 }),
-        0x0000_0000_0200_0023
+    assert_same(&rt, &pack(&fields), &0x0000_0000_0001_0022);
+    assert_same(&rt, &pack(&raw), &0x0100_0000_0003_0646);
+    assert_same(
+        &rt,
+        &pack_forward(&Forward { len: 2, addr: 512 }),
+        &0x0000_0000_0200_0023,
     );
-    assert_eq!(rt;
-        pack_busy(&Busy { len: 2, worker: 1 }),
-        0x0000_0000_0001_0027
+    assert_same(
+        &rt,
+        &pack_busy(&Busy { len: 2, worker: 1 }),
+        &0x0000_0000_0001_0027,
     );
 }
 
@@ -36,23 +39,25 @@ fn first_words_read_as_what_they_are(rt: HostRuntime) {
         serial: 3,
         mutator: 1,
     };
-    assert_eq!(rt; read(0x0100_0000_0003_0646), Some(raw));
-    assert_eq!(rt; read(0x0000_0000_0200_0023), None);
-    assert_eq!(rt;
-        read_forward(0x0000_0000_0200_0023),
-        Some(Forward { len: 2, addr: 512 })
+    assert_same(&rt, &read(0x0100_0000_0003_0646), &Some(raw));
+    assert_same(&rt, &read(0x0000_0000_0200_0023), &None);
+    assert_same(
+        &rt,
+        &read_forward(0x0000_0000_0200_0023),
+        &Some(Forward { len: 2, addr: 512 }),
     );
-    assert_eq!(rt; read_forward(0x0000_0000_0001_0027), None);
-    assert_eq!(rt;
-        read_busy(0x0000_0000_0001_0027),
-        Some(Busy { len: 2, worker: 1 })
+    assert_same(&rt, &read_forward(0x0000_0000_0001_0027), &None);
+    assert_same(
+        &rt,
+        &read_busy(0x0000_0000_0001_0027),
+        &Some(Busy { len: 2, worker: 1 }),
     );
-    assert_eq!(rt; read_busy(0x0000_0000_0200_0023), None);
+    assert_same(&rt, &read_busy(0x0000_0000_0200_0023), &None);
 }
 
 #[test]
 fn words_with_a_stray_bit_are_refused(rt: HostRuntime) {
-    assert_eq!(rt; read(0x0000_0000_0001_002a), None);
-    assert_eq!(rt; read_forward(0x0001_0000_0200_0023), None);
-    assert_eq!(rt; read_busy(0x0000_0000_0101_0027), None);
+    assert_same(&rt, &read(0x0000_0000_0001_002a), &None);
+    assert_same(&rt, &read_forward(0x0001_0000_0200_0023), &None);
+    assert_same(&rt, &read_busy(0x0000_0000_0101_0027), &None);
 }

@@ -1,21 +1,34 @@
+use crate::asserting::assert_same;
 use heap_words::{Tag, Word};
+
+fn tag_of(word: u64) -> Tag {
+    Word(word).tag()
+}
+
+fn number_in(word: u64) -> Option<u64> {
+    Word(word).as_number()
+}
+
+fn pointer_in(word: u64) -> Option<u32> {
+    Word(word).as_pointer()
+}
 
 #[test]
 fn words_are_spelled_as_their_format_says(rt: HostRuntime) {
-    assert_eq!(rt; Word::number(7).0, 0x0000_0000_0000_001c);
-    assert_eq!(rt; Word::pointer(300).0, 0x0000_0000_0000_04b1);
+    assert_same(&rt, &Word::number(7).0, &0x0000_0000_0000_001c);
+    assert_same(&rt, &Word::pointer(300).0, &0x0000_0000_0000_04b1);
 }
 
 #[test]
 fn words_are_read_by_their_tags(rt: HostRuntime) {
-    let header = Word(0x0100_0000_0003_0646);
-    let forward = Word(0x0000_0000_0200_0023);
-    let far = Word(0x0000_0004_0000_0001);
-    assert_eq!(rt; Word(0x1c).as_number(), Some(7));
-    assert_eq!(rt; Word(0x4b1).as_pointer(), Some(300));
-    assert_eq!(rt; far.tag(), Tag::Pointer);
-    assert_eq!(rt; far.as_pointer(), None);
-    assert_eq!(rt; header.tag(), Tag::Header);
-    assert_eq!(rt; header.as_number(), None);
-    assert_eq!(rt; forward.tag(), Tag::Forward);
+    let header = 0x0100_0000_0003_0646;
+    let forward = 0x0000_0000_0200_0023;
+    let far = 0x0000_0004_0000_0001;
+    assert_same(&rt, &number_in(0x1c), &Some(7));
+    assert_same(&rt, &pointer_in(0x4b1), &Some(300));
+    assert_same(&rt, &tag_of(far), &Tag::Pointer);
+    assert_same(&rt, &pointer_in(far), &None);
+    assert_same(&rt, &tag_of(header), &Tag::Header);
+    assert_same(&rt, &number_in(header), &None);
+    assert_same(&rt, &tag_of(forward), &Tag::Forward);
 }

@@ -1,4 +1,5 @@
-use Rattle.std.proofs.Common.{ap, ◌∙◌}
+use Rattle.std.proofs.lemmas.Grind.{common_steps}
+use Rattle.std.proofs.Common.{arith, ap, ◌∙◌}
 use Rattle.mutator_asm.specs.declared.line.Line.{Line as Read}
 use Rattle.mutator_asm.specs.Read.{line_view}
 use Rattle.mutator_asm.specs.Text.{items_on}
@@ -7,3 +8,6 @@ use Rattle.mutator_asm.proofs.text.schedule.Goals as goal
 
 pub loop-line-preserved : goal.loop-line-preserved
 loop-line-preserved c = c.in_ok-extend_from_slice.ensures.items ∙ gathered_more items_on line_view c.args.lines.now c.loop-line.line-index c.line-item.result _ _ c.loop-line-test.true c.loop-line.invariant (c.items.ensures ∙ ap (λ (l : Read). items_on (line_view l)) c.line-item.is)
+
+pub returns : goal.returns
+returns c = grind (arith, common_steps)

@@ -1,7 +1,8 @@
 use Rattle.std.proofs.Common.{◌≤◌, length, sym, rules, arith}
 use Rattle.std.proofs.lemmas.Grind.{common_steps}
 use Rattle.std.proofs.lemmas.Option.{slice_get_past}
-use Rattle.plain_heap.proofs.Stepping.{stepped-past, stepped-none, stepped-ended, stepped-executed, stepped-stopped}
+use Rattle.std.proofs.lemmas.List.{get_or_read}
+use Rattle.plain_heap.proofs.Stepping.{stepped-past, stepped-none, stepped-ended, stepped-executed, stepped-stopped, written_back, step-takes_memory}
 use Rattle.plain_heap.proofs.state.plain_step.Goals.{in-Ok, in-Err-Ended, in-Err-OutOfMemory}
 use Rattle.plain_heap.proofs.state.plain_step.Goals as goal
 
@@ -22,3 +23,17 @@ pub returns-then-m-len-clause-ok : goal.returns-then-m-len-clause-ok
 returns-then-m-len-clause-ok c =
     let past : length c.args.p.now.code ≤ c.args.m = omega arith in
     sym (stepped-past _ _ _ _ past)
+
+pub returns-clause-err : goal.returns-clause-err
+returns-clause-err c = elim c.match-take_turn.branch [
+  | in-Ok w ↦ rw w.result-is tt
+  | in-Err-Ended w ↦ rw w.result-is tt
+  | in-Err-OutOfMemory w ↦ rw (w.result-is, w.s-inside-is, w.in-Err-OutOfMemory.ensures.heap_unchanged, w.in-Err-OutOfMemory.ensures.mutator_unchanged, ← c.s.view_is) (search (rules, written_back, get_or_read, c.in-Some.ensures.item))
+]
+
+pub returns-clause-no_memory : goal.returns-clause-no_memory
+returns-clause-no_memory c = elim c.match-take_turn.branch [
+  | in-Ok w ↦ rw w.result-is tt
+  | in-Err-Ended w ↦ rw w.result-is tt
+  | in-Err-OutOfMemory w ↦ rw (w.result-is, ← c.s.view_is) (search (rules, step-takes_memory, w.in-Err-OutOfMemory.ensures.takes_memory))
+]

@@ -1,0 +1,27 @@
+use Rattle.std.proofs.Common.{sym, ap, ◌∙◌, subst}
+use Rattle.gc_worker.specs.Fits.{FitsStage}
+use Rattle.gc_worker.specs.Held.{Held}
+use Rattle.gc_worker.specs.Stepped.{uncounted}
+use Rattle.gc_worker.specs.Turned.{turned}
+use Rattle.gc_worker.specs.contracts.state.State.{the_view}
+use Rattle.gc_worker.specs.declared.stage.Stage.TheVariants.{Serves}
+use Rattle.gc_worker.proofs.Reading.{round_turned, served_after, served_fits, served_uncounted}
+use Rattle.gc_worker.proofs.state.State.serve.Goals as goal
+
+pub has_served-requires-clause-fits : goal.has_served-requires-clause-fits
+has_served-requires-clause-fits c =
+    let x = the_view c.self.inside in
+    let Fitting : Held → Type 0 = λ y. FitsStage y y.stage in
+    let turns = round_turned x c.in-Serves.duty c.take.new.self c.in-Serves.field-1 c.args.reply c.in-Finished.end c.in-Serves.is c.take.ensures.state (sym c.take.ensures.tells ∙ c.in-Finished.is) in
+    served_fits x (Serves c.take.new.self c.in-Serves.field-1) c.take.new.self _ _ _ c.epoch-epoch.ensures
+    (subst Fitting turns (subst (λ (y : Held). Fitting (turned y c.args.reply)) (sym c.self.view_is) c.requires.after.stage))
+
+pub returns-in-Finished : goal.returns-in-Finished
+returns-in-Finished c =
+    let x = the_view c.self.inside in
+    let turns = round_turned x c.in-Serves.duty c.take.new.self c.in-Serves.field-1 c.args.reply c.in-Finished.end c.in-Serves.is c.take.ensures.state (sym c.take.ensures.tells ∙ c.in-Finished.is) in
+    c.has_served.ensures
+    ∙ served_after x (Serves c.take.new.self c.in-Serves.field-1) c.take.new.self _ _ _ c.epoch-epoch.ensures
+    ∙ sym (served_uncounted x c.take.new.self _ _)
+    ∙ ap uncounted (sym turns)
+    ∙ ap (λ (y : Held). uncounted (turned y c.args.reply)) c.self.view_is
