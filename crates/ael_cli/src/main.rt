@@ -1,41 +1,7 @@
 //! The program `ael`: mutators in a small register assembler, listed, or run over a bounded heap, by a schedule or on threads.
 #![tactic(auto)]
 
-mod answer;
-mod answering;
-mod asm;
-mod bench;
-mod closed_heap;
-mod command_line;
-mod dump;
-mod flags;
-mod job;
-mod memory;
-mod mutators;
-mod operands;
-mod options;
-mod reading;
-mod report;
-mod run;
-mod scheduled;
-mod scheduler;
-mod sim;
-mod sink;
-mod source;
-mod standard;
-mod status;
-mod sure;
-#[cfg(test)]
-mod tests;
-mod top_call;
-mod words;
-mod writing;
-
-use crate::answer::Answer;
-use crate::standard::{StdSink, StdSource};
-use crate::status::Status;
-use crate::top_call::ael;
-use crate::writing::emit;
+use ael_commands::{Answer, Status, StdSink, StdSource, ael, emit};
 use std::env;
 use std::io::ErrorKind;
 use std::process::ExitCode;

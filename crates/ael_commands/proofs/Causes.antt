@@ -1,0 +1,83 @@
+-- Why an answer is what it is.
+use Rattle.std.proofs.Common.{◌≡◌, ◌≢◌, List, [], ℕ, true, Option, refl, sym, ap, ◌∙◌, subst, inl, inr}
+use Rattle.std.specs.Prelude.{◌⊎◌, Result, Ok, Err, IfErr, IsErrAnd}
+use Rattle.std.specs.Result.{ForOk}
+use Rattle.std.proofs.lemmas.Bool.{true≢false}
+use Rattle.simple_commands.specs.declared.parsing.WordsError.{WordsError}
+use Rattle.simple_commands.specs.declared.parsing.WordsError.TheVariants as words
+use Rattle.mutator_asm.specs.declared.instr.Instr.{Instr}
+use Rattle.mutator_asm.specs.declared.item.Item.{Item}
+use Rattle.benchmark.specs.Text.{bench_text}
+use Rattle.ael_commands.specs.declared.job.Job.{Job}
+use Rattle.ael_commands.specs.declared.job.Job.TheVariants.{Asm, Bench, Run, Sim}
+use Rattle.ael_commands.specs.declared.operands.BenchOperands.{BenchOperands}
+use Rattle.ael_commands.specs.declared.options.RunOptions.{RunOptions}
+use Rattle.ael_commands.specs.declared.options.SimOptions.{SimOptions}
+use Rattle.ael_commands.specs.declared.status.Status.{Status}
+use Rattle.ael_commands.specs.declared.status.Status.TheVariants.{Done, Text, Usage, Ended, StepsOut, ReadFault, WriteFault, NoMemory, TooLong}
+use Rattle.ael_commands.specs.Answer.{IsAsked, IsCaused, Made, Refused, Unread, OutOfMemory}
+use Rattle.ael_commands.specs.Asm.{IsListed}
+use Rattle.ael_commands.specs.Bench.{bench_options}
+use Rattle.ael_commands.specs.Ends.{Drawn}
+use Rattle.ael_commands.specs.Jobs.{IsStill, is_waiting, task_of}
+use Rattle.ael_commands.specs.ProgramTask.{IsMadeOf, IsTextIn, IsUnfit}
+use Rattle.ael_commands.specs.Runs.{IsRun, Scheduled, Threaded}
+use Rattle.ael_commands.specs.Status.{is_made}
+use Rattle.ael_commands.specs.Task.{Everything}
+
+-- a failure that is told, or want of memory to tell it, passes over no failed read
+pub failed_counts : {P : Type 0} (status final : Status) → (final ≡ status) ⊎ ((final ≡ NoMemory) × (is_made status ≡ true)) → (status ≢ ReadFault → P) → final ≢ ReadFault → P
+failed_counts status final (inl same) counted not = counted (λ e. not (same ∙ e))
+failed_counts status final (inr none) counted not = counted (λ e. true≢false (sym none.1 ∙ ap is_made e))
+
+-- words of what waits, of which no job was read that waits: there was no memory to read them
+pub wanting_if_waiting : (asked : Option Job) (read : Result Job WordsError) → IsAsked asked read → ForOk read IsStill → is_waiting asked ≡ true → read ≡ Err words.NoMemory
+wanting_if_waiting asked (Ok job) is still waits = absurd (true≢false (sym waits ∙ (ap is_waiting is ∙ still job refl)))
+wanting_if_waiting asked (Err words.Refused) is still waits = absurd (true≢false (sym waits ∙ ap is_waiting is))
+wanting_if_waiting asked (Err words.NoMemory) is still waits = refl
+
+-- an error that is passed on
+pub passed_on : {T : Type 0} (P : Status → Type 0) (r : Result T Status) (e : Status) → IsErrAnd r (λ x. x ≡ e) → P e → IfErr r P
+passed_on P (Ok x) e is p = tt
+passed_on P (Err x) e is p = subst P (sym is) p
+
+-- the answer to a job on a program that is read, where there is none
+pub unfit : (job : Job) (source : Drawn) (status : Status) → (task_of job).reads ≡ Everything → IsUnfit source status → IsCaused job source [] status
+unfit (Bench operands) source status reads u = cc
+unfit Asm source (Text number line) reads u = Refused u.bytes u.input u.fault refl
+unfit (Sim options) source (Text number line) reads u = Refused u.bytes u.input u.fault refl
+unfit (Run options) source (Text number line) reads u = Refused u.bytes u.input u.fault refl
+unfit Asm source ReadFault reads u = Unread u refl
+unfit (Sim options) source ReadFault reads u = Unread u refl
+unfit (Run options) source ReadFault reads u = Unread u refl
+unfit Asm source TooLong reads u = Unread u refl
+unfit (Sim options) source TooLong reads u = Unread u refl
+unfit (Run options) source TooLong reads u = Unread u refl
+unfit job source NoMemory reads u = OutOfMemory refl refl
+unfit job source Done reads u = absurd u
+unfit job source Usage reads u = absurd u
+unfit job source Ended reads u = absurd u
+unfit job source StepsOut reads u = absurd u
+unfit job source WriteFault reads u = absurd u
+
+-- a program that is listed
+pub listed : (job : Job) (source : Drawn) (program : List (List Instr)) (items : List Item) (output : List ℕ) (status : Status) → job ≡ Asm
+    → IsTextIn source program items → IsListed program items output status → IsCaused job source output status
+listed job source program items output status is t made =
+    subst (λ j. IsCaused j source output status) (sym is) (Made t.bytes t.input (record { program = program; items = items; text = t.text; made = made }))
+
+-- a program that is run by a schedule
+pub simulated : (job : Job) (options : SimOptions) (source : Drawn) (program : List (List Instr)) (items : List Item) (output : List ℕ) (status : Status) → job ≡ Sim options
+    → IsTextIn source program items → IsRun (Scheduled options) program items output status → IsCaused job source output status
+simulated job options source program items output status is t made =
+    subst (λ j. IsCaused j source output status) (sym is) (Made t.bytes t.input (record { program = program; items = items; text = t.text; made = made }))
+
+-- and one that is run on threads
+pub threaded : (options : RunOptions) (source : Drawn) (program : List (List Instr)) (items : List Item) (output : List ℕ) (status : Status)
+    → IsTextIn source program items → IsRun (Threaded options) program items output status → IsCaused (Run options) source output status
+threaded options source program items output status t made = Made t.bytes t.input (record { program = program; items = items; text = t.text; made = made })
+
+-- the benchmark
+pub benched : (job : Job) (operands : BenchOperands) (source : Drawn) (output : List ℕ) (status : Status) → job ≡ Bench operands
+    → IsMadeOf (IsRun (Scheduled (bench_options operands))) (bench_text operands.depth operands.seed) output status → IsCaused job source output status
+benched job operands source output status is made = subst (λ j. IsCaused j source output status) (sym is) (Made [] refl made)

@@ -1,0 +1,12 @@
+pub mod Hex
+pub mod Causes
+pub mod Growing
+pub mod Rounds
+pub mod Seeing
+pub mod Simulating
+pub mod Noting
+pub mod Agreeing
+pub mod Plainly
+pub mod Parsed
+pub mod Assured
+pub mod Threading

@@ -1,0 +1,28 @@
+-- The command line of `ael`: what it takes, and what it then gives.
+use Rattle.std.proofs.Common.{◌≡◌, refl, sym, subst, List, Option, Some, None, inl, inr}
+use Rattle.std.specs.Prelude.{IfSome, IsTrue}
+use Rattle.clap.specs.Simple.{App}
+use Rattle.clap.specs.Walk.{Row, Text}
+use Rattle.simple_commands.specs.Exact.{is_exact}
+use Rattle.simple_commands.specs.Held.{IsSubcommandOf}
+use Rattle.simple_commands.proofs.Taking.{holds_operands, holds_options}
+use Rattle.ael_commands.specs.CommandLine.{ael_app}
+use Rattle.ael_commands.specs.Options.{bench_numbers, bench_wide, run_flags, run_numbers, run_wide, sim_flags, sim_numbers, sim_wide}
+use Rattle.ael_commands.specs.Words.{IsKnown}
+
+pub exact : (a : App) → a ≡ ael_app → IsTrue (is_exact a)
+exact a is = let holds : IsTrue (is_exact ael_app) = refl in subst (λ (x : App). IsTrue (is_exact x)) (sym is) holds
+
+-- the subcommands are `asm`, `sim`, `run` and `bench`
+pub known : (a : App) (o : Option (Text × List Row)) → a ≡ ael_app → IfSome o (IsSubcommandOf a) → IfSome o IsKnown
+known a None is h = tt
+known a (Some p) is h = elim (subst (λ (x : App). IsSubcommandOf x p) is h) [
+  | inl asm ↦ inl asm.0
+  | inr more ↦ elim more [
+    | inl sim ↦ inr (inl (sim.0, holds_options 1 sim_numbers sim_wide sim_flags p.1 sim.1))
+    | inr others ↦ elim others [
+      | inl run ↦ inr (inr (inl (run.0, holds_options 1 run_numbers run_wide run_flags p.1 run.1)))
+      | inr last ↦ elim last [ inl bench ↦ inr (inr (inr (bench.0, holds_operands 1 bench_numbers bench_wide p.1 bench.1))) | inr none ↦ absurd none ]
+    ]
+  ]
+]

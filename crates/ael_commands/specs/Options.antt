@@ -1,0 +1,103 @@
+-- The options of runs, and the operands of the benchmark, by the rows of what was given.
+use Rattle.std.specs.Prelude.{ℕ, ◌≤◌, IsTrue, List, [], ◌∷◌, codes, unwrap_or}
+use Rattle.clap.specs.Walk.{Row, Text}
+use Rattle.gc_core.specs.Core.{is_size}
+use Rattle.simple_commands.specs.Options.{number_given}
+use Rattle.simple_commands.specs.Readers.{number_of, was_given}
+use Rattle.simple_commands.specs.declared.options.Numbers.{Numbers}
+use Rattle.ael_commands.specs.declared.operands.BenchOperands.{BenchOperands}
+use Rattle.ael_commands.specs.declared.options.RunOptions.{RunOptions}
+use Rattle.ael_commands.specs.declared.options.SimOptions.{SimOptions}
+
+-- `--pages`
+abbrev pub pages_option : Text × Numbers
+pages_option = (codes "pages", record { least = 4; most = 2048; default = 256 })
+
+-- `--scanners`
+abbrev pub scanners_option : Text × Numbers
+scanners_option = (codes "scanners", record { least = 0; most = 8; default = 1 })
+
+-- `--turns`
+abbrev pub turns_option : Text × Numbers
+turns_option = (codes "turns", record { least = 1; most = 10000000; default = 1000000 })
+
+-- `--steps`
+abbrev pub steps_option : Text × Numbers
+steps_option = (codes "steps", record { least = 1; most = 100000000; default = 10000000 })
+
+-- `--seed`, which has no default, or `SEED`
+abbrev pub seed_option : Text
+seed_option = codes "seed"
+
+-- `--order`
+abbrev pub order_flag : Text
+order_flag = codes "order"
+
+-- `--cycles`
+abbrev pub cycles_flag : Text
+cycles_flag = codes "cycles"
+
+-- `--dump`
+abbrev pub dump_flag : Text
+dump_flag = codes "dump"
+
+-- `DEPTH`, which is always there
+abbrev pub depth_operand : Text × Numbers
+depth_operand = (codes "depth", record { least = 1; most = 9; default = 1 })
+
+-- the tables of `bench`, whose second operand is `SEED`
+abbrev pub bench_numbers : List (Text × Numbers)
+bench_numbers = depth_operand ∷ []
+
+abbrev pub bench_wide : List Text
+bench_wide = seed_option ∷ []
+
+-- the tables of `run`
+abbrev pub run_numbers : List (Text × Numbers)
+run_numbers = pages_option ∷ scanners_option ∷ turns_option ∷ []
+
+abbrev pub run_wide : List Text
+run_wide = []
+
+abbrev pub run_flags : List Text
+run_flags = cycles_flag ∷ dump_flag ∷ []
+
+-- the tables of `sim`
+abbrev pub sim_numbers : List (Text × Numbers)
+sim_numbers = pages_option ∷ scanners_option ∷ turns_option ∷ steps_option ∷ []
+
+abbrev pub sim_wide : List Text
+sim_wide = seed_option ∷ []
+
+abbrev pub sim_flags : List Text
+sim_flags = order_flag ∷ cycles_flag ∷ dump_flag ∷ []
+
+abbrev pub run_options_of : List Row → RunOptions
+run_options_of rows = record {
+  pages = number_given pages_option rows;
+  scanners = number_given scanners_option rows;
+  turns = number_given turns_option rows;
+  cycles = was_given cycles_flag rows;
+  dump = was_given dump_flag rows;
+}
+
+abbrev pub sim_options_of : List Row → SimOptions
+sim_options_of rows = record {
+  run = run_options_of rows;
+  steps = number_given steps_option rows;
+  seed = number_of seed_option rows;
+  order = was_given order_flag rows;
+}
+
+-- a space may have so many pages, there may be so many scanners, and a mutator may execute so many instructions
+pub record AreInRange (options : RunOptions) : Type 0 where
+  pub pages : IsTrue (is_size options.pages)
+  pub scanners : options.scanners ≤ 8
+  pub turns : (1 ≤ options.turns) × (options.turns ≤ 10000000)
+
+abbrev pub operands_of : List Row → BenchOperands
+operands_of rows = record { depth = number_given depth_operand rows; seed = unwrap_or (number_of seed_option rows) 0 }
+
+-- the trees are of a depth that they may have
+abbrev pub IsDepth : ℕ → Type 0
+IsDepth depth = (1 ≤ depth) × (depth ≤ 9)

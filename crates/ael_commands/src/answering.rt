@@ -1,0 +1,116 @@
+//! What is answered to the words, by the job that they ask for.
+
+ghost use Rattle.std.specs.Prelude.{◌≡◌, ◌≢◌, [], Err, IfOk, IfErr, Option, Some, true};
+ghost use Rattle.std.specs.Result.{ForOk};
+ghost use Rattle.ael_commands.specs.declared.job.Job.{Job};
+ghost use Rattle.ael_commands.specs.declared.job.Job.TheVariants.{Run};
+ghost use Rattle.ael_commands.specs.declared.status.Status.TheVariants.{NoMemory, ReadFault};
+ghost use Rattle.ael_commands.specs.Answer.{IsAnswer, IsAsked, IsCaused, IsDrawnFor};
+ghost use Rattle.ael_commands.specs.Ends.{drawn};
+ghost use Rattle.ael_commands.specs.Jobs.{IsStill, is_waiting};
+ghost use Rattle.ael_commands.specs.Options.{AreInRange};
+ghost use Rattle.ael_commands.specs.ProgramTask.{IsTextIn, IsUnfit};
+ghost use Rattle.ael_commands.specs.Task.{Everything, IsDrawn};
+ghost use Rattle.ael_commands.specs.Words.{IsInRange};
+
+use crate::answer::Answer;
+use crate::asm::asm;
+use crate::bench::bench;
+use crate::job::Job;
+use crate::options::RunOptions;
+use crate::reading::read_all;
+use crate::run::run;
+use crate::sim::sim;
+use crate::source::Source;
+use crate::status::Status;
+use mutator_asm::{Program, assemble};
+use simple_commands::WordsError;
+use std::alloc::Global;
+use std::marker::Sync;
+use std::sync::Wait;
+use std::thread::Threads;
+
+/// The answer to what was asked for.
+pub fn answer<R: Threads + Wait + Sync, S: Source>(
+    rt: &R,
+    alloc: Global,
+    asked: Result<Job, WordsError>,
+    src: &mut S,
+) -> Answer
+    requires { ForOk asked IsInRange }
+    ensures answer { (words : Option Job) → IsAsked words asked → IsAnswer words (drawn S.Source src.old src.new) result.output.items result.status }
+    ensures drawn { (words : Option Job) → IsAsked words asked → IsDrawnFor words (drawn S.Source src.old src.new) }
+    ensures counted { result.status ≢ ReadFault → S.faults src.new ≡ S.faults src.old }
+{
+    match asked {
+        Ok(Job::Run(options)) => match wait_for(rt, alloc, options, src) {
+            Ok(answer) => answer,
+            Err(status) => Answer::failed(alloc, status),
+        },
+        asked => answer_still(alloc, asked, src),
+    }
+}
+
+/// The answer to what was asked for, where that waits for nobody.
+pub fn answer_still<S: Source>(alloc: Global, asked: Result<Job, WordsError>, src: &mut S) -> Answer
+    requires range { ForOk asked IsInRange }
+    requires still { ForOk asked IsStill }
+    ensures answer { (words : Option Job) → IsAsked words asked → IsAnswer words (drawn S.Source src.old src.new) result.output.items result.status }
+    ensures drawn { (words : Option Job) → IsAsked words asked → IsDrawnFor words (drawn S.Source src.old src.new) }
+    ensures counted { result.status ≢ ReadFault → S.faults src.new ≡ S.faults src.old }
+    ensures wanting { (words : Option Job) → IsAsked words asked → is_waiting words ≡ true → (result.output.items ≡ []) × (result.status ≡ NoMemory) × (src.new ≡ src.old) }
+{
+    let done = match asked {
+        Ok(job) => work(alloc, job, src),
+        Err(WordsError::Refused) => Err(Status::Usage),
+        Err(WordsError::NoMemory) => Err(Status::NoMemory),
+    };
+    match done {
+        Ok(answer) => answer,
+        Err(status) => Answer::failed(alloc, status),
+    }
+}
+
+/// The answer to a run on threads.
+fn wait_for<R: Threads + Wait + Sync, S: Source>(
+    rt: &R,
+    alloc: Global,
+    options: RunOptions,
+    src: &mut S,
+) -> Result<Answer, Status>
+    requires { AreInRange options }
+    ensures ok { IfOk result (λ answer. IsCaused (Run options) (drawn S.Source src.old src.new) answer.output.items answer.status) }
+    ensures err { IfErr result (IsCaused (Run options) (drawn S.Source src.old src.new) []) }
+    ensures drawn { IsDrawnFor (Some (Run options)) (drawn S.Source src.old src.new) }
+    ensures counted { result ≢ Err ReadFault → S.faults src.new ≡ S.faults src.old }
+{
+    Ok(run(rt, alloc, &read_program(alloc, src)?, options)?)
+}
+
+/// The answer to a job that waits for nobody.
+fn work<S: Source>(alloc: Global, job: Job, src: &mut S) -> Result<Answer, Status>
+    requires range { IsInRange job }
+    requires still { IsStill job }
+    ensures ok { IfOk result (λ answer. IsCaused job (drawn S.Source src.old src.new) answer.output.items answer.status) }
+    ensures err { IfErr result (IsCaused job (drawn S.Source src.old src.new) []) }
+    ensures drawn { IsDrawnFor (Some job) (drawn S.Source src.old src.new) }
+    ensures counted { result ≢ Err ReadFault → S.faults src.new ≡ S.faults src.old }
+{
+    match job {
+        Job::Asm => Ok(asm(alloc, &read_program(alloc, src)?)?),
+        Job::Bench(operands) => Ok(bench(alloc, operands)?),
+        Job::Sim(options) => Ok(sim(alloc, &read_program(alloc, src)?, options)?),
+        Job::Run(_) => unreachable!("it waits for threads"),
+    }
+}
+
+/// The program whose text is the input.
+fn read_program<S: Source>(alloc: Global, src: &mut S) -> Result<Program, Status>
+    ensures ok { IfOk result (λ program. IsTextIn (drawn S.Source src.old src.new) program.code program.schedule) }
+    ensures err { IfErr result (IsUnfit (drawn S.Source src.old src.new)) }
+    ensures drawn { IsDrawn Everything (drawn S.Source src.old src.new) }
+    ensures counted { result ≢ Err ReadFault → S.faults src.new ≡ S.faults src.old }
+{
+    let text = read_all(alloc, src)?;
+    Ok(assemble(alloc, &text)?)
+}

@@ -1,0 +1,16 @@
+//! The command `asm`: the listing of a program.
+
+ghost use Rattle.std.specs.Prelude.{IfOk};
+ghost use Rattle.ael_commands.specs.Asm.{IsListed};
+
+use crate::answer::Answer;
+use crate::status::Status;
+use mutator_asm::{NoMemory, Program, list};
+use std::alloc::Global;
+
+/// Lists a program.
+pub fn asm(alloc: Global, program: &Program) -> Result<Answer, NoMemory>
+    ensures { IfOk result (λ answer. IsListed program.now.code program.now.schedule answer.output.items answer.status) }
+{
+    Answer::new(alloc, list(alloc, program)?, Status::Done)
+}

@@ -1,0 +1,153 @@
+//! The options and flags of the commands: a row each, which the command line and its readers cite.
+
+use clap::ArgMatches;
+use gc_core::Config;
+use simple_commands::{Numbers, is_given, number_of, wide_number};
+
+/// The pages of a space.
+pub const PAGES: (&str, Numbers) = (
+    "pages",
+    Numbers {
+        least: 4,
+        most: 2048,
+        default: 256,
+    },
+);
+
+/// The scanners beside the mutators.
+pub const SCANNERS: (&str, Numbers) = (
+    "scanners",
+    Numbers {
+        least: 0,
+        most: 8,
+        default: 1,
+    },
+);
+
+/// How many instructions a mutator may execute.
+pub const TURNS: (&str, Numbers) = (
+    "turns",
+    Numbers {
+        least: 1,
+        most: 10_000_000,
+        default: 1_000_000,
+    },
+);
+
+/// How many steps the run may make.
+pub const STEPS: (&str, Numbers) = (
+    "steps",
+    Numbers {
+        least: 1,
+        most: 100_000_000,
+        default: 10_000_000,
+    },
+);
+
+/// What the order of steps is drawn from, in place of the program's schedule.
+pub const SEED: &str = "seed";
+
+/// Whether the order of the run is printed.
+pub const ORDER: &str = "order";
+
+/// Whether it is printed how often the spaces were exchanged, and what the last exchange copied.
+pub const CYCLES: &str = "cycles";
+
+/// Whether the last configuration is printed.
+pub const DUMP: &str = "dump";
+
+/// The options of `run` with a number of 32 bits.
+pub const RUN_NUMBERS: [(&str, Numbers); 3] = [PAGES, SCANNERS, TURNS];
+
+/// The options of `run` with a number of 64 bits: there are none.
+pub const RUN_WIDE: [&str; 0] = [];
+
+/// The flags of `run`.
+pub const RUN_FLAGS: [&str; 2] = [CYCLES, DUMP];
+
+/// The options of `sim` with a number of 32 bits.
+pub const SIM_NUMBERS: [(&str, Numbers); 4] = [PAGES, SCANNERS, TURNS, STEPS];
+
+/// The options of `sim` with a number of 64 bits, and no default.
+pub const SIM_WIDE: [&str; 1] = [SEED];
+
+/// The flags of `sim`.
+pub const SIM_FLAGS: [&str; 3] = [ORDER, CYCLES, DUMP];
+
+/// How a program is run, whoever makes its steps, and what is told of its heap: the values of the
+/// table's rows.
+#[derive(Clone, Copy, Debug, PartialEq, Eq)]
+pub struct RunOptions {
+    pub pages: u32,
+    pub scanners: u32,
+    pub turns: u32,
+    pub cycles: bool,
+    pub dump: bool,
+}
+
+impl RunOptions {
+    ghost use Rattle.std.specs.Prelude.{◌≡◌};
+    ghost use Rattle.clap.specs.Matches.{found_of};
+    ghost use Rattle.clap.specs.Walk.{rows_of};
+    ghost use Rattle.simple_commands.specs.Options.{HoldOptions};
+    ghost use Rattle.ael_commands.specs.Options.{AreInRange, run_numbers, run_options_of, run_wide};
+    ghost use Rattle.ael_commands.specs.Simulation.{config};
+
+    /// The options that were given, and the defaults of the others.
+    pub fn given(matches: &ArgMatches) -> RunOptions
+        requires { HoldOptions run_numbers run_wide (rows_of (found_of matches.now)) }
+        ensures value { result ≡ run_options_of (rows_of (found_of matches.now)) }
+        ensures range { AreInRange result }
+    {
+        RunOptions {
+            pages: number_of(matches, PAGES),
+            scanners: number_of(matches, SCANNERS),
+            turns: number_of(matches, TURNS),
+            cycles: is_given(matches, CYCLES),
+            dump: is_given(matches, DUMP),
+        }
+    }
+
+    /// The heap and its workers.
+    pub fn config(self) -> Config
+        requires { AreInRange self }
+        ensures { result ≡ config self }
+    {
+        Config {
+            pages: self.pages,
+            scanners: self.scanners as u8,
+            turns: self.turns,
+        }
+    }
+}
+
+/// How a program is run by a schedule, and what is printed besides.
+#[derive(Clone, Copy, Debug, PartialEq, Eq)]
+pub struct SimOptions {
+    pub run: RunOptions,
+    pub steps: u32,
+    pub seed: Option<u64>,
+    pub order: bool,
+}
+
+impl SimOptions {
+    ghost use Rattle.std.specs.Prelude.{◌≡◌};
+    ghost use Rattle.clap.specs.Matches.{found_of};
+    ghost use Rattle.clap.specs.Walk.{rows_of};
+    ghost use Rattle.simple_commands.specs.Options.{HoldOptions};
+    ghost use Rattle.ael_commands.specs.Options.{AreInRange, sim_numbers, sim_options_of, sim_wide};
+
+    /// The options that were given, and the defaults of the others.
+    pub fn given(matches: &ArgMatches) -> SimOptions
+        requires { HoldOptions sim_numbers sim_wide (rows_of (found_of matches.now)) }
+        ensures value { result ≡ sim_options_of (rows_of (found_of matches.now)) }
+        ensures range { AreInRange result.run }
+    {
+        SimOptions {
+            run: RunOptions::given(matches),
+            steps: number_of(matches, STEPS),
+            seed: wide_number(matches, SEED),
+            order: is_given(matches, ORDER),
+        }
+    }
+}

@@ -1,0 +1,51 @@
+//! The command `sim`: a program run by a schedule.
+
+ghost use Rattle.std.specs.Prelude.{◌≡◌, ◌<◌, IfOk};
+ghost use Rattle.gc_core.specs.Core.{opening_core, workers_of};
+ghost use Rattle.ael_commands.specs.Options.{AreInRange};
+ghost use Rattle.ael_commands.specs.Simulation.{config};
+ghost use Rattle.ael_commands.specs.Runs.{IsRun, Scheduled};
+
+use crate::answer::Answer;
+use crate::flags::{push_heap, push_order_if};
+use crate::mutators::{push_mutators, verdict};
+use crate::options::{RunOptions, SimOptions};
+use crate::scheduled::run_by_schedule;
+use gc_core::{
+    Core, OpenError, cycles_keep_what_is_live, full_heaps_are_filled, large_heaps_are_never_full,
+    runs_follow,
+};
+use mutator_asm::Program;
+use plain_heap::NoMemory;
+use std::alloc::Global;
+
+/// The core of a run.
+fn open<'p>(alloc: Global, program: &'p Program, options: RunOptions) -> Result<Core<'p>, NoMemory>
+    requires { AreInRange options }
+    ensures opened { IfOk result (λ core. core ≡ opening_core program.now.code (config options)) }
+    ensures some { IfOk result (λ core. 0 < workers_of core) }
+{
+    match Core::open(alloc, program, &options.config()) {
+        Ok(core) => Ok(core),
+        Err(OpenError::NoMemory) => Err(NoMemory),
+        Err(OpenError::BadPages) => unreachable!("a space may have so many pages"),
+    }
+}
+
+/// Runs a program by a schedule, and prints what its mutators printed.
+pub fn sim(alloc: Global, program: &Program, options: SimOptions) -> Result<Answer, NoMemory>
+    requires { AreInRange options.run }
+    ensures { IfOk result (λ answer. IsRun (Scheduled options) program.now.code program.now.schedule answer.output.items answer.status) }
+{
+    runs_follow();
+    cycles_keep_what_is_live();
+    full_heaps_are_filled();
+    large_heaps_are_never_full();
+    let mut core = open(alloc, program, options.run)?;
+    let order = run_by_schedule(alloc, &mut core, program.schedule.as_slice(), options)?;
+    let mut output = String::new(alloc);
+    push_mutators(&mut output, &core)?;
+    push_order_if(&mut output, options.order, &order)?;
+    push_heap(&mut output, options.run, &core)?;
+    Answer::new(alloc, output.into_bytes(), verdict(&core))
+}

@@ -1,0 +1,124 @@
+//! How a call of the program went.
+
+ghost use Rattle.std.specs.Prelude.{◌≡◌};
+
+use crate::reading::ReadError;
+use gc_core::OpenError;
+use mutator_asm::AsmError;
+use plain_heap::NoMemory;
+use std::alloc::Global;
+use std::borrow::CowStr;
+
+/// What standard error gets where a sink failed.
+pub const WRITE_FAULT: &str = "ael: write fault\n";
+
+/// What standard error gets where there was no memory.
+pub const NO_MEMORY: &str = "ael: out of memory\n";
+
+/// How a call went, from which its exit status follows and the line that standard error gets.
+#[derive(Clone, Copy, Debug, PartialEq, Eq)]
+pub enum Status {
+    /// All was done: every mutator halted, or the listing was given.
+    Done,
+    /// The text has this fault in this line.
+    Text { no: u8, line: u32 },
+    /// The words are no command.
+    Usage,
+    /// Every mutator has its end, and one isn't `halt`.
+    Ended,
+    /// As many steps as were allowed were made before every mutator had its end.
+    StepsOut,
+    /// The source failed.
+    ReadFault,
+    /// A sink failed.
+    WriteFault,
+    /// There was no memory.
+    NoMemory,
+    /// The input has more than 1,048,576 bytes.
+    TooLong,
+}
+
+impl Status {
+    ghost use Rattle.std.specs.Prelude.{◌≡◌, IfOk, OnErr, true};
+    ghost use Rattle.std.specs.Cow.{cow_str_bytes};
+    ghost use Rattle.ael_commands.specs.Status.{code_of, is_made, line_of};
+
+    /// The program's exit status.
+    pub fn code(self) -> u8
+        ensures { result ≡ code_of self }
+    {
+        match self {
+            Status::Done => 0,
+            Status::Text { .. } => 1,
+            Status::Usage => 2,
+            Status::Ended => 3,
+            Status::StepsOut => 4,
+            Status::ReadFault => 5,
+            Status::WriteFault => 6,
+            Status::NoMemory => 7,
+            Status::TooLong => 8,
+        }
+    }
+
+    /// The line that standard error gets, empty where it gets none. Only one that is made from numbers
+    /// takes memory.
+    pub fn line(self, alloc: Global) -> Result<CowStr<'static, Global>, NoMemory>
+        ensures line { IfOk result (λ line. cow_str_bytes line ≡ line_of self) }
+        ensures spends { OnErr result (is_made self ≡ true) }
+    {
+        let line = match self {
+            Status::Done | Status::Ended => "",
+            Status::Text { no, line } => {
+                let fault = AsmError::Text { no, line };
+                return Ok(CowStr::Owned(format!(in alloc; "ael: {fault}\n")?));
+            }
+            Status::Usage => "usage: ael asm, sim, run, concord or bench\n",
+            Status::StepsOut => "ael: steps out\n",
+            Status::ReadFault => "ael: read fault\n",
+            Status::WriteFault => WRITE_FAULT,
+            Status::NoMemory => NO_MEMORY,
+            Status::TooLong => "ael: input too long\n",
+        };
+        Ok(CowStr::Borrowed(line))
+    }
+}
+
+impl From<ReadError> for Status {
+    ghost use Rattle.std.specs.Prelude.{◌≡◌};
+    ghost use Rattle.ael_commands.specs.Status.{read_status};
+
+    ghost from_gives = { λ e status. status ≡ read_status e };
+
+    fn from(error: ReadError) -> Status {
+        match error {
+            ReadError::Fault => Status::ReadFault,
+            ReadError::TooLong => Status::TooLong,
+            ReadError::NoMemory => Status::NoMemory,
+        }
+    }
+}
+
+impl From<AsmError> for Status {
+    ghost use Rattle.std.specs.Prelude.{◌≡◌};
+    ghost use Rattle.ael_commands.specs.Status.{text_status};
+
+    ghost from_gives = { λ e status. status ≡ text_status e };
+
+    fn from(error: AsmError) -> Status {
+        match error {
+            AsmError::Text { no, line } => Status::Text { no, line },
+            AsmError::NoMemory => Status::NoMemory,
+        }
+    }
+}
+
+impl From<NoMemory> for Status {
+    ghost use Rattle.std.specs.Prelude.{◌≡◌};
+    ghost use Rattle.ael_commands.specs.declared.status.Status.TheVariants.{NoMemory};
+
+    ghost from_gives = { λ _ status. status ≡ NoMemory };
+
+    fn from(_: NoMemory) -> Status {
+        Status::NoMemory
+    }
+}

@@ -1,0 +1,82 @@
+//! The top call, which `main` calls with the real ends.
+
+ghost use Rattle.std.specs.Prelude.{◌≡◌, IfSome, List, None, ℕ, map, string_bytes, true};
+ghost use Rattle.ael_commands.specs.Answer.{IsAnswerTo};
+ghost use Rattle.ael_commands.specs.Call.{call_of, call_with};
+ghost use Rattle.ael_commands.specs.Emits.{IsEmitted};
+ghost use Rattle.ael_commands.specs.Ends.{Drawn, filled};
+ghost use Rattle.ael_commands.specs.Headline.{Holds, IsAlwaysTheSame, IsAnswered, IsComplete, IsOutOfMemory, PrintsListing, PrintsPlainly};
+ghost use Rattle.ael_commands.specs.Jobs.{is_waiting};
+ghost use Rattle.ael_commands.specs.Words.{job_of};
+
+use crate::answer::Answer;
+use crate::answering::{answer, answer_still};
+use crate::sink::Sink;
+use crate::source::Source;
+use crate::words::read_words;
+use crate::writing::emit;
+use mutator_asm::{listing_is_a_text, never_both, one_program};
+use plain_heap::alone_mutators_are_independent;
+use std::alloc::Global;
+use std::marker::Sync;
+use std::sync::Wait;
+use std::thread::Threads;
+
+/// Runs the command that the words after the program's name ask for, and answers the exit status.
+/// It reads `src`, writes the output to `out`, and a line to `err` where the status has one.
+pub fn ael<R: Threads + Wait + Sync, S: Source, O: Sink, E: Sink>(
+    rt: &R,
+    alloc: Global,
+    words: &[String],
+    src: &mut S,
+    out: &mut O,
+    err: &mut E,
+) -> u8
+    ensures headline { IsAnswered (call_of S.Source O.Sink E.Sink words.now src.old src.new out.old out.new err.old err.new result) }
+    ensures complete { IsComplete (call_of S.Source O.Sink E.Sink words.now src.old src.new out.old out.new err.old err.new result) }
+    ensures prints { PrintsPlainly (call_of S.Source O.Sink E.Sink words.now src.old src.new out.old out.new err.old err.new result) }
+    ensures lists { PrintsListing (call_of S.Source O.Sink E.Sink words.now src.old src.new out.old out.new err.old err.new result) }
+    ensures always_the_same { IsAlwaysTheSame (call_of S.Source O.Sink E.Sink words.now src.old src.new out.old out.new err.old err.new result) }
+{
+    match ael_still(alloc, words, src, out, err) {
+        Some(code) => code,
+        None => {
+            let answer = answer(rt, alloc, read_words(alloc, words), src);
+            finish(&answer, out, err)
+        }
+    }
+}
+
+/// All of `ael` but for jobs that wait for other threads, for which it answers `None` and has done
+/// nothing, unless there was no memory to read the words.
+pub fn ael_still<S: Source, O: Sink, E: Sink>(
+    alloc: Global,
+    words: &[String],
+    src: &mut S,
+    out: &mut O,
+    err: &mut E,
+) -> Option<u8>
+    ensures holds { IfSome result (λ code. Holds (call_of S.Source O.Sink E.Sink words.now src.old src.new out.old out.new err.old err.new code)) }
+    ensures none_only_for_what_waits { result ≡ None → is_waiting (job_of (map string_bytes words.now)) ≡ true }
+    ensures some_for_what_waits_only_without_memory { is_waiting (job_of (map string_bytes words.now)) ≡ true
+        → IfSome result (λ code. IsOutOfMemory (call_of S.Source O.Sink E.Sink words.now src.old src.new out.old out.new err.old err.new code)) }
+    ensures nothing_done { result ≡ None → (src.new ≡ src.old) × (out.new ≡ out.old) × (err.new ≡ err.old) }
+{
+    match read_words(alloc, words) {
+        Ok(job) if job.waits() => None,
+        asked => Some(finish(&answer_still(alloc, asked, src), out, err)),
+    }
+}
+
+/// Writes an answer, and tells how that went.
+fn finish<O: Sink, E: Sink>(answer: &Answer, out: &mut O, err: &mut E) -> u8
+    ensures emitted { IsEmitted answer.now.output.items answer.now.status (filled O.Sink out.old out.new) (filled E.Sink err.old err.new) result }
+    ensures holds { (words : List (List ℕ)) (source : Drawn) → IsAnswerTo (job_of words) source answer.now.output.items answer.now.status
+        → Holds (call_with words source (filled O.Sink out.old out.new) (filled E.Sink err.old err.new) result) }
+{
+    one_program();
+    never_both();
+    listing_is_a_text();
+    alone_mutators_are_independent();
+    emit(answer, out, err).code()
+}

@@ -1,0 +1,50 @@
+//! The words of the command line, read to a job.
+
+ghost use Rattle.std.specs.Prelude.{◌≡◌, IfOk, IfSome, map, option_map, string_bytes};
+ghost use Rattle.clap.specs.Simple.{subcommand_rows_of};
+ghost use Rattle.ael_commands.specs.Words.{job_from, job_of, IsInRange, IsKnown};
+ghost use Rattle.ael_commands.specs.Answer.{IsAsked};
+
+use crate::command_line::command;
+use crate::job::Job;
+use crate::operands::BenchOperands;
+use crate::options::{RunOptions, SimOptions};
+use clap::ArgMatches;
+use simple_commands::{WordsError, parse};
+use std::alloc::Global;
+
+/// The job of the subcommand that was used.
+fn job_in(matches: &ArgMatches) -> Option<Job>
+    requires { IfSome (subcommand_rows_of matches.now) IsKnown }
+    ensures value { result ≡ option_map job_from (subcommand_rows_of matches.now) }
+    ensures range { IfSome result IsInRange }
+{
+    if matches.subcommand_matches("asm").is_some() {
+        return Some(Job::Asm);
+    }
+    if let Some(sim) = matches.subcommand_matches("sim") {
+        return Some(Job::Sim(SimOptions::given(sim)));
+    }
+    if let Some(run) = matches.subcommand_matches("run") {
+        return Some(Job::Run(RunOptions::given(run)));
+    }
+    if let Some(bench) = matches.subcommand_matches("bench") {
+        return Some(Job::Bench(BenchOperands::given(bench)));
+    }
+    None
+}
+
+/// Reads the words after the program's name. They are refused exactly where `clap` does not take
+/// them or they name no subcommand; want of memory can come at any words.
+pub fn read_words(alloc: Global, words: &[String]) -> Result<Job, WordsError>
+    ensures asked { IsAsked (job_of (map string_bytes words.now)) result }
+    ensures range { IfOk result IsInRange }
+{
+    let Ok(command) = command(alloc) else {
+        return Err(WordsError::NoMemory);
+    };
+    match job_in(&parse(command, words)?) {
+        Some(job) => Ok(job),
+        None => Err(WordsError::Refused),
+    }
+}

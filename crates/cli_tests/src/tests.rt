@@ -1,0 +1,230 @@
+//! The program's answers, over sources and sinks in memory and over a file.
+
+mod benches;
+mod collecting;
+mod dumps;
+mod failing;
+mod files;
+mod instructions;
+mod listings;
+mod rows;
+mod schedules;
+mod texts;
+mod threads;
+mod words;
+
+use self::rows::{Row, check_long_rows, check_rows};
+use ael_commands::{MemSink, MemSource, ael, sure_status};
+use mutator_asm::{Program, assemble};
+use plain_heap::{Mark, PlainState, plain_run, plain_step, print};
+use std::alloc::Global;
+use std::marker::Sync;
+use std::sync::Wait;
+use std::test::Fail;
+use std::thread::Threads;
+
+/// What a call wrote, and its status.
+#[derive(Drop)]
+struct Outcome {
+    out: MemSink,
+    err: MemSink,
+    status: u8,
+}
+
+/// The read that fails, or 0, and how many bytes the sinks have room for.
+#[derive(Clone, Copy)]
+struct Limits {
+    read: u64,
+    out: usize,
+    err: usize,
+}
+
+const AMPLE: Limits = Limits {
+    read: 0,
+    out: 1_000_000,
+    err: 1000,
+};
+
+/// Fails where a part of what a call gave isn't what was wanted.
+fn same(name: &str, part: &str, found: &[u8], wanted: &[u8]) -> Result<(), Fail> {
+    if found == wanted {
+        return Ok(());
+    }
+    let (found, wanted) = (str::from_utf8(found), str::from_utf8(wanted));
+    Err(Fail::new(format_args!("{part} of {name}: {found:?}, not {wanted:?}")))
+}
+
+impl Outcome {
+    /// Fails where the call didn't write this or hasn't this status.
+    fn check(&self, name: &str, out: &[u8], err: &[u8], status: u8) -> Result<(), Fail> {
+        same(name, "out", self.out.bytes(), out)?;
+        same(name, "err", self.err.bytes(), err)?;
+        if self.status == status {
+            return Ok(());
+        }
+        let found = self.status;
+        Err(Fail::new(format_args!("status of {name}: {found}, not {status}")))
+    }
+}
+
+/// The words that spaces separate. An empty word is '', and a space in a word is _.
+fn words_of(alloc: Global, line: &str) -> Result<Vec<String>, Fail> {
+    let mut words = Vec::new(alloc);
+    for word in line.split_whitespace() {
+        let word = word.replace(alloc, "''", "")?;
+        words.push(word.replace(alloc, '_', " ")?)?;
+    }
+    Ok(words)
+}
+
+/// Calls `ael` with these words, a source that gives this text, and ends with these limits.
+fn call<R: Threads + Wait + Sync>(
+    rt: &R,
+    alloc: Global,
+    line: &str,
+    text: &str,
+    limits: Limits,
+) -> Result<Outcome, Fail> {
+    let words = words_of(alloc, line)?;
+    let input = Vec::from_slice(alloc, text.as_bytes())?;
+    let mut src = MemSource::new(input, Vec::from_slice(alloc, &[limits.read])?);
+    let mut out = MemSink::new(alloc, limits.out, Vec::new(alloc))?;
+    let mut err = MemSink::new(alloc, limits.err, Vec::new(alloc))?;
+    let status = ael(rt, alloc, &words, &mut src, &mut out, &mut err);
+    Ok(Outcome { out, err, status })
+}
+
+const FIRST: &str = ".mutator\nli r1 7\nnew r0 2\nst r0 1 r1\nld r2 r0 1\nout r2\nhalt\n";
+
+const ROWS: &str = "\
+the first text|sim|.mutator/li r1 7/new r0 2/st r0 1 r1/ld r2 r0 1/out r2/halt/|0: 7/0: halt/||0
+its order|sim --order|.mutator/li r1 7/new r0 2/st r0 1 r1/ld r2 r0 1/out r2/halt/|0: 7/0: halt/order 0 0 0 0 0 0/||0
+an index past the record|sim|.mutator/new r0 2/ld r1 r0 1/out r1/ld r1 r0 2/halt/|0: 0/0: out of range/||3
+a reference printed|sim|.mutator/new r0 0/out r0/|0: not a number/||3
+no instruction|sim|.mutator/|0: jump out/||3
+a line of no form|sim|.mutator/foo/||ael: line 2: error 1: unknown instruction/|1
+no words||.mutator/li r1 7/new r0 2/st r0 1 r1/ld r2 r0 1/out r2/halt/||usage: ael asm, sim, run, concord or bench/|2
+fewer pages than a space may have|sim --pages 3|.mutator/li r1 7/new r0 2/st r0 1 r1/ld r2 r0 1/out r2/halt/||usage: ael asm, sim, run, concord or bench/|2
+an empty input|sim|||ael: line 1: error 5: no mutator/|1";
+
+#[test]
+fn calls_give_what_they_should(rt: HostRuntime) -> Result<(), Fail> {
+    let tables = [
+        ROWS,
+        collecting::ROWS,
+        instructions::ROWS,
+        schedules::ROWS,
+        texts::ROWS,
+        texts::REFUSED,
+        texts::ADDERS,
+        threads::ROWS,
+    ];
+    for table in tables {
+        check_rows(&rt, rt.alloc(), table)?;
+    }
+    Ok(())
+}
+
+#[test]
+fn a_lone_mutator_sees_no_scanners(rt: HostRuntime) -> Result<(), Fail> {
+    for words in ["|sim ", "|sim --scanners 0 ", "|sim --scanners 8 "] {
+        check_rows(
+            &rt,
+            rt.alloc(),
+            &collecting::LONE.replace(rt.alloc(), "|sim ", words)?,
+        )?;
+    }
+    Ok(())
+}
+
+/// Nor on threads, whose order can't be told.
+#[test]
+fn a_lone_mutator_sees_no_threads(rt: HostRuntime) -> Result<(), Fail> {
+    for words in ["|run ", "|run --scanners 0 ", "|run --scanners 8 "] {
+        for row in collecting::LONE.split('\n') {
+            if !row.contains("--order") {
+                check_rows(&rt, rt.alloc(), &row.replace(rt.alloc(), "|sim ", words)?)?;
+            }
+        }
+    }
+    Ok(())
+}
+
+/// A text of one instruction, with spaces before its last line end.
+const LENGTHS: &str = "\
+1048562| |the longest input|sim|.mutator/halt@/|0: halt/||0
+1048563| |an input too long|sim|.mutator/halt@/||ael: input too long/|8";
+
+#[test]
+fn long_calls_give_what_they_should(rt: HostRuntime) -> Result<(), Fail> {
+    for table in [LENGTHS, instructions::FULL, texts::LIMITS] {
+        check_long_rows(&rt, rt.alloc(), table)?;
+    }
+    Ok(())
+}
+
+/// The read that fails, or 0, and the rooms of out and of err stand before each row. The first rows
+/// have all statuses from 0 to 6, so a call that always answers the same one is wrong in another row.
+const ENDS: &str = "\
+0|1000|1000|all is well|sim|.mutator/li r1 7/new r0 2/st r0 1 r1/ld r2 r0 1/out r2/halt/|0: 7/0: halt/||0
+0|1000|1000|a text that is refused|sim|.mutator/foo/||ael: line 2: error 1: unknown instruction/|1
+0|1000|1000|words that are no command|simulate|.mutator/li r1 7/new r0 2/st r0 1 r1/ld r2 r0 1/out r2/halt/||usage: ael asm, sim, run, concord or bench/|2
+0|1000|1000|a mutator that doesn't halt|sim|.mutator/|0: jump out/||3
+0|1000|1000|steps that run out|sim --steps 1|.mutator/jr r0/|0: stopped/|ael: steps out/|4
+2|1000|1000|the read of the end fails|sim|.mutator/li r1 7/new r0 2/st r0 1 r1/ld r2 r0 1/out r2/halt/||ael: read fault/|5
+2|1000|1000|the read of the end of a listing fails|asm|.mutator/halt/||ael: read fault/|5
+1|1000|1000|the first read fails|sim|||ael: read fault/|5
+1|1000|1000|a benchmark reads nothing|bench 3 1||0: 8/0: halt/1: 8/1: halt/2: 8/2: halt/3: 8/3: halt/cycles 0 live 0/||0
+0|1|1000|no room for the output|sim|.mutator/halt/|0|ael: write fault/|6
+0|1000|0|no room for the usage|||||6
+0|1000|5|some room for the usage||||usage|6
+2|1000|4|a read fails, and err too|sim|.mutator/halt/||ael:|6
+0|1000|10|some room for a text's fault|sim|.mutator/foo/||ael: line |6
+0|3|7|both sinks fail|sim|.mutator/li r1 7/new r0 2/st r0 1 r1/ld r2 r0 1/out r2/halt/|0: |ael: wr|6
+0|3|17|out fails, and err has just enough room|sim|.mutator/li r1 7/new r0 2/st r0 1 r1/ld r2 r0 1/out r2/halt/|0: |ael: write fault/|6";
+
+#[test]
+fn ends_that_fail_are_told(rt: HostRuntime) -> Result<(), Fail> {
+    for line in ENDS.split('\n') {
+        let (read, rest) = line
+            .split_once('|')
+            .ok_or("the read that fails is missing")?;
+        let (out, rest) = rest.split_once('|').ok_or("the room of out is missing")?;
+        let (err, row) = rest.split_once('|').ok_or("the room of err is missing")?;
+        let limits = Limits {
+            read: read.parse::<u64>()?,
+            out: out.parse::<usize>()?,
+            err: err.parse::<usize>()?,
+        };
+        Row::read(rt.alloc(), row)?.check(&rt, rt.alloc(), limits)?;
+    }
+    Ok(())
+}
+
+#[test]
+fn sure_ends_never_fail(rt: HostRuntime) -> Result<(), Fail> {
+    let words = words_of(rt.alloc(), "sim")?;
+    let first = Vec::from_slice(rt.alloc(), FIRST.as_bytes())?;
+    assert_eq!(rt; sure_status(&rt, rt.alloc(), &words, first), 0);
+    Ok(())
+}
+
+/// What the plain machine prints after so many steps of mutator 0.
+fn stepped(alloc: Global, program: &Program, steps: u32) -> Result<Vec<u8>, Fail> {
+    let mut state = PlainState::open(alloc, program)?;
+    for _ in 0..steps {
+        plain_step(alloc, &mut state, program, 1_000_000, 0)?;
+    }
+    Ok(print(alloc, &state)?)
+}
+
+#[test]
+fn the_plain_machine_prints_the_same(rt: HostRuntime) -> Result<(), Fail> {
+    let alloc = rt.alloc();
+    let program = assemble(alloc, FIRST.as_bytes())?;
+    let stepped = stepped(alloc, &program, 6)?;
+    same("steps", "out", &stepped, b"0: 7\n0: halt\n")?;
+    let run = plain_run(alloc, &program, 1_000_000, &[Mark::Step(0); 6])?;
+    let printed = print(alloc, &run)?;
+    same("a run", "out", &printed, b"0: 7\n0: halt\n")
+}

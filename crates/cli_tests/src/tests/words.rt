@@ -1,0 +1,218 @@
+//! What the words of a command line mean.
+
+use super::{same, words_of};
+use ael_commands::{BenchOperands, Job, RunOptions, SimOptions, read_words};
+use simple_commands::WordsError;
+use std::alloc::Global;
+use std::test::Fail;
+
+/// Words and their job: a simulation's pages, scanners, turns, steps, seed and order, and the flags
+/// besides that were given; a run's pages, scanners, turns and flags; or a benchmark's depth and seed.
+const ROWS: &str = "\
+sim|256 1 1000000 10000000 None false
+sim --|256 1 1000000 10000000 None false
+sim --order|256 1 1000000 10000000 None true
+sim --order --|256 1 1000000 10000000 None true
+sim --pages 8|8 1 1000000 10000000 None false
+sim --pages=8|8 1 1000000 10000000 None false
+sim --pages 08|8 1 1000000 10000000 None false
+sim --pages +8|8 1 1000000 10000000 None false
+sim --pages 4 --order|4 1 1000000 10000000 None true
+sim --order --pages 2048|2048 1 1000000 10000000 None true
+sim --scanners 0|256 0 1000000 10000000 None false
+sim --scanners 8|256 8 1000000 10000000 None false
+sim --scanners=-0|256 0 1000000 10000000 None false
+sim --scanners=+0|256 0 1000000 10000000 None false
+sim --turns 1|256 1 1 10000000 None false
+sim --turns 10000000|256 1 10000000 10000000 None false
+sim --steps 1|256 1 1000000 1 None false
+sim --steps 100000000|256 1 1000000 100000000 None false
+sim --seed 0|256 1 1000000 10000000 Some(0) false
+sim --seed=1|256 1 1000000 10000000 Some(1) false
+sim --seed +5|256 1 1000000 10000000 Some(5) false
+sim --seed 18446744073709551615|256 1 1000000 10000000 Some(18446744073709551615) false
+sim --turns 3 --steps 5|256 1 3 5 None false
+sim --order --seed 1 --steps 6 --turns 5 --scanners 0 --pages 8|8 0 5 6 Some(1) true
+sim --cycles|256 1 1000000 10000000 None false cycles
+sim --dump --order|256 1 1000000 10000000 None true dump
+sim --dump --cycles|256 1 1000000 10000000 None false cycles dump
+run|run 256 1 1000000
+run --|run 256 1 1000000
+run --pages 8|run 8 1 1000000
+run --pages=+08 --|run 8 1 1000000
+run --scanners 0|run 256 0 1000000
+run --scanners=-0|run 256 0 1000000
+run --turns 10000000|run 256 1 10000000
+run --cycles|run 256 1 1000000 cycles
+run --dump|run 256 1 1000000 dump
+run --dump --turns 5 --cycles --scanners 8 --pages 2048|run 2048 8 5 cycles dump
+asm|asm
+asm --|asm
+|refused
+''|refused
+--|refused
+-- sim|refused
+sim --pages|refused
+sim --pages --order|refused
+sim --pages 8 --pages 8|refused
+sim --pages 0x8|refused
+sim --pages 8.0|refused
+sim --pages ''|refused
+sim --pages=|refused
+sim --pages 3|refused
+sim --pages 2049|refused
+sim --pages -8|refused
+sim --scanners -0|refused
+sim --scanners 9|refused
+sim --scanners=-1|refused
+sim --turns 0|refused
+sim --turns 10000001|refused
+sim --steps 0|refused
+sim --steps 100000001|refused
+sim --seed|refused
+sim --seed -1|refused
+sim --seed=-0|refused
+sim --seed 18446744073709551616|refused
+sim --seed 1 --seed 2|refused
+sim --seed --steps 5|refused
+sim --order --order|refused
+sim --order=x|refused
+sim --order=|refused
+sim --page 8|refused
+sim --cycles --cycles|refused
+sim --dump=1|refused
+run --pages 3|refused
+run --pages 2049|refused
+run --scanners 9|refused
+run --turns 0|refused
+run --turns 10000001|refused
+run --steps 5|refused
+run --seed 1|refused
+run --order|refused
+run --cycles --cycles|refused
+run --dump=1|refused
+run --pages|refused
+run x|refused
+run sim|refused
+sim run|refused
+run --help|refused
+--cycles run|refused
+Run|refused
+sim x|refused
+sim -- x|refused
+sim -- --order|refused
+--order sim|refused
+--pages 8 sim|refused
+help|refused
+help sim|refused
+--help|refused
+-h|refused
+-V|refused
+--version|refused
+sim --help|refused
+bench 3 1|bench 3 1
+bench 1 0|bench 1 0
+bench 9 18446744073709551615|bench 9 18446744073709551615
+bench 03 +1|bench 3 1
+bench +3 01|bench 3 1
+bench -- 3 1|bench 3 1
+bench 3 -- 1|bench 3 1
+bench 3 1 --|bench 3 1
+bench|refused
+bench 3|refused
+bench 3 1 2|refused
+bench 0 1|refused
+bench 10 1|refused
+bench -3 1|refused
+bench -- -3 1|refused
+bench 3.0 1|refused
+bench '' 1|refused
+bench 3 ''|refused
+bench 3 -1|refused
+bench -- 3 -1|refused
+bench 3 18446744073709551616|refused
+bench 3 1 --cycles|refused
+bench --seed 1 3|refused
+bench --depth 3 1|refused
+bench --help|refused
+3 1 bench|refused
+asm x|refused
+asm asm|refused
+asm sim|refused
+sim asm|refused
+asm --order|refused
+asm --dump|refused
+asm --pages 8|refused
+asm ''|refused
+asm -- x|refused
+asm --help|refused
+-- asm|refused
+Asm|refused
+as|refused
+sim_--order|refused
+sim --pages=_8|refused";
+
+/// The text of the flags that a run has besides.
+fn flags_text(options: RunOptions) -> &'static str {
+    match (options.cycles, options.dump) {
+        (true, true) => " cycles dump",
+        (true, false) => " cycles",
+        (false, true) => " dump",
+        (false, false) => "",
+    }
+}
+
+/// The text of a simulation's options.
+fn sim_text(alloc: Global, options: SimOptions) -> Result<String, Fail> {
+    let SimOptions {
+        run,
+        steps,
+        seed,
+        order,
+    } = options;
+    let flags = flags_text(run);
+    let RunOptions {
+        pages,
+        scanners,
+        turns,
+        ..
+    } = run;
+    Ok(format!(in alloc; "{pages} {scanners} {turns} {steps} {seed:?} {order}{flags}")?)
+}
+
+/// The text of a run's options.
+fn run_text(alloc: Global, options: RunOptions) -> Result<String, Fail> {
+    let flags = flags_text(options);
+    let RunOptions {
+        pages,
+        scanners,
+        turns,
+        ..
+    } = options;
+    Ok(format!(in alloc; "run {pages} {scanners} {turns}{flags}")?)
+}
+
+/// The text of what words were read to.
+fn found_text(alloc: Global, found: Result<Job, WordsError>) -> Result<String, Fail> {
+    match found {
+        Ok(Job::Asm) => Ok(String::from_str(alloc, "asm")?),
+        Ok(Job::Bench(BenchOperands { depth, seed })) => {
+            Ok(format!(in alloc; "bench {depth} {seed}")?)
+        }
+        Ok(Job::Sim(options)) => sim_text(alloc, options),
+        Ok(Job::Run(options)) => run_text(alloc, options),
+        Err(WordsError::Refused) => Ok(String::from_str(alloc, "refused")?),
+        Err(WordsError::NoMemory) => Ok(String::from_str(alloc, "no memory")?),
+    }
+}
+
+#[test]
+fn words_are_read_as_clap_takes_them(rt: HostRuntime) -> Result<(), Fail> {
+    let alloc = rt.alloc();
+    for row in ROWS.split('\n') {
+        let (line, wanted) = row.split_once('|').ok_or("a row without its job")?;
+        let found = found_text(alloc, read_words(alloc, &words_of(alloc, line)?))?;
+        same(line, "job", found.as_bytes(), wanted.as_bytes())?;
+    }
+    Ok(())
+}
