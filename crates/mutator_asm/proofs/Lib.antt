@@ -26,3 +26,5 @@ pub mod ListedRows
 pub mod ListedClean
 pub mod ListedCode
 pub mod Listings
+mod Targets
+mod Names

@@ -1,13 +1,15 @@
 -- A listing that is written line by line.
-use Rattle.std.proofs.Common.{◌≡◌, ℕ, ◌+◌, ◌<◌, ◌≤◌, Bool, eqb, false, List, [], ◌∷◌, ◌++◌, length, map, get_or, drop, codes, sym, ap, ◌∙◌, append_assoc, append-nil}
-use Rattle.std.specs.List.{flat_map, join_with_byte}
+use Rattle.std.proofs.Common.{◌≡◌, ℕ, ◌+◌, ◌<◌, ◌≤◌, Bool, eqb, false, List, [], ◌∷◌, ◌++◌, length, map, get_or, drop, sum_by, IsTrue, codes, sym, ap, ◌∙◌, arith, append_assoc, append-nil}
+use Rattle.std.specs.List.{flat_map, join_with_byte, list_all}
 use Rattle.std.proofs.lemmas.List.{at_drop_more, at_drop_all}
 use Rattle.std.proofs.lemmas.List.Concat.{flat_map-append}
+use Rattle.std.proofs.lemmas.List.Sums.{AllPass-from_list_all, get_or-le-sum_by}
 use Rattle.std.proofs.lemmas.Option.{get_or_from_slice_get}
 use Rattle.mutator_asm.specs.declared.instr.Instr.{Instr}
 use Rattle.mutator_asm.specs.declared.item.Item.{Item}
 use Rattle.mutator_asm.specs.Labels.{KnowsTargets}
 use Rattle.mutator_asm.specs.Listing.{end_if, instr_lines, end_lines, section_lines, instr_tokens, is_target_in, item_token, label_if, label_at, line_text, listing, schedule_lines}
+use Rattle.mutator_asm.specs.Program.{is_closed}
 
 -- what is written where nothing is left, behind its begin
 written_all : (old rest first start begin text : List ℕ) → rest ≡ [] → first ≡ start ++ begin → old ++ rest ≡ first ++ text → old ≡ start ++ (begin ++ text)
@@ -61,6 +63,24 @@ schedule_text (item ∷ more) i start first old new some le behind so_far wrote 
     wrote ∙ ap (λ xs. xs ++ codes "\n") old_is ∙ append_assoc start (codes ".schedule" ++ text) (codes "\n") ∙ ap (λ xs. start ++ xs) (sym line ∙ sym (append-nil (line_text (codes ".schedule" ∷ map item_token items))))
 
 -- ---- all sections
+
+-- what is promised of a program holds of each of its sections
+pub section_few : (code : List (List Instr)) (k : ℕ) (section d : List Instr) → section ≡ get_or code k d → k < length code → sum_by length code ≤ 65536 → length section ≤ 65536
+section_few code k section d is lt few = omega (arith, get_or-le-sum_by length code k d lt, ap length is)
+
+pub section_closed : (code : List (List Instr)) (k : ℕ) (section d : List Instr) → section ≡ get_or code k d → k < length code → IsTrue (list_all is_closed code) → IsTrue (is_closed section)
+section_closed code k section d is lt closed = rw is (AllPass-from_list_all is_closed code closed k d lt)
+
+-- one section more
+pub section_more : (code : List (List Instr)) (k : ℕ) (section d : List Instr) (start old new : List ℕ) → section ≡ get_or code k d → k < length code
+    → new ≡ old ++ flat_map line_text (section_lines section) → old ++ flat_map line_text (flat_map section_lines (drop k code)) ≡ start
+    → new ++ flat_map line_text (flat_map section_lines (drop (k + 1) code)) ≡ start
+section_more code k section d start old new is lt wrote so_far =
+    let text = λ (sections : List (List Instr)). flat_map line_text (flat_map section_lines sections) in
+    let later = drop (k + 1) code in
+    let lines = flat_map line_text (section_lines section) in
+    let parts = at_drop_more text code k d lt ∙ ap (λ s. text (s ∷ later)) (sym is) ∙ flat_map-append line_text (section_lines section) (flat_map section_lines later) in
+    ap (λ xs. xs ++ text later) wrote ∙ append_assoc old lines (text later) ∙ ap (λ xs. old ++ xs) (sym parts) ∙ so_far
 
 pub listing_text : (code : List (List Instr)) (schedule : List Item) (i : ℕ) (first new : List ℕ) → length code ≤ i → first ≡ flat_map line_text (schedule_lines schedule)
     → new ++ flat_map line_text (flat_map section_lines (drop i code)) ≡ first ++ flat_map line_text (flat_map section_lines code) → new ≡ listing code schedule

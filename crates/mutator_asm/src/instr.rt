@@ -1,9 +1,7 @@
 //! The instructions.
 
-use crate::operand::Operand;
-use crate::spelling::{
-    one_register, register_label, register_operand, three_registers, two_registers,
-};
+use crate::operand::Operand::{self, Number, Reg};
+use crate::spelling::{label, one, one_label, three, two};
 use std::fmt;
 
 /// An instruction, its operands in the order of the text. A register is its number, 0 to 7. A jump's
@@ -61,8 +59,8 @@ pub enum Instr {
 }
 
 impl Instr {
-    ghost use Rattle.std.specs.Prelude.{◌≡◌};
-    ghost use Rattle.mutator_asm.specs.Listing.{jump_target};
+    ghost use Rattle.std.specs.Prelude.{◌≡◌, [], slice_index_or};
+    ghost use Rattle.mutator_asm.specs.Listing.{instr_tokens, jump_target};
 
     /// The target of a jump to a label: the number of an instruction of its section, or the section's
     /// length. `None` for every other instruction, `jr` among them.
@@ -72,6 +70,38 @@ impl Instr {
         match self {
             Instr::Jmp(target) | Instr::Jz(_, target) | Instr::Jal(_, target) => Some(target),
             _ => None,
+        }
+    }
+
+    /// The name of the instruction.
+    fn name(self) -> &'static str
+        ensures { result.now ≡ slice_index_or (instr_tokens self) 0 [] }
+    {
+        match self {
+            Instr::Li(..) => "li",
+            Instr::Mov(..) => "mov",
+            Instr::Add(..) => "add",
+            Instr::Sub(..) => "sub",
+            Instr::Mul(..) => "mul",
+            Instr::Div(..) => "div",
+            Instr::Rem(..) => "rem",
+            Instr::Lt(..) => "lt",
+            Instr::Eq(..) => "eq",
+            Instr::Jmp(..) => "jmp",
+            Instr::Jz(..) => "jz",
+            Instr::Jal(..) => "jal",
+            Instr::Jr(..) => "jr",
+            Instr::New(..) => "new",
+            Instr::Raw(..) => "raw",
+            Instr::Ld(..) => "ld",
+            Instr::St(..) => "st",
+            Instr::Len(..) => "len",
+            Instr::Isp(..) => "isp",
+            Instr::Get(..) => "get",
+            Instr::Put(..) => "put",
+            Instr::Swap(..) => "swap",
+            Instr::Out(..) => "out",
+            Instr::Halt => "halt",
         }
     }
 }
@@ -84,31 +114,27 @@ impl fmt::Display for Instr {
     ghost output = { λ instr. Some (spaced (instr_tokens instr)) };
 
     fn fmt<W: fmt::Write>(&self, f: &mut fmt::Formatter<W>) -> fmt::Result {
+        let name = self.name();
         match *self {
-            Instr::Li(d, k) => write!(f, "li r{d} {k}"),
-            Instr::Mov(d, a) => two_registers(f, "mov", d, a),
-            Instr::Add(d, a, b) => three_registers(f, "add", d, a, b),
-            Instr::Sub(d, a, b) => three_registers(f, "sub", d, a, b),
-            Instr::Mul(d, a, b) => three_registers(f, "mul", d, a, b),
-            Instr::Div(d, a, b) => three_registers(f, "div", d, a, b),
-            Instr::Rem(d, a, b) => three_registers(f, "rem", d, a, b),
-            Instr::Lt(d, a, b) => three_registers(f, "lt", d, a, b),
-            Instr::Eq(d, a, b) => three_registers(f, "eq", d, a, b),
-            Instr::Jmp(t) => write!(f, "jmp L{t}"),
-            Instr::Jz(a, t) => register_label(f, "jz", a, t),
-            Instr::Jal(d, t) => register_label(f, "jal", d, t),
-            Instr::Jr(a) => one_register(f, "jr", a),
-            Instr::New(d, x) => register_operand(f, "new", d, x),
-            Instr::Raw(d, x) => register_operand(f, "raw", d, x),
-            Instr::Ld(d, a, x) => write!(f, "ld r{d} r{a} {x}"),
-            Instr::St(a, x, b) => write!(f, "st r{a} {x} r{b}"),
-            Instr::Len(d, a) => two_registers(f, "len", d, a),
-            Instr::Isp(d, a) => two_registers(f, "isp", d, a),
-            Instr::Get(d, x) => register_operand(f, "get", d, x),
-            Instr::Put(x, a) => write!(f, "put {x} r{a}"),
-            Instr::Swap(d, x) => register_operand(f, "swap", d, x),
-            Instr::Out(a) => one_register(f, "out", a),
-            Instr::Halt => f.write_str("halt"),
+            Instr::Li(d, k) => two(f, name, Reg(d), Number(k)),
+            Instr::Mov(d, a) | Instr::Len(d, a) | Instr::Isp(d, a) => two(f, name, Reg(d), Reg(a)),
+            Instr::Add(d, a, b)
+            | Instr::Sub(d, a, b)
+            | Instr::Mul(d, a, b)
+            | Instr::Div(d, a, b)
+            | Instr::Rem(d, a, b)
+            | Instr::Lt(d, a, b)
+            | Instr::Eq(d, a, b) => three(f, name, Reg(d), Reg(a), Reg(b)),
+            Instr::Jmp(t) => label(f, name, t),
+            Instr::Jz(a, t) | Instr::Jal(a, t) => one_label(f, name, Reg(a), t),
+            Instr::Jr(a) | Instr::Out(a) => one(f, name, Reg(a)),
+            Instr::New(d, x) | Instr::Raw(d, x) | Instr::Get(d, x) | Instr::Swap(d, x) => {
+                two(f, name, Reg(d), x)
+            }
+            Instr::Ld(d, a, x) => three(f, name, Reg(d), Reg(a), x),
+            Instr::St(a, x, b) => three(f, name, Reg(a), x, Reg(b)),
+            Instr::Put(x, a) => two(f, name, x, Reg(a)),
+            Instr::Halt => f.write_str(name),
         }
     }
 }

@@ -1,65 +1,60 @@
-//! An instruction as a listing has it, by the kinds of its operands: its name and each operand, with one space between
-//! two.
+//! An instruction as a listing has it, by the number of its operands: its name and each operand, with one space between
+//! two. A label stands last.
 
 ghost use Rattle.std.specs.Prelude.{[], ◌∷◌};
 ghost use Rattle.std.specs.Fmt.{WritesOnOk};
-ghost use Rattle.mutator_asm.specs.Listing.{spaced, register_token, operand_token, label_name};
+ghost use Rattle.mutator_asm.specs.Listing.{spaced, operand_token, label_name};
 
 use crate::operand::Operand;
 use std::fmt;
 
-/// `name ra`.
-pub fn one_register<W: fmt::Write>(f: &mut fmt::Formatter<W>, name: &str, a: u8) -> fmt::Result
-    ensures { WritesOnOk W.write_str_gives f.old result (spaced (name.now ∷ register_token a ∷ [])) f.new }
+/// `name x`.
+pub fn one<W: fmt::Write>(f: &mut fmt::Formatter<W>, name: &str, x: Operand) -> fmt::Result
+    ensures { WritesOnOk W.write_str_gives f.old result (spaced (name.now ∷ operand_token x ∷ [])) f.new }
 {
-    write!(f, "{name} r{a}")
+    write!(f, "{name} {x}")
 }
 
-/// `name rd ra`.
-pub fn two_registers<W: fmt::Write>(
+/// `name x y`.
+pub fn two<W: fmt::Write>(
     f: &mut fmt::Formatter<W>,
     name: &str,
-    d: u8,
-    a: u8,
+    x: Operand,
+    y: Operand,
 ) -> fmt::Result
-    ensures { WritesOnOk W.write_str_gives f.old result (spaced (name.now ∷ register_token d ∷ register_token a ∷ [])) f.new }
+    ensures { WritesOnOk W.write_str_gives f.old result (spaced (name.now ∷ operand_token x ∷ operand_token y ∷ [])) f.new }
 {
-    write!(f, "{name} r{d} r{a}")
+    write!(f, "{name} {x} {y}")
 }
 
-/// `name rd ra rb`.
-pub fn three_registers<W: fmt::Write>(
+/// `name x y z`.
+pub fn three<W: fmt::Write>(
     f: &mut fmt::Formatter<W>,
     name: &str,
-    d: u8,
-    a: u8,
-    b: u8,
+    x: Operand,
+    y: Operand,
+    z: Operand,
 ) -> fmt::Result
-    ensures { WritesOnOk W.write_str_gives f.old result (spaced (name.now ∷ register_token d ∷ register_token a ∷ register_token b ∷ [])) f.new }
+    ensures { WritesOnOk W.write_str_gives f.old result (spaced (name.now ∷ operand_token x ∷ operand_token y ∷ operand_token z ∷ [])) f.new }
 {
-    write!(f, "{name} r{d} r{a} r{b}")
+    write!(f, "{name} {x} {y} {z}")
 }
 
-/// `name ra L`.
-pub fn register_label<W: fmt::Write>(
+/// `name L`.
+pub fn label<W: fmt::Write>(f: &mut fmt::Formatter<W>, name: &str, target: u32) -> fmt::Result
+    ensures { WritesOnOk W.write_str_gives f.old result (spaced (name.now ∷ label_name target ∷ [])) f.new }
+{
+    write!(f, "{name} L{target}")
+}
+
+/// `name x L`.
+pub fn one_label<W: fmt::Write>(
     f: &mut fmt::Formatter<W>,
     name: &str,
-    a: u8,
+    x: Operand,
     target: u32,
 ) -> fmt::Result
-    ensures { WritesOnOk W.write_str_gives f.old result (spaced (name.now ∷ register_token a ∷ label_name target ∷ [])) f.new }
+    ensures { WritesOnOk W.write_str_gives f.old result (spaced (name.now ∷ operand_token x ∷ label_name target ∷ [])) f.new }
 {
-    write!(f, "{name} r{a} L{target}")
-}
-
-/// `name rd x`.
-pub fn register_operand<W: fmt::Write>(
-    f: &mut fmt::Formatter<W>,
-    name: &str,
-    d: u8,
-    x: Operand,
-) -> fmt::Result
-    ensures { WritesOnOk W.write_str_gives f.old result (spaced (name.now ∷ register_token d ∷ operand_token x ∷ [])) f.new }
-{
-    write!(f, "{name} r{d} {x}")
+    write!(f, "{name} {x} L{target}")
 }

@@ -2,8 +2,20 @@ use Rattle.std.proofs.Common.{◌∙◌, ap, sym, subst, ℕ, List, ◌<◌, ◌
 use Rattle.std.specs.Global.{Vec}
 use Rattle.mutator_asm.specs.Text.{IsText}
 use Rattle.mutator_asm.proofs.Listings.{listing_short}
-use Rattle.mutator_asm.proofs.Writing.{listing_text}
+use Rattle.mutator_asm.proofs.Writing.{listing_text, section_few, section_closed, section_more}
 use Rattle.mutator_asm.proofs.listing.list.Goals as goal
+
+pub push_section-requires-clause-few : goal.push_section-requires-clause-few
+push_section-requires-clause-few c =
+    section_few c.sections-section-items.result.now c.loop-section.section-index _ _ (c.as_slice-in-loop-section.ensures ∙ c.section-item.is) c.loop-section-test.true (rw c.sections-section-items.ensures c.args.program.now.well_formed.few_instrs)
+
+pub push_section-requires-clause-closed : goal.push_section-requires-clause-closed
+push_section-requires-clause-closed c =
+    section_closed c.sections-section-items.result.now c.loop-section.section-index _ _ (c.as_slice-in-loop-section.ensures ∙ c.section-item.is) c.loop-section-test.true (rw c.sections-section-items.ensures c.args.program.now.well_formed.targets)
+
+pub loop-section-preserved : goal.loop-section-preserved
+loop-section-preserved c =
+    section_more c.sections-section-items.result.now c.loop-section.section-index _ _ _ _ _ (c.as_slice-in-loop-section.ensures ∙ c.section-item.is) c.loop-section-test.true c.in_ok-push_section.ensures c.loop-section.invariant
 
 pub returns-clause-exact : goal.returns-clause-exact
 returns-clause-exact c =

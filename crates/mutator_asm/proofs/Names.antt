@@ -1,0 +1,27 @@
+-- Names by their letters.
+use Rattle.std.proofs.Common.{◌≡◌, ℕ, List, [], ◌∷◌, length, get_or, refl, ap, arith, Result, Ok, Err, MatchResult, IsOkAnd}
+use Rattle.mutator_asm.specs.declared.mistake.Mistake.{Mistake}
+use Rattle.mutator_asm.specs.Instr.{made}
+
+-- a name of two letters
+pub two_letters : (name : List ℕ) (a b : ℕ) → (length name ≡ 2) × (get_or name 0 0 ≡ a) × (get_or name 1 0 ≡ b) → name ≡ a ∷ b ∷ []
+two_letters (x ∷ y ∷ []) a b (l, h, i) = rw (h, i) refl
+two_letters [] a b (l, h, i) = absurd (omega arith)
+two_letters (x ∷ []) a b (l, h, i) = absurd (omega arith)
+two_letters (x ∷ y ∷ z ∷ r) a b (l, h, i) = absurd (omega arith)
+
+-- one of three
+pub three_letters : (name : List ℕ) (a b c : ℕ) → (length name ≡ 3) × (get_or name 0 0 ≡ a) × (get_or name 1 0 ≡ b) × (get_or name 2 0 ≡ c) → name ≡ a ∷ b ∷ c ∷ []
+three_letters (x ∷ name) a b c (l, h, i, j) = grind (arith, two_letters name b c)
+three_letters [] a b c (l, h, i, j) = absurd (omega arith)
+
+-- one of four
+pub four_letters : (name : List ℕ) (a b c d : ℕ) → (length name ≡ 4) × (get_or name 0 0 ≡ a) × (get_or name 1 0 ≡ b) × (get_or name 2 0 ≡ c) × (get_or name 3 0 ≡ d) → name ≡ a ∷ b ∷ c ∷ d ∷ []
+four_letters (x ∷ name) a b c d (l, h, i, j, k) = grind (arith, three_letters name b c d)
+four_letters [] a b c d (l, h, i, j, k) = absurd (omega arith)
+
+-- what is made of the operands that were read
+pub made_of : {A B : Type 0} {f : A → B} {P : A → B → Type 0} (read : Result A Mistake) (r : Result B Mistake) → MatchResult read (λ o. IsOkAnd r (P o)) (λ e. r ≡ Err e) → ((o : A) (x : B) → P o x → x ≡ f o) → r ≡ made f read
+made_of (Ok o) (Ok x) h k = ap Ok (k o x h)
+made_of (Ok o) (Err e) h k = absurd h
+made_of (Err e) r h k = h
