@@ -3,7 +3,7 @@
 use std::fmt;
 
 /// What a shape stands for.
-#[derive(Clone, Copy, Debug, PartialEq, Eq)]
+#[derive(Clone, Copy, PartialEq, Eq)]
 pub enum Class {
     /// A word that no record has.
     Free,

@@ -6,8 +6,8 @@ use crate::shape::Shape;
 use heap_words::{Kind, Tag, Word};
 use mmu_model::read as read_page;
 use plain_state::NoMemory;
-use record_layout::{read as read_header, read_forward};
-use space_map::{PAGE_WORDS, PageWord};
+use record_layout::{Header, read as read_header, read_forward};
+use space_map::{AreaWord, GateWord, PAGE_WORDS, PageWord};
 use std::alloc::Global;
 
 /// Where the words of a page begin.
@@ -28,7 +28,7 @@ pub const WIDTH: u32 = 1016;
 const MOST_PAGES_BY_WORD: u32 = 64;
 
 /// A picture that is being drawn: its shapes, and how far down it goes.
-#[derive(Debug, Drop)]
+#[derive(Drop)]
 pub struct Drawing {
     pub shapes: Vec<Shape>,
     pub bottom: u32,
@@ -74,22 +74,44 @@ impl Drawing {
     }
 }
 
-/// The line of text: the epoch, the counts of the gate, and what is traced and owed.
-fn draw_counts(alloc: Global, heap: &Heap, drawing: &mut Drawing) -> Result<(), NoMemory> {
-    let traced = heap.shared(heap.spaces.traced_place());
-    let owed = match heap.area(heap.spaces.to_space(heap.epoch)) {
+/// What the gate counts of the mutators.
+fn push_gate(text: &mut String, gate: GateWord) -> Result<(), NoMemory> {
+    write!(
+        text,
+        "epoch {}, live {}, running {}",
+        gate.epoch, gate.live, gate.running
+    )?;
+    write!(
+        text,
+        ", behind {}, left {}, request {}",
+        gate.behind, gate.left, gate.request
+    )?;
+    Ok(())
+}
+
+/// The words that are owed for copies.
+fn owed(heap: &Heap) -> u32 {
+    match heap.area(heap.spaces.to_space(heap.epoch)) {
         Some(area) => area.owed,
         None => 0,
-    };
-    let text = match heap.gate() {
-        Some(gate) => {
-            format!(in alloc;
-                "epoch {}, live {}, running {}, behind {}, left {}, request {}, TRACED {traced}, owed {owed}",
-                gate.epoch, gate.live, gate.running, gate.behind, gate.left, gate.request
-            )?
-        }
-        None => format!(in alloc; "no gate, TRACED {traced}, owed {owed}")?,
-    };
+    }
+}
+
+/// The epoch, the counts of the gate, and what is traced and owed.
+fn push_counts(text: &mut String, heap: &Heap) -> Result<(), NoMemory> {
+    match heap.gate() {
+        Some(gate) => push_gate(text, gate)?,
+        None => text.push_str("no gate")?,
+    }
+    let traced = heap.shared(heap.spaces.traced_place());
+    write!(text, ", TRACED {traced}, owed {}", owed(heap))?;
+    Ok(())
+}
+
+/// The line of text above all else.
+fn draw_counts(alloc: Global, heap: &Heap, drawing: &mut Drawing) -> Result<(), NoMemory> {
+    let mut text = String::new(alloc);
+    push_counts(&mut text, heap)?;
     let y = drawing.bottom;
     drawing.label(8, y.saturating_add(12), Class::Plain, text)?;
     drawing.down(24);
@@ -130,7 +152,22 @@ fn has_records(classes: &[Class], first: u32) -> bool {
     false
 }
 
-/// The text on a record: its kind and length, and who made it.
+/// What is written on a record: its kind and length, and who made it; on a short one the last alone.
+fn name_text(alloc: Global, header: Header) -> Result<String, NoMemory> {
+    if header.len < 5 {
+        return Ok(format!(in alloc; "{}.{}", header.mutator, header.serial)?);
+    }
+    let kind = match header.kind {
+        Kind::Fields => "fields",
+        Kind::Raw => "raw",
+    };
+    Ok(format!(in alloc;
+        "{kind} {} {}.{}",
+        header.len, header.mutator, header.serial
+    )?)
+}
+
+/// The text on a record, where it has room for one.
 fn draw_name(
     alloc: Global,
     heap: &Heap,
@@ -145,18 +182,7 @@ fn draw_name(
     if header.len < 2 {
         return Ok(());
     }
-    let kind = match header.kind {
-        Kind::Fields => "fields",
-        Kind::Raw => "raw",
-    };
-    let text = if header.len < 5 {
-        format!(in alloc; "{}.{}", header.mutator, header.serial)?
-    } else {
-        format!(in alloc;
-            "{kind} {} {}.{}",
-            header.len, header.mutator, header.serial
-        )?
-    };
+    let text = name_text(alloc, header)?;
     drawing.label(
         x.saturating_add(2),
         y.saturating_add(11),
@@ -213,6 +239,24 @@ fn draw_bars(
     Ok(())
 }
 
+/// Whether the heap is so small that each word is drawn by itself.
+fn is_by_word(heap: &Heap) -> bool {
+    heap.spaces.pages() <= MOST_PAGES_BY_WORD
+}
+
+/// The height of a page that has records.
+fn record_height(heap: &Heap) -> u32 {
+    if is_by_word(heap) { WIDE } else { NARROW }
+}
+
+/// The number of a page, and the worker that scans it.
+fn page_text(alloc: Global, page: u32, worker: Option<u8>) -> Result<String, NoMemory> {
+    Ok(match worker {
+        Some(worker) => format!(in alloc; "page {page} by {worker}")?,
+        None => format!(in alloc; "page {page}")?,
+    })
+}
+
 /// A page, and how high it is.
 fn draw_page(
     alloc: Global,
@@ -224,30 +268,17 @@ fn draw_page(
     let first = page.saturating_mul(PAGE_WORDS);
     let y = drawing.bottom;
     let wide = has_records(classes, first);
-    let by_word = heap.spaces.pages() <= MOST_PAGES_BY_WORD;
     let height = if wide { record_height(heap) } else { NARROW };
     let (class, worker) = page_class(heap, page);
     drawing.block(LEFT - 12, y, 10, height, class)?;
-    if wide && by_word {
-        let text = match worker {
-            Some(worker) => format!(in alloc; "page {page} by {worker}")?,
-            None => format!(in alloc; "page {page}")?,
-        };
+    if wide && is_by_word(heap) {
+        let text = page_text(alloc, page, worker)?;
         drawing.label(8, y.saturating_add(12), Class::Plain, text)?;
         draw_words(alloc, heap, classes, drawing, first)?;
     } else {
         draw_bars(classes, drawing, first, height)?;
     }
     Ok(height)
-}
-
-/// The height of a page that has records.
-fn record_height(heap: &Heap) -> u32 {
-    if heap.spaces.pages() <= MOST_PAGES_BY_WORD {
-        WIDE
-    } else {
-        NARROW
-    }
 }
 
 /// FRONT or LOW, so many words into a space: a line in the page where it lies.
@@ -280,7 +311,39 @@ fn draw_mark(
     )
 }
 
-/// Lines from what stands in a record's place to its copy.
+/// The top of the page in which an address lies, where it was drawn.
+fn top_at(tops: &[u32], addr: u32) -> Option<u32> {
+    tops.get((addr / PAGE_WORDS) as usize).copied()
+}
+
+/// The middle of the word at an address, from the left.
+fn middle_at(addr: u32) -> u32 {
+    LEFT + CELL * (addr % PAGE_WORDS) + CELL / 2
+}
+
+/// A line from what stands in a record's place to its copy.
+fn draw_forward(
+    heap: &Heap,
+    drawing: &mut Drawing,
+    tops: &[u32],
+    addr: u32,
+) -> Result<(), NoMemory> {
+    let Some(forward) = read_forward(heap.word(addr)) else {
+        return Ok(());
+    };
+    let (Some(from), Some(to)) = (top_at(tops, addr), top_at(tops, forward.addr)) else {
+        return Ok(());
+    };
+    drawing.line(
+        middle_at(addr),
+        from.saturating_add(record_height(heap)),
+        middle_at(forward.addr),
+        to,
+        Class::Forward,
+    )
+}
+
+/// Lines from all that stand in place of records to their copies.
 fn draw_forwards(
     heap: &Heap,
     classes: &[Class],
@@ -290,17 +353,7 @@ fn draw_forwards(
     let mut addr = 0u32;
     for class in classes {
         if *class == Class::Forward {
-            if let Some(forward) = read_forward(heap.word(addr)) {
-                let from = tops.get((addr / PAGE_WORDS) as usize);
-                let to = tops.get((forward.addr / PAGE_WORDS) as usize);
-                if let (Some(from), Some(to)) = (from, to) {
-                    let x = LEFT + CELL * (addr % PAGE_WORDS) + CELL / 2;
-                    let to_x = LEFT + CELL * (forward.addr % PAGE_WORDS) + CELL / 2;
-                    let (from, to) = (*from, *to);
-                    let from = from.saturating_add(record_height(heap));
-                    drawing.line(x, from, to_x, to, Class::Forward)?;
-                }
-            }
+            draw_forward(heap, drawing, tops, addr)?;
         }
         addr = addr.saturating_add(1);
     }
@@ -334,7 +387,62 @@ fn register_text(alloc: Global, word: u64) -> Result<String, NoMemory> {
     })
 }
 
-/// The registers of each mutator, with lines to what they hold.
+/// A register, with a line to what it holds.
+fn draw_register(
+    alloc: Global,
+    heap: &Heap,
+    drawing: &mut Drawing,
+    tops: &[u32],
+    x: u32,
+    word: u64,
+) -> Result<(), NoMemory> {
+    let y = drawing.bottom;
+    let class = heap.tagged(word);
+    drawing.block(x, y, 108, WIDE, class)?;
+    let text = register_text(alloc, word)?;
+    drawing.label(
+        x.saturating_add(4),
+        y.saturating_add(12),
+        Class::Plain,
+        text,
+    )?;
+    let Some(addr) = Word(word).as_pointer() else {
+        return Ok(());
+    };
+    let Some(top) = top_at(tops, addr) else {
+        return Ok(());
+    };
+    drawing.line(
+        x.saturating_add(54),
+        y,
+        middle_at(addr),
+        top.saturating_add(record_height(heap)),
+        class,
+    )
+}
+
+/// The registers of a mutator.
+fn draw_mutator(
+    alloc: Global,
+    heap: &Heap,
+    drawing: &mut Drawing,
+    tops: &[u32],
+    m: u32,
+    registers: &[u64],
+) -> Result<(), NoMemory> {
+    let text = format!(in alloc; "mutator {m}")?;
+    let y = drawing.bottom;
+    drawing.label(8, y.saturating_add(12), Class::Plain, text)?;
+    let mut x = LEFT;
+    for word in registers {
+        draw_register(alloc, heap, drawing, tops, x, *word)?;
+        x = x.saturating_add(112);
+    }
+    drawing.down(20);
+    Ok(())
+}
+
+/// The registers of each mutator.
 fn draw_registers(
     alloc: Global,
     heap: &Heap,
@@ -343,101 +451,138 @@ fn draw_registers(
 ) -> Result<(), NoMemory> {
     let mut m = 0u32;
     for registers in heap.dump.registers.as_slice() {
-        let y = drawing.bottom;
-        let text = format!(in alloc; "mutator {m}")?;
-        drawing.label(8, y.saturating_add(12), Class::Plain, text)?;
-        let mut x = LEFT;
-        for word in registers.as_slice() {
-            let class = heap.tagged(*word);
-            drawing.block(x, y, 108, WIDE, class)?;
-            let text = register_text(alloc, *word)?;
-            drawing.label(
-                x.saturating_add(4),
-                y.saturating_add(12),
-                Class::Plain,
-                text,
-            )?;
-            if let Some(addr) = Word(*word).as_pointer() {
-                if let Some(top) = tops.get((addr / PAGE_WORDS) as usize) {
-                    let to_x = LEFT + CELL * (addr % PAGE_WORDS) + CELL / 2;
-                    drawing.line(
-                        x.saturating_add(54),
-                        y,
-                        to_x,
-                        top.saturating_add(record_height(heap)),
-                        class,
-                    )?;
-                }
-            }
-            x = x.saturating_add(112);
-        }
+        draw_mutator(alloc, heap, drawing, tops, m, registers.as_slice())?;
         m = m.saturating_add(1);
-        drawing.down(20);
     }
     drawing.down(8);
     Ok(())
 }
 
+/// A row of colours, each beside its name.
+fn draw_colours(
+    alloc: Global,
+    drawing: &mut Drawing,
+    row: &[(Class, &str)],
+) -> Result<(), NoMemory> {
+    let y = drawing.bottom;
+    let mut x = LEFT;
+    for (class, name) in row {
+        drawing.block(x, y, 12, 12, *class)?;
+        let text = String::from_str(alloc, name)?;
+        drawing.label(
+            x.saturating_add(16),
+            y.saturating_add(10),
+            Class::Plain,
+            text,
+        )?;
+        x = x.saturating_add(126);
+    }
+    drawing.down(17);
+    Ok(())
+}
+
 /// What the colours mean.
 fn draw_legend(alloc: Global, drawing: &mut Drawing) -> Result<(), NoMemory> {
-    let rows = [
-        [
-            (Class::Header, "header"),
-            (Class::Number, "number"),
-            (Class::Raw, "raw word"),
-            (Class::New, "pointer to new"),
-            (Class::Old, "pointer to old"),
-            (Class::Forward, "forward"),
-            (Class::Busy, "being copied"),
-        ],
-        [
-            (Class::Open, "page open"),
-            (Class::Scanning, "page scanned"),
-            (Class::Earlier, "earlier epoch"),
-            (Class::Unset, "never set"),
-            (Class::Mark, "FRONT"),
-            (Class::Low, "LOW"),
-            (Class::Free, "no record"),
-        ],
+    let words = [
+        (Class::Header, "header"),
+        (Class::Number, "number"),
+        (Class::Raw, "raw word"),
+        (Class::New, "pointer to new"),
+        (Class::Old, "pointer to old"),
+        (Class::Forward, "forward"),
+        (Class::Busy, "being copied"),
     ];
-    for row in rows {
-        let y = drawing.bottom;
-        let mut x = LEFT;
-        for (class, name) in row {
-            drawing.block(x, y, 12, 12, class)?;
-            let text = format!(in alloc; "{name}")?;
-            drawing.label(
-                x.saturating_add(16),
-                y.saturating_add(10),
-                Class::Plain,
-                text,
-            )?;
-            x = x.saturating_add(126);
-        }
-        drawing.down(17);
-    }
+    draw_colours(alloc, drawing, &words)?;
+    let pages = [
+        (Class::Open, "page open"),
+        (Class::Scanning, "page scanned"),
+        (Class::Earlier, "earlier epoch"),
+        (Class::Unset, "never set"),
+        (Class::Mark, "FRONT"),
+        (Class::Low, "LOW"),
+        (Class::Free, "no record"),
+    ];
+    draw_colours(alloc, drawing, &pages)?;
     drawing.down(6);
     Ok(())
 }
 
-/// The name of a space or the board, with where its FRONT and LOW are.
+/// The name of a space, with where its FRONT and LOW are.
+fn area_title(alloc: Global, heap: &Heap, space: u8, area: AreaWord) -> Result<String, NoMemory> {
+    let start = if space < 2 {
+        heap.spaces.space_start(space)
+    } else {
+        0
+    };
+    let front = start.saturating_add(area.front);
+    let low = start.saturating_add(area.low);
+    Ok(format!(in alloc; "space {space}: FRONT {front}, LOW {low}")?)
+}
+
+/// The name of a space or the board.
 fn title(alloc: Global, heap: &Heap, space: u8) -> Result<String, NoMemory> {
     match heap.area(space) {
-        Some(area) => {
-            let start = if space < 2 {
-                heap.spaces.space_start(space)
-            } else {
-                0
-            };
-            let (front, low) = (
-                start.saturating_add(area.front),
-                start.saturating_add(area.low),
-            );
-            Ok(format!(in alloc; "space {space}: FRONT {front}, LOW {low}")?)
-        }
+        Some(area) => area_title(alloc, heap, space, area),
         None if space < 2 => Ok(format!(in alloc; "space {space}")?),
-        None => Ok(format!(in alloc; "board")?),
+        None => Ok(String::from_str(alloc, "board")?),
     }
+}
+
+/// The name of a space or the board, above its pages.
+fn draw_title(
+    alloc: Global,
+    heap: &Heap,
+    drawing: &mut Drawing,
+    space: u8,
+) -> Result<(), NoMemory> {
+    let y = drawing.bottom;
+    let text = title(alloc, heap, space)?;
+    drawing.label(8, y.saturating_add(10), Class::Plain, text)?;
+    drawing.down(18);
+    Ok(())
+}
+
+/// The pages of both spaces and of the board, each under its name; answers the top of each page.
+fn draw_spaces(
+    alloc: Global,
+    heap: &Heap,
+    classes: &[Class],
+    drawing: &mut Drawing,
+) -> Result<Vec<u32>, NoMemory> {
+    let pages = heap.spaces.pages();
+    let rows = [
+        (0, pages, 0u8),
+        (pages, 2 * pages, 1),
+        (2 * pages, 2 * pages + 1, 2),
+    ];
+    let mut tops = Vec::new(alloc);
+    for (from, to, space) in rows {
+        draw_title(alloc, heap, drawing, space)?;
+        draw_pages(alloc, heap, classes, drawing, &mut tops, from, to)?;
+    }
+    Ok(tops)
+}
+
+/// FRONT and LOW of both spaces.
+fn draw_marks(heap: &Heap, drawing: &mut Drawing, tops: &[u32]) -> Result<(), NoMemory> {
+    for space in 0..2u8 {
+        if let Some(area) = heap.area(space) {
+            draw_mark(heap, drawing, tops, space, area.front, Class::Mark)?;
+            draw_mark(heap, drawing, tops, space, area.low, Class::Low)?;
+        }
+    }
+    Ok(())
+}
+
+/// All but the counts and the legend.
+fn draw_heap(alloc: Global, heap: &Heap, drawing: &mut Drawing) -> Result<(), NoMemory> {
+    let classes = heap.classes(alloc)?;
+    let tops = draw_spaces(alloc, heap, classes.as_slice(), drawing)?;
+    if is_by_word(heap) {
+        draw_forwards(heap, classes.as_slice(), drawing, tops.as_slice())?;
+    }
+    draw_registers(alloc, heap, drawing, tops.as_slice())?;
+    draw_marks(heap, drawing, tops.as_slice())
 }
 
 /// The whole picture.
@@ -446,54 +591,8 @@ pub fn draw(alloc: Global, heap: &Heap) -> Result<Drawing, NoMemory> {
         shapes: Vec::new(alloc),
         bottom: 8,
     };
-    let classes = heap.classes(alloc)?;
-    let mut tops = Vec::new(alloc);
-    let pages = heap.spaces.pages();
     draw_counts(alloc, heap, &mut drawing)?;
     draw_legend(alloc, &mut drawing)?;
-    let rows = [
-        (0, pages, 0u8),
-        (pages, 2 * pages, 1),
-        (2 * pages, 2 * pages + 1, 2),
-    ];
-    for (from, to, space) in rows {
-        let y = drawing.bottom;
-        let text = title(alloc, heap, space)?;
-        drawing.label(8, y.saturating_add(10), Class::Plain, text)?;
-        drawing.down(18);
-        draw_pages(
-            alloc,
-            heap,
-            classes.as_slice(),
-            &mut drawing,
-            &mut tops,
-            from,
-            to,
-        )?;
-    }
-    if pages <= MOST_PAGES_BY_WORD {
-        draw_forwards(heap, classes.as_slice(), &mut drawing, tops.as_slice())?;
-    }
-    draw_registers(alloc, heap, &mut drawing, tops.as_slice())?;
-    for space in 0..2u8 {
-        if let Some(area) = heap.area(space) {
-            draw_mark(
-                heap,
-                &mut drawing,
-                tops.as_slice(),
-                space,
-                area.front,
-                Class::Mark,
-            )?;
-            draw_mark(
-                heap,
-                &mut drawing,
-                tops.as_slice(),
-                space,
-                area.low,
-                Class::Low,
-            )?;
-        }
-    }
+    draw_heap(alloc, heap, &mut drawing)?;
     Ok(drawing)
 }

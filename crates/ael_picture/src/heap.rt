@@ -1,5 +1,7 @@
 //! The heap of a dump, by its words.
 
+ghost use Rattle.std.specs.Prelude.{◌<◌};
+
 use crate::class::Class;
 use dump_text::Dump;
 use heap_words::{Kind, Tag, Word};
@@ -9,7 +11,7 @@ use space_map::{AreaWord, GateWord, PAGE_WORDS, Spaces};
 use std::alloc::Global;
 
 /// A dump, with the layout of its heap and its epoch.
-#[derive(Debug, Drop)]
+#[derive(Drop)]
 pub struct Heap<'a> {
     pub spaces: Spaces,
     pub epoch: u32,
@@ -17,7 +19,7 @@ pub struct Heap<'a> {
 }
 
 /// A record, or what stands in its place.
-#[derive(Clone, Copy, Debug, PartialEq, Eq)]
+#[derive(Clone, Copy)]
 pub struct Found {
     pub class: Class,
     pub len: u32,
@@ -120,23 +122,26 @@ impl<'a> Heap<'a> {
         }
     }
 
+    /// Marks the words of the records that a space has at its two ends.
+    fn mark_space(&self, classes: &mut Vec<Class>, space: u8)
+        requires { space < 2 }
+    {
+        let Some(area) = self.area(space) else {
+            return;
+        };
+        let start = self.spaces.space_start(space);
+        let end = start + PAGE_WORDS * self.spaces.pages();
+        self.walk(classes, start, start.saturating_add(area.front));
+        self.walk(classes, start.saturating_add(area.low), end);
+    }
+
     /// What each word of the heap stands for.
     pub fn classes(&self, alloc: Global) -> Result<Vec<Class>, NoMemory> {
-        let pages = self.spaces.pages();
-        let count = (PAGE_WORDS * (2 * pages + 1)) as usize;
+        let board = PAGE_WORDS * (2 * self.spaces.pages());
+        let count = (board + PAGE_WORDS) as usize;
         let mut classes = vec![in alloc; Class::Free; count]?;
-        for space in 0..2u8 {
-            let start = self.spaces.space_start(space);
-            if let Some(area) = self.area(space) {
-                self.walk(&mut classes, start, start.saturating_add(area.front));
-                self.walk(
-                    &mut classes,
-                    start.saturating_add(area.low),
-                    start + PAGE_WORDS * pages,
-                );
-            }
-        }
-        let board = PAGE_WORDS * (2 * pages);
+        self.mark_space(&mut classes, 0);
+        self.mark_space(&mut classes, 1);
         for i in 0..16 {
             set(&mut classes, board + i, self.tagged(self.word(board + i)));
         }

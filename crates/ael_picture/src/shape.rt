@@ -3,7 +3,7 @@
 use crate::class::Class;
 
 /// A shape, at whole pixels from the picture's upper left corner.
-#[derive(Debug, Drop)]
+#[derive(Drop)]
 pub enum Shape {
     /// A filled box.
     Box {

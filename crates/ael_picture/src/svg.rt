@@ -3,29 +3,14 @@
 ghost use Rattle.std.specs.Prelude.{◌≡◌, ◌++◌, IfOk, OnOk, codes, string_bytes};
 ghost use Rattle.std.specs.List.{flat_map};
 ghost use Rattle.std.specs.Str.{chars};
-ghost use Rattle.ael_picture.specs.Markup.{Done, IsMarkup, attribute_text, escaped, markup};
-ghost use Rattle.ael_picture.specs.Shapes.{all_drawn, class_attribute, drawn, number, picture};
+ghost use Rattle.ael_picture.specs.Markup.{Done, IsMarkup, escaped, markup};
+ghost use Rattle.ael_picture.specs.declared.shape.Shape.TheVariants.{Box, Line, Label};
+ghost use Rattle.ael_picture.specs.Shapes.{all_drawn, drawn, picture};
 
 use crate::class::Class;
 use crate::shape::Shape;
 use plain_state::NoMemory;
 use std::alloc::Global;
-
-/// Adds a number with its name.
-fn push_number(out: &mut String, name: &str, value: u32) -> Result<(), NoMemory>
-    ensures { OnOk result (string_bytes out.new ≡ string_bytes out.old ++ attribute_text (number name.now value)) }
-{
-    write!(out, " {name}=\"{value}\"")?;
-    Ok(())
-}
-
-/// Adds a class.
-fn push_class(out: &mut String, class: Class) -> Result<(), NoMemory>
-    ensures { OnOk result (string_bytes out.new ≡ string_bytes out.old ++ attribute_text (class_attribute class)) }
-{
-    write!(out, " class=\"{class}\"")?;
-    Ok(())
-}
 
 /// Adds a character; those that markup begins with are named.
 fn push_char(out: &mut String, c: char) -> Result<(), NoMemory>
@@ -50,6 +35,52 @@ fn push_text(out: &mut String, text: &str) -> Result<(), NoMemory>
     Ok(())
 }
 
+/// Adds a filled box.
+fn push_box(
+    out: &mut String,
+    x: u32,
+    y: u32,
+    width: u32,
+    height: u32,
+    class: Class,
+) -> Result<(), NoMemory>
+    ensures { OnOk result (string_bytes out.new ≡ string_bytes out.old ++ markup (drawn (Box x y width height class) Done)) }
+{
+    write!(
+        out,
+        "<rect x=\"{x}\" y=\"{y}\" width=\"{width}\" height=\"{height}\" class=\"{class}\"/>"
+    )?;
+    Ok(())
+}
+
+/// Adds a line.
+fn push_line(
+    out: &mut String,
+    x: u32,
+    y: u32,
+    to_x: u32,
+    to_y: u32,
+    class: Class,
+) -> Result<(), NoMemory>
+    ensures { OnOk result (string_bytes out.new ≡ string_bytes out.old ++ markup (drawn (Line x y to_x to_y class) Done)) }
+{
+    write!(
+        out,
+        "<line x1=\"{x}\" y1=\"{y}\" x2=\"{to_x}\" y2=\"{to_y}\" class=\"{class}\"/>"
+    )?;
+    Ok(())
+}
+
+/// Adds a text at its place.
+fn push_label(out: &mut String, x: u32, y: u32, class: Class, text: &String) -> Result<(), NoMemory>
+    ensures { OnOk result (string_bytes out.new ≡ string_bytes out.old ++ markup (drawn (Label x y class text.now) Done)) }
+{
+    write!(out, "<text x=\"{x}\" y=\"{y}\" class=\"{class}\">")?;
+    push_text(out, text)?;
+    out.push_str("</text>")?;
+    Ok(())
+}
+
 /// Adds a shape.
 fn push_shape(out: &mut String, shape: &Shape) -> Result<(), NoMemory>
     ensures { OnOk result (string_bytes out.new ≡ string_bytes out.old ++ markup (drawn shape.now Done)) }
@@ -61,41 +92,16 @@ fn push_shape(out: &mut String, shape: &Shape) -> Result<(), NoMemory>
             width,
             height,
             class,
-        } => {
-            out.push_str("<rect")?;
-            push_number(out, "x", *x)?;
-            push_number(out, "y", *y)?;
-            push_number(out, "width", *width)?;
-            push_number(out, "height", *height)?;
-            push_class(out, *class)?;
-            out.push_str("/>")?;
-        }
+        } => push_box(out, *x, *y, *width, *height, *class),
         Shape::Line {
             x,
             y,
             to_x,
             to_y,
             class,
-        } => {
-            out.push_str("<line")?;
-            push_number(out, "x1", *x)?;
-            push_number(out, "y1", *y)?;
-            push_number(out, "x2", *to_x)?;
-            push_number(out, "y2", *to_y)?;
-            push_class(out, *class)?;
-            out.push_str("/>")?;
-        }
-        Shape::Label { x, y, class, text } => {
-            out.push_str("<text")?;
-            push_number(out, "x", *x)?;
-            push_number(out, "y", *y)?;
-            push_class(out, *class)?;
-            out.push_str(">")?;
-            push_text(out, text)?;
-            out.push_str("</text>")?;
-        }
+        } => push_line(out, *x, *y, *to_x, *to_y, *class),
+        Shape::Label { x, y, class, text } => push_label(out, *x, *y, *class, text),
     }
-    Ok(())
 }
 
 /// How the classes are coloured.
@@ -117,10 +123,10 @@ fn written(alloc: Global, width: u32, height: u32, shapes: &[Shape]) -> Result<S
     ensures { IfOk result (λ text. string_bytes text ≡ markup (picture width height STYLE.now shapes.now)) }
 {
     let mut out = String::new(alloc);
-    out.push_str("<svg xmlns=\"http://www.w3.org/2000/svg\"")?;
-    push_number(&mut out, "width", width)?;
-    push_number(&mut out, "height", height)?;
-    out.push_str("><style>")?;
+    write!(
+        out,
+        "<svg xmlns=\"http://www.w3.org/2000/svg\" width=\"{width}\" height=\"{height}\"><style>"
+    )?;
     push_text(&mut out, STYLE)?;
     out.push_str("</style>")?;
     push_shapes(&mut out, shapes)?;

@@ -6,6 +6,7 @@ pub mod Numerals
 pub mod FirstLines
 pub mod Exact
 pub mod Loop
+pub mod Row
 pub mod FirstLine
 pub mod Whole
 pub mod Answering

@@ -17,7 +17,7 @@ const MOST_MUTATORS: u32 = 16;
 const MOST_SCANNERS: u32 = 8;
 
 /// How the spaces lie, how many mutators there are, and how many workers.
-#[derive(Clone, Copy, Debug, PartialEq, Eq)]
+#[derive(Clone, Copy)]
 pub struct Head {
     pub spaces: Spaces,
     pub mutators: u32,

@@ -4,7 +4,7 @@ ghost use Rattle.std.specs.Prelude.{◌≡◌, IsTrue, length, option_map};
 ghost use Rattle.std.specs.Char.{digit_value};
 ghost use Rattle.std.specs.List.{list_all};
 ghost use Rattle.std.specs.Str.Parse.{digits_value};
-ghost use Rattle.dump_text.specs.Pieces.{is_hex, byte_at, word_at, cell_at, registers_at, kept_at, kept_view};
+ghost use Rattle.dump_text.specs.Pieces.{is_hex, byte_at, behind, word_at, cell_at, registers_at, kept_at, kept_view};
 
 use crate::kept::Kept;
 use plain_state::REGISTERS;
@@ -79,20 +79,26 @@ pub fn cell(wanted: u8, bytes: &[u8]) -> Option<(u64, &[u8])>
     Some((word, rest))
 }
 
+/// What stands behind a word that so many more of its line follow.
+fn behind(left: usize) -> u8
+    ensures { result ≡ behind left }
+{
+    if left == 0 { b'\n' } else { b' ' }
+}
+
 /// The line of a mutator's registers.
 #[tactic(auto, unfolding(crate::specs::Pieces::registers_at))]
 pub fn registers_line(bytes: &[u8]) -> Option<([u64; REGISTERS], &[u8])>
     ensures { option_map (λ x. (x.0, x.1.now)) result ≡ registers_at bytes.now }
 {
-    let (r0, rest) = cell(b' ', bytes)?;
-    let (r1, rest) = cell(b' ', rest)?;
-    let (r2, rest) = cell(b' ', rest)?;
-    let (r3, rest) = cell(b' ', rest)?;
-    let (r4, rest) = cell(b' ', rest)?;
-    let (r5, rest) = cell(b' ', rest)?;
-    let (r6, rest) = cell(b' ', rest)?;
-    let (r7, rest) = cell(b'\n', rest)?;
-    Some(([r0, r1, r2, r3, r4, r5, r6, r7], rest))
+    let mut registers = [0; REGISTERS];
+    let mut rest = bytes;
+    for i in 0..REGISTERS {
+        let (word, after) = cell(behind(REGISTERS - 1 - i), rest)?;
+        registers[i] = word;
+        rest = after;
+    }
+    Some((registers, rest))
 }
 
 /// The line of what a worker keeps.

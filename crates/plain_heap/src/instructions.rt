@@ -11,8 +11,8 @@ use crate::action::Action;
 use crate::effects::perform;
 use crate::heap::PlainHeap;
 use crate::mutator::PlainMutator;
-use crate::numbers::{compute, print};
-use crate::places::{allocate, board_place};
+use crate::numbers::{compute, jump_to, print};
+use crate::places::{allocate, get, load, measure, put, store, swap};
 use crate::stop::Stop;
 use crate::values::{are_same, is_reference, target_if_zero};
 use mutator_asm::Instr;
@@ -37,21 +37,17 @@ pub fn action_of(mutator: &PlainMutator, instr: Instr) -> Result<Action, End>
         Instr::Jmp(target) => Ok(Action::Jumps(u64::from(target))),
         Instr::Jz(a, target) => Ok(Action::Jumps(target_if_zero(mutator, a, target))),
         Instr::Jal(d, target) => Ok(Action::Links(d, u64::from(target))),
-        Instr::Jr(a) => Ok(Action::Jumps(mutator.number(a)?)),
+        Instr::Jr(a) => jump_to(mutator, a),
         Instr::New(d, x) => allocate(mutator, Kind::Fields, d, x),
         Instr::Raw(d, x) => allocate(mutator, Kind::Raw, d, x),
-        Instr::Ld(d, a, x) => Ok(Action::Loads(d, mutator.reference(a)?, mutator.operand(x)?)),
-        Instr::St(a, x, b) => Ok(Action::Stores(
-            mutator.reference(a)?,
-            mutator.operand(x)?,
-            mutator.register(b),
-        )),
-        Instr::Len(d, a) => Ok(Action::Measures(d, mutator.reference(a)?)),
+        Instr::Ld(d, a, x) => load(mutator, d, a, x),
+        Instr::St(a, x, b) => store(mutator, a, x, b),
+        Instr::Len(d, a) => measure(mutator, d, a),
         Instr::Isp(d, a) => Ok(Action::Sets(d, is_reference(mutator, a))),
-        Instr::Get(d, x) => Ok(Action::Gets(d, board_place(mutator, x)?)),
-        Instr::Put(x, a) => Ok(Action::Puts(board_place(mutator, x)?, mutator.register(a))),
-        Instr::Swap(d, x) => Ok(Action::Swaps(d, board_place(mutator, x)?, mutator.register(d))),
-        Instr::Out(a) => print(mutator, mutator.number(a)?),
+        Instr::Get(d, x) => get(mutator, d, x),
+        Instr::Put(x, a) => put(mutator, x, a),
+        Instr::Swap(d, x) => swap(mutator, d, x),
+        Instr::Out(a) => print(mutator, a),
         Instr::Halt => Err(End::Halt),
     }
 }

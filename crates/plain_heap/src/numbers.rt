@@ -1,7 +1,8 @@
 //! Instructions on numbers.
 
 ghost use Rattle.std.specs.Prelude.{◌≡◌};
-ghost use Rattle.plain_heap.specs.Action.{computes, prints};
+ghost use Rattle.mutator_asm.specs.declared.instr.Instr.TheVariants.{Jr, Out};
+ghost use Rattle.plain_heap.specs.Action.{action, computes};
 
 use crate::action::Action;
 use crate::mutator::PlainMutator;
@@ -23,10 +24,21 @@ pub fn compute(
     Ok(Action::Sets(d, Value::Number(number)))
 }
 
-/// A number is printed by a mutator that has not printed the most.
-pub fn print(mutator: &PlainMutator, number: u64) -> Result<Action, End>
-    ensures { result ≡ prints mutator.now number }
+/// `jr ra`
+#[tactic(auto, unfolding(crate::specs::Action::action))]
+pub fn jump_to(mutator: &PlainMutator, a: u8) -> Result<Action, End>
+    ensures { result ≡ action mutator.now (Jr a) }
 {
+    let target = mutator.number(a)?;
+    Ok(Action::Jumps(target))
+}
+
+/// `out ra`: a number is printed by a mutator that has not printed the most.
+#[tactic(auto, unfolding(crate::specs::Action::action))]
+pub fn print(mutator: &PlainMutator, a: u8) -> Result<Action, End>
+    ensures { result ≡ action mutator.now (Out a) }
+{
+    let number = mutator.number(a)?;
     if mutator.printed().len() < MOST_PRINTED {
         Ok(Action::Prints(number))
     } else {

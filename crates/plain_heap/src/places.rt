@@ -1,7 +1,8 @@
 //! Numbers that have to be lengths, or places in a list.
 
 ghost use Rattle.std.specs.Prelude.{◌≡◌};
-ghost use Rattle.plain_heap.specs.Action.{length_of, allocates, in_record, board_place};
+ghost use Rattle.mutator_asm.specs.declared.instr.Instr.TheVariants.{Get, Ld, Len, Put, St, Swap};
+ghost use Rattle.plain_heap.specs.Action.{action, length_of, allocates, in_record, board_place};
 
 use crate::action::Action;
 use crate::mutator::PlainMutator;
@@ -45,4 +46,60 @@ pub fn allocate(mutator: &PlainMutator, kind: Kind, d: u8, x: Operand) -> Result
     let number = mutator.operand(x)?;
     let len = length_of(number)?;
     Ok(Action::Makes(kind, d, len))
+}
+
+/// `ld rd ra x`
+#[tactic(auto, unfolding(crate::specs::Action::action))]
+pub fn load(mutator: &PlainMutator, d: u8, a: u8, x: Operand) -> Result<Action, End>
+    ensures { result ≡ action mutator.now (Ld d a x) }
+{
+    let identity = mutator.reference(a)?;
+    let x = mutator.operand(x)?;
+    Ok(Action::Loads(d, identity, x))
+}
+
+/// `st ra x rb`
+#[tactic(auto, unfolding(crate::specs::Action::action))]
+pub fn store(mutator: &PlainMutator, a: u8, x: Operand, b: u8) -> Result<Action, End>
+    ensures { result ≡ action mutator.now (St a x b) }
+{
+    let identity = mutator.reference(a)?;
+    let x = mutator.operand(x)?;
+    Ok(Action::Stores(identity, x, mutator.register(b)))
+}
+
+/// `len rd ra`
+#[tactic(auto, unfolding(crate::specs::Action::action))]
+pub fn measure(mutator: &PlainMutator, d: u8, a: u8) -> Result<Action, End>
+    ensures { result ≡ action mutator.now (Len d a) }
+{
+    let identity = mutator.reference(a)?;
+    Ok(Action::Measures(d, identity))
+}
+
+/// `get rd x`
+#[tactic(auto, unfolding(crate::specs::Action::action))]
+pub fn get(mutator: &PlainMutator, d: u8, x: Operand) -> Result<Action, End>
+    ensures { result ≡ action mutator.now (Get d x) }
+{
+    let x = board_place(mutator, x)?;
+    Ok(Action::Gets(d, x))
+}
+
+/// `put x ra`
+#[tactic(auto, unfolding(crate::specs::Action::action))]
+pub fn put(mutator: &PlainMutator, x: Operand, a: u8) -> Result<Action, End>
+    ensures { result ≡ action mutator.now (Put x a) }
+{
+    let x = board_place(mutator, x)?;
+    Ok(Action::Puts(x, mutator.register(a)))
+}
+
+/// `swap rd x`
+#[tactic(auto, unfolding(crate::specs::Action::action))]
+pub fn swap(mutator: &PlainMutator, d: u8, x: Operand) -> Result<Action, End>
+    ensures { result ≡ action mutator.now (Swap d x) }
+{
+    let x = board_place(mutator, x)?;
+    Ok(Action::Swaps(d, x, mutator.register(d)))
 }

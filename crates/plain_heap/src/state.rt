@@ -1,8 +1,8 @@
 //! The state of the plain machine, and its step.
 
-ghost use Rattle.std.specs.Prelude.{◌≡◌, ◌<◌, length, Some, IfOk, OnOk, OnErr, option_map, slice_get};
+ghost use Rattle.std.specs.Prelude.{◌≡◌, ◌<◌, length, Some, IfOk, OnOk, OnErr, option_map, replicate, slice_get};
 ghost use Rattle.std.specs.Option.{option_map_or};
-ghost use Rattle.plain_heap.specs.Order.{opening};
+ghost use Rattle.plain_heap.specs.Order.{fresh, opening};
 ghost use Rattle.plain_heap.specs.Memory.{StepTakesMemory};
 ghost use Rattle.plain_heap.specs.Step.{stepped, asked_by, ended};
 
@@ -33,6 +33,17 @@ impl Model for PlainState {
     ghost invariant = { λ s. length s.heap.records ≡ length s.mutators.items };
 }
 
+/// So many mutators before their first instruction.
+fn fresh_mutators(alloc: Global, count: usize) -> Result<Vec<PlainMutator>, NoMemory>
+    ensures { IfOk result (λ mutators. mutators.items ≡ replicate count fresh) }
+{
+    let mut mutators = Vec::new(alloc);
+    for _mutator in 0..count {
+        mutators.push(PlainMutator::new(alloc))?;
+    }
+    Ok(mutators)
+}
+
 impl PlainState {
     /// The state in which a program begins.
     pub fn open(alloc: Global, p: &Program) -> Result<PlainState, NoMemory>
@@ -40,10 +51,7 @@ impl PlainState {
     {
         let count = p.code.len();
         let heap = PlainHeap::new(alloc, count)?;
-        let mut mutators = Vec::new(alloc);
-        for _mutator in 0..count {
-            mutators.push(PlainMutator::new(alloc))?;
-        }
+        let mutators = fresh_mutators(alloc, count)?;
         Ok(PlainState { heap, mutators })
     }
 

@@ -6,7 +6,7 @@ ghost use Rattle.plain_heap.specs.declared.stop.Stop.TheVariants.{Ended, OutOfMe
 use plain_state::{End, NoMemory};
 
 /// Why a mutator didn't execute an instruction.
-#[derive(Clone, Copy, Debug)]
+#[derive(Clone, Copy)]
 pub enum Stop {
     /// The instruction is the mutator's end.
     Ended(End),

@@ -7,4 +7,4 @@ pub returns : goal.returns
 returns c = rw opening-replicate (search rules)
 
 pub invariant_of-result : goal.invariant_of-result
-invariant_of-result c = rw (c.in_ok-heap.ensures, c.loop-mutator.invariant) (simp length-replicate (omega arith))
+invariant_of-result c = rw (c.in_ok-heap.ensures, c.in_ok-mutators.ensures) (simp length-replicate (omega arith))
