@@ -71,6 +71,7 @@ impl Place {
     }
 
     /// The next step.
+    #[inline(always)]
     pub fn want(&self) -> Step
         requires { IsPlacingGoing self.now.stage }
         ensures wanted { wanted self.now ≡ Some result }
@@ -97,6 +98,7 @@ impl Place {
     }
 
     /// Takes the reply to it.
+    #[inline(always)]
     pub fn take(&mut self, reply: Reply) -> Turn<Allocated>
         requires going { IsPlacingGoing self.old.stage }
         requires allowed { IsSoundPlacing (taken self.old reply) }
@@ -122,6 +124,7 @@ impl Place {
         }
     }
 
+    #[inline(always)]
     fn look_at_area(&mut self, traced: bool, word: u64) -> Turn<Allocated>
         requires { IsSoundPlacing (at_stage self.old (looked_at_area self.old traced (decode_area word))) }
         ensures state { self.new ≡ at_stage self.old (looked_at_area self.old traced (decode_area word)) }

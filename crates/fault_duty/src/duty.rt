@@ -89,6 +89,7 @@ impl Duty {
     }
 
     /// The next step.
+    #[inline(always)]
     pub fn want(&self) -> Step
         requires { IsRoundGoing self.now.stage }
         ensures wanted { wanted self.now ≡ Some result }
@@ -126,6 +127,7 @@ impl Duty {
     }
 
     /// Takes the reply to it.
+    #[inline(always)]
     pub fn take(&mut self, reply: Reply) -> Turn<RoundEnd>
         requires going { IsRoundGoing self.old.stage }
         requires allowed { IsSoundRound (taken self.old reply) }
@@ -138,6 +140,7 @@ impl Duty {
         self.tell()
     }
 
+    #[inline(always)]
     fn go_on(&mut self, reply: Reply)
         requires { IsSoundRound (taken self.old reply) }
         ensures { self.new ≡ taken self.old reply }
@@ -149,6 +152,7 @@ impl Duty {
     }
 
     /// Takes the word that was loaded.
+    #[inline(always)]
     fn read(&mut self, word: u64)
         requires { IsSoundRound (taken self.old (Reply.Value word)) }
         ensures { self.new ≡ taken self.old (Reply.Value word) }
@@ -171,6 +175,7 @@ impl Duty {
     }
 
     /// Takes what became of an exchange.
+    #[inline(always)]
     fn hear(&mut self, reply: Reply)
         requires { (word : ℕ) → reply ≢ Reply.Value word }
         ensures { self.new ≡ taken self.old reply }
@@ -187,6 +192,7 @@ impl Duty {
     }
 
     /// What it tells of itself at this stage.
+    #[inline(always)]
     fn tell(&self) -> Turn<RoundEnd>
         ensures { result ≡ told self.now }
     {

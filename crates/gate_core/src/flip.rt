@@ -58,6 +58,7 @@ impl Flip {
     }
 
     /// The next step.
+    #[inline(always)]
     pub fn want(&self) -> Step
         requires { IsFlippingGoing self.now.stage }
         ensures wanted { wanted self.now ≡ Some result }
@@ -81,6 +82,7 @@ impl Flip {
     }
 
     /// Takes the reply to it.
+    #[inline(always)]
     pub fn take(&mut self, reply: Reply) -> Turn<Flipped>
         requires going { IsFlippingGoing self.old.stage }
         requires allowed { IsSoundFlipping (taken self.old reply) }
@@ -104,6 +106,7 @@ impl Flip {
         }
     }
 
+    #[inline(always)]
     fn read_gate(&mut self, word: u64) -> Turn<Flipped>
         requires { FitsFlipStage self.old.layout.pages (looked word (decode_gate word)) }
         ensures state { self.new ≡ record self.old { stage = looked word (decode_gate word) } }
@@ -122,6 +125,7 @@ impl Flip {
         }
     }
 
+    #[inline(always)]
     fn read_area(&mut self, gate: GateWord, word: u64) -> Turn<Flipped>
         requires { FitsFlipStage self.old.layout.pages (read_area self.old.layout.pages gate (decode_area word)) }
         ensures state { self.new ≡ record self.old { stage = read_area self.old.layout.pages gate (decode_area word) } }

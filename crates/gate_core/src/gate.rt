@@ -103,6 +103,7 @@ impl Gate {
     }
 
     /// The next step.
+    #[inline(always)]
     pub fn want(&self) -> Step
         requires { IsPassingGoing self.now.stage }
         ensures wanted { wanted self.now ≡ Some result }
@@ -119,6 +120,7 @@ impl Gate {
     }
 
     /// Takes the reply to it.
+    #[inline(always)]
     pub fn take(&mut self, reply: Reply) -> Turn<Passed>
         requires going { IsPassingGoing self.old.stage }
         requires allowed { IsSoundPassing (taken self.old reply) }
@@ -137,6 +139,7 @@ impl Gate {
         }
     }
 
+    #[inline(always)]
     fn read_gate(&mut self, word: u64) -> Turn<Passed>
         requires { FitsGateStage self.old.passage (looked self.old.passage word (decode_gate word)) }
         ensures state { self.new ≡ record self.old { stage = looked self.old.passage word (decode_gate word) } }
@@ -153,6 +156,7 @@ impl Gate {
     }
 
     /// Goes on from a gate that allows the passage.
+    #[inline(always)]
     fn pass(&mut self, word: u64, gate: GateWord) -> Turn<Passed>
         requires { FitsGateStage self.old.passage (allowed self.old.passage word gate) }
         ensures state { self.new ≡ record self.old { stage = allowed self.old.passage word gate } }

@@ -30,6 +30,7 @@ pub struct Access {
 
 impl Access {
     /// The next step.
+    #[inline(always)]
     pub fn want(&self) -> Step
         requires { IsSoundAccess self.now }
         ensures wanted { result ≡ wanted self.now }
@@ -62,6 +63,7 @@ impl Access {
     }
 
     /// Takes the reply to it.
+    #[inline(always)]
     pub fn take(&mut self, reply: Reply) -> Turn<Accessed>
         requires sound { IsSoundAccess self.old }
         requires takes { Takes self.old.stage reply }
@@ -76,6 +78,7 @@ impl Access {
     }
 
     /// Takes the word that was loaded.
+    #[inline(always)]
     fn read(&mut self, word: u64) -> Turn<Accessed>
         requires sound { IsSoundAccess self.old }
         requires takes { Takes self.old.stage (Reply.Value word) }
@@ -108,6 +111,7 @@ impl Access {
     }
 
     /// Takes what became of a store or an exchange.
+    #[inline(always)]
     fn hear(&mut self, reply: Reply) -> Turn<Accessed>
         requires sound { IsSoundAccess self.old }
         requires takes { Takes self.old.stage reply }
@@ -143,6 +147,7 @@ impl Access {
 
     /// A header's word was read. What is no header can't be there.
     #[tactic(auto, using(crate::proofs::Reading::headers_are_read, crate::proofs::Reading::others_are_not_read))]
+    #[inline(always)]
     fn read_header(&mut self, r: RecordAccess, word: u64) -> Turn<Accessed>
         requires in_heap { IsInHeap self.old.spaces.pages r.at }
         requires fits { FitsRecordUse r.usage }
@@ -155,6 +160,7 @@ impl Access {
         }
     }
 
+    #[inline(always)]
     fn use_record(&mut self, r: RecordAccess, header: Header) -> Turn<Accessed>
         requires in_heap { IsInHeap self.old.spaces.pages r.at }
         requires fits { FitsRecordUse r.usage }
@@ -172,6 +178,7 @@ impl Access {
         }
     }
 
+    #[inline(always)]
     fn load(&mut self, r: RecordAccess, role: Role, len: u16, into: u8) -> Turn<Accessed>
         requires in_heap { IsInHeap self.old.spaces.pages r.at }
         requires short { len ≤ 4095 }
@@ -185,6 +192,7 @@ impl Access {
         self.go_to_field(field(r, role), FieldUse::Loads(into))
     }
 
+    #[inline(always)]
     fn store(&mut self, r: RecordAccess, role: Role, len: u16, new: u64) -> Turn<Accessed>
         requires in_heap { IsInHeap self.old.spaces.pages r.at }
         requires short { len ≤ 4095 }

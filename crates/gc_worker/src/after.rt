@@ -1,5 +1,5 @@
 /// Where a mutator that stopped goes on.
-#[derive(Clone, Copy, Debug, PartialEq, Eq)]
+#[derive(Clone, Copy, Debug)]
 pub enum After {
     /// At the look that begins an instruction.
     Looks,

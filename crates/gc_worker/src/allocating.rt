@@ -1,13 +1,11 @@
 //! The allocation of the record that an instruction makes.
 
 ghost use Rattle.std.specs.Prelude.{◌≡◌, ◌+◌, ◌^◌, ◌<◌};
-ghost use Rattle.std.specs.Option.{option_and_then};
 ghost use Rattle.heap_words.specs.Decoded.{HeaderWord};
 ghost use Rattle.record_layout.specs.Layout.{header_in};
 ghost use Rattle.heap_state.specs.Ghost.{header_kind};
 ghost use Rattle.gc_worker.specs.Fits.{FitsStage, IsMaking, Takes};
-ghost use Rattle.gc_worker.specs.Held.{asked_by, header_for, header_of, making_for};
-ghost use Rattle.gc_worker.specs.Seen.{making_in};
+ghost use Rattle.gc_worker.specs.Held.{asked_by, header_for, making_for};
 ghost use Rattle.gc_worker.specs.Stepped.{IsPlacing, IsSound, stepped_by, uncounted};
 ghost use Rattle.gc_worker.specs.Turned.{full_by, places, told, told_effect, told_full, turned, with_record};
 
@@ -38,22 +36,15 @@ impl State {
         header_after(self.serial, header_kind(kind), len, self.number)
     }
 
-    /// The header of the record that an action makes, if it makes one.
-    fn header_by(&self, action: Result<Action, End>) -> Option<Header>
-        ensures { result ≡ option_and_then (header_of self.now) (making_in action) }
-    {
-        match action {
-            Ok(Action::Makes(kind, _, len)) => self.next_header(kind, len),
-            _ => None,
-        }
-    }
-
     /// The header of the record that the task makes, if it makes one.
     fn header(&self) -> Option<Header>
         ensures { result ≡ header_for self.now }
     {
         match self.due {
-            Due::Call => self.header_by(self.action(self.instr)),
+            Due::Call => match self.action(self.instr) {
+                Ok(Action::Makes(kind, _, len)) => self.next_header(kind, len),
+                _ => None,
+            },
             Due::Stop | Due::Nothing => None,
         }
     }
@@ -92,6 +83,7 @@ impl State {
 
     /// A step of the allocation.
     #[tactic(auto, using(crate::proofs::Reading::serial_fits))]
+    #[inline(always)]
     pub fn place(&mut self, reply: Reply) -> Stepped
         requires at { IsPlacing self.old.stage }
         requires fits { IsSound self.old }
@@ -114,6 +106,7 @@ impl State {
     }
 
     /// The record stands, and the register that the task names leads to it.
+    #[inline(always)]
     fn has_placed(&mut self, run: Run, at: u32) -> Stepped
         requires serial { self.old.account.serial + 1 < 2 ^ 40 }
         requires making { IsMaking self.old.account self.old.registers self.old.task }

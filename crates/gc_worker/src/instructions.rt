@@ -108,11 +108,14 @@ impl State {
         Ok(Action::Sets(d, Value::Number(number)))
     }
 
-    /// A number is printed by a mutator that has not printed the most.
-    fn printing(&self, number: u64) -> Result<Action, End>
-        ensures exact { result ≡ prints (seen_by self.now) number }
+    /// `out ra`: a number is printed by a mutator that has not printed the most.
+    #[tactic(auto, unfolding(plain_heap::specs::Action::action))]
+    #[inline(always)]
+    fn print_number(&self, a: u8) -> Result<Action, End>
+        ensures exact { result ≡ action (seen_by self.now) (Instr.Out a) }
         ensures fits { IfOk result (FitsAction (length self.now.account.printed)) }
     {
+        let number = self.number(a)?;
         if self.printed.len() < MOST_PRINTED {
             Ok(Action::Prints(number))
         } else {
@@ -145,6 +148,76 @@ impl State {
         Ok(Action::Makes(kind, d, number as u16))
     }
 
+    /// `jr ra`
+    #[tactic(auto, unfolding(plain_heap::specs::Action::action))]
+    #[inline(always)]
+    fn jump_to(&self, a: u8) -> Result<Action, End>
+        ensures exact { result ≡ action (seen_by self.now) (Instr.Jr a) }
+        ensures fits { IfOk result (FitsAction (length self.now.account.printed)) }
+    {
+        Ok(Action::Jumps(self.number(a)?))
+    }
+
+    /// `ld rd ra x`
+    #[tactic(auto, unfolding(plain_heap::specs::Action::action))]
+    #[inline(always)]
+    fn load_from(&self, d: u8, a: u8, x: Operand) -> Result<Action, End>
+        ensures exact { result ≡ action (seen_by self.now) (Instr.Ld d a x) }
+        ensures fits { IfOk result (FitsAction (length self.now.account.printed)) }
+    {
+        Ok(Action::Loads(d, self.reference(a)?, self.operand(x)?))
+    }
+
+    /// `st ra x rb`
+    #[tactic(auto, unfolding(plain_heap::specs::Action::action))]
+    #[inline(always)]
+    fn store_to(&self, a: u8, x: Operand, b: u8) -> Result<Action, End>
+        ensures exact { result ≡ action (seen_by self.now) (Instr.St a x b) }
+        ensures fits { IfOk result (FitsAction (length self.now.account.printed)) }
+    {
+        Ok(Action::Stores(self.reference(a)?, self.operand(x)?, self.value(b)))
+    }
+
+    /// `len rd ra`
+    #[tactic(auto, unfolding(plain_heap::specs::Action::action))]
+    #[inline(always)]
+    fn measure(&self, d: u8, a: u8) -> Result<Action, End>
+        ensures exact { result ≡ action (seen_by self.now) (Instr.Len d a) }
+        ensures fits { IfOk result (FitsAction (length self.now.account.printed)) }
+    {
+        Ok(Action::Measures(d, self.reference(a)?))
+    }
+
+    /// `get rd x`
+    #[tactic(auto, unfolding(plain_heap::specs::Action::action))]
+    #[inline(always)]
+    fn get_from_board(&self, d: u8, x: Operand) -> Result<Action, End>
+        ensures exact { result ≡ action (seen_by self.now) (Instr.Get d x) }
+        ensures fits { IfOk result (FitsAction (length self.now.account.printed)) }
+    {
+        Ok(Action::Gets(d, self.board_place(x)?))
+    }
+
+    /// `put x ra`
+    #[tactic(auto, unfolding(plain_heap::specs::Action::action))]
+    #[inline(always)]
+    fn put_on_board(&self, x: Operand, a: u8) -> Result<Action, End>
+        ensures exact { result ≡ action (seen_by self.now) (Instr.Put x a) }
+        ensures fits { IfOk result (FitsAction (length self.now.account.printed)) }
+    {
+        Ok(Action::Puts(self.board_place(x)?, self.value(a)))
+    }
+
+    /// `swap rd x`
+    #[tactic(auto, unfolding(plain_heap::specs::Action::action))]
+    #[inline(always)]
+    fn swap_with_board(&self, d: u8, x: Operand) -> Result<Action, End>
+        ensures exact { result ≡ action (seen_by self.now) (Instr.Swap d x) }
+        ensures fits { IfOk result (FitsAction (length self.now.account.printed)) }
+    {
+        Ok(Action::Swaps(d, self.board_place(x)?, self.value(d)))
+    }
+
     /// What an instruction does, as far as the registers tell.
     #[tactic(auto, unfolding(plain_heap::specs::Action::action))]
     #[inline(always)]
@@ -165,19 +238,17 @@ impl State {
             Instr::Jmp(target) => Ok(Action::Jumps(u64::from(target))),
             Instr::Jz(a, target) => Ok(Action::Jumps(self.target_if_zero(a, target))),
             Instr::Jal(d, target) => Ok(Action::Links(d, u64::from(target))),
-            Instr::Jr(a) => Ok(Action::Jumps(self.number(a)?)),
+            Instr::Jr(a) => self.jump_to(a),
             Instr::New(d, x) => self.allocate(Kind::Fields, d, x),
             Instr::Raw(d, x) => self.allocate(Kind::Raw, d, x),
-            Instr::Ld(d, a, x) => Ok(Action::Loads(d, self.reference(a)?, self.operand(x)?)),
-            Instr::St(a, x, b) => {
-                Ok(Action::Stores(self.reference(a)?, self.operand(x)?, self.value(b)))
-            }
-            Instr::Len(d, a) => Ok(Action::Measures(d, self.reference(a)?)),
+            Instr::Ld(d, a, x) => self.load_from(d, a, x),
+            Instr::St(a, x, b) => self.store_to(a, x, b),
+            Instr::Len(d, a) => self.measure(d, a),
             Instr::Isp(d, a) => Ok(Action::Sets(d, self.is_reference(a))),
-            Instr::Get(d, x) => Ok(Action::Gets(d, self.board_place(x)?)),
-            Instr::Put(x, a) => Ok(Action::Puts(self.board_place(x)?, self.value(a))),
-            Instr::Swap(d, x) => Ok(Action::Swaps(d, self.board_place(x)?, self.value(d))),
-            Instr::Out(a) => self.printing(self.number(a)?),
+            Instr::Get(d, x) => self.get_from_board(d, x),
+            Instr::Put(x, a) => self.put_on_board(x, a),
+            Instr::Swap(d, x) => self.swap_with_board(d, x),
+            Instr::Out(a) => self.print_number(a),
             Instr::Halt => Err(End::Halt),
         }
     }

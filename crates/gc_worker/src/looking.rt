@@ -21,6 +21,7 @@ use space_map::GateWord;
 
 impl State {
     /// The gate was looked at.
+    #[inline(always)]
     pub fn look(&mut self, reply: Reply) -> Stepped
         requires at { self.old.stage ≡ Stage.Looks }
         requires fits { IsSound self.old }
@@ -66,12 +67,14 @@ impl State {
         match self.due {
             Due::Nothing => Stepped::Moved,
             Due::Call => {
+                let instr = self.instr;
                 self.begun = self.epoch;
-                self.execute(self.instr)
+                self.execute(instr)
             }
             Due::Stop => {
+                let stop = self.stop;
                 self.begun = self.epoch;
-                self.end_with(self.stop)
+                self.end_with(stop)
             }
         }
     }

@@ -16,10 +16,12 @@ use atom_store::{Reply, Turn};
 use forwarding::Evac;
 use gate_core::{Flip, Flipped, Gate, Passage, Passed};
 use heap_words::Word;
+use plain_state::REGISTERS;
 use space_map::GateWord;
 
 impl State {
     /// A step at the gate.
+    #[inline(always)]
     pub fn pass(&mut self, reply: Reply)
         requires at { IsAtGate self.old.stage }
         requires fits { IsSound self.old }
@@ -38,6 +40,7 @@ impl State {
     }
 
     /// What a passage comes to.
+    #[inline(always)]
     fn has_passed(&mut self, after: After, passage: Passage, passed: Passed)
         requires { FitsStage (passed_by self.old after passage passed) (passed_by self.old after passage passed).stage }
         ensures { self.new ≡ passed_by self.old after passage passed }
@@ -50,7 +53,7 @@ impl State {
             (Passage::Attach, Passed::NotYet(_)) => {
                 self.stage = Stage::Passes(Gate::attach(self.spaces), after);
             }
-            (Passage::Park, Passed::Went(_)) => self.resume(after),
+            (Passage::Park, Passed::Went(_)) => self.stage = self.resuming(after),
             (Passage::Park, Passed::NotYet(_)) | (Passage::Resume(_), Passed::Went(_)) => {
                 self.stage = self.going_on(after);
             }
@@ -63,7 +66,7 @@ impl State {
             (Passage::Resume(_), Passed::NotYet(word)) => self.has_stopped(after, word),
             (Passage::Forwarded, Passed::Went(word)) => {
                 self.enter(word);
-                self.resume(after);
+                self.stage = self.resuming(after);
             }
             (Passage::Leave, Passed::Went(_)) => self.stage = Stage::Gone,
             (Passage::Forwarded | Passage::Leave, Passed::NotYet(_)) | (Passage::Look, _) => {}
@@ -78,10 +81,11 @@ impl State {
         self.run = None;
     }
 
-    fn resume(&mut self, after: After)
-        ensures { self.new ≡ at_stage self.old (passes self.old (Passage.Resume self.old.epoch) after) }
+    /// The passage by which a mutator that stopped may run on.
+    fn resuming(&self, after: After) -> Stage
+        ensures { result ≡ passes self.now (Passage.Resume self.now.epoch) after }
     {
-        self.stage = Stage::Passes(Gate::resume(self.spaces, self.epoch), after);
+        Stage::Passes(Gate::resume(self.spaces, self.epoch), after)
     }
 
     /// Where a mutator that stopped goes on.
@@ -100,11 +104,11 @@ impl State {
         requires { FitsStage (stopped self.old after word) (stopped self.old after word).stage }
         ensures { self.new ≡ stopped self.old after word }
     {
-        if self.epoch < epoch_in(self.epoch, word) {
-            self.stage = self.forwarding(after, 0);
+        self.stage = if self.epoch < epoch_in(self.epoch, word) {
+            self.forwarding(after, 0)
         } else {
-            self.resume(after);
-        }
+            self.resuming(after)
+        };
     }
 
     /// The copy of the record to which the first register leads that holds a pointer, from this one on; else all are forwarded.
@@ -114,7 +118,7 @@ impl State {
         requires after { FitsStage self.now (forwards_from self.now after from) }
         ensures { result ≡ forwards_from self.now after from }
     {
-        match self.first_pointer(from) {
+        match first_pointer(&self.registers, from) {
             Some((register, addr)) => Stage::Forwards(ForwardingRegister {
                 register,
                 evac: Evac::new(self.spaces, addr, self.epoch + 1, self.number),
@@ -124,21 +128,8 @@ impl State {
         }
     }
 
-    /// The first register from this one on that holds a pointer, and where that leads.
-    #[tactic(auto, using(crate::proofs::Reading::pointer_found, crate::proofs::Reading::pointer_not_there, crate::proofs::Reading::no_pointer_left))]
-    fn first_pointer(&self, from: u8) -> Option<(u8, u32)>
-        requires { from ≤ 8 }
-        ensures { option_map pointed result ≡ first_pointer self.now.registers (8 - from) from }
-    {
-        for register in from..8 {
-            if let Some(addr) = Word(self.registers[register as usize]).as_pointer() {
-                return Some((register, addr));
-            }
-        }
-        None
-    }
-
     /// A step of the flip.
+    #[inline(always)]
     pub fn flip(&mut self, reply: Reply) -> Stepped
         requires at { IsFlipping self.old.stage }
         requires fits { IsSound self.old }
@@ -165,6 +156,7 @@ impl State {
     }
 
     /// A step of the copy of a record to which a register leads.
+    #[inline(always)]
     pub fn forward(&mut self, reply: Reply)
         requires at { IsForwarding self.old.stage }
         requires fits { IsSound self.old }
@@ -188,6 +180,20 @@ impl State {
             self.stage = self.forwarding(after, register + 1);
         }
     }
+}
+
+/// The first register from this one on that holds a pointer, and where that leads.
+#[tactic(auto, using(crate::proofs::Reading::pointer_found, crate::proofs::Reading::pointer_not_there, crate::proofs::Reading::no_pointer_left))]
+fn first_pointer(registers: &[u64; REGISTERS], from: u8) -> Option<(u8, u32)>
+    requires { from ≤ 8 }
+    ensures { option_map pointed result ≡ first_pointer registers.now (8 - from) from }
+{
+    for register in from..8 {
+        if let Some(addr) = Word(registers[register as usize]).as_pointer() {
+            return Some((register, addr));
+        }
+    }
+    None
 }
 
 /// The epoch that a word of the gate says.

@@ -2,10 +2,12 @@
 
 ghost use Rattle.std.specs.Prelude.{◌≡◌, ◌≤◌};
 ghost use Rattle.space_map.specs.Spaces.{board_page};
-ghost use Rattle.gc_worker.specs.Fits.{FitsStage, Takes};
+ghost use Rattle.gc_worker.specs.declared.access_stage.AccessStage.{AccessStage};
+ghost use Rattle.gc_worker.specs.Fits.{FitsStage, IsAccessing, Takes};
 ghost use Rattle.gc_worker.specs.Stepped.{IsAtAccess, IsEvacuating, IsOpening, IsScanning, IsServing, IsSound, back_at, served_in, stepped_by, uncounted};
-ghost use Rattle.gc_worker.specs.Turned.{back_from, goes_back, scans, told, turned};
+ghost use Rattle.gc_worker.specs.Turned.{accessed_by, back_from, goes_back, scans, told, told_access, turned};
 
+use crate::access::Access;
 use crate::accessed::Accessed;
 use crate::back::Back;
 use crate::stage::Stage;
@@ -19,6 +21,7 @@ use page_slots::Open;
 
 impl State {
     /// A step of an access.
+    #[inline(always)]
     pub fn access(&mut self, reply: Reply) -> Stepped
         requires at { IsAtAccess self.old.stage }
         requires fits { IsSound self.old }
@@ -32,26 +35,41 @@ impl State {
         };
         match access.take(reply) {
             Turn::More => Stepped::Moved,
-            Turn::Finished(Accessed::Faults(page)) => {
+            Turn::Finished(accessed) => {
                 let access = *access;
+                self.has_accessed(access, accessed)
+            }
+        }
+    }
+
+    /// What an access comes to.
+    fn has_accessed(&mut self, access: Access, accessed: Accessed) -> Stepped
+        requires calls { (stage : AccessStage) × IsAccessing self.old.account self.old.registers self.old.task stage }
+        requires fits { FitsStage (accessed_by self.old access accessed) (accessed_by self.old access accessed).stage }
+        ensures state { self.new ≡ uncounted (accessed_by self.old access accessed) }
+        ensures tells { result ≡ stepped_by self.old.number (told_access self.old.task (Turn.Finished accessed)) }
+    {
+        match accessed {
+            Accessed::Faults(page) => {
                 let duty = Duty::new(self.spaces, Some(page), self.epoch, self.number);
                 self.stage = Stage::Serves(duty, Back::ToAccess(access));
                 Stepped::Moved
             }
-            Turn::Finished(Accessed::Brings(into, word)) => {
+            Accessed::Brings(into, word) => {
                 self.stage = Stage::Looks;
                 self.load(into, word)
             }
-            Turn::Finished(Accessed::Stored) => {
+            Accessed::Stored => {
                 self.stage = Stage::Looks;
                 self.go_on()
             }
-            Turn::Finished(Accessed::Fails(why)) => self.end_with(why),
+            Accessed::Fails(why) => self.end_with(why),
         }
     }
 
     /// A step of a round.
     #[tactic(auto, using(crate::proofs::Reading::served_after, crate::proofs::Reading::served_fits))]
+    #[inline(always)]
     pub fn serve(&mut self, reply: Reply)
         requires at { IsServing self.old.stage }
         requires fits { IsSound self.old }
@@ -69,6 +87,7 @@ impl State {
     }
 
     /// What a round of an epoch comes to.
+    #[inline(always)]
     fn has_served(&mut self, epoch: u32, end: RoundEnd)
         requires at { IsServing self.old.stage }
         requires fits { FitsStage (served_in self.old epoch (back_at self.old.stage) end) (served_in self.old epoch (back_at self.old.stage) end).stage }
@@ -83,6 +102,7 @@ impl State {
     }
 
     /// A page was claimed: its scan begins, in the epoch of the round.
+    #[inline(always)]
     fn scan_page(&mut self, epoch: u32, page: u32, in_place: bool)
         requires at { IsServing self.old.stage }
         requires page { page ≤ board_page self.old.layout.pages }
@@ -96,7 +116,7 @@ impl State {
         self.stage = Stage::Scans(scan, back);
     }
 
-    /// The worker goes on where it was before the round, in this epoch. A scanner's next round begins in the place of this one.
+    /// The worker goes on where it was before the round, in this epoch.
     #[tactic(auto, using(crate::proofs::Reading::placing_fits))]
     fn go_back(&mut self, epoch: u32)
         requires at { IsServing self.old.stage }
@@ -104,14 +124,28 @@ impl State {
         ensures { self.new ≡ back_from (record self.old { epoch = epoch }) (back_at self.old.stage) }
     {
         self.epoch = epoch;
-        let Stage::Serves(duty, back) = &mut self.stage else {
+        let Stage::Serves(_, back) = self.stage else {
             unreachable!()
         };
-        match *back {
+        match back {
             Back::ToAccess(access) => self.stage = Stage::Accesses(access),
             Back::ToPlace => self.stage = self.placing(),
-            Back::ToScanner => *duty = Duty::scanner(self.spaces, self.number, self.mutators),
+            Back::ToScanner => self.begin_next_round(),
         }
+    }
+
+    /// A scanner's next round begins in the place of the one before.
+    fn begin_next_round(&mut self)
+        requires at { IsServing self.old.stage }
+        requires back { back_at self.old.stage ≡ Back.ToScanner }
+        requires few { self.old.number ≤ 23 }
+        ensures { self.new ≡ back_from self.old Back.ToScanner }
+    {
+        let round = Duty::scanner(self.spaces, self.number, self.mutators);
+        let Stage::Serves(duty, _) = &mut self.stage else {
+            unreachable!()
+        };
+        *duty = round;
     }
 
     /// The worker goes on where it was before the round.
@@ -131,6 +165,7 @@ impl State {
     }
 
     /// A step of a scan.
+    #[inline(always)]
     pub fn scan(&mut self, reply: Reply)
         requires at { IsScanning self.old.stage }
         requires fits { IsSound self.old }
@@ -144,19 +179,18 @@ impl State {
         match scan.take(reply) {
             Turn::More => {}
             Turn::Finished(Scanned::Ask(old)) => {
-                let (scan, back) = (*scan, *back);
                 let evac = Evac::new(self.spaces, old, self.epoch, self.number);
-                self.stage = Stage::Evacuates(evac, scan, back);
+                self.stage = Stage::Evacuates(evac, *scan, *back);
             }
             Turn::Finished(Scanned::Ended { .. }) => {
-                let (scan, back) = (*scan, *back);
                 let open = Open::new(self.spaces, scan.page(), self.epoch);
-                self.stage = Stage::Opens(open, scan, back);
+                self.stage = Stage::Opens(open, *scan, *back);
             }
         }
     }
 
     /// A step of a copy for a scan.
+    #[inline(always)]
     pub fn evacuate(&mut self, reply: Reply)
         requires at { IsEvacuating self.old.stage }
         requires fits { IsSound self.old }
@@ -174,6 +208,7 @@ impl State {
     }
 
     /// A step of the opening of a page that was scanned.
+    #[inline(always)]
     pub fn open(&mut self, reply: Reply)
         requires at { IsOpening self.old.stage }
         requires fits { IsSound self.old }

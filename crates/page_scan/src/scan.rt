@@ -78,6 +78,7 @@ impl Scan {
     }
 
     /// The next step.
+    #[inline(always)]
     pub fn want(&self) -> Step
         requires { HasStep self.now.stage }
         ensures wanted { wanted self.now ≡ Some result }
@@ -100,6 +101,7 @@ impl Scan {
     }
 
     /// Takes the reply to it.
+    #[inline(always)]
     pub fn take(&mut self, reply: Reply) -> Turn<Scanned>
         requires going { HasStep self.old.stage }
         requires sound { IsSound (taken self.old reply) }
@@ -114,6 +116,7 @@ impl Scan {
     }
 
     /// Takes the word that was loaded.
+    #[inline(always)]
     fn has_loaded(&mut self, word: u64) -> Turn<Scanned>
         requires going { HasStep self.old.stage }
         requires sound { IsSound (taken self.old (Reply.Value word)) }
@@ -132,6 +135,7 @@ impl Scan {
     }
 
     /// Goes on from a store.
+    #[inline(always)]
     fn has_stored(&mut self, reply: Reply) -> Turn<Scanned>
         requires going { HasStep self.old.stage }
         requires sound { IsSound (taken self.old reply) }
@@ -188,6 +192,7 @@ impl Scan {
     }
 
     /// A pointer into the old space is asked about.
+    #[inline(always)]
     fn reads_word(&mut self, spot: Spot, word: u64) -> Turn<Scanned>
         requires on_page { IsOnPage self.old.layout.pages self.old.page spot }
         requires sound { IsSound (record self.old { stage = by_word self.old.layout self.old.page self.old.epoch self.old.in_place spot (decode word) }) }
@@ -202,6 +207,7 @@ impl Scan {
     }
 
     /// A header is entered. Another word can't be there, and is loaded again at the stage given.
+    #[inline(always)]
     fn reads_header(&mut self, at: u32, stage: ScanStage, word: u64) -> Turn<Scanned>
         requires going { HasStep stage }
         requires at { at < 2 ^ 19 }
@@ -216,6 +222,7 @@ impl Scan {
     }
 
     /// In place, the scan ends where the next record would be at FRONT.
+    #[inline(always)]
     fn reads_area(&mut self, r: ScannedRecord, word: u64) -> Turn<Scanned>
         requires at { r.next < 2 ^ 20 }
         requires sound { IsSound (record self.old { stage = by_area self.old.layout self.old.epoch r (decode_area word) }) }

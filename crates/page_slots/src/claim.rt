@@ -89,6 +89,7 @@ impl Claim {
     }
 
     /// The next step.
+    #[inline(always)]
     pub fn want(&self) -> Step
         requires { IsClaimGoing self.now.stage }
         ensures wanted { wanted self.now ≡ Some result }
@@ -122,6 +123,7 @@ impl Claim {
     }
 
     /// Takes the reply to it.
+    #[inline(always)]
     pub fn take(&mut self, reply: Reply) -> Turn<Claimed>
         requires { IsClaimGoing self.old.stage }
         ensures state { self.new ≡ taken self.old reply }
@@ -156,6 +158,7 @@ impl Claim {
         Turn::More
     }
 
+    #[inline(always)]
     fn look_at_gate(&mut self, word: u64) -> Turn<Claimed>
         ensures state { self.new ≡ record self.old { stage = looked_at_gate self.old.epoch word (decode_gate word) } }
         ensures tells { result ≡ told self.new }

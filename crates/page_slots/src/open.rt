@@ -49,6 +49,7 @@ impl Open {
     }
 
     /// The next step.
+    #[inline(always)]
     pub fn want(&self) -> Step
         requires { IsOpeningGoing self.now.stage }
         ensures wanted { wanted self.now ≡ Some result }
@@ -64,6 +65,7 @@ impl Open {
     }
 
     /// Takes the reply to it.
+    #[inline(always)]
     pub fn take(&mut self, reply: Reply) -> Turn<Opened>
         requires { IsOpeningGoing self.old.stage }
         ensures state { self.new ≡ taken self.old reply }

@@ -23,6 +23,7 @@ use page_slots::{Claim, Claimed};
 use space_map::{AreaWord, GateWord, PageWord};
 
 impl Duty {
+    #[inline(always)]
     pub(super) fn look_at_gate(&mut self, word: u64)
         requires { IsSoundRound (round.looked_at_gate self.old word (decode_gate word)) }
         ensures { self.new ≡ round.looked_at_gate self.old word (decode_gate word) }
@@ -42,6 +43,7 @@ impl Duty {
         }
     }
 
+    #[inline(always)]
     pub(super) fn look_at_traced(&mut self, hindrance: Option<u64>, word: u64)
         requires { IsSoundRound (at_stage self.old (round.looked_at_traced self.old hindrance word)) }
         ensures { self.new ≡ at_stage self.old (round.looked_at_traced self.old hindrance word) }
@@ -59,6 +61,7 @@ impl Duty {
         }
     }
 
+    #[inline(always)]
     pub(super) fn look_at_wanted(&mut self, seen: Findings, page: u32, word: u64)
         requires { IsSoundRound (at_stage self.old (round.looked_at_wanted self.old seen page word (decode_page word))) }
         ensures { self.new ≡ at_stage self.old (round.looked_at_wanted self.old seen page word (decode_page word)) }
@@ -78,6 +81,7 @@ impl Duty {
         }
     }
 
+    #[inline(always)]
     pub(super) fn find_front_for(&mut self, seen: Findings, wanted: WantedPage, word: u64)
         requires page { wanted.page ≤ board_page self.old.layout.pages }
         requires allowed { IsSoundRound (at_stage self.old (round.found_front_for self.old seen wanted (decode_area word))) }
@@ -93,6 +97,7 @@ impl Duty {
         }
     }
 
+    #[inline(always)]
     pub(super) fn find_front(&mut self, seen: Findings, word: u64)
         requires { IsSoundRound (at_stage self.old (round.found_front self.old seen (decode_area word))) }
         ensures { self.new ≡ at_stage self.old (round.found_front self.old seen (decode_area word)) }
@@ -105,6 +110,7 @@ impl Duty {
         self.go_to(DutyStage::LoadsPage(Choice { seen, front }, board));
     }
 
+    #[inline(always)]
     pub(super) fn look_at_page(&mut self, choice: Choice, page: u32, word: u64)
         requires page { page ≤ board_page self.old.layout.pages }
         requires allowed { IsSoundRound (at_stage self.old (round.looked_at_page self.old choice page word (decode_page word))) }
@@ -156,6 +162,7 @@ impl Duty {
         self.go_to(DutyStage::Claims(claim))
     }
 
+    #[inline(always)]
     pub(super) fn go_on_claiming(&mut self, reply: Reply)
         requires { IsClaiming self.old.stage }
         ensures { self.new ≡ taken self.old reply }

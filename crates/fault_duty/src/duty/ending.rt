@@ -18,6 +18,7 @@ use mmu_model::{read, unprotect};
 use space_map::{AreaWord, GateWord, PAGE_WORDS, PageWord};
 
 impl Duty {
+    #[inline(always)]
     pub(super) fn end_at_gate(&mut self, traced: u64, word: u64)
         requires { IsSoundRound (at_stage self.old (round.ended_gate self.old traced word (decode_gate word))) }
         ensures { self.new ≡ at_stage self.old (round.ended_gate self.old traced word (decode_gate word)) }
@@ -31,6 +32,7 @@ impl Duty {
         }
     }
 
+    #[inline(always)]
     pub(super) fn end_at_area(&mut self, traced: u64, word: u64)
         requires { IsSoundRound (at_stage self.old (round.ended_area self.old traced (decode_area word))) }
         ensures { self.new ≡ at_stage self.old (round.ended_area self.old traced (decode_area word)) }
@@ -43,6 +45,7 @@ impl Duty {
         self.go_to(DutyStage::EndPage(EndLook { traced, front }, board))
     }
 
+    #[inline(always)]
     pub(super) fn end_at_page(&mut self, look: EndLook, page: u32, word: u64)
         requires page { page ≤ board_page self.old.layout.pages }
         requires allowed { IsSoundRound (at_stage self.old (round.ended_page self.old look page word)) }
@@ -61,6 +64,7 @@ impl Duty {
         }
     }
 
+    #[inline(always)]
     pub(super) fn end_at_filling(&mut self, look: EndLook, word: u64)
         requires { IsSoundRound (at_stage self.old (round.looked_at_filling self.old look word (decode_page word))) }
         ensures { self.new ≡ at_stage self.old (round.looked_at_filling self.old look word (decode_page word)) }
@@ -76,6 +80,7 @@ impl Duty {
         }
     }
 
+    #[inline(always)]
     pub(super) fn end_at_area_again(&mut self, look: EndLook, filling: PageWord, word: u64)
         requires { IsSoundRound (at_stage self.old (round.ended_area_again self.old look filling word (decode_area word))) }
         ensures { self.new ≡ at_stage self.old (round.ended_area_again self.old look filling word (decode_area word)) }
