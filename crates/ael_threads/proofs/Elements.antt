@@ -1,5 +1,6 @@
--- Facts of each element of a list, and beginnings of lists.
-use Rattle.std.proofs.Common.{◌≡◌, List, [], ◌∷◌, ◌++◌, map, length, refl, sym, ◌∙◌, ap, append_assoc, append-nil, length-append, arith}
+-- Facts of each element of a list, beginnings of lists, and lists made of others one by one.
+use Rattle.std.proofs.Common.{◌≡◌, ℕ, ◌+◌, ◌<◌, ◌≤◌, List, [], ◌∷◌, ◌++◌, map, take, get_or, length, subst, refl, sym, ◌∙◌, ap, append_assoc, append-nil, length-append, arith}
+use Rattle.std.proofs.lemmas.List.{map_more, take_all}
 use mathlib.Core.List.{IsPrefix}
 use Rattle.ael_threads.specs.Histories.{Each}
 
@@ -44,3 +45,20 @@ module _ {A : Type 0} where
   pub no_more : (xs ys : List A) → xs ++ ys ≡ xs → ys ≡ []
   no_more xs [] e = refl
   no_more xs (y ∷ ys) e = absurd (let a = length-append xs (y ∷ ys) in let b = ap length e in omega (arith, a, b))
+
+-- there is room for one more
+pub has_room : (count i all room : ℕ) → count ≡ i → i < all → all ≤ room → count < room
+has_room count i all room is more fits = omega (arith, is, more, fits)
+
+-- after some, what is made of each element of a list, which was also read under another name
+module _ {A B : Type 0} (f : A → B) (before : List B) (xs ys : List A) (same : ys ≡ xs) where
+  -- so far, and of one more
+  pub made_more : (i : ℕ) (x : A) (y : B) (made later : List B) → i < length ys → x ≡ get_or ys i x → y ≡ f x → made ≡ before ++ map f (take i xs) → later ≡ made ++ y ∷ [] → later ≡ before ++ map f (take (i + 1) xs)
+  made_more i x y made later below at is so_far grown =
+      let within : i < length xs = subst (λ (z : List A). i < length z) same below in
+      let last : y ≡ f (get_or xs i x) = is ∙ ap f (at ∙ ap (λ (z : List A). get_or z i x) same) in
+      grown ∙ ((λ j. so_far j ++ last j ∷ []) ∙ (append_assoc before (map f (take i xs)) _ ∙ ap (λ (z : List B). before ++ z) (sym (map_more f xs i x within))))
+
+  -- of all
+  pub made_all : (i : ℕ) (made : List B) → length ys ≤ i → made ≡ before ++ map f (take i xs) → made ≡ before ++ map f xs
+  made_all i made all so_far = so_far ∙ ap (λ (z : List A). before ++ map f z) (take_all i xs (subst (λ (z : List A). length z ≤ i) same all))

@@ -3,6 +3,7 @@ pub mod Elements
 pub mod Growing
 pub mod Winning
 pub mod Views
+pub mod Seating
 pub mod Showing
 pub mod Tallying
 pub mod Making

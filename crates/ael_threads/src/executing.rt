@@ -18,30 +18,30 @@ use std::sync::Wait;
 
 impl Mutator {
     /// Executes its section of the program to its end, and leaves.
-    pub(crate) fn runs<R: Wait, P: Pace>(&mut self, rt: &R, job: &Job, pace: &P, m: u8)
+    pub(crate) fn runs<R: Wait, P: Pace>(&mut self, job: &Job<R, P>, m: u8)
         requires executing { Executing job.now m 0 self.old }
         ensures { HasRun job.now m self.new }
     {
-        self.executes(rt, job, pace, m);
-        self.leave(rt, job.heap);
+        self.executes(job, m);
+        self.leave(job.rt, job.heap);
     }
 
     /// Executes its section of the program to its end, which comes after as many instructions as it may execute or before.
-    fn executes<R: Wait, P: Pace>(&mut self, rt: &R, job: &Job, pace: &P, m: u8)
+    fn executes<R: Wait, P: Pace>(&mut self, job: &Job<R, P>, m: u8)
         requires executing { Executing job.now m 0 self.old }
         ensures { Executed job.now m self.new }
     {
         for executed in 0..job.turns {
             let Some(instr) = job.program.instr(m, self.pc()) else {
-                self.stop(rt, job.heap, End::JumpOut);
+                self.stop(job.rt, job.heap, End::JumpOut);
                 return;
             };
-            pace.pass(m, u64::from(executed) + 1);
-            if let Did::Trap(_) = self.exec(rt, job.heap, &instr) {
+            job.pace.pass(m, u64::from(executed) + 1);
+            if let Did::Trap(_) = self.exec(job.rt, job.heap, &instr) {
                 return;
             }
         }
-        self.stop(rt, job.heap, End::TurnsOut);
+        self.stop(job.rt, job.heap, End::TurnsOut);
     }
 
     /// Gets an end in place of an instruction.
@@ -60,12 +60,12 @@ impl Mutator {
 
 impl Scanner {
     /// Makes acts until it has seen that all mutators have left.
-    pub(crate) fn runs<R: Wait, P: Pace>(&mut self, rt: &R, job: &Job, pace: &P)
+    pub(crate) fn runs<R: Wait, P: Pace>(&mut self, job: &Job<R, P>)
         requires { self.old.seated.table ≡ job.now.table }
         ensures { (k : ℕ) → IsScanning job.now k self.old.seated → HasScanned job.now k self.new.seated }
     {
-        for _ in rt.forever() {
-            pace.scan(self);
+        for _ in job.rt.forever() {
+            job.pace.scan(self);
             if let Stepped::Idle = self.act(job.heap) {
                 return;
             }

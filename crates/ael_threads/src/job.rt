@@ -6,16 +6,18 @@ use crate::shared::Shared;
 use mutator_asm::Program;
 use std::marker::Model;
 
-/// A heap, and a program with the most instructions that a mutator may execute of it.
+/// A heap, a program with the most instructions that a mutator may execute of it, and what the threads wait by and are paced by.
 #[derive(Drop)]
-pub(crate) struct Job<'a> {
+pub(crate) struct Job<'a, R, P> {
+    pub rt: &'a R,
+    pub pace: &'a P,
     pub heap: &'a Shared,
     pub program: &'a Program,
     pub turns: u32,
     pub ghost few: { turns ≤ 10000000 },
 }
 
-impl<'a> Model for Job<'a> {
+impl<'a, R, P> Model for Job<'a, R, P> {
     ghost use Rattle.ael_threads.specs.Running.{Work};
 
     ghost Value = { Work };

@@ -51,18 +51,18 @@ pub fn run<R: Threads + Wait + Sync, P: Pace>(
         heap: &heap,
         program,
         turns: config.turns,
+        rt,
+        pace,
     };
     let scanners = seats.scanners.as_mut_slice();
     let mutators = seats.mutators.as_mut_slice();
-    run_workers(rt, &job, pace, 0, scanners, mutators);
+    run_workers(&job, 0, scanners, mutators);
     tell(alloc, spaces, heap, seats)
 }
 
 /// Runs these mutators, numbered from this one on, and then the scanners, each on a thread of its own.
 fn run_workers<R: Threads + Wait + Sync, P: Pace>(
-    rt: &R,
-    job: &Job,
-    pace: &P,
+    job: &Job<R, P>,
     from: u8,
     scanners: &mut [Scanner],
     mutators: &mut [Mutator],
@@ -75,31 +75,26 @@ fn run_workers<R: Threads + Wait + Sync, P: Pace>(
     ensures as_many { (length mutators.new ≡ length mutators.old) × (length scanners.new ≡ length scanners.old) }
 {
     let Some((first, rest)) = mutators.split_first_mut() else {
-        run_scanners(rt, job, pace, scanners);
+        run_scanners(job, scanners);
         return;
     };
     join_mut(
-        rt,
+        job.rt,
         &mut ||
             requires { IsSync R.row × IsSync P.row × (from + 1 + length rest.now ≤ 16) × AreReady job.now (from + 1) rest.now × AreScanning job.now job.now.plan.mutators scanners.now }
             ensures mutators { HaveRun job.entry.now (from + 1) rest.exit.now }
             ensures scanners { HaveScanned job.entry.now job.entry.now.plan.mutators scanners.exit.now }
             ensures as_many { (length rest.exit.now ≡ length rest.entry.now) × (length scanners.exit.now ≡ length scanners.entry.now) }
-        { run_workers(rt, job, pace, from + 1, scanners, rest) },
+        { run_workers(job, from + 1, scanners, rest) },
         &mut ||
             requires { Executing job.now from 0 first.now }
             ensures { HasRun job.entry.now from first.exit.now }
-        { first.runs(rt, job, pace, from) },
+        { first.runs(job, from) },
     );
 }
 
 /// Runs these scanners, each on a thread of its own.
-fn run_scanners<R: Threads + Wait + Sync, P: Pace>(
-    rt: &R,
-    job: &Job,
-    pace: &P,
-    scanners: &mut [Scanner],
-)
+fn run_scanners<R: Threads + Wait + Sync, P: Pace>(job: &Job<R, P>, scanners: &mut [Scanner])
     requires { Each (λ (s : Scanning). s.seated.table ≡ job.now.table) scanners.old }
     ensures scanned { (from : ℕ) → AreScanning job.now from scanners.old → HaveScanned job.now from scanners.new }
     ensures as_many { length scanners.new ≡ length scanners.old }
@@ -108,16 +103,16 @@ fn run_scanners<R: Threads + Wait + Sync, P: Pace>(
         return;
     };
     join_mut(
-        rt,
+        job.rt,
         &mut ||
             requires { IsSync R.row × IsSync P.row × Each (λ (s : Scanning). s.seated.table ≡ job.now.table) rest.now }
             ensures scanned { (from : ℕ) → AreScanning job.entry.now from rest.entry.now → HaveScanned job.entry.now from rest.exit.now }
             ensures as_many { length rest.exit.now ≡ length rest.entry.now }
-        { run_scanners(rt, job, pace, rest) },
+        { run_scanners(job, rest) },
         &mut ||
             requires { first.now.seated.table ≡ job.now.table }
             ensures { (k : ℕ) → IsScanning job.entry.now k first.entry.now.seated → HasScanned job.entry.now k first.exit.now.seated }
-        { first.runs(rt, job, pace) },
+        { first.runs(job) },
     );
 }
 

@@ -1,8 +1,17 @@
-use Rattle.std.proofs.Common.{◌∷◌, ◌++◌, map, ◌∙◌, subst}
+use Rattle.std.proofs.Common.{◌≡◌, ◌∷◌, ◌++◌, map, ◌∙◌, ap, subst}
 use Rattle.ael_threads.specs.Readers.{Scanning, seated}
 use Rattle.ael_threads.specs.Seats.{Gathers}
-use Rattle.ael_threads.proofs.Gathering.{gathers_more, shifts}
+use Rattle.ael_threads.proofs.Gathering.{gathers_more, next_has, shifts}
 use Rattle.ael_threads.proofs.shared.Shared.gather_scanners.Goals as goal
+
+pub absorb-requires-clause-mine : goal.absorb-requires-clause-mine
+absorb-requires-clause-mine c = c.loop-other.invariant.2
+
+pub absorb-requires-clause-other : goal.absorb-requires-clause-other
+absorb-requires-clause-other c =
+    let i = c.loop-other.invariant in
+    ap (λ (s : Scanning). s.seated.table) c.other.view_is
+    ∙ next_has (λ (s : Scanning). s.seated.table ≡ c.args.self.now.table.shared.table_id) _ _ i.0 c.in-Some.other (shifts _ _ _ i.0 c.in-Some.other i.1 c.in-Some.ensures.items) c.requires.table
 
 pub loop-other-preserved : goal.loop-other-preserved
 loop-other-preserved c =

@@ -1,10 +1,42 @@
-use Rattle.std.proofs.Common.{◌≤◌, ℕ, List, [], sym, subst, ◌∙◌, arith}
+use Rattle.std.proofs.Common.{◌≡◌, ◌≤◌, ℕ, true, not, List, [], length, Result, Ok, Err, refl, sym, subst, ap, ◌∙◌, arith}
+use Rattle.std.specs.Prelude.{◌↔◌, IsErrAnd, IsErrOf, IsTrue}
+use Rattle.std.proofs.lemmas.Bool.{le-leb}
+use Rattle.std.proofs.lemmas.List.{length-replicate}
+use Rattle.std.proofs.Math.ListN.{length-set}
+use Rattle.heap_laws.specs.Opening.{opening_entries}
+use Rattle.heap_state.specs.Entries.{written}
+use Rattle.space_map.specs.Table.{table_length}
+use Rattle.gc_worker.specs.declared.open_error.OpenError.{OpenError}
+use Rattle.gc_worker.specs.declared.open_error.OpenError.TheVariants.{BadPages, NoMemory}
 use Rattle.space_map.specs.Spaces.{IsPageCount}
 use Rattle.atomic_table.specs.Table as table
+use Rattle.gc_worker.specs.declared.config.Config.{Config}
 use Rattle.ael_threads.specs.declared.view.Plan.{Plan}
+use Rattle.ael_threads.specs.Opened.{is_size, new_scanners}
 use Rattle.ael_threads.specs.Rule.{Kept, crew, first_view}
+use Rattle.ael_threads.specs.Seats.{new_callers}
 use Rattle.ael_threads.proofs.Beginning.{opens_kept}
 use Rattle.ael_threads.proofs.shared.Shared.open.Goals as goal
+
+-- the words are as many as the table has
+all_words : (n : ℕ) (words : List ℕ) → words ≡ written n (opening_entries n) → length words ≡ table_length n
+all_words n words is = ap length is ∙ simp (length-set, length-replicate)
+
+-- of an allowed number of pages only memory may be wanting
+module _ (n : ℕ) (size : IsPageCount n) where
+  allowed : IsTrue (not (is_size n)) → ⊥
+  allowed refused = let is : is_size n ≡ true = rw (le-leb 4 n size.0, le-leb n 2048 size.1) refl in let never = ap not is in cc
+
+  no_memory : {T : Type 0} (r : Result T OpenError) → IsErrAnd r (λ e. e ≡ NoMemory) → IsErrOf r BadPages ↔ IsTrue (not (is_size n))
+  no_memory (Ok x) h = absurd h
+  no_memory (Err e) h = (λ is. cc, λ refused. absurd (allowed refused))
+
+  is_open : {T : Type 0} (x : T) → IsErrOf (Ok x) BadPages ↔ IsTrue (not (is_size n))
+  is_open x = (λ is. cc, λ refused. absurd (allowed refused))
+
+-- the plan, with this number of pages
+abbrev opens : (mutators : ℕ) → Config → (pages : ℕ) → Plan
+opens mutators config pages = record { spaces = record { pages = pages }; mutators = mutators; scanners = config.scanners }
 
 pub of_words-requires : goal.of_words-requires
 of_words-requires c =
@@ -12,3 +44,40 @@ of_words-requires c =
     let all : crew plan ≤ 24 = (let a = c.requires.mutators.1 in let b = c.requires.scanners in omega (arith, a, b)) in
     subst (λ (words : List ℕ). Kept plan (table.opening {S = ℕ} words [] (first_view plan))) (sym (c.as_slice.ensures.value ∙ c.in_ok-words.ensures))
     (opens_kept plan (subst IsPageCount c.pages-pages.ensures.pages c.pages-pages.ensures.in_range) c.requires.mutators.1 all)
+
+pub deal-requires-clause-few : goal.deal-requires-clause-few
+deal-requires-clause-few c = (c.requires.mutators.1, (let a = c.requires.mutators.1 in let b = c.requires.scanners in omega (arith, a, b)))
+
+pub deal-requires-clause-table : goal.deal-requires-clause-table
+deal-requires-clause-table c = c.in_ok-table.ensures.2
+
+pub deal-requires-clause-seat : goal.deal-requires-clause-seat
+deal-requires-clause-seat c = c.in_ok-table.ensures.4
+
+pub returns-clause-key : goal.returns-clause-key
+returns-clause-key c = c.in_ok-table.ensures.5 ∙ ap (opens c.args.mutators c.args.config.now) c.in_ok-spaces.ensures.pages
+
+pub returns-clause-mutators : goal.returns-clause-mutators
+returns-clause-mutators c =
+    let t = c.in_ok-table.table.shared.table_id in
+    c.in_ok-seats.ensures.mutators ∙ ap (λ (n : ℕ). new_callers t (opens c.args.mutators c.args.config.now n) 0 c.args.mutators) c.in_ok-spaces.ensures.pages
+
+pub returns-clause-scanners : goal.returns-clause-scanners
+returns-clause-scanners c =
+    let t = c.in_ok-table.table.shared.table_id in
+    c.in_ok-seats.ensures.scanners ∙ ap (λ (n : ℕ). new_scanners t (opens c.args.mutators c.args.config.now n) c.args.mutators c.args.config.now.scanners) c.in_ok-spaces.ensures.pages
+
+pub returns-in_err-words-clause-bad_pages : goal.returns-in_err-words-clause-bad_pages
+returns-in_err-words-clause-bad_pages c = no_memory _ (subst IsPageCount (c.pages-pages.ensures.pages ∙ c.in_ok-spaces.ensures.pages) c.pages-pages.ensures.in_range) _ c.from_residual-in_err-words.ensures.1
+
+pub returns-in_err-table-clause-bad_pages : goal.returns-in_err-table-clause-bad_pages
+returns-in_err-table-clause-bad_pages c = no_memory _ (subst IsPageCount (c.pages-pages.ensures.pages ∙ c.in_ok-spaces.ensures.pages) c.pages-pages.ensures.in_range) _ c.from_residual-in_err-table.ensures.1
+
+pub returns-clause-bad_pages : goal.returns-clause-bad_pages
+returns-clause-bad_pages c = is_open _ (subst IsPageCount (c.pages-pages.ensures.pages ∙ c.in_ok-spaces.ensures.pages) c.pages-pages.ensures.in_range) _
+
+pub deal-requires-clause-live : goal.deal-requires-clause-live
+deal-requires-clause-live c = c.in_ok-table.ensures.0 ∙ all_words _ _ (c.as_slice.ensures.value ∙ c.in_ok-words.ensures)
+
+pub returns-clause-words : goal.returns-clause-words
+returns-clause-words c = c.in_ok-table.ensures.0 ∙ (all_words _ _ (c.as_slice.ensures.value ∙ c.in_ok-words.ensures) ∙ ap table_length c.in_ok-spaces.ensures.pages)

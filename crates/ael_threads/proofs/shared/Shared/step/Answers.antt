@@ -60,20 +60,30 @@ won v m x place old new found w e h = subst (λ (b : Bool). Moves v m x (if b th
 lost : (v : View) (m : ℕ) (x : Held) (place old new found : ℕ) (w : View) → found ≢ old → Moves v m x (reply_to (Exchange place old new) found) w → Moves v m x (Lost found) w
 lost v m x place old new found w e h = subst (λ (b : Bool). Moves v m x (if b then Won else Lost found) w) (ne_eqb found old e) h
 
-pub returns-in-Load-clause-moved : goal.returns-in-Load-clause-moved
-returns-in-Load-clause-moved g c =
-    moved c.args.seat.now.me c.load.new.seat.me c.args.worker.now g.J.Now.now c.args.step (Load c.in-Load.place) c.load.result c.requires.worker c.requires.want c.in-Load.is c.load.ensures.2
+pub returns-in-Load : goal.returns-in-Load
+returns-in-Load g c = record {
+  table = (c.load.ensures.0, c.load.ensures.1, c.load.ensures.2.0);
+  moved = moved c.args.seat.now.me c.load.new.seat.me c.args.worker.now g.J.Now.now c.args.step (Load c.in-Load.place) c.load.result c.requires.worker c.requires.want c.in-Load.is c.load.ensures.2;
+}
 
-pub returns-in-Store-clause-moved : goal.returns-in-Store-clause-moved
-returns-in-Store-clause-moved g c =
-    moved c.args.seat.now.me c.store.new.seat.me c.args.worker.now g.J.Now.now c.args.step (Store c.in-Store.place c.in-Store.value) c.in-Store.value c.requires.worker c.requires.want c.in-Store.is c.store.ensures.2
+pub returns-in-Store : goal.returns-in-Store
+returns-in-Store g c = record {
+  table = (c.store.ensures.0, c.store.ensures.1, c.store.ensures.2.0);
+  moved = moved c.args.seat.now.me c.store.new.seat.me c.args.worker.now g.J.Now.now c.args.step (Store c.in-Store.place c.in-Store.value) c.in-Store.value c.requires.worker c.requires.want c.in-Store.is c.store.ensures.2;
+}
 
-pub returns-then-found-old-clause-moved : goal.returns-then-found-old-clause-moved
-returns-then-found-old-clause-moved g c = won _ _ _ c.in-Exchange.place c.in-Exchange.old c.in-Exchange.new c.compare_exchange-found.result _ c.if-found-old.true
-    (moved c.args.seat.now.me c.compare_exchange-found.new.seat.me c.args.worker.now g.J.Now.now c.args.step (Exchange c.in-Exchange.place c.in-Exchange.old c.in-Exchange.new) c.compare_exchange-found.result
-    c.requires.worker c.requires.want c.in-Exchange.is c.compare_exchange-found.ensures.2)
+pub returns-then-found-old : goal.returns-then-found-old
+returns-then-found-old g c = let made = c.compare_exchange-found.ensures in record {
+  table = (made.0, made.1, made.2.0);
+  moved = won _ _ _ c.in-Exchange.place c.in-Exchange.old c.in-Exchange.new c.compare_exchange-found.result _ c.if-found-old.true
+      (moved c.args.seat.now.me c.compare_exchange-found.new.seat.me c.args.worker.now g.J.Now.now c.args.step (Exchange c.in-Exchange.place c.in-Exchange.old c.in-Exchange.new) c.compare_exchange-found.result
+      c.requires.worker c.requires.want c.in-Exchange.is made.2);
+}
 
-pub returns-else-found-old-clause-moved : goal.returns-else-found-old-clause-moved
-returns-else-found-old-clause-moved g c = lost _ _ _ c.in-Exchange.place c.in-Exchange.old c.in-Exchange.new c.compare_exchange-found.result _ c.if-found-old.false
-    (moved c.args.seat.now.me c.compare_exchange-found.new.seat.me c.args.worker.now g.J.Now.now c.args.step (Exchange c.in-Exchange.place c.in-Exchange.old c.in-Exchange.new) c.compare_exchange-found.result
-    c.requires.worker c.requires.want c.in-Exchange.is c.compare_exchange-found.ensures.2)
+pub returns-else-found-old : goal.returns-else-found-old
+returns-else-found-old g c = let made = c.compare_exchange-found.ensures in record {
+  table = (made.0, made.1, made.2.0);
+  moved = lost _ _ _ c.in-Exchange.place c.in-Exchange.old c.in-Exchange.new c.compare_exchange-found.result _ c.if-found-old.false
+      (moved c.args.seat.now.me c.compare_exchange-found.new.seat.me c.args.worker.now g.J.Now.now c.args.step (Exchange c.in-Exchange.place c.in-Exchange.old c.in-Exchange.new) c.compare_exchange-found.result
+      c.requires.worker c.requires.want c.in-Exchange.is made.2);
+}
