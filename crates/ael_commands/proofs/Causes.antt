@@ -1,5 +1,5 @@
 -- Why an answer is what it is.
-use Rattle.std.proofs.Common.{◌≡◌, ◌≢◌, List, [], ℕ, true, Option, refl, sym, ap, ◌∙◌, subst, inl, inr}
+use Rattle.std.proofs.Common.{◌≡◌, ◌≢◌, List, [], ℕ, true, Option, Some, refl, sym, ap, ◌∙◌, subst, inl, inr}
 use Rattle.std.specs.Prelude.{◌⊎◌, Result, Ok, Err, IfErr, IsErrAnd}
 use Rattle.std.specs.Result.{ForOk}
 use Rattle.std.proofs.lemmas.Bool.{true≢false}
@@ -7,6 +7,7 @@ use Rattle.simple_commands.specs.declared.parsing.WordsError.{WordsError}
 use Rattle.simple_commands.specs.declared.parsing.WordsError.TheVariants as words
 use Rattle.mutator_asm.specs.declared.instr.Instr.{Instr}
 use Rattle.mutator_asm.specs.declared.item.Item.{Item}
+use Rattle.mutator_asm.specs.Text.{IsText}
 use Rattle.benchmark.specs.Text.{bench_text}
 use Rattle.ael_commands.specs.declared.job.Job.{Job}
 use Rattle.ael_commands.specs.declared.job.Job.TheVariants.{Asm, Bench, Run, Sim}
@@ -15,7 +16,7 @@ use Rattle.ael_commands.specs.declared.options.RunOptions.{RunOptions}
 use Rattle.ael_commands.specs.declared.options.SimOptions.{SimOptions}
 use Rattle.ael_commands.specs.declared.status.Status.{Status}
 use Rattle.ael_commands.specs.declared.status.Status.TheVariants.{Done, Text, Usage, Ended, StepsOut, ReadFault, WriteFault, NoMemory, TooLong}
-use Rattle.ael_commands.specs.Answer.{IsAsked, IsCaused, Made, Refused, Unread, OutOfMemory}
+use Rattle.ael_commands.specs.Answer.{IsAsked, IsCaused, IsDrawnFor, Made, Refused, Unread, OutOfMemory}
 use Rattle.ael_commands.specs.Asm.{IsListed}
 use Rattle.ael_commands.specs.Bench.{bench_options}
 use Rattle.ael_commands.specs.Ends.{Drawn}
@@ -23,7 +24,7 @@ use Rattle.ael_commands.specs.Jobs.{IsStill, is_waiting, task_of}
 use Rattle.ael_commands.specs.ProgramTask.{IsMadeOf, IsTextIn, IsUnfit}
 use Rattle.ael_commands.specs.Runs.{IsRun, Scheduled, Threaded}
 use Rattle.ael_commands.specs.Status.{is_made}
-use Rattle.ael_commands.specs.Task.{Everything}
+use Rattle.ael_commands.specs.Task.{Everything, IsDrawn}
 
 -- a failure that is told, or want of memory to tell it, passes over no failed read
 pub failed_counts : {P : Type 0} (status final : Status) → (final ≡ status) ⊎ ((final ≡ NoMemory) × (is_made status ≡ true)) → (status ≢ ReadFault → P) → final ≢ ReadFault → P
@@ -60,19 +61,35 @@ unfit job source Ended reads u = absurd u
 unfit job source StepsOut reads u = absurd u
 unfit job source WriteFault reads u = absurd u
 
--- a program that is listed
-pub listed : (job : Job) (source : Drawn) (program : List (List Instr)) (items : List Item) (output : List ℕ) (status : Status) → job ≡ Asm
-    → IsTextIn source program items → IsListed program items output status → IsCaused job source output status
-listed job source program items output status is t made =
-    subst (λ j. IsCaused j source output status) (sym is) (Made t.bytes t.input (record { program = program; items = items; text = t.text; made = made }))
+-- each job but the benchmark reads its program
+pub reads_all : (job : Job) → ((operands : BenchOperands) → job ≢ Bench operands) → (task_of job).reads ≡ Everything
+reads_all (Bench operands) not = absurd (not operands refl)
+reads_all Asm not = refl
+reads_all (Sim options) not = refl
+reads_all (Run options) not = refl
 
--- a program that is run by a schedule
-pub simulated : (job : Job) (options : SimOptions) (source : Drawn) (program : List (List Instr)) (items : List Item) (output : List ℕ) (status : Status) → job ≡ Sim options
-    → IsTextIn source program items → IsRun (Scheduled options) program items output status → IsCaused job source output status
-simulated job options source program items output status is t made =
-    subst (λ j. IsCaused j source output status) (sym is) (Made t.bytes t.input (record { program = program; items = items; text = t.text; made = made }))
+-- and with it as much as a program
+pub drawn_for : (job : Job) (source : Drawn) → (task_of job).reads ≡ Everything → IsDrawn Everything source → IsDrawnFor (Some job) source
+drawn_for job source reads drawn = rw reads drawn
 
--- and one that is run on threads
+-- what is made of a program that is read
+pub of_program : (job : Job) (source : Drawn) (program : List (List Instr)) (items : List Item) (output : List ℕ) (status : Status) → (task_of job).reads ≡ Everything
+    → IsTextIn source program items → ((bytes : List ℕ) → IsText bytes program items → (task_of job).Makes bytes output status) → IsCaused job source output status
+of_program job source program items output status reads t makes = Made t.bytes (rw reads t.input) (makes t.bytes t.text)
+
+-- `asm` lists it
+pub lists : (job : Job) (program : List (List Instr)) (items : List Item) (output : List ℕ) (status : Status) → job ≡ Asm → IsListed program items output status
+    → (bytes : List ℕ) → IsText bytes program items → (task_of job).Makes bytes output status
+lists job program items output status is made bytes text =
+    subst (λ j. (task_of j).Makes bytes output status) (sym is) (record { program = program; items = items; text = text; made = made })
+
+-- `sim` runs it by a schedule
+pub simulates : (job : Job) (options : SimOptions) (program : List (List Instr)) (items : List Item) (output : List ℕ) (status : Status) → job ≡ Sim options
+    → IsRun (Scheduled options) program items output status → (bytes : List ℕ) → IsText bytes program items → (task_of job).Makes bytes output status
+simulates job options program items output status is made bytes text =
+    subst (λ j. (task_of j).Makes bytes output status) (sym is) (record { program = program; items = items; text = text; made = made })
+
+-- a program that is run on threads
 pub threaded : (options : RunOptions) (source : Drawn) (program : List (List Instr)) (items : List Item) (output : List ℕ) (status : Status)
     → IsTextIn source program items → IsRun (Threaded options) program items output status → IsCaused (Run options) source output status
 threaded options source program items output status t made = Made t.bytes t.input (record { program = program; items = items; text = t.text; made = made })

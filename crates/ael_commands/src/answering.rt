@@ -1,13 +1,14 @@
 //! What is answered to the words, by the job that they ask for.
 
-ghost use Rattle.std.specs.Prelude.{◌≡◌, ◌≢◌, [], Err, IfOk, IfErr, Option, Some, true};
+ghost use Rattle.std.specs.Prelude.{◌≡◌, ◌≢◌, ℕ, List, [], Err, IfOk, IfErr, Option, Some, true};
 ghost use Rattle.std.specs.Result.{ForOk};
+ghost use Rattle.mutator_asm.specs.Text.{IsText};
 ghost use Rattle.ael_commands.specs.declared.job.Job.{Job};
 ghost use Rattle.ael_commands.specs.declared.job.Job.TheVariants.{Run};
 ghost use Rattle.ael_commands.specs.declared.status.Status.TheVariants.{NoMemory, ReadFault};
 ghost use Rattle.ael_commands.specs.Answer.{IsAnswer, IsAsked, IsCaused, IsDrawnFor};
 ghost use Rattle.ael_commands.specs.Ends.{drawn};
-ghost use Rattle.ael_commands.specs.Jobs.{IsStill, is_waiting};
+ghost use Rattle.ael_commands.specs.Jobs.{IsStill, is_waiting, task_of};
 ghost use Rattle.ael_commands.specs.Options.{AreInRange};
 ghost use Rattle.ael_commands.specs.ProgramTask.{IsTextIn, IsUnfit};
 ghost use Rattle.ael_commands.specs.Task.{Everything, IsDrawn};
@@ -97,9 +98,23 @@ fn work<S: Source>(alloc: Global, job: Job, src: &mut S) -> Result<Answer, Statu
     ensures counted { result ≢ Err ReadFault → S.faults src.new ≡ S.faults src.old }
 {
     match job {
-        Job::Asm => Ok(asm(alloc, &read_program(alloc, src)?)?),
         Job::Bench(operands) => Ok(bench(alloc, operands)?),
-        Job::Sim(options) => Ok(sim(alloc, &read_program(alloc, src)?, options)?),
+        job => Ok(make(alloc, &read_program(alloc, src)?, job)?),
+    }
+}
+
+/// What a job that waits for nobody makes of its program.
+fn make(alloc: Global, program: &Program, job: Job) -> Result<Answer, plain_heap::NoMemory>
+    requires range { IsInRange job }
+    requires still { IsStill job }
+    requires reads { (task_of job).reads ≡ Everything }
+    ensures { IfOk result (λ answer. (bytes : List ℕ) → IsText bytes program.now.code program.now.schedule
+        → (task_of job).Makes bytes answer.output.items answer.status) }
+{
+    match job {
+        Job::Asm => asm(alloc, program),
+        Job::Sim(options) => sim(alloc, program, options),
+        Job::Bench(_) => unreachable!("it reads no program"),
         Job::Run(_) => unreachable!("it waits for threads"),
     }
 }

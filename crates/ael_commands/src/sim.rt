@@ -1,10 +1,14 @@
 //! The command `sim`: a program run by a schedule.
 
-ghost use Rattle.std.specs.Prelude.{◌≡◌, ◌<◌, IfOk};
+ghost use Rattle.std.specs.Prelude.{◌≡◌, ◌<◌, ◌++◌, [], IfOk, if◌then◌else◌};
+ghost use Rattle.plain_heap.specs.Print.{lines_seen, order_line};
 ghost use Rattle.gc_core.specs.Core.{opening_core, workers_of};
+ghost use Rattle.gc_core.specs.Readers.{seen_of};
 ghost use Rattle.ael_commands.specs.Options.{AreInRange};
 ghost use Rattle.ael_commands.specs.Simulation.{config};
 ghost use Rattle.ael_commands.specs.Runs.{IsRun, Scheduled};
+ghost use Rattle.ael_commands.specs.Seen.{status_seen};
+ghost use Rattle.ael_commands.specs.Told.{heap_lines, told_of};
 
 use crate::answer::Answer;
 use crate::flags::{push_heap, push_order_if};
@@ -16,7 +20,7 @@ use gc_core::{
     runs_follow,
 };
 use mutator_asm::Program;
-use plain_heap::NoMemory;
+use plain_heap::{Mark, NoMemory};
 use std::alloc::Global;
 
 /// The core of a run.
@@ -32,6 +36,18 @@ fn open<'p>(alloc: Global, program: &'p Program, options: RunOptions) -> Result<
     }
 }
 
+/// What is printed of a core that was run, and how that went.
+fn told(alloc: Global, core: &Core, order: &[Mark], options: SimOptions) -> Result<Answer, NoMemory>
+    ensures { IfOk result (λ answer. (answer.status ≡ status_seen (seen_of core.now)) × (answer.output.items
+        ≡ (lines_seen 0 (seen_of core.now) ++ (if options.order then order_line order.now else [])) ++ heap_lines options.run (told_of core.now))) }
+{
+    let mut output = String::new(alloc);
+    push_mutators(&mut output, core)?;
+    push_order_if(&mut output, options.order, order)?;
+    push_heap(&mut output, options.run, core)?;
+    Answer::new(alloc, output.into_bytes(), verdict(core))
+}
+
 /// Runs a program by a schedule, and prints what its mutators printed.
 pub fn sim(alloc: Global, program: &Program, options: SimOptions) -> Result<Answer, NoMemory>
     requires { AreInRange options.run }
@@ -43,9 +59,5 @@ pub fn sim(alloc: Global, program: &Program, options: SimOptions) -> Result<Answ
     large_heaps_are_never_full();
     let mut core = open(alloc, program, options.run)?;
     let order = run_by_schedule(alloc, &mut core, program.schedule.as_slice(), options)?;
-    let mut output = String::new(alloc);
-    push_mutators(&mut output, &core)?;
-    push_order_if(&mut output, options.order, &order)?;
-    push_heap(&mut output, options.run, &core)?;
-    Answer::new(alloc, output.into_bytes(), verdict(&core))
+    told(alloc, &core, &order, options)
 }

@@ -1,7 +1,10 @@
 //! The words of the command line, read to a job.
 
-ghost use Rattle.std.specs.Prelude.{◌≡◌, IfOk, IfSome, map, option_map, string_bytes};
-ghost use Rattle.clap.specs.Simple.{subcommand_rows_of};
+ghost use Rattle.std.specs.Prelude.{◌≡◌, Err, IfOk, IfSome, OnOk, map, option_map, string_bytes, true, false};
+ghost use Rattle.clap.specs.Simple.{subcommand_of, subcommand_rows_of};
+ghost use Rattle.clap.specs.Takes.{takes};
+ghost use Rattle.simple_commands.specs.declared.parsing.WordsError.TheVariants.{Refused};
+ghost use Rattle.ael_commands.specs.CommandLine.{ael_app};
 ghost use Rattle.ael_commands.specs.Words.{job_from, job_of, IsInRange, IsKnown};
 ghost use Rattle.ael_commands.specs.Answer.{IsAsked};
 
@@ -34,17 +37,24 @@ fn job_in(matches: &ArgMatches) -> Option<Job>
     None
 }
 
+/// What `clap` finds in the words.
+fn parsed<'a>(alloc: Global, words: &'a [String]) -> Result<ArgMatches<'a>, WordsError>
+    ensures taken { OnOk result (takes ael_app (map string_bytes words.entry.now) ≡ true) }
+    ensures subcommand { IfOk result (λ m. subcommand_rows_of m ≡ subcommand_of ael_app (map string_bytes words.entry.now)) }
+    ensures known { IfOk result (λ m. IfSome (subcommand_rows_of m) IsKnown) }
+    ensures refused { result ≡ Err Refused → takes ael_app (map string_bytes words.entry.now) ≡ false }
+{
+    match command(alloc) {
+        Ok(command) => parse(command, words),
+        Err(_) => Err(WordsError::NoMemory),
+    }
+}
+
 /// Reads the words after the program's name. They are refused exactly where `clap` does not take
 /// them or they name no subcommand; want of memory can come at any words.
 pub fn read_words(alloc: Global, words: &[String]) -> Result<Job, WordsError>
     ensures asked { IsAsked (job_of (map string_bytes words.now)) result }
     ensures range { IfOk result IsInRange }
 {
-    let Ok(command) = command(alloc) else {
-        return Err(WordsError::NoMemory);
-    };
-    match job_in(&parse(command, words)?) {
-        Some(job) => Ok(job),
-        None => Err(WordsError::Refused),
-    }
+    job_in(&parsed(alloc, words)?).ok_or(WordsError::Refused)
 }

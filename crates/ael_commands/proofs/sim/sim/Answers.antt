@@ -1,5 +1,4 @@
-use Rattle.std.proofs.Common.{refl, ◌∙◌, ap, ℕ}
-use Rattle.std.specs.Global.{Vec}
+use Rattle.std.proofs.Common.{refl, ◌∙◌}
 use Rattle.std.proofs.lemmas.Result.{IfOk-weaker}
 use Rattle.ael_commands.specs.Runs.{IsRunOf, Scheduled}
 use Rattle.ael_commands.specs.Simulation.{config, run_of, scheduled}
@@ -28,9 +27,7 @@ returns c =
       dump = follows.dump;
       live = c.cycles_keep_what_is_live.ensures program items (config options.run) schedule options.steps formed pages turns scanners;
     } in
-    IfOk-weaker c.new.result _ _ (λ answer new. simulated options program items _ c.in_ok-order.order.items _ _ is follows.seen
+    IfOk-weaker c.told.result _ _ (λ answer told. simulated options program items _ c.in_ok-order.order.items _ _ is follows.seen
     (rw (c.in_ok-core.ensures.opened, c.as_slice.ensures) at c.in_ok-order.ensures.core)
     (rw (c.in_ok-core.ensures.opened, c.as_slice.ensures) at c.in_ok-order.ensures.order)
-    (new.0 ∙ ap (λ (v : Vec ℕ). v.items) c.into_bytes.ensures.value
-    ∙ rw (c.in_ok-push_heap.ensures, c.in_ok-push_order_if.ensures, c.in_ok-push_mutators.ensures, c.new-output.ensures.bytes, c.deref.ensures.value))
-    (new.1 ∙ c.verdict.ensures)) c.new.ensures.whole
+    (told.1 ∙ rw c.deref.ensures.value) told.0) c.told.ensures
