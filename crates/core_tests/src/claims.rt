@@ -1,3 +1,4 @@
+use crate::asserting::assert_same;
 use crate::rows::{GARBAGE, check_end};
 use crate::stepping::{
     by_turns_to_the_end, executes, open, page_word, printed, program, step, until_all_came,
@@ -21,14 +22,14 @@ fn loses(rt: &impl Abort, core: &mut Core<'_>, worker: u8, place: usize) {
         until_exchange(rt, core, worker, place) != before,
         "{worker} would win"
     );
-    assert_eq!(rt; step(rt, core, worker), Stepped::Moved);
-    assert_eq!(rt; word(core, place), before);
+    assert_same(rt, &step(rt, core, worker), &Stepped::Moved);
+    assert_same(rt, &word(core, place), &before);
 }
 
 /// So many scanners sleep before their claims of the board, whose word is at this place, until the next flip is past.
 fn check_past(rt: &impl Abort, core: &mut Core<'_>, scanners: u8, board: usize) {
     until_cycle(rt, core, 0, 1);
-    assert_eq!(rt; core.live_words(), None, "the epoch is not traced");
+    assert_same(rt, &core.live_words(), &None);
     for scanner in 1..=scanners {
         until_exchange(rt, core, scanner, board);
     }
@@ -55,7 +56,7 @@ fn claims_of_an_epoch_that_is_past_are_lost(rt: HostRuntime) -> Result<(), Fail>
 fn all_claim(rt: &impl Abort, core: &mut Core<'_>, board: usize) {
     for worker in 0..core.workers() {
         let old = until_exchange(rt, core, worker, board);
-        assert_eq!(rt; word(core, board), old, "{worker} would lose");
+        assert_same(rt, &(worker, word(core, board)), &(worker, old));
     }
 }
 
@@ -72,7 +73,7 @@ fn others_lose(rt: &impl Abort, core: &mut Core<'_>, first: u8, board: usize) {
 fn check_printed(rt: &impl Abort, core: &mut Core<'_>) {
     by_turns_to_the_end(rt, core);
     for m in 0..2 {
-        assert_eq!(rt; printed(rt, core, m), (&[7][..], Some(End::Halt)));
+        assert_same(rt, &printed(rt, core, m), &(&[7][..], Some(End::Halt)));
     }
 }
 
@@ -84,9 +85,9 @@ fn check_first(rt: &impl Abort, core: &mut Core<'_>, spaces: Spaces, first: u8) 
     until_request(rt, core, spaces, 0);
     until_all_came(rt, core, spaces, 2, 1);
     all_claim(rt, core, board);
-    assert_eq!(rt; step(rt, core, first), Stepped::Moved);
+    assert_same(rt, &step(rt, core, first), &Stepped::Moved);
     let claimed = Some(PageWord::Scanning(1, first));
-    assert_eq!(rt; page_word(core, spaces, spaces.board_page()), claimed);
+    assert_same(rt, &page_word(core, spaces, spaces.board_page()), &claimed);
     others_lose(rt, core, first, board);
     check_printed(rt, core);
 }

@@ -1,3 +1,4 @@
+use crate::asserting::assert_same;
 use crate::rows::{FAN, GARBAGE, Row, check_end};
 use crate::stepping::{open, page_word, program, step, turn, until_all_came, until_cycle};
 use gc_core::Core;
@@ -67,7 +68,7 @@ fn check_page(rt: &impl Abort, core: &Core<'_>, spaces: Spaces, at: u32) {
         Some(PageWord::Scanning(epoch, worker)) => epoch == 1 && worker != SLEEPER,
         _ => false,
     };
-    assert!(rt; !claimed, "page {page} is claimed");
+    assert_same(rt, &(page, claimed), &(page, false));
 }
 
 /// The sleeper stops so many steps after it has made its first record busy, and the others go on. At last all go on.
@@ -79,7 +80,7 @@ fn check_stop(rt: &impl Abort, core: &mut Core<'_>, spaces: Spaces, stops: &Stop
         step(rt, core, SLEEPER);
     }
     let place = u32::try_from(kept(rt, core).1).unwrap_or(0);
-    assert_eq!(rt; place != 0, 3 <= steps && steps < stops.published);
+    assert_same(rt, &(place != 0), &(3 <= steps && steps < stops.published));
     for _ in 0..TURNS {
         turn(rt, core, Some(SLEEPER));
         if place != 0 {

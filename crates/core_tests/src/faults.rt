@@ -1,3 +1,4 @@
+use crate::asserting::assert_same;
 use crate::stepping::{
     alone_to_the_end, by_turns_to_the_end, executes, open, page_word, printed, program,
     until_all_came, until_request,
@@ -19,11 +20,8 @@ const LINES: &str = "/.mutator/new r0 4095/li r1 5/st r0 0 r1/li r1 6/st r0 4094
 fn check_pages(rt: &impl Abort, core: &Core<'_>, spaces: Spaces) {
     for page in 0..=256 {
         let is_open = page_word(core, spaces, page) == Some(PageWord::Open(1));
-        assert_eq!(rt;
-            is_open,
-            page == 128 || page == 191 || page == 256,
-            "{page}"
-        );
+        let is_wanted = page == 128 || page == 191 || page == 256;
+        assert_same(rt, &(page, is_open), &(page, is_wanted));
     }
 }
 
@@ -34,11 +32,11 @@ fn check_reads(rt: &impl Abort, core: &mut Core<'_>, spaces: Spaces) {
     until_request(rt, core, spaces, 1);
     until_all_came(rt, core, spaces, 2, 1);
     alone_to_the_end(rt, core, 0);
-    assert_eq!(rt; printed(rt, core, 0), (&[5, 6][..], halted));
+    assert_same(rt, &printed(rt, core, 0), &(&[5, 6][..], halted));
     check_pages(rt, core, spaces);
     by_turns_to_the_end(rt, core);
-    assert_eq!(rt; printed(rt, core, 1), (&[][..], halted));
-    assert_eq!(rt; core.cycles(), 1);
+    assert_same(rt, &printed(rt, core, 1), &(&[][..], halted));
+    assert_same(rt, &core.cycles(), &1);
 }
 
 #[test]

@@ -1,5 +1,6 @@
 //! How many steps an instruction takes of a mutator that has the core to itself.
 
+use crate::asserting::assert_same;
 use crate::rows::GARBAGE;
 use crate::stepping::{open, program, step};
 use gc_core::{Core, Stepped};
@@ -50,8 +51,12 @@ fn longest(rt: &impl Abort, alloc: Global, lines: &str, pages: u8) -> Result<u32
 #[test]
 fn the_longest_instruction_is_short_enough(rt: HostRuntime) -> Result<(), Fail> {
     for (lines, pages, counted) in [(GARBAGE.lines, 4, 491), (LIST, 4, 1920), (LIST, 16, 7716)] {
-        assert_eq!(rt; longest(&rt, rt.alloc(), lines, pages)?, counted);
-        assert!(rt; counted <= most_steps(pages), "{counted} in {pages} pages");
+        assert_same(&rt, &longest(&rt, rt.alloc(), lines, pages)?, &counted);
+        assert_same(
+            &rt,
+            &(counted, counted <= most_steps(pages)),
+            &(counted, true),
+        );
     }
     Ok(())
 }

@@ -1,5 +1,6 @@
 //! Programs of one mutator, and what they come to by any schedule.
 
+use crate::asserting::assert_same;
 use crate::stepping::{by_turns_to_the_end, printed};
 use gc_core::Core;
 use plain_heap::End;
@@ -63,10 +64,15 @@ pub const FAN: Row = Row {
 /// All workers go on by turns to the end, which is the row's.
 pub fn check_end(rt: &impl Abort, core: &mut Core<'_>, row: &Row) {
     by_turns_to_the_end(rt, core);
-    assert_eq!(rt;
-        (printed(rt, core, 0), core.cycles(), core.live_words()),
-        ((row.printed, Some(End::Halt)), row.cycles, Some(row.live)),
-        "{}",
-        row.name
+    let printed = printed(rt, core, 0);
+    assert_same(
+        rt,
+        &(row.name, printed, core.cycles(), core.live_words()),
+        &(
+            row.name,
+            (row.printed, Some(End::Halt)),
+            row.cycles,
+            Some(row.live),
+        ),
     );
 }

@@ -5,6 +5,7 @@ ghost use Rattle.gc_worker.specs.declared.task.Task.TheVariants.{Calls};
 ghost use Rattle.gc_worker.specs.Between.{with_task};
 ghost use Rattle.mutator_asm.specs.Program.{is_valid};
 
+use crate::asserting::assert_same;
 use ael_threads::{Did, Mutator, Shared};
 use mutator_asm::Instr;
 use std::process::Abort;
@@ -36,5 +37,5 @@ pub fn make<R: Wait + Abort>(rt: &R, h: &Shared, mutator: &mut Mutator, instr: I
     assert!(rt; mutator.ended().is_none());
     assert!(rt; mutator.serial() < MOST_RECORDS);
     let did = mutator.exec(rt, h, &instr);
-    assert_eq!(rt; did, Did::Done);
+    assert_same(rt, &did, &Did::Done);
 }

@@ -1,5 +1,6 @@
 //! Whole programs, each mutator on a thread of its own.
 
+use crate::asserting::assert_same;
 use ael_threads::{NoPace, Pace, RunError, Scanner, run};
 use gc_worker::Config;
 use mutator_asm::{Program, assemble};
@@ -91,10 +92,14 @@ fn all_workers_run_at_once(rt: HostRuntime) -> Result<(), Fail> {
         };
         let pace = Meeting::new(scanners);
         let told = run(&rt, rt.alloc(), &program, &config, &pace)?;
-        assert_eq!(rt; pace.gave_up.load(Ordering::SeqCst), 0);
-        assert_eq!(rt; told.mutators.len(), 2);
+        assert_same(&rt, &pace.gave_up.load(Ordering::SeqCst), &0);
+        assert_same(&rt, &told.mutators.len(), &2);
         for told in &told.mutators {
-            assert_eq!(rt; (told.numbers.as_slice(), told.end), (&[5][..], End::Halt));
+            assert_same(
+                &rt,
+                &(told.numbers.as_slice(), told.end),
+                &(&[5][..], End::Halt),
+            );
         }
     }
     Ok(())
@@ -153,11 +158,12 @@ fn one_mutator_with_scanners_does_as_alone(rt: HostRuntime) -> Result<(), Fail> 
         let [one] = told.mutators.as_slice() else {
             panic!(rt; "one mutator")
         };
-        assert_eq!(rt;
-            (one.numbers.as_slice(), one.end),
-            (alone.printed, End::Halt)
+        assert_same(
+            &rt,
+            &(one.numbers.as_slice(), one.end),
+            &(alone.printed, End::Halt),
         );
-        assert_eq!(rt; told.cycles, alone.cycles);
+        assert_same(&rt, &told.cycles, &alone.cycles);
     }
     Ok(())
 }

@@ -3,6 +3,7 @@
 ghost use Rattle.std.specs.Prelude.{◌≡◌, None, IsTrue, true};
 ghost use Rattle.mutator_asm.specs.Program.{is_valid};
 
+use crate::asserting::assert_same;
 use crate::calling::begin;
 use ael_threads::{Mutator, Reg, Shared};
 use gc_worker::{Config, Stepped};
@@ -83,11 +84,12 @@ fn share(rt: &impl Abort, h: &Shared, one: &mut Mutator, other: &mut Mutator)
         Instr::Ld(3, 2, ZERO),
         Instr::Ld(3, 2, ZERO),
     );
-    assert_eq!(rt;
-        (one.reg(3), other.reg(3)),
-        (Reg::Number(8), Reg::Number(7))
+    assert_same(
+        rt,
+        &(one.reg(3), other.reg(3)),
+        &(Reg::Number(8), Reg::Number(7)),
     );
-    assert_eq!(rt; (one.reg(2), other.reg(2)), (other.reg(0), one.reg(0)));
+    assert_same(rt, &(one.reg(2), other.reg(2)), &(other.reg(0), one.reg(0)));
     assert!(rt; one.reg(0) != other.reg(0));
     assert!(rt; matches!(one.reg(0), Reg::Pointer(_)));
 }

@@ -3,6 +3,7 @@
 ghost use Rattle.std.specs.Prelude.{◌≡◌, ◌≤◌, None};
 ghost use Rattle.gc_worker.specs.declared.stage.Stage.TheVariants.{Gone};
 
+use crate::asserting::assert_same;
 use crate::calling::make;
 use ael_threads::{Mutator, Reg, Shared};
 use gc_worker::Config;
@@ -32,7 +33,7 @@ fn work<R: Wait + Abort>(rt: &R, h: &Shared, mut mutator: Mutator, first: u64) -
         make(rt, h, &mut mutator, Instr::Li(1, k));
         make(rt, h, &mut mutator, Instr::St(0, Operand::Number(2), 1));
         make(rt, h, &mut mutator, Instr::Ld(2, 0, Operand::Number(2)));
-        assert_eq!(rt; mutator.reg(2), Reg::Number(k));
+        assert_same(rt, &mutator.reg(2), &Reg::Number(k));
     }
     make(rt, h, &mut mutator, Instr::Out(2));
     mutator.leave(rt, h);
@@ -56,11 +57,11 @@ fn callers_on_two_threads_keep_their_own(rt: HostRuntime) -> Result<(), Fail> {
         || work(&rt, &h, second, 5000),
     );
     let printed = (first.outputs(), second.outputs());
-    assert_eq!(rt; printed, (&[1199][..], &[5199][..]));
-    assert_eq!(rt; (first.serial(), second.serial()), (RECORDS, RECORDS));
+    assert_same(&rt, &printed, &(&[1199][..], &[5199][..]));
+    assert_same(&rt, &(first.serial(), second.serial()), &(RECORDS, RECORDS));
     let halted = Some(End::Halt);
-    assert_eq!(rt; (first.ended(), second.ended()), (halted, halted));
-    assert_eq!(rt; first.epoch().max(second.epoch()), 1);
+    assert_same(&rt, &(first.ended(), second.ended()), &(halted, halted));
+    assert_same(&rt, &first.epoch().max(second.epoch()), &1);
     first.absorb(&h, second);
     seats.mutators.push(first)?;
     let _words = h.close(seats);

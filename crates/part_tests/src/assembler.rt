@@ -1,12 +1,15 @@
+use crate::asserting::assert_same;
 use mutator_asm::{AsmError, Instr, Item, Operand, Program, assemble, list};
+use std::alloc::Global;
+use std::process::Abort;
 use std::test::Fail;
 
 /// The number and the line of a text's error, or 0 and 0 where it has none.
-fn fault_of(rt: &HostRuntime, text: &str) -> (u8, u32) {
+fn fault_of(alloc: Global, text: &str) -> (u8, u32) {
     if text.len() >= 1 << 31 {
         return (254, 0);
     }
-    match assemble(rt.alloc(), text.as_bytes()) {
+    match assemble(alloc, text.as_bytes()) {
         Ok(_) => (0, 0),
         Err(AsmError::Text { no, line }) => (no, line),
         Err(AsmError::NoMemory) => (255, 0),
@@ -56,8 +59,12 @@ fn a_text_gives_its_instructions(rt: HostRuntime) -> Result<(), Fail> {
         Instr::Halt,
     ];
     let program = program_of(&rt, all)?;
-    assert_eq!(rt; program.code.sections()[0].as_slice(), wanted.as_slice());
-    assert_eq!(rt; program.instr(0, 9), Some(Instr::Jmp(22)));
+    assert_same(
+        &rt,
+        &program.code.sections()[0].as_slice(),
+        &wanted.as_slice(),
+    );
+    assert_same(&rt, &program.instr(0, 9), &Some(Instr::Jmp(22)));
     Ok(())
 }
 
@@ -86,9 +93,13 @@ fn a_label_is_the_number_of_the_next_instruction(rt: HostRuntime) -> Result<(), 
     ];
     for (text, wanted) in rows {
         let program = program_of(&rt, text)?;
-        assert_eq!(rt; program.code.len(), 1, "{text}");
-        assert_eq!(rt; program.code.sections()[0].as_slice(), wanted, "{text}");
-        assert!(rt; program.schedule.is_empty(), "{text}");
+        assert_same(&rt, &(text, program.code.len()), &(text, 1));
+        assert_same(
+            &rt,
+            &(text, program.code.sections()[0].as_slice()),
+            &(text, wanted),
+        );
+        assert_same(&rt, &(text, program.schedule.is_empty()), &(text, true));
     }
     Ok(())
 }
@@ -103,80 +114,90 @@ fn sections_have_labels_of_their_own(rt: HostRuntime) -> Result<(), Fail> {
     let text =
         ".schedule 1 023*001000000\n.mutator\nl: jmp l\n.schedule 0*2\n.mutator\nhalt\nl: jmp l\n.schedule 5";
     let program = program_of(&rt, text)?;
-    assert_eq!(rt; program.code.len(), 2);
-    assert_eq!(rt; program.code.instr(0, 0), Some(Instr::Jmp(0)));
-    assert_eq!(rt; program.code.instr(1, 1), Some(Instr::Jmp(1)));
+    assert_same(&rt, &program.code.len(), &2);
+    assert_same(&rt, &program.code.instr(0, 0), &Some(Instr::Jmp(0)));
+    assert_same(&rt, &program.code.instr(1, 1), &Some(Instr::Jmp(1)));
     let wanted = [item(1, 1), item(23, 1_000_000), item(0, 2), item(5, 1)];
-    assert_eq!(rt; program.schedule.as_slice(), wanted.as_slice());
+    assert_same(&rt, &program.schedule.as_slice(), &wanted.as_slice());
+    Ok(())
+}
+
+/// The number and the line of an error, and a text that has it, with slashes for line ends.
+const FAULTS: &str = "\
+1 1|.mutat
+1 2|.mutator/halt\0
+1 2|.mutator/a :
+1 2|.mutator/1x:
+1 2|.mutator/a: b:
+1 2|.mutator/:
+1 1|x: .mutator
+1 1|x: .schedule 1
+2 2|.mutator/li r1
+2 2|.mutator/li r1 4611686018427387904 5
+2 2|.mutator/li r8 1
+2 2|.mutator/li r0 r1
+2 2|.mutator/st 4611686018427387904 0 r1
+2 2|.mutator/st r0 4611686018427387904 5
+2 2|.mutator/jmp 5
+2 2|.mutator/jz r1 a b
+2 1|.mutator x
+3 2|.mutator/jmp x
+3 1|jmp x
+3 1|l: jmp l
+3 4|.mutator/l:/.mutator/jmp l
+3 2|.mutator/jmp l/.mutator x/l:
+4 3|.mutator/l:/l: halt
+5 1|l:/.mutator
+5 1|halt/.mutator
+5 1|
+5 1|/ /; no more
+5 1|.schedule 1/
+8 1|.schedule 24/.mutator
+8 1|.schedule 0*0/.mutator
+8 1|.schedule 0*1000001
+8 1|.schedule 0*18446744073709551616
+8 1|.schedule 0*1*1
+8 1|.schedule *1
+8 1|.schedule
+9 2|.mutator/li r0 4611686018427387904";
+
+/// Texts with more than one error.
+const FIRST_FAULTS: &str = "\
+1 2|.mutator/foo/li r1
+2 2|.mutator/li r1/foo
+3 2|.mutator/jmp x/bad
+1 3|.mutator/jmp x/x: bad
+1 3|.mutator/a:/a: foo
+2 3|.mutator/a:/a: li r1
+3 3|.mutator/a:/a: jmp b
+4 3|.mutator/a:/a: li r0 4611686018427387904
+4 3|.mutator/a:/a:/foo
+5 1|li r0 4611686018427387904
+3 1|jmp x/.mutator/x:
+5 1|halt/.mutator x
+8 1|.schedule 24/foo
+9 2|.mutator/li r0 4611686018427387904/foo";
+
+/// The text of each row of a table has its error.
+fn check_faults(rt: &impl Abort, alloc: Global, table: &str) -> Result<(), Fail> {
+    for row in table.split('\n') {
+        let (place, lines) = row.split_once('|').ok_or("there is no bar")?;
+        let (number, line) = place.split_once(' ').ok_or("there is no line")?;
+        let wanted = (number.parse::<u8>()?, line.parse::<u32>()?);
+        let text = lines.replace(alloc, '/', "\n")?;
+        assert_same(rt, &(row, fault_of(alloc, &text)), &(row, wanted));
+    }
     Ok(())
 }
 
 #[test]
-fn each_error_has_its_place(rt: HostRuntime) {
-    let rows = [
-        (".mutat", 1, 1),
-        (".mutator\nhalt\0", 1, 2),
-        (".mutator\na :", 1, 2),
-        (".mutator\n1x:", 1, 2),
-        (".mutator\na: b:", 1, 2),
-        (".mutator\n:", 1, 2),
-        ("x: .mutator", 1, 1),
-        ("x: .schedule 1", 1, 1),
-        (".mutator\nli r1", 2, 2),
-        (".mutator\nli r1 4611686018427387904 5", 2, 2),
-        (".mutator\nli r8 1", 2, 2),
-        (".mutator\nli r0 r1", 2, 2),
-        (".mutator\nst 4611686018427387904 0 r1", 2, 2),
-        (".mutator\nst r0 4611686018427387904 5", 2, 2),
-        (".mutator\njmp 5", 2, 2),
-        (".mutator\njz r1 a b", 2, 2),
-        (".mutator x", 2, 1),
-        (".mutator\njmp x", 3, 2),
-        ("jmp x", 3, 1),
-        ("l: jmp l", 3, 1),
-        (".mutator\nl:\n.mutator\njmp l", 3, 4),
-        (".mutator\njmp l\n.mutator x\nl:", 3, 2),
-        (".mutator\nl:\nl: halt", 4, 3),
-        ("l:\n.mutator", 5, 1),
-        ("halt\n.mutator", 5, 1),
-        ("", 5, 1),
-        ("\n \n; no more", 5, 1),
-        (".schedule 1\n", 5, 1),
-        (".schedule 24\n.mutator", 8, 1),
-        (".schedule 0*0\n.mutator", 8, 1),
-        (".schedule 0*1000001", 8, 1),
-        (".schedule 0*18446744073709551616", 8, 1),
-        (".schedule 0*1*1", 8, 1),
-        (".schedule *1", 8, 1),
-        (".schedule", 8, 1),
-        (".mutator\nli r0 4611686018427387904", 9, 2),
-    ];
-    for (text, number, line) in rows {
-        assert_eq!(rt; fault_of(&rt, text), (number, line), "{text}");
-    }
+fn each_error_has_its_place(rt: HostRuntime) -> Result<(), Fail> {
+    check_faults(&rt, rt.alloc(), FAULTS)
 }
 
 #[test]
-fn the_first_line_counts_and_then_the_lowest_number(rt: HostRuntime) {
-    let rows = [
-        (".mutator\nfoo\nli r1", 1, 2),
-        (".mutator\nli r1\nfoo", 2, 2),
-        (".mutator\njmp x\nbad", 3, 2),
-        (".mutator\njmp x\nx: bad", 1, 3),
-        (".mutator\na:\na: foo", 1, 3),
-        (".mutator\na:\na: li r1", 2, 3),
-        (".mutator\na:\na: jmp b", 3, 3),
-        (".mutator\na:\na: li r0 4611686018427387904", 4, 3),
-        (".mutator\na:\na:\nfoo", 4, 3),
-        ("li r0 4611686018427387904", 5, 1),
-        ("jmp x\n.mutator\nx:", 3, 1),
-        ("halt\n.mutator x", 5, 1),
-        (".schedule 24\nfoo", 8, 1),
-        (".mutator\nli r0 4611686018427387904\nfoo", 9, 2),
-    ];
-    for (text, number, line) in rows {
-        assert_eq!(rt; fault_of(&rt, text), (number, line), "{text}");
-    }
+fn the_first_line_counts_and_then_the_lowest_number(rt: HostRuntime) -> Result<(), Fail> {
+    check_faults(&rt, rt.alloc(), FIRST_FAULTS)
 }
 
 /// The lines of a text, and the number of the error of the text up to each byte, or 0 where it is a program.
@@ -200,7 +221,7 @@ const PREFIXES: [(&str, &str); 14] = [
 #[test]
 fn each_prefix_is_a_program_or_has_an_error(rt: HostRuntime) -> Result<(), Fail> {
     let mut text = String::new(rt.alloc());
-    assert_eq!(rt; fault_of(&rt, &text), (5, 1));
+    assert_same(&rt, &fault_of(rt.alloc(), &text), &(5, 1));
     for (i, (line, numbers)) in PREFIXES.iter().enumerate() {
         for (byte, digit) in line.chars().zip(numbers.chars()) {
             text.push(byte)?;
@@ -208,7 +229,11 @@ fn each_prefix_is_a_program_or_has_an_error(rt: HostRuntime) -> Result<(), Fail>
                 Some(number) if number > 0 => (number as u8, i as u32 + 1),
                 _ => (0, 0),
             };
-            assert_eq!(rt; fault_of(&rt, &text), wanted, "{text}");
+            assert_same(
+                &rt,
+                &(text.as_str(), fault_of(rt.alloc(), &text)),
+                &(text.as_str(), wanted),
+            );
         }
     }
     Ok(())
@@ -260,7 +285,11 @@ fn limits_are_those_of_the_whole_text(rt: HostRuntime) -> Result<(), Fail> {
     ];
     for (first, line, times, last, wanted) in rows {
         let text = repeated(&rt, first, line, times, last)?;
-        assert_eq!(rt; fault_of(&rt, &text), wanted, "{line}{last}");
+        assert_same(
+            &rt,
+            &(line, last, fault_of(rt.alloc(), &text)),
+            &(line, last, wanted),
+        );
     }
     Ok(())
 }
@@ -280,7 +309,7 @@ fn an_error_has_its_text(rt: HostRuntime) -> Result<(), Fail> {
     ];
     for (no, wanted) in rows {
         let text = AsmError::Text { no, line: 20 }.to_string(rt.alloc())?;
-        assert_eq!(rt; text.as_str(), wanted);
+        assert_same(&rt, &text.as_str(), &wanted);
     }
     Ok(())
 }
@@ -304,14 +333,13 @@ fn a_listing_is_laid_out_in_one_way(rt: HostRuntime) -> Result<(), Fail> {
         ),
     ];
     for (text, wanted) in rows {
-        assert!(rt;
-            listing_of(&rt, text)?.as_slice() == wanted.as_bytes(),
-            "{wanted}"
-        );
-        assert!(rt;
-            listing_of(&rt, wanted)?.as_slice() == wanted.as_bytes(),
-            "{wanted}"
-        );
+        for text in [text, wanted] {
+            assert_same(
+                &rt,
+                &str::from_utf8(listing_of(&rt, text)?.as_slice()),
+                &Ok(wanted),
+            );
+        }
     }
     Ok(())
 }
@@ -334,12 +362,11 @@ fn texts_at_the_limits_list_themselves(rt: HostRuntime) -> Result<(), Fail> {
     ];
     for (first, line, times, last) in rows {
         let text = repeated(&rt, first, line, times, last)?;
-        assert!(rt;
-            listing_of(&rt, &text)?.as_slice() == text.as_bytes(),
-            "{line}"
-        );
+        let lists_itself = listing_of(&rt, &text)?.as_slice() == text.as_bytes();
+        assert_same(&rt, &(line, lists_itself), &(line, true));
     }
     let text = loops(&rt, 65536)?;
-    assert!(rt; listing_of(&rt, &text)?.as_slice() == text.as_bytes());
+    let lists_itself = listing_of(&rt, &text)?.as_slice() == text.as_bytes();
+    assert_same(&rt, &lists_itself, &true);
     Ok(())
 }

@@ -1,12 +1,13 @@
+use crate::asserting::assert_same;
 use crossing_map::{Area, Walked, crossed, walk_next};
 use space_map::{BadPages, Spaces};
 
 #[test]
 fn pages_that_begin_in_a_record(rt: HostRuntime) {
-    assert_eq!(rt; crossed(256, 3), (4, 5));
-    assert_eq!(rt; crossed(257, 63), (5, 5));
-    assert_eq!(rt; crossed(318, 3), (5, 6));
-    assert_eq!(rt; crossed(0, 4096), (0, 64));
+    assert_same(&rt, &crossed(256, 3), &(4, 5));
+    assert_same(&rt, &crossed(257, 63), &(5, 5));
+    assert_same(&rt, &crossed(318, 3), &(5, 6));
+    assert_same(&rt, &crossed(0, 4096), &(0, 64));
 }
 
 #[test]
@@ -25,21 +26,25 @@ fn a_walk_leaves_out_what_is_reserved_or_closed(rt: HostRuntime) -> Result<(), B
     };
     let kept = [(0, 0), (0x2_0016, 260)];
     let record = |at, size| Walked::Record { at, size };
-    assert_eq!(rt;
-        walk_next(spaces, &words, &area, 1, 256, &kept),
-        record(256, 3)
+    assert_same(
+        &rt,
+        &walk_next(spaces, &words, &area, 1, 256, &kept),
+        &record(256, 3),
     );
-    assert_eq!(rt;
-        walk_next(spaces, &words, &area, 1, 259, &kept),
-        record(384, 1)
+    assert_same(
+        &rt,
+        &walk_next(spaces, &words, &area, 1, 259, &kept),
+        &record(384, 1),
     );
-    assert_eq!(rt;
-        walk_next(spaces, &words, &area, 1, 385, &kept),
-        record(385, 3)
+    assert_same(
+        &rt,
+        &walk_next(spaces, &words, &area, 1, 385, &kept),
+        &record(385, 3),
     );
-    assert_eq!(rt;
-        walk_next(spaces, &words, &area, 1, 388, &kept),
-        Walked::Ended
+    assert_same(
+        &rt,
+        &walk_next(spaces, &words, &area, 1, 388, &kept),
+        &Walked::Ended,
     );
     Ok(())
 }
@@ -55,13 +60,15 @@ fn a_walk_breaks_at_what_is_no_record(rt: HostRuntime) -> Result<(), BadPages> {
         low: 512,
         end: 512,
     };
-    assert_eq!(rt;
-        walk_next(spaces, &words, &area, 1, 256, &[]),
-        Walked::Broken { at: 256 }
+    assert_same(
+        &rt,
+        &walk_next(spaces, &words, &area, 1, 256, &[]),
+        &Walked::Broken { at: 256 },
     );
-    assert_eq!(rt;
-        walk_next(spaces, &words, &area, 1, 257, &[]),
-        Walked::Broken { at: 257 }
+    assert_same(
+        &rt,
+        &walk_next(spaces, &words, &area, 1, 257, &[]),
+        &Walked::Broken { at: 257 },
     );
     Ok(())
 }

@@ -1,3 +1,4 @@
+use crate::asserting::assert_same;
 use mutator_asm::{Program, assemble};
 use plain_heap::{End, Mark, PlainState, plain_run, plain_step, print, push_order};
 use std::alloc::Global;
@@ -87,14 +88,20 @@ fn printed(alloc: Global, lines: &str) -> Result<String, Fail> {
     Ok(out)
 }
 
+/// What a run of these instructions by an order prints.
+fn run_text(alloc: Global, instrs: &str, order: &[Mark]) -> Result<Vec<u8>, Fail> {
+    let p = program(alloc, instrs)?;
+    let s = plain_run(alloc, &p, TURNS, order)?;
+    Ok(print(alloc, &s)?)
+}
+
 /// Runs the program of a row by an order, and compares what is printed.
 fn check_row(rt: &impl Abort, alloc: Global, row: &str, order: &[Mark]) -> Result<(), Fail> {
     let (name, rest) = row.split_once('|').ok_or("there is no bar")?;
     let (instrs, lines) = rest.split_once('|').ok_or("there is no second bar")?;
-    let p = program(alloc, instrs)?;
-    let s = plain_run(alloc, &p, TURNS, order)?;
+    let found = run_text(alloc, instrs, order)?;
     let wanted = printed(alloc, lines)?;
-    assert_eq!(rt; print(alloc, &s)?.as_slice(), wanted.as_bytes(), "{name}");
+    assert_same(rt, &(name, found.as_slice()), &(name, wanted.as_bytes()));
     Ok(())
 }
 
@@ -123,18 +130,30 @@ fn each_instruction_and_each_end(rt: HostRuntime) -> Result<(), Fail> {
     Ok(())
 }
 
+/// The plain machine after so many steps of mutator 0.
+fn stepped(alloc: Global, p: &Program, steps: u32) -> Result<PlainState, Fail> {
+    let mut s = PlainState::open(alloc, p)?;
+    for _step in 0..steps {
+        plain_step(alloc, &mut s, p, 6, 0)?;
+    }
+    Ok(s)
+}
+
+/// Its one mutator has printed 7 and halted.
+fn check_halted(rt: &impl Abort, s: &PlainState) {
+    assert_eq!(rt; s.mutators(), 1);
+    assert_same(rt, &s.printed(0), &[7].as_slice());
+    assert_same(rt, &s.ended(0), &Some(End::Halt));
+}
+
 #[test]
 fn six_steps_print_the_number_and_the_end(rt: HostRuntime) -> Result<(), Fail> {
     let alloc = rt.alloc();
     let p = program(alloc, "li r1 7/new r0 2/st r0 1 r1/ld r2 r0 1/out r2/halt")?;
-    let mut s = PlainState::open(alloc, &p)?;
-    for _step in 0..6 {
-        plain_step(alloc, &mut s, &p, 6, 0)?;
-    }
-    assert_eq!(rt; s.mutators(), 1);
-    assert_eq!(rt; s.printed(0), [7].as_slice());
-    assert_eq!(rt; s.ended(0), Some(End::Halt));
-    assert_eq!(rt; print(alloc, &s)?.as_slice(), b"0: 7\n0: halt\n".as_slice());
+    let s = stepped(alloc, &p, 6)?;
+    check_halted(&rt, &s);
+    let printed = print(alloc, &s)?;
+    assert_same(&rt, &printed.as_slice(), &b"0: 7\n0: halt\n".as_slice());
     Ok(())
 }
 
@@ -143,6 +162,10 @@ fn an_order_has_its_line(rt: HostRuntime) -> Result<(), Fail> {
     let mut line = String::new(rt.alloc());
     push_order(&mut line, &[Mark::Step(0); 6])?;
     push_order(&mut line, &[Mark::Flip(64), full(64)])?;
-    assert_eq!(rt; line.as_str(), "order 0 0 0 0 0 0\norder F64 X0,64,256,0\n");
+    assert_same(
+        &rt,
+        &line.as_str(),
+        &"order 0 0 0 0 0 0\norder F64 X0,64,256,0\n",
+    );
     Ok(())
 }

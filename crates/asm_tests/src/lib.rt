@@ -1,6 +1,0 @@
-//! Tests of the assembler, over what `mutator_asm` offers. They are a crate of their own, since a crate with tests is
-//! proved twice.
-#![tactic(auto)]
-
-#[cfg(test)]
-mod tests;
