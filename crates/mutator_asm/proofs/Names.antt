@@ -10,12 +10,12 @@ two_letters [] a b (l, h, i) = absurd (omega arith)
 two_letters (x ∷ []) a b (l, h, i) = absurd (omega arith)
 two_letters (x ∷ y ∷ z ∷ r) a b (l, h, i) = absurd (omega arith)
 
--- one of three
+-- a name of three letters
 pub three_letters : (name : List ℕ) (a b c : ℕ) → (length name ≡ 3) × (get_or name 0 0 ≡ a) × (get_or name 1 0 ≡ b) × (get_or name 2 0 ≡ c) → name ≡ a ∷ b ∷ c ∷ []
 three_letters (x ∷ name) a b c (l, h, i, j) = grind (arith, two_letters name b c)
 three_letters [] a b c (l, h, i, j) = absurd (omega arith)
 
--- one of four
+-- a name of four letters
 pub four_letters : (name : List ℕ) (a b c d : ℕ) → (length name ≡ 4) × (get_or name 0 0 ≡ a) × (get_or name 1 0 ≡ b) × (get_or name 2 0 ≡ c) × (get_or name 3 0 ≡ d) → name ≡ a ∷ b ∷ c ∷ d ∷ []
 four_letters (x ∷ name) a b c d (l, h, i, j, k) = grind (arith, three_letters name b c d)
 four_letters [] a b c d (l, h, i, j, k) = absurd (omega arith)

@@ -64,10 +64,11 @@ schedule_text (item ∷ more) i start first old new some le behind so_far wrote 
 
 -- ---- all sections
 
--- what is promised of a program holds of each of its sections
+-- a section of a program has few instructions
 pub section_few : (code : List (List Instr)) (k : ℕ) (section d : List Instr) → section ≡ get_or code k d → k < length code → sum_by length code ≤ 65536 → length section ≤ 65536
 section_few code k section d is lt few = omega (arith, get_or-le-sum_by length code k d lt, ap length is)
 
+-- and its jumps stay in it
 pub section_closed : (code : List (List Instr)) (k : ℕ) (section d : List Instr) → section ≡ get_or code k d → k < length code → IsTrue (list_all is_closed code) → IsTrue (is_closed section)
 section_closed code k section d is lt closed = rw is (AllPass-from_list_all is_closed code closed k d lt)
 

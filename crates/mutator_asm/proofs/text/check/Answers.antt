@@ -1,9 +1,8 @@
-use Rattle.std.proofs.Common.{ℕ, ◌+◌, arith, inl, inr, subst, refl, sym, ap, ◌∙◌}
+use Rattle.std.proofs.Common.{arith, inl, inr, refl, sym, ap, ◌∙◌}
 use Rattle.std.proofs.lemmas.List.{length-map}
 use Rattle.mutator_asm.specs.declared.before.Before.{Before}
 use Rattle.mutator_asm.specs.Labels.{and_line}
 use Rattle.mutator_asm.specs.Read.{line_view, lines_view}
-use Rattle.mutator_asm.specs.Text.{IsFirstError}
 use Rattle.mutator_asm.proofs.Clean.{first_error, clean_more}
 use Rattle.mutator_asm.proofs.Counts.{few_read, before_more, parts_enough, read_at, error_here, all_read}
 use Rattle.mutator_asm.proofs.Limits.{within_step, within_up_to}
