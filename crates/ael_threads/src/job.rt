@@ -6,7 +6,8 @@ use crate::shared::Shared;
 use mutator_asm::Program;
 use std::marker::Model;
 
-/// A heap, a program with the most instructions that a mutator may execute of it, and what the threads wait by and are paced by.
+/// What the threads of a run share: the heap, the program, the most instructions that a mutator may execute of it, and what
+/// they wait by and are paced by.
 #[derive(Drop)]
 pub(crate) struct Job<'a, R, P> {
     pub rt: &'a R,

@@ -4,7 +4,7 @@ ghost use Rattle.std.specs.Prelude.{◌≡◌, ◌^◌, ◌<◌, IfOk, IsTrue, l
 ghost use Rattle.mutator_asm.specs.Program.{is_valid};
 ghost use Rattle.plain_state.specs.declared.value.Value.TheVariants.{Number};
 ghost use Rattle.plain_state.specs.Operation.{one_if};
-ghost use Rattle.plain_heap.specs.Action.{action, allocates, are_same, board_place, computes, is_reference, is_zero, next_of, number_in, operand, prints, reference_in, register};
+ghost use Rattle.plain_heap.specs.Action.{action, allocates, are_same, board_place, computes, is_reference, is_zero, next_of, number_in, operand, reference_in, register};
 ghost use Rattle.gc_worker.specs.Stepped.{FitsAction, FitsValue, seen_by};
 
 use crate::seen_value::value_in;

@@ -42,7 +42,8 @@ impl State {
         }
     }
 
-    /// What an access comes to.
+    /// What an access comes to. It stands apart, since a function clears the room of each stage that it may begin whenever it
+    /// is called.
     fn has_accessed(&mut self, access: Access, accessed: Accessed) -> Stepped
         requires calls { (stage : AccessStage) × IsAccessing self.old.account self.old.registers self.old.task stage }
         requires fits { FitsStage (accessed_by self.old access accessed) (accessed_by self.old access accessed).stage }

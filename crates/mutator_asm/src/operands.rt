@@ -11,7 +11,7 @@ use crate::mistake::Mistake;
 use crate::operand::Operand;
 use crate::token::{number, operand, register};
 
-/// None.
+/// No operands: the instruction itself.
 pub fn nothing(operands: &[&[u8]], instr: Instr) -> Result<Instr, Mistake>
     ensures { result ≡ made (λ _. instr) (nothing (tokens_view operands.now)) }
 {

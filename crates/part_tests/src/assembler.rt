@@ -161,7 +161,7 @@ const FAULTS: &str = "\
 8 1|.schedule
 9 2|.mutator/li r0 4611686018427387904";
 
-/// Texts with more than one error.
+/// Texts with more than one error, each with the one that counts.
 const FIRST_FAULTS: &str = "\
 1 2|.mutator/foo/li r1
 2 2|.mutator/li r1/foo

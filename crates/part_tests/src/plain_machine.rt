@@ -139,7 +139,7 @@ fn stepped(alloc: Global, p: &Program, steps: u32) -> Result<PlainState, Fail> {
     Ok(s)
 }
 
-/// Its one mutator has printed 7 and halted.
+/// Asserts that the one mutator of a state has printed 7 and halted.
 fn check_halted(rt: &impl Abort, s: &PlainState) {
     assert_eq!(rt; s.mutators(), 1);
     assert_same(rt, &s.printed(0), &[7].as_slice());
