@@ -1,6 +1,5 @@
 -- What the code reads in a word is what the definitions make of it.
-use Rattle.std.specs.Option.{option_and_then}
-use Rattle.std.proofs.Common.{◌≡◌, ℕ, true, false, ◌+◌, ◌-◌, ◌^◌, ◌<◌, ◌≤◌, arith, Option, Result, Ok, zero, suc, List, [], ◌∷◌, map, Some, None, refl, sym, ap, ◌∙◌, subst, slice_get, slice_index, slice_index_or}
+use Rattle.std.proofs.Common.{◌≡◌, ℕ, true, false, ◌+◌, ◌-◌, ◌^◌, ◌<◌, ◌≤◌, arith, Option, zero, suc, List, [], ◌∷◌, map, Some, None, refl, sym, ap, ◌∙◌, subst, slice_get, slice_index, slice_index_or}
 use Rattle.heap_words.specs.Decoded.{Decoded, NumberWord, PointerWord, HeaderWord, ForwardWord, BusyWord, Malformed, decode, encode, number_in, pointer_in}
 use Rattle.heap_words.proofs.Decoding.{decode-header_word}
 use Rattle.heap_words.proofs.Spelling.{number_word-decode, pointer_word-decode}
@@ -14,18 +13,13 @@ use Rattle.gc_worker.specs.declared.record_access.RecordAccess.{RecordAccess}
 use Rattle.gc_worker.specs.Access.{GoesTo, read_header, role_in, used_by}
 use Rattle.gc_worker.specs.Seen.{IsValueAs, IsValueWord, by_address, making_in, seen, seen_as, value_seen, word_for}
 use Rattle.heap_state.specs.Worker.{Account}
-use Rattle.plain_heap.specs.Action.{action, register}
+use Rattle.plain_heap.specs.Action.{register}
 use Rattle.gc_worker.specs.Fits.{FitsStage, IsMaking}
-use Rattle.gc_worker.specs.Held.{Held, at_stage, header_of, making_for}
+use Rattle.gc_worker.specs.Held.{Held, at_stage}
 use Rattle.gc_worker.specs.declared.stage.Stage.{Stage}
 use Rattle.gc_worker.specs.declared.stage.Stage.TheVariants.{Forwards, Serves}
 use Rattle.gc_worker.specs.Turned.{Pointed, back_from, first_pointer, forwarded_to, forwards_from, forwards_it, places, scans, served_by, turned, turned_at, turned_register, turned_round, with_evac}
-use Rattle.gc_worker.specs.Stepped.{IsOfTask, seen_by, served_in, uncounted}
-use Rattle.gc_worker.specs.declared.task.Task.TheVariants.{Calls}
-use Rattle.mutator_asm.specs.declared.instr.Instr.{Instr}
-use Rattle.plain_heap.specs.declared.action.Action.{Action}
-use Rattle.plain_heap.specs.declared.action.Action.TheVariants.{Sets, Jumps, Links, Prints, Makes, Measures, Loads, Stores, Gets, Puts, Swaps}
-use Rattle.plain_state.specs.declared.end.End.{End}
+use Rattle.gc_worker.specs.Stepped.{served_in, uncounted}
 use Rattle.gc_worker.specs.declared.after.After.{After}
 use Rattle.gc_worker.specs.declared.forwarding_register.ForwardingRegister.{ForwardingRegister}
 use Rattle.gc_worker.specs.declared.back.Back.{Back}
@@ -250,21 +244,3 @@ round_turned x d done back reply end at steps ends =
     ap (λ (s : Stage). turned_at x s reply) at
     ∙ ap (λ (r : Round). turned_round x r back (duty.told r)) (sym steps)
     ∙ ap (turned_round x done back) ends
-
--- ---- actions
-
--- what the task's instruction does makes the record of the task, if it makes one
-pub action_is_of_task : (x : Held) (instr : Instr) (act : Action) → x.task ≡ Some (Calls instr) → Ok act ≡ action (seen_by x) instr → IsOfTask x act
-action_is_of_task x instr (Makes kind d n) task is =
-    ap (λ (t : Option Task). option_and_then (header_of x) (making_for x t)) task
-    ∙ ap (λ (r : Result Action End). option_and_then (header_of x) (making_in r)) (sym is)
-action_is_of_task x instr (Sets d v) task is = tt
-action_is_of_task x instr (Jumps target) task is = tt
-action_is_of_task x instr (Links d target) task is = tt
-action_is_of_task x instr (Prints n) task is = tt
-action_is_of_task x instr (Measures d i) task is = tt
-action_is_of_task x instr (Loads d i n) task is = tt
-action_is_of_task x instr (Stores i n v) task is = tt
-action_is_of_task x instr (Gets d n) task is = tt
-action_is_of_task x instr (Puts n v) task is = tt
-action_is_of_task x instr (Swaps d n v) task is = tt

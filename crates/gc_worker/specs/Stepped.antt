@@ -1,12 +1,10 @@
 -- What a worker's code keeps and tells of what it holds.
 use Rattle.std.specs.Prelude.{◌≡◌, ℕ, ◌^◌, ◌<◌, ◌≤◌, ⊤, Bool, Option, Some, None, true, false, nat_lt}
 use Rattle.plain_state.specs.declared.end.End.{End}
-use Rattle.plain_state.specs.declared.sizes.TheConstants.{BOARD_WORDS, MOST_PRINTED, NUMBERS}
+use Rattle.plain_state.specs.declared.sizes.TheConstants.{MOST_PRINTED, NUMBERS}
 use Rattle.plain_state.specs.declared.value.Value.{Value}
 use Rattle.plain_state.specs.declared.value.Value.TheVariants.{Number, Reference}
 use Rattle.plain_state.specs.State.{Mutator}
-use Rattle.plain_heap.specs.declared.action.Action.{Action}
-use Rattle.plain_heap.specs.declared.action.Action.TheVariants.{Sets, Jumps, Links, Prints, Makes, Measures, Loads, Stores, Gets, Puts, Swaps}
 use Rattle.mutator_asm.specs.declared.instr.Instr.{Instr}
 use Rattle.gc_worker.specs.declared.stage.Stage.{Stage}
 use Rattle.gc_worker.specs.declared.stage.Stage.TheVariants.{Looks, Passes, Flips, Forwards, Accesses, Places, Serves, Scans, Evacuates, Opens, Gone}
@@ -24,7 +22,7 @@ use Rattle.fault_duty.specs.declared.round_end.RoundEnd.{RoundEnd}
 use Rattle.fault_duty.specs.declared.round_end.RoundEnd.TheVariants.{ScanPage, ScanInPlace, Marked, AllLeft, NothingNow}
 use Rattle.gc_worker.specs.declared.back.Back.{Back}
 use Rattle.gc_worker.specs.declared.back.Back.TheVariants.{ToScanner}
-use Rattle.gc_worker.specs.Held.{Held, at_stage, header_for, header_of}
+use Rattle.gc_worker.specs.Held.{Held, at_stage}
 use Rattle.gc_worker.specs.Seen.{seen}
 use Rattle.gc_worker.specs.Turned as turned
 
@@ -62,7 +60,7 @@ stepped_by k (turned.Answers task turned.Effect) = Effect k
 stepped_by k (turned.Answers task (turned.Ends end)) = Ended k end
 stepped_by k (turned.Marks asked) = Flipped asked
 
--- ---- actions
+-- ---- what is seen
 
 -- the mutator that a worker sees in itself
 abbrev pub seen_by : Held → Mutator
@@ -72,25 +70,6 @@ seen_by x = seen x.account x.registers
 abbrev pub FitsValue : Value → Type 0
 FitsValue (Number n) = n < NUMBERS
 FitsValue (Reference i) = i.serial < 2 ^ 32
-
--- so do those of an action, of a mutator that has printed so many numbers
-abbrev pub FitsAction : (printed : ℕ) → Action → Type 0
-FitsAction c (Sets d v) = FitsValue v
-FitsAction c (Jumps target) = ⊤
-FitsAction c (Links d target) = ⊤
-FitsAction c (Prints n) = c < MOST_PRINTED
-FitsAction c (Makes kind d n) = ⊤
-FitsAction c (Measures d i) = FitsValue (Reference i)
-FitsAction c (Loads d i x) = FitsValue (Reference i)
-FitsAction c (Stores i x v) = FitsValue (Reference i) × FitsValue v
-FitsAction c (Gets d x) = x < BOARD_WORDS
-FitsAction c (Puts x v) = (x < BOARD_WORDS) × FitsValue v
-FitsAction c (Swaps d x v) = (x < BOARD_WORDS) × FitsValue v
-
--- an action that makes a record makes that of the task
-abbrev pub IsOfTask : Held → Action → Type 0
-IsOfTask x (Makes kind d n) = header_for x ≡ header_of x (record { kind = kind; into = d; len = n })
-IsOfTask x act = ⊤
 
 -- ---- which machine is at work
 

@@ -135,6 +135,7 @@ impl Access {
     }
 
     /// A page's word was read: the access goes on there, if the page is open.
+    #[inline(always)]
     fn look(&mut self, page: u32, word: u64, next: AccessStage) -> Turn<Accessed>
         ensures state { self.new ≡ goes_by self.old (looked page self.old.epoch word next) }
         ensures tells { result ≡ turn_by (looked page self.old.epoch word next) }
@@ -211,6 +212,7 @@ impl Access {
     }
 
     /// A field on the header's own page needs no other look.
+    #[inline(always)]
     fn go_to_field(&mut self, f: FieldAccess, usage: FieldUse) -> Turn<Accessed>
         requires { field_at f < 2 ^ 32 }
         ensures state { self.new ≡ at_stage self.old (goes_to_field f usage) }
@@ -224,6 +226,7 @@ impl Access {
         }
     }
 
+    #[inline(always)]
     fn go_to(&mut self, stage: AccessStage) -> Turn<Accessed>
         ensures state { self.new ≡ at_stage self.old stage }
         ensures tells { result ≡ Turn.More }

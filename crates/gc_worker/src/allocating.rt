@@ -1,17 +1,21 @@
 //! The allocation of the record that an instruction makes.
 
 ghost use Rattle.std.specs.Prelude.{◌≡◌, ◌+◌, ◌^◌, ◌<◌};
+ghost use Rattle.std.specs.Option.{option_and_then};
 ghost use Rattle.heap_words.specs.Decoded.{HeaderWord};
 ghost use Rattle.record_layout.specs.Layout.{header_in};
 ghost use Rattle.heap_state.specs.Ghost.{header_kind};
+ghost use Rattle.plain_heap.specs.Action.{action};
 ghost use Rattle.gc_worker.specs.Fits.{FitsStage, IsMaking, Takes};
-ghost use Rattle.gc_worker.specs.Held.{asked_by, header_for, making_for};
-ghost use Rattle.gc_worker.specs.Stepped.{IsPlacing, IsSound, stepped_by, uncounted};
+ghost use Rattle.gc_worker.specs.Held.{asked_by, at_stage, header_for, header_of, making_for};
+ghost use Rattle.gc_worker.specs.Seen.{making_in};
+ghost use Rattle.gc_worker.specs.Stepped.{IsPlacing, IsSound, seen_by, stepped_by, uncounted};
 ghost use Rattle.gc_worker.specs.Turned.{full_by, places, told, told_effect, told_full, turned, with_record};
 
 use crate::after::After;
 use crate::back::Back;
 use crate::due::Due;
+use crate::record_asked::RecordAsked;
 use crate::stage::Stage;
 use crate::state::State;
 use crate::stepped::Stepped;
@@ -20,7 +24,7 @@ use atom_store::{Reply, Turn};
 use fault_duty::Duty;
 use gate_core::Gate;
 use heap_words::{Kind as HeaderKind, Word};
-use plain_heap::Action;
+use mutator_asm::Instr;
 use plain_state::{End, Kind, LONGEST_RECORD};
 use record_layout::Header;
 use space_map::PAGE_WORDS;
@@ -30,7 +34,7 @@ const LAST_SERIAL: u64 = 0xff_ffff_ffff;
 
 impl State {
     /// The header of the next record, which has this kind and length, if a header can say that.
-    pub fn next_header(&self, kind: Kind, len: u16) -> Option<Header>
+    fn next_header(&self, kind: Kind, len: u16) -> Option<Header>
         ensures { result ≡ header_in (HeaderWord (header_kind kind) len (self.now.account.serial + 1) self.now.number) }
     {
         header_after(self.serial, header_kind(kind), len, self.number)
@@ -41,11 +45,20 @@ impl State {
         ensures { result ≡ header_for self.now }
     {
         match self.due {
-            Due::Call => match self.action(self.instr) {
-                Ok(Action::Makes(kind, _, len)) => self.next_header(kind, len),
-                _ => None,
-            },
+            Due::Call => self.header_of(self.instr),
             Due::Stop | Due::Nothing => None,
+        }
+    }
+
+    /// The header of the record that an instruction makes, if it makes one.
+    #[tactic(auto, using(crate::proofs::Asking::making_asked))]
+    fn header_of(&self, instr: Instr) -> Option<Header>
+        ensures { result ≡ option_and_then (header_of self.now) (making_in (action (seen_by self.now) instr)) }
+    {
+        let asked = RecordAsked::by(instr)?;
+        match self.length(asked.len) {
+            Ok(len) => self.next_header(asked.kind, len),
+            Err(_) => None,
         }
     }
 
@@ -59,20 +72,22 @@ impl State {
         }
     }
 
+    /// Its allocation begins.
+    pub fn begin_placing(&mut self) -> Stepped
+        requires { FitsStage self.old (places self.old (header_for self.old)) }
+        ensures state { self.new ≡ uncounted (at_stage self.old (places self.old (header_for self.old))) }
+        ensures tells { result ≡ Stepped.Moved }
+    {
+        self.stage = self.placing();
+        Stepped::Moved
+    }
+
     /// The beginning of its allocation.
     pub fn placing(&self) -> Stage
         requires { FitsStage self.now (places self.now (header_for self.now)) }
         ensures { result ≡ places self.now (header_for self.now) }
     {
-        self.placing_by(self.header())
-    }
-
-    /// The beginning of the allocation of a record with this header, if there is one.
-    pub fn placing_by(&self, header: Option<Header>) -> Stage
-        requires { FitsStage self.now (places self.now header) }
-        ensures { result ≡ places self.now header }
-    {
-        match header {
+        match self.header() {
             Some(header) => {
                 let run = self.run.unwrap_or(Run { at: 0, end: 0 });
                 Stage::Places(Place::new(self.spaces, run, header, self.epoch))
@@ -115,12 +130,12 @@ impl State {
     {
         self.run = Some(run);
         self.stage = Stage::Looks;
-        match self.action(self.instr) {
-            Ok(Action::Makes(_, into, _)) => {
+        match RecordAsked::by(self.instr) {
+            Some(asked) => {
                 self.serial += 1;
-                self.load(into, Word::pointer(at).0)
+                self.load(asked.into, Word::pointer(at).0)
             }
-            _ => unreachable!(),
+            None => unreachable!(),
         }
     }
 

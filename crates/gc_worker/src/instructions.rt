@@ -1,255 +1,228 @@
-//! What the registers of a mutator tell of its instruction.
+//! The instructions, as a mutator executes them on its registers: each has its effect or its end, or begins what it does with
+//! records and the board.
 
-ghost use Rattle.std.specs.Prelude.{◌≡◌, ◌^◌, ◌<◌, IfOk, IsTrue, length, if◌then◌else◌};
+ghost use Rattle.std.specs.Prelude.{◌≡◌, ℕ, ◌^◌, ◌<◌, IsTrue, true, nat_lt};
 ghost use Rattle.mutator_asm.specs.Program.{is_valid};
-ghost use Rattle.plain_state.specs.declared.value.Value.TheVariants.{Number};
-ghost use Rattle.plain_state.specs.Operation.{one_if};
-ghost use Rattle.plain_heap.specs.Action.{action, allocates, are_same, board_place, computes, is_reference, is_zero, next_of, number_in, operand, reference_in, register};
-ghost use Rattle.gc_worker.specs.Stepped.{FitsAction, FitsValue, seen_by};
+ghost use Rattle.plain_state.specs.declared.sizes.TheConstants.{BOARD_WORDS};
+ghost use Rattle.plain_heap.specs.Action.{action, allocates, computes};
+ghost use Rattle.gc_worker.specs.declared.task.Task.{Task};
+ghost use Rattle.gc_worker.specs.Fits.{FitsStage};
+ghost use Rattle.gc_worker.specs.Stepped.{seen_by, stepped_by, uncounted};
+ghost use Rattle.gc_worker.specs.Turned.{acted, told_acted};
 
-use crate::seen_value::value_in;
+use crate::access_stage::AccessStage;
+use crate::board_access::{BoardAccess, BoardUse};
+use crate::record_access::{RecordAccess, RecordUse};
+use crate::seen_value::word_of;
+use crate::stage::Stage;
 use crate::state::State;
+use crate::stepped::Stepped;
+use heap_words::Word;
 use mutator_asm::{Instr, Operand};
-use plain_heap::Action;
-use plain_state::{
-    BOARD_WORDS, End, Identity, Kind, LONGEST_RECORD, MOST_PRINTED, NUMBERS, Operation, Value,
-};
+use plain_state::{End, Identity, Kind, MOST_PRINTED, Operation};
 
 impl State {
-    /// What a register holds.
-    #[tactic(auto, using(crate::proofs::Reading::register_seen, crate::proofs::Reading::no_register_seen))]
-    fn value(&self, r: u8) -> Value
-        ensures exact { result ≡ register (seen_by self.now) r }
-        ensures fits { FitsValue result }
-    {
-        match self.registers.get(r as usize) {
-            Some(word) => value_in(*word),
-            None => Value::Number(0),
-        }
-    }
-
-    /// The number in a register, else the end for a pointer.
-    fn number(&self, r: u8) -> Result<u64, End>
-        ensures exact { result ≡ number_in (register (seen_by self.now) r) }
-        ensures fits { IfOk result (λ n. n < NUMBERS) }
-    {
-        match self.value(r) {
-            Value::Number(n) => Ok(n),
-            Value::Reference(_) => Err(End::NotNumber),
-        }
-    }
-
-    /// The record in a register, else the end for a number.
-    fn reference(&self, r: u8) -> Result<Identity, End>
-        ensures exact { result ≡ reference_in (register (seen_by self.now) r) }
-        ensures fits { IfOk result (λ i. i.serial < 2 ^ 32) }
-    {
-        match self.value(r) {
-            Value::Number(_) => Err(End::NotPointer),
-            Value::Reference(identity) => Ok(identity),
-        }
-    }
-
-    /// The number that an operand names.
-    fn operand(&self, x: Operand) -> Result<u64, End>
-        ensures { result ≡ operand (seen_by self.now) x }
-    {
-        match x {
-            Operand::Reg(r) => self.number(r),
-            Operand::Number(n) => Ok(n),
-        }
-    }
-
-    /// The number of the next instruction.
-    pub fn next(&self) -> u64
-        ensures exact { result ≡ next_of (seen_by self.now) }
-        ensures number { result < NUMBERS }
-    {
-        (self.counter % NUMBERS + 1) % NUMBERS
-    }
-
-    /// 1 where two registers hold equal numbers or lead to one record, else 0.
-    fn are_same(&self, a: u8, b: u8) -> Value
-        ensures exact { result ≡ Number (one_if (are_same (register (seen_by self.now) a) (register (seen_by self.now) b))) }
-        ensures fits { FitsValue result }
-    {
-        let same = self.value(a) == self.value(b);
-        Value::Number(u64::from(same))
-    }
-
-    /// 1 where a register holds a pointer, else 0.
-    fn is_reference(&self, a: u8) -> Value
-        ensures exact { result ≡ Number (one_if (is_reference (register (seen_by self.now) a))) }
-        ensures fits { FitsValue result }
-    {
-        let reference = self.reference(a).is_ok();
-        Value::Number(u64::from(reference))
-    }
-
-    /// The target where a register holds the number 0, else the number of the next instruction.
-    fn target_if_zero(&self, a: u8, target: u32) -> u64
-        ensures { result ≡ (if is_zero (register (seen_by self.now) a) then target else next_of (seen_by self.now)) }
-    {
-        match self.value(a) {
-            Value::Number(0) => u64::from(target),
-            Value::Number(_) | Value::Reference(_) => self.next(),
-        }
-    }
-
-    /// `add`, `sub`, `mul`, `div`, `rem` and `lt`, each `rd ra rb`
-    #[inline(always)]
-    fn compute(&self, operation: Operation, d: u8, a: u8, b: u8) -> Result<Action, End>
-        ensures exact { result ≡ computes operation (seen_by self.now) d a b }
-        ensures fits { IfOk result (FitsAction (length self.now.account.printed)) }
-    {
-        let a = self.number(a)?;
-        let b = self.number(b)?;
-        let number = operation.apply(a, b)?;
-        Ok(Action::Sets(d, Value::Number(number)))
-    }
-
-    /// `out ra`: a number is printed by a mutator that has not printed the most.
+    /// Executes an instruction as far as the registers go.
     #[tactic(auto, unfolding(plain_heap::specs::Action::action))]
     #[inline(always)]
-    fn print_number(&self, a: u8) -> Result<Action, End>
-        ensures exact { result ≡ action (seen_by self.now) (Instr.Out a) }
-        ensures fits { IfOk result (FitsAction (length self.now.account.printed)) }
-    {
-        let number = self.number(a)?;
-        if self.printed.len() < MOST_PRINTED {
-            Ok(Action::Prints(number))
-        } else {
-            Err(End::OutputFull)
-        }
-    }
-
-    /// The word of the board that an operand names.
-    fn board_place(&self, x: Operand) -> Result<u64, End>
-        ensures exact { result ≡ board_place (seen_by self.now) x }
-        ensures fits { IfOk result (λ x. x < BOARD_WORDS) }
-    {
-        let x = self.operand(x)?;
-        if x < BOARD_WORDS as u64 {
-            Ok(x)
-        } else {
-            Err(End::OutOfRange)
-        }
-    }
-
-    /// `new rd x` and `raw rd x`
-    fn allocate(&self, kind: Kind, d: u8, x: Operand) -> Result<Action, End>
-        ensures exact { result ≡ allocates (seen_by self.now) kind d x }
-        ensures fits { IfOk result (FitsAction (length self.now.account.printed)) }
-    {
-        let number = self.operand(x)?;
-        if number > LONGEST_RECORD {
-            return Err(End::OutOfRange);
-        }
-        Ok(Action::Makes(kind, d, number as u16))
-    }
-
-    /// `jr ra`
-    #[tactic(auto, unfolding(plain_heap::specs::Action::action))]
-    #[inline(always)]
-    fn jump_to(&self, a: u8) -> Result<Action, End>
-        ensures exact { result ≡ action (seen_by self.now) (Instr.Jr a) }
-        ensures fits { IfOk result (FitsAction (length self.now.account.printed)) }
-    {
-        Ok(Action::Jumps(self.number(a)?))
-    }
-
-    /// `ld rd ra x`
-    #[tactic(auto, unfolding(plain_heap::specs::Action::action))]
-    #[inline(always)]
-    fn load_from(&self, d: u8, a: u8, x: Operand) -> Result<Action, End>
-        ensures exact { result ≡ action (seen_by self.now) (Instr.Ld d a x) }
-        ensures fits { IfOk result (FitsAction (length self.now.account.printed)) }
-    {
-        Ok(Action::Loads(d, self.reference(a)?, self.operand(x)?))
-    }
-
-    /// `st ra x rb`
-    #[tactic(auto, unfolding(plain_heap::specs::Action::action))]
-    #[inline(always)]
-    fn store_to(&self, a: u8, x: Operand, b: u8) -> Result<Action, End>
-        ensures exact { result ≡ action (seen_by self.now) (Instr.St a x b) }
-        ensures fits { IfOk result (FitsAction (length self.now.account.printed)) }
-    {
-        Ok(Action::Stores(self.reference(a)?, self.operand(x)?, self.value(b)))
-    }
-
-    /// `len rd ra`
-    #[tactic(auto, unfolding(plain_heap::specs::Action::action))]
-    #[inline(always)]
-    fn measure(&self, d: u8, a: u8) -> Result<Action, End>
-        ensures exact { result ≡ action (seen_by self.now) (Instr.Len d a) }
-        ensures fits { IfOk result (FitsAction (length self.now.account.printed)) }
-    {
-        Ok(Action::Measures(d, self.reference(a)?))
-    }
-
-    /// `get rd x`
-    #[tactic(auto, unfolding(plain_heap::specs::Action::action))]
-    #[inline(always)]
-    fn get_from_board(&self, d: u8, x: Operand) -> Result<Action, End>
-        ensures exact { result ≡ action (seen_by self.now) (Instr.Get d x) }
-        ensures fits { IfOk result (FitsAction (length self.now.account.printed)) }
-    {
-        Ok(Action::Gets(d, self.board_place(x)?))
-    }
-
-    /// `put x ra`
-    #[tactic(auto, unfolding(plain_heap::specs::Action::action))]
-    #[inline(always)]
-    fn put_on_board(&self, x: Operand, a: u8) -> Result<Action, End>
-        ensures exact { result ≡ action (seen_by self.now) (Instr.Put x a) }
-        ensures fits { IfOk result (FitsAction (length self.now.account.printed)) }
-    {
-        Ok(Action::Puts(self.board_place(x)?, self.value(a)))
-    }
-
-    /// `swap rd x`
-    #[tactic(auto, unfolding(plain_heap::specs::Action::action))]
-    #[inline(always)]
-    fn swap_with_board(&self, d: u8, x: Operand) -> Result<Action, End>
-        ensures exact { result ≡ action (seen_by self.now) (Instr.Swap d x) }
-        ensures fits { IfOk result (FitsAction (length self.now.account.printed)) }
-    {
-        Ok(Action::Swaps(d, self.board_place(x)?, self.value(d)))
-    }
-
-    /// What an instruction does, as far as the registers tell.
-    #[tactic(auto, unfolding(plain_heap::specs::Action::action))]
-    #[inline(always)]
-    pub fn action(&self, instr: Instr) -> Result<Action, End>
-        ensures exact { result ≡ action (seen_by self.now) instr }
-        ensures fits { IsTrue (is_valid instr) → IfOk result (FitsAction (length self.now.account.printed)) }
+    pub fn execute(&mut self, instr: Instr) -> Stepped
+        requires at { self.old.stage ≡ Stage.Looks }
+        requires is_mutator { nat_lt self.old.number self.old.mutators ≡ true }
+        requires valid { IsTrue (is_valid instr) }
+        requires after { FitsStage (acted self.old (action (seen_by self.old) instr)) (acted self.old (action (seen_by self.old) instr)).stage }
+        ensures state { self.new ≡ uncounted (acted self.old (action (seen_by self.old) instr)) }
+        ensures tells { (task : Task) → result ≡ stepped_by self.old.number (told_acted task (action (seen_by self.old) instr)) }
     {
         match instr {
-            Instr::Li(d, number) => Ok(Action::Sets(d, Value::Number(number))),
-            Instr::Mov(d, a) => Ok(Action::Sets(d, self.value(a))),
+            Instr::Li(d, number) => self.load(d, Word::number(number).0),
+            Instr::Mov(d, a) => self.load(d, word_of(self.value(a))),
             Instr::Add(d, a, b) => self.compute(Operation::Add, d, a, b),
             Instr::Sub(d, a, b) => self.compute(Operation::Sub, d, a, b),
             Instr::Mul(d, a, b) => self.compute(Operation::Mul, d, a, b),
             Instr::Div(d, a, b) => self.compute(Operation::Div, d, a, b),
             Instr::Rem(d, a, b) => self.compute(Operation::Rem, d, a, b),
             Instr::Lt(d, a, b) => self.compute(Operation::Lt, d, a, b),
-            Instr::Eq(d, a, b) => Ok(Action::Sets(d, self.are_same(a, b))),
-            Instr::Jmp(target) => Ok(Action::Jumps(u64::from(target))),
-            Instr::Jz(a, target) => Ok(Action::Jumps(self.target_if_zero(a, target))),
-            Instr::Jal(d, target) => Ok(Action::Links(d, u64::from(target))),
+            Instr::Eq(d, a, b) => self.load(d, Word::number(self.are_same(a, b)).0),
+            Instr::Jmp(target) => self.jump(u64::from(target)),
+            Instr::Jz(a, target) => self.jump(self.target_if_zero(a, target)),
+            Instr::Jal(d, target) => self.link(d, u64::from(target)),
             Instr::Jr(a) => self.jump_to(a),
-            Instr::New(d, x) => self.allocate(Kind::Fields, d, x),
-            Instr::Raw(d, x) => self.allocate(Kind::Raw, d, x),
+            Instr::New(_, x) => self.allocate(x),
+            Instr::Raw(_, x) => self.allocate(x),
             Instr::Ld(d, a, x) => self.load_from(d, a, x),
             Instr::St(a, x, b) => self.store_to(a, x, b),
             Instr::Len(d, a) => self.measure(d, a),
-            Instr::Isp(d, a) => Ok(Action::Sets(d, self.is_reference(a))),
+            Instr::Isp(d, a) => self.load(d, Word::number(self.is_reference(a)).0),
             Instr::Get(d, x) => self.get_from_board(d, x),
             Instr::Put(x, a) => self.put_on_board(x, a),
             Instr::Swap(d, x) => self.swap_with_board(d, x),
             Instr::Out(a) => self.print_number(a),
-            Instr::Halt => Err(End::Halt),
+            Instr::Halt => self.end_with(End::Halt),
         }
     }
+
+    /// `add`, `sub`, `mul`, `div`, `rem` and `lt`, each `rd ra rb`
+    #[inline(always)]
+    fn compute(&mut self, operation: Operation, d: u8, a: u8, b: u8) -> Stepped
+        requires at { self.old.stage ≡ Stage.Looks }
+        ensures state { self.new ≡ uncounted (acted self.old (computes operation (seen_by self.old) d a b)) }
+        ensures tells { (task : Task) → result ≡ stepped_by self.old.number (told_acted task (computes operation (seen_by self.old) d a b)) }
+    {
+        let number = match (self.number(a), self.number(b)) {
+            (Ok(a), Ok(b)) => operation.apply(a, b),
+            (Err(why), _) | (_, Err(why)) => Err(why),
+        };
+        match number {
+            Ok(number) => self.load(d, Word::number(number).0),
+            Err(why) => self.end_with(why),
+        }
+    }
+
+    /// `jr ra`
+    #[tactic(auto, unfolding(plain_heap::specs::Action::action))]
+    #[inline(always)]
+    fn jump_to(&mut self, a: u8) -> Stepped
+        requires at { self.old.stage ≡ Stage.Looks }
+        ensures state { self.new ≡ uncounted (acted self.old (action (seen_by self.old) (Instr.Jr a))) }
+        ensures tells { (task : Task) → result ≡ stepped_by self.old.number (told_acted task (action (seen_by self.old) (Instr.Jr a))) }
+    {
+        match self.number(a) {
+            Ok(target) => self.jump(target),
+            Err(why) => self.end_with(why),
+        }
+    }
+
+    /// `out ra`: a number is printed by a mutator that has not printed the most.
+    #[tactic(auto, unfolding(plain_heap::specs::Action::action))]
+    #[inline(always)]
+    fn print_number(&mut self, a: u8) -> Stepped
+        requires at { self.old.stage ≡ Stage.Looks }
+        requires is_mutator { nat_lt self.old.number self.old.mutators ≡ true }
+        ensures state { self.new ≡ uncounted (acted self.old (action (seen_by self.old) (Instr.Out a))) }
+        ensures tells { (task : Task) → result ≡ stepped_by self.old.number (told_acted task (action (seen_by self.old) (Instr.Out a))) }
+    {
+        match self.number(a) {
+            Ok(number) if self.printed.len() < MOST_PRINTED => self.print(number),
+            Ok(_) => self.end_with(End::OutputFull),
+            Err(why) => self.end_with(why),
+        }
+    }
+
+    /// `new rd x` and `raw rd x`
+    #[inline(always)]
+    fn allocate(&mut self, x: Operand) -> Stepped
+        requires at { self.old.stage ≡ Stage.Looks }
+        requires after { (kind : Kind) × (d : ℕ) × FitsStage (acted self.old (allocates (seen_by self.old) kind d x)) (acted self.old (allocates (seen_by self.old) kind d x)).stage }
+        ensures state { (kind : Kind) (d : ℕ) → self.new ≡ uncounted (acted self.old (allocates (seen_by self.old) kind d x)) }
+        ensures tells { (task : Task) (kind : Kind) (d : ℕ) → result ≡ stepped_by self.old.number (told_acted task (allocates (seen_by self.old) kind d x)) }
+    {
+        match self.length(x) {
+            Ok(_) => self.begin_placing(),
+            Err(why) => self.end_with(why),
+        }
+    }
+
+    /// `ld rd ra x`
+    #[tactic(auto, unfolding(plain_heap::specs::Action::action))]
+    #[inline(always)]
+    fn load_from(&mut self, d: u8, a: u8, x: Operand) -> Stepped
+        ensures state { self.new ≡ uncounted (acted self.old (action (seen_by self.old) (Instr.Ld d a x))) }
+        ensures tells { (task : Task) → result ≡ stepped_by self.old.number (told_acted task (action (seen_by self.old) (Instr.Ld d a x))) }
+    {
+        match (self.reference(a), self.operand(x)) {
+            (Ok(record), Ok(x)) => self.begin_access(to_record(record, x, RecordUse::Loads(d))),
+            (Err(why), _) | (_, Err(why)) => self.end_with(why),
+        }
+    }
+
+    /// `st ra x rb`
+    #[tactic(auto, unfolding(plain_heap::specs::Action::action))]
+    #[inline(always)]
+    fn store_to(&mut self, a: u8, x: Operand, b: u8) -> Stepped
+        ensures state { self.new ≡ uncounted (acted self.old (action (seen_by self.old) (Instr.St a x b))) }
+        ensures tells { (task : Task) → result ≡ stepped_by self.old.number (told_acted task (action (seen_by self.old) (Instr.St a x b))) }
+    {
+        let new = RecordUse::Stores(word_of(self.value(b)));
+        match (self.reference(a), self.operand(x)) {
+            (Ok(record), Ok(x)) => self.begin_access(to_record(record, x, new)),
+            (Err(why), _) | (_, Err(why)) => self.end_with(why),
+        }
+    }
+
+    /// `len rd ra`
+    #[tactic(auto, unfolding(plain_heap::specs::Action::action))]
+    #[inline(always)]
+    fn measure(&mut self, d: u8, a: u8) -> Stepped
+        ensures state { self.new ≡ uncounted (acted self.old (action (seen_by self.old) (Instr.Len d a))) }
+        ensures tells { (task : Task) → result ≡ stepped_by self.old.number (told_acted task (action (seen_by self.old) (Instr.Len d a))) }
+    {
+        match self.reference(a) {
+            Ok(record) => self.begin_access(to_record(record, 0, RecordUse::TellsLength(d))),
+            Err(why) => self.end_with(why),
+        }
+    }
+
+    /// `get rd x`
+    #[tactic(auto, unfolding(plain_heap::specs::Action::action))]
+    #[inline(always)]
+    fn get_from_board(&mut self, d: u8, x: Operand) -> Stepped
+        ensures state { self.new ≡ uncounted (acted self.old (action (seen_by self.old) (Instr.Get d x))) }
+        ensures tells { (task : Task) → result ≡ stepped_by self.old.number (told_acted task (action (seen_by self.old) (Instr.Get d x))) }
+    {
+        match self.board_place(x) {
+            Ok(word) => self.begin_access(to_board(word, BoardUse::Loads(d))),
+            Err(why) => self.end_with(why),
+        }
+    }
+
+    /// `put x ra`
+    #[tactic(auto, unfolding(plain_heap::specs::Action::action))]
+    #[inline(always)]
+    fn put_on_board(&mut self, x: Operand, a: u8) -> Stepped
+        ensures state { self.new ≡ uncounted (acted self.old (action (seen_by self.old) (Instr.Put x a))) }
+        ensures tells { (task : Task) → result ≡ stepped_by self.old.number (told_acted task (action (seen_by self.old) (Instr.Put x a))) }
+    {
+        let new = BoardUse::Stores(word_of(self.value(a)));
+        match self.board_place(x) {
+            Ok(word) => self.begin_access(to_board(word, new)),
+            Err(why) => self.end_with(why),
+        }
+    }
+
+    /// `swap rd x`
+    #[tactic(auto, unfolding(plain_heap::specs::Action::action))]
+    #[inline(always)]
+    fn swap_with_board(&mut self, d: u8, x: Operand) -> Stepped
+        ensures state { self.new ≡ uncounted (acted self.old (action (seen_by self.old) (Instr.Swap d x))) }
+        ensures tells { (task : Task) → result ≡ stepped_by self.old.number (told_acted task (action (seen_by self.old) (Instr.Swap d x))) }
+    {
+        let swap = BoardUse::Swaps(d, word_of(self.value(d)));
+        match self.board_place(x) {
+            Ok(word) => self.begin_access(to_board(word, swap)),
+            Err(why) => self.end_with(why),
+        }
+    }
+}
+
+/// The access to a record at an address that is seen.
+fn to_record(identity: Identity, value: u64, usage: RecordUse) -> AccessStage
+    requires { identity.serial < 2 ^ 32 }
+    ensures { result ≡ AccessStage.LooksAtRecord (record { at = identity.serial; value = value; usage = usage }) }
+{
+    AccessStage::LooksAtRecord(RecordAccess {
+        at: identity.serial as u32,
+        value,
+        usage,
+    })
+}
+
+/// The access to a word of the board.
+fn to_board(word: u64, usage: BoardUse) -> AccessStage
+    requires { word < BOARD_WORDS }
+    ensures { result ≡ AccessStage.LooksAtBoard (record { word = word; usage = usage }) }
+{
+    AccessStage::LooksAtBoard(BoardAccess {
+        word: word as u32,
+        usage,
+    })
 }

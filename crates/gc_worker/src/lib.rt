@@ -26,6 +26,8 @@ mod open_error;
 mod passing;
 mod readers;
 mod record_access;
+mod record_asked;
+mod registers;
 mod seen_value;
 mod serving;
 mod stage;

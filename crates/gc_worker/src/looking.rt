@@ -1,13 +1,10 @@
 //! The look at the gate that begins an instruction.
 
-ghost use Rattle.std.specs.Prelude.{◌≡◌, IsTrue, Some, true, nat_lt};
+ghost use Rattle.std.specs.Prelude.{◌≡◌, true, nat_lt};
 ghost use Rattle.space_map.specs.GateWord.{decode_gate};
-ghost use Rattle.mutator_asm.specs.Program.{is_valid};
-ghost use Rattle.gc_worker.specs.declared.task.Task.TheVariants.{Calls};
 ghost use Rattle.gc_worker.specs.Fits.{FitsStage, MayBegin};
-ghost use Rattle.gc_worker.specs.Stepped.{IsSound, seen_by, stepped_by, uncounted};
-ghost use Rattle.gc_worker.specs.Turned.{acted, looked_by, started, told, told_acted, told_gate, told_start, turned};
-ghost use Rattle.plain_heap.specs.Action.{action};
+ghost use Rattle.gc_worker.specs.Stepped.{IsSound, stepped_by, uncounted};
+ghost use Rattle.gc_worker.specs.Turned.{looked_by, started, told, told_gate, told_start, turned};
 
 use crate::after::After;
 use crate::due::Due;
@@ -16,7 +13,6 @@ use crate::state::State;
 use crate::stepped::Stepped;
 use atom_store::Reply;
 use gate_core::Gate;
-use mutator_asm::Instr;
 use space_map::GateWord;
 
 impl State {
@@ -76,22 +72,6 @@ impl State {
                 self.begun = self.epoch;
                 self.end_with(stop)
             }
-        }
-    }
-
-    #[tactic(auto, using(crate::proofs::Reading::action_is_of_task))]
-    fn execute(&mut self, instr: Instr) -> Stepped
-        requires at { self.old.stage ≡ Stage.Looks }
-        requires is_mutator { nat_lt self.old.number self.old.mutators ≡ true }
-        requires valid { IsTrue (is_valid instr) }
-        requires task { self.old.task ≡ Some (Calls instr) }
-        requires after { FitsStage (acted self.old (action (seen_by self.old) instr)) (acted self.old (action (seen_by self.old) instr)).stage }
-        ensures state { self.new ≡ uncounted (acted self.old (action (seen_by self.old) instr)) }
-        ensures tells { result ≡ stepped_by self.old.number (told_acted (Calls instr) (action (seen_by self.old) instr)) }
-    {
-        match self.action(instr) {
-            Ok(action) => self.act(action),
-            Err(why) => self.end_with(why),
         }
     }
 }

@@ -1,4 +1,5 @@
-//! A worker's next step, made on the words that all share: one function for each thing that it may be about to do.
+//! A worker's next step, made on the words that all share: one function for each thing that it may be about to do. Looks, rounds,
+//! scans and copies are put into the loop that steps the workers; with all others it would grow too large for that.
 
 ghost use Rattle.std.specs.Prelude.{◌≡◌};
 ghost use Rattle.gc_worker.specs.Made.{MayMake, made};
@@ -52,7 +53,7 @@ impl State {
         }
     }
 
-    #[inline(never)]
+    #[inline(always)]
     fn look_on(&mut self, on: &mut PlainAtoms) -> Stepped
         requires at { self.old.stage ≡ Stage.Looks }
         requires sound { IsSound self.old }
@@ -143,7 +144,7 @@ impl State {
         self.place(reply)
     }
 
-    #[inline(never)]
+    #[inline(always)]
     fn serve_on(&mut self, on: &mut PlainAtoms)
         requires at { IsServing self.old.stage }
         requires sound { IsSound self.old }
@@ -158,7 +159,7 @@ impl State {
         self.serve(reply);
     }
 
-    #[inline(never)]
+    #[inline(always)]
     fn scan_on(&mut self, on: &mut PlainAtoms)
         requires at { IsScanning self.old.stage }
         requires sound { IsSound self.old }
@@ -173,7 +174,7 @@ impl State {
         self.scan(reply);
     }
 
-    #[inline(never)]
+    #[inline(always)]
     fn evacuate_on(&mut self, on: &mut PlainAtoms)
         requires at { IsEvacuating self.old.stage }
         requires sound { IsSound self.old }

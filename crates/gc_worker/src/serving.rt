@@ -42,8 +42,9 @@ impl State {
         }
     }
 
-    /// What an access comes to. It stands apart, since a function clears the room of each stage that it may begin whenever it
-    /// is called.
+    /// What an access comes to. It stands apart, since the room of each stage that it may begin is cleared at its beginning,
+    /// also where it is inlined.
+    #[inline(always)]
     fn has_accessed(&mut self, access: Access, accessed: Accessed) -> Stepped
         requires calls { (stage : AccessStage) × IsAccessing self.old.account self.old.registers self.old.task stage }
         requires fits { FitsStage (accessed_by self.old access accessed) (accessed_by self.old access accessed).stage }
