@@ -6,15 +6,18 @@
 
 mod actor;
 
-ghost use Rattle.std.specs.Prelude.{◌≡◌};
+ghost use Rattle.std.specs.Prelude.{◌≡◌, ◌<◌, None, IfOk, OnOk, vec_len};
+ghost use Rattle.ael_threads.specs.Histories.{Each};
+ghost use Rattle.ael_threads.specs.Seats.{Seated, new_callers};
 
 use crate::actor::{Actor, Stop};
-use ael_threads::{Mutator, Reg, Shared};
+use ael_threads::{Mutator, Reg, Seats, Shared};
 use gc_worker::Config;
 use mutator_asm::Instr::{Add, Get, Ld, Li, Mov, Mul, New, Out, Put, St, Swap};
 use mutator_asm::Operand;
+use std::io::Error;
 use std::sync::Wait;
-use std::thread::{join, yield_now};
+use std::thread::{Threads, join, yield_now};
 
 /// How many lists are sent, and how many numbers each has.
 const LISTS: u64 = 40;
@@ -123,6 +126,56 @@ fn receives<R: Wait>(rt: &R, mut actor: Actor<'_>) -> (Mutator, Result<(), Stop>
     (actor.leave(rt), received)
 }
 
+/// Sends and receives, each on a thread of its own, until both are done.
+fn exchange<R: Threads + Wait + Sync>(
+    rt: &R,
+    heap: &Shared,
+    sender: Mutator,
+    receiver: Mutator,
+) -> Result<(Mutator, Mutator), Stop>
+    requires of_heap { (sender.table ≡ heap.now.table.shared.table_id) × (receiver.table ≡ heap.now.table.shared.table_id) }
+    requires rest { (sender.worker.task ≡ None) × (receiver.worker.task ≡ None) }
+    ensures { IfOk result (λ both. (both.0.table ≡ heap.now.table.shared.table_id) × (both.1.table ≡ heap.now.table.shared.table_id)) }
+{
+    let ((sender, sent), (receiver, received)) = join(
+        rt,
+        || sends(rt, Actor::new(heap, sender)),
+        || receives(rt, Actor::new(heap, receiver)),
+    );
+    sent?;
+    received?;
+    Ok((sender, receiver))
+}
+
+/// Prints the checksum, how many records there were, and whether any were moved.
+fn tell<R: Print>(rt: &R, sender: &Mutator, receiver: &Mutator) -> Result<(), Error> {
+    if let [sum] = receiver.outputs() {
+        println!(rt; "checksum {sum}")?;
+    }
+    let moved = sender.epoch() > 0;
+    println!(rt; "records {}, moved {moved}", sender.serial())
+}
+
+/// Gives the first seat to the sender and the second to the receiver, and takes both back.
+fn run<R: Threads + Wait + Sync + Print>(
+    rt: &R,
+    heap: &Shared,
+    seats: &mut Seats,
+) -> Result<(), anyhow::Error>
+    requires new { seats.old.mutators.items ≡ new_callers heap.now.table.shared.table_id heap.now.table.shared.key 0 2 }
+    ensures of_heap { OnOk result ((0 < vec_len seats.new.mutators) × Each (λ (m : Seated). m.table ≡ heap.now.table.shared.table_id) seats.new.mutators.items) }
+    ensures same { seats.new.scanners ≡ seats.old.scanners }
+{
+    let (Some(receiver), Some(sender)) = (seats.mutators.pop(), seats.mutators.pop()) else {
+        unreachable!()
+    };
+    let (sender, receiver) = exchange(rt, heap, sender, receiver)?;
+    tell(rt, &sender, &receiver)?;
+    seats.mutators.push(sender)?;
+    seats.mutators.push(receiver)?;
+    Ok(())
+}
+
 fn main(rt: HostRuntime) -> Result<(), anyhow::Error> {
     let config = Config {
         pages: 4,
@@ -130,23 +183,7 @@ fn main(rt: HostRuntime) -> Result<(), anyhow::Error> {
         turns: 1,
     };
     let (heap, mut seats) = Shared::open(rt.alloc(), 2, &config)?;
-    let (Some(receiver), Some(sender)) = (seats.mutators.pop(), seats.mutators.pop()) else {
-        unreachable!()
-    };
-    let ((sender, sent), (receiver, received)) = join(
-        &rt,
-        || sends(&rt, Actor::new(&heap, sender)),
-        || receives(&rt, Actor::new(&heap, receiver)),
-    );
-    sent?;
-    received?;
-    if let [sum] = receiver.outputs() {
-        println!(rt; "checksum {sum}")?;
-    }
-    let moved = sender.epoch() > 0;
-    println!(rt; "records {}, moved {moved}", sender.serial())?;
-    seats.mutators.push(sender)?;
-    seats.mutators.push(receiver)?;
+    run(&rt, &heap, &mut seats)?;
     let _words = heap.close(seats);
     Ok(())
 }
