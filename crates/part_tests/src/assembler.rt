@@ -17,12 +17,12 @@ fn fault_of(alloc: Global, text: &str) -> (u8, u32) {
 }
 
 /// The program of a text that has one.
-fn program_of(rt: &HostRuntime, text: &str) -> Result<Program, Fail> {
+fn program_of(alloc: Global, text: &str) -> Result<Program, Fail> {
     if text.len() >= 1 << 31 {
         return Err("it is too long".into());
     }
     Ok(
-        assemble(rt.alloc(), text.as_bytes())
+        assemble(alloc, text.as_bytes())
             .ok()
             .ok_or("it has an error")?,
     )
@@ -58,7 +58,7 @@ fn a_text_gives_its_instructions(rt: HostRuntime) -> Result<(), Fail> {
         Instr::Out(2),
         Instr::Halt,
     ];
-    let program = program_of(&rt, all)?;
+    let program = program_of(rt.alloc(), all)?;
     assert_same(
         &rt,
         &program.code.sections()[0].as_slice(),
@@ -68,38 +68,46 @@ fn a_text_gives_its_instructions(rt: HostRuntime) -> Result<(), Fail> {
     Ok(())
 }
 
+/// Texts, each with the instructions of its one section.
+const SECTIONS: [(&str, &[Instr]); 7] = [
+    (".mutator", &[]),
+    (".mutator\r\n\tli r0 0007\r\n", &[Instr::Li(0, 7)]),
+    (
+        "\n .mutator ; first\nli r7 4611686018427387903",
+        &[Instr::Li(7, (1 << 62) - 1)],
+    ),
+    (".mutator\nl: jmp l ; x", &[Instr::Jmp(0)]),
+    (
+        ".mutator\njmp l\n\n; l: no\nl:\n\nhalt\n",
+        &[Instr::Jmp(1), Instr::Halt],
+    ),
+    (
+        ".mutator\njmp end\nhalt;x\nend:",
+        &[Instr::Jmp(2), Instr::Halt],
+    ),
+    (
+        ".mutator\nr1: jz r1 r1\nhalt: jal r0 halt\n_9a: jmp _9a",
+        &[Instr::Jz(1, 0), Instr::Jal(0, 1), Instr::Jmp(2)],
+    ),
+];
+
+/// The text has one section, of these instructions, and no schedule.
+fn check_section(rt: &impl Abort, alloc: Global, text: &str, wanted: &[Instr]) -> Result<(), Fail> {
+    let program = program_of(alloc, text)?;
+    assert_same(rt, &(text, program.code.len()), &(text, 1));
+    assert_same(
+        rt,
+        &(text, program.code.sections()[0].as_slice()),
+        &(text, wanted),
+    );
+    assert_same(rt, &(text, program.schedule.is_empty()), &(text, true));
+    Ok(())
+}
+
 #[test]
 fn a_label_is_the_number_of_the_next_instruction(rt: HostRuntime) -> Result<(), Fail> {
-    let rows: [(&str, &[Instr]); 7] = [
-        (".mutator", &[]),
-        (".mutator\r\n\tli r0 0007\r\n", &[Instr::Li(0, 7)]),
-        (
-            "\n .mutator ; first\nli r7 4611686018427387903",
-            &[Instr::Li(7, (1 << 62) - 1)],
-        ),
-        (".mutator\nl: jmp l ; x", &[Instr::Jmp(0)]),
-        (
-            ".mutator\njmp l\n\n; l: no\nl:\n\nhalt\n",
-            &[Instr::Jmp(1), Instr::Halt],
-        ),
-        (
-            ".mutator\njmp end\nhalt;x\nend:",
-            &[Instr::Jmp(2), Instr::Halt],
-        ),
-        (
-            ".mutator\nr1: jz r1 r1\nhalt: jal r0 halt\n_9a: jmp _9a",
-            &[Instr::Jz(1, 0), Instr::Jal(0, 1), Instr::Jmp(2)],
-        ),
-    ];
-    for (text, wanted) in rows {
-        let program = program_of(&rt, text)?;
-        assert_same(&rt, &(text, program.code.len()), &(text, 1));
-        assert_same(
-            &rt,
-            &(text, program.code.sections()[0].as_slice()),
-            &(text, wanted),
-        );
-        assert_same(&rt, &(text, program.schedule.is_empty()), &(text, true));
+    for (text, wanted) in SECTIONS {
+        check_section(&rt, rt.alloc(), text, wanted)?;
     }
     Ok(())
 }
@@ -113,7 +121,7 @@ fn item(worker: u8, times: u32) -> Item {
 fn sections_have_labels_of_their_own(rt: HostRuntime) -> Result<(), Fail> {
     let text =
         ".schedule 1 023*001000000\n.mutator\nl: jmp l\n.schedule 0*2\n.mutator\nhalt\nl: jmp l\n.schedule 5";
-    let program = program_of(&rt, text)?;
+    let program = program_of(rt.alloc(), text)?;
     assert_same(&rt, &program.code.len(), &2);
     assert_same(&rt, &program.code.instr(0, 0), &Some(Instr::Jmp(0)));
     assert_same(&rt, &program.code.instr(1, 1), &Some(Instr::Jmp(1)));
@@ -178,14 +186,25 @@ const FIRST_FAULTS: &str = "\
 8 1|.schedule 24/foo
 9 2|.mutator/li r0 4611686018427387904/foo";
 
+/// The number and the line of a row's error, and the lines of its text.
+fn fault_row(row: &str) -> Result<((u8, u32), &str), Fail> {
+    let (place, lines) = row.split_once('|').ok_or("there is no bar")?;
+    let (number, line) = place.split_once(' ').ok_or("there is no line")?;
+    Ok(((number.parse::<u8>()?, line.parse::<u32>()?), lines))
+}
+
+/// The text of a row has its error.
+fn check_fault(rt: &impl Abort, alloc: Global, row: &str) -> Result<(), Fail> {
+    let (wanted, lines) = fault_row(row)?;
+    let text = lines.replace(alloc, '/', "\n")?;
+    assert_same(rt, &(row, fault_of(alloc, &text)), &(row, wanted));
+    Ok(())
+}
+
 /// The text of each row of a table has its error.
 fn check_faults(rt: &impl Abort, alloc: Global, table: &str) -> Result<(), Fail> {
     for row in table.split('\n') {
-        let (place, lines) = row.split_once('|').ok_or("there is no bar")?;
-        let (number, line) = place.split_once(' ').ok_or("there is no line")?;
-        let wanted = (number.parse::<u8>()?, line.parse::<u32>()?);
-        let text = lines.replace(alloc, '/', "\n")?;
-        assert_same(rt, &(row, fault_of(alloc, &text)), &(row, wanted));
+        check_fault(rt, alloc, row)?;
     }
     Ok(())
 }
@@ -218,36 +237,53 @@ const PREFIXES: [(&str, &str); 14] = [
     ("halt\n", "11100"),
 ];
 
+/// The number that a digit stands for, and the line, or 0 and 0 where it is no error's.
+fn prefix_fault(digit: char, line: u32) -> (u8, u32) {
+    match digit.to_digit(10) {
+        Some(number) if number > 0 => (number as u8, line),
+        _ => (0, 0),
+    }
+}
+
+/// A line is added to the text byte by byte: up to each it has the error of the byte's digit.
+fn check_line(
+    rt: &impl Abort,
+    alloc: Global,
+    text: &mut String,
+    line: u32,
+    bytes: &str,
+    digits: &str,
+) -> Result<(), Fail> {
+    for (byte, digit) in bytes.chars().zip(digits.chars()) {
+        text.push(byte)?;
+        assert_same(
+            rt,
+            &(text.as_str(), fault_of(alloc, text.as_str())),
+            &(text.as_str(), prefix_fault(digit, line)),
+        );
+    }
+    Ok(())
+}
+
 #[test]
 fn each_prefix_is_a_program_or_has_an_error(rt: HostRuntime) -> Result<(), Fail> {
     let mut text = String::new(rt.alloc());
     assert_same(&rt, &fault_of(rt.alloc(), &text), &(5, 1));
     for (i, (line, numbers)) in PREFIXES.iter().enumerate() {
-        for (byte, digit) in line.chars().zip(numbers.chars()) {
-            text.push(byte)?;
-            let wanted = match digit.to_digit(10) {
-                Some(number) if number > 0 => (number as u8, i as u32 + 1),
-                _ => (0, 0),
-            };
-            assert_same(
-                &rt,
-                &(text.as_str(), fault_of(rt.alloc(), &text)),
-                &(text.as_str(), wanted),
-            );
-        }
+        check_line(&rt, rt.alloc(), &mut text, i as u32 + 1, line, numbers)?;
     }
     Ok(())
 }
 
 /// A text of a first line, a line that is repeated, and a last one.
 fn repeated(
-    rt: &HostRuntime,
+    alloc: Global,
     first: &str,
     line: &str,
     times: u32,
     last: &str,
 ) -> Result<String, Fail> {
-    let mut text = String::new(rt.alloc());
+    let mut text = String::new(alloc);
     text.push_str(first)?;
     for _ in 0..times {
         text.push_str(line)?;
@@ -256,40 +292,50 @@ fn repeated(
     Ok(text)
 }
 
+/// A first line, a line that is repeated so many times, a last one, and the number and the line of the text's error.
+const LIMITS: [(&str, &str, u32, &str, (u8, u32)); 11] = [
+    ("", ".mutator\n", 16, "", (0, 0)),
+    ("", ".mutator\n", 16, ".mutator", (6, 17)),
+    ("", ".mutator\n", 17, "foo", (6, 17)),
+    ("", ".mutator\n", 16, ".mutator x", (2, 17)),
+    (".mutator\n", "halt\n", 65536, "", (0, 0)),
+    (".mutator\n", "halt\n", 65537, "", (7, 65538)),
+    (".mutator\n", "halt\n", 65537, "foo", (7, 65538)),
+    (".mutator\n", "halt\n", 65536, ".mutator\nhalt", (7, 65539)),
+    (
+        ".mutator\n",
+        "halt\n",
+        65536,
+        "li r0 4611686018427387904",
+        (7, 65538),
+    ),
+    (".mutator\n.schedule", " 0", 65536, "", (0, 0)),
+    (
+        ".schedule",
+        " 0",
+        65535,
+        "\n.mutator\n.schedule 1 2",
+        (8, 3),
+    ),
+];
+
+/// The number and the line of such a text's error.
+fn repeated_fault(
+    alloc: Global,
+    first: &str,
+    line: &str,
+    times: u32,
+    last: &str,
+) -> Result<(u8, u32), Fail> {
+    let text = repeated(alloc, first, line, times, last)?;
+    Ok(fault_of(alloc, &text))
+}
+
 #[test]
 fn limits_are_those_of_the_whole_text(rt: HostRuntime) -> Result<(), Fail> {
-    let rows = [
-        ("", ".mutator\n", 16, "", (0, 0)),
-        ("", ".mutator\n", 16, ".mutator", (6, 17)),
-        ("", ".mutator\n", 17, "foo", (6, 17)),
-        ("", ".mutator\n", 16, ".mutator x", (2, 17)),
-        (".mutator\n", "halt\n", 65536, "", (0, 0)),
-        (".mutator\n", "halt\n", 65537, "", (7, 65538)),
-        (".mutator\n", "halt\n", 65537, "foo", (7, 65538)),
-        (".mutator\n", "halt\n", 65536, ".mutator\nhalt", (7, 65539)),
-        (
-            ".mutator\n",
-            "halt\n",
-            65536,
-            "li r0 4611686018427387904",
-            (7, 65538),
-        ),
-        (".mutator\n.schedule", " 0", 65536, "", (0, 0)),
-        (
-            ".schedule",
-            " 0",
-            65535,
-            "\n.mutator\n.schedule 1 2",
-            (8, 3),
-        ),
-    ];
-    for (first, line, times, last, wanted) in rows {
-        let text = repeated(&rt, first, line, times, last)?;
-        assert_same(
-            &rt,
-            &(line, last, fault_of(rt.alloc(), &text)),
-            &(line, last, wanted),
-        );
+    for (first, line, times, last, wanted) in LIMITS {
+        let found = repeated_fault(rt.alloc(), first, line, times, last)?;
+        assert_same(&rt, &(line, last, found), &(line, last, wanted));
     }
     Ok(())
 }
@@ -315,8 +361,15 @@ fn an_error_has_its_text(rt: HostRuntime) -> Result<(), Fail> {
 }
 
 /// The listing of a text that has a program.
-fn listing_of(rt: &HostRuntime, text: &str) -> Result<Vec<u8>, Fail> {
-    Ok(list(rt.alloc(), &program_of(rt, text)?)?)
+fn listing_of(alloc: Global, text: &str) -> Result<Vec<u8>, Fail> {
+    Ok(list(alloc, &program_of(alloc, text)?)?)
+}
+
+/// The text has this listing.
+fn check_listing(rt: &impl Abort, alloc: Global, text: &str, wanted: &str) -> Result<(), Fail> {
+    let listing = listing_of(alloc, text)?;
+    assert_same(rt, &str::from_utf8(listing.as_slice()), &Ok(wanted));
+    Ok(())
 }
 
 #[test]
@@ -333,24 +386,26 @@ fn a_listing_is_laid_out_in_one_way(rt: HostRuntime) -> Result<(), Fail> {
         ),
     ];
     for (text, wanted) in rows {
-        for text in [text, wanted] {
-            assert_same(
-                &rt,
-                &str::from_utf8(listing_of(&rt, text)?.as_slice()),
-                &Ok(wanted),
-            );
-        }
+        check_listing(&rt, rt.alloc(), text, wanted)?;
+        check_listing(&rt, rt.alloc(), wanted, wanted)?;
     }
     Ok(())
 }
 
 /// So many instructions, each of which jumps to itself.
-fn loops(rt: &HostRuntime, instrs: u32) -> Result<String, Fail> {
-    let mut text = String::from_str(rt.alloc(), ".mutator\n")?;
+fn loops(alloc: Global, instrs: u32) -> Result<String, Fail> {
+    let mut text = String::from_str(alloc, ".mutator\n")?;
     for k in 0..instrs {
         writeln!(text, "L{k}: jmp L{k}")?;
     }
     Ok(text)
+}
+
+/// The text of this name is its own listing.
+fn check_lists_itself(rt: &impl Abort, alloc: Global, name: &str, text: &str) -> Result<(), Fail> {
+    let lists_itself = listing_of(alloc, text)?.as_slice() == text.as_bytes();
+    assert_same(rt, &(name, lists_itself), &(name, true));
+    Ok(())
 }
 
 #[test]
@@ -361,12 +416,9 @@ fn texts_at_the_limits_list_themselves(rt: HostRuntime) -> Result<(), Fail> {
         (".schedule", " 0", 65536, "\n.mutator\n"),
     ];
     for (first, line, times, last) in rows {
-        let text = repeated(&rt, first, line, times, last)?;
-        let lists_itself = listing_of(&rt, &text)?.as_slice() == text.as_bytes();
-        assert_same(&rt, &(line, lists_itself), &(line, true));
+        let text = repeated(rt.alloc(), first, line, times, last)?;
+        check_lists_itself(&rt, rt.alloc(), line, &text)?;
     }
-    let text = loops(&rt, 65536)?;
-    let lists_itself = listing_of(&rt, &text)?.as_slice() == text.as_bytes();
-    assert_same(&rt, &lists_itself, &true);
-    Ok(())
+    let text = loops(rt.alloc(), 65536)?;
+    check_lists_itself(&rt, rt.alloc(), "loops", &text)
 }

@@ -38,6 +38,12 @@ fn named(error: DumpError) -> Option<u32> {
     }
 }
 
+/// The first wrong line of a dump whose table has so many words.
+fn wrong_line_of(alloc: Global, words: u32) -> Result<Option<u32>, NoMemory> {
+    let text = printed(alloc, words)?;
+    Ok(wrong_line(alloc, text.as_str()))
+}
+
 /// The first wrong line, where the text is no dump.
 fn wrong_line(alloc: Global, text: &str) -> Option<u32> {
     named(read(alloc, text.as_bytes()).err()?)
@@ -83,9 +89,7 @@ fn the_first_wrong_line_is_told(rt: HostRuntime) -> Result<(), NoMemory> {
     for (text, line) in rows {
         assert_same(&rt, &wrong_line(rt.alloc(), text), &Some(line));
     }
-    let short = printed(rt.alloc(), 632)?;
-    assert_same(&rt, &wrong_line(rt.alloc(), short.as_str()), &Some(636));
-    let long = printed(rt.alloc(), 634)?;
-    assert_same(&rt, &wrong_line(rt.alloc(), long.as_str()), &Some(637));
+    assert_same(&rt, &wrong_line_of(rt.alloc(), 632)?, &Some(636));
+    assert_same(&rt, &wrong_line_of(rt.alloc(), 634)?, &Some(637));
     Ok(())
 }

@@ -67,38 +67,61 @@ a record asks for 64 pages|raw r0 4095|heap full asked 64 room 256 live 0";
 /// The most instructions that a mutator executes here.
 const TURNS: u32 = 140_000;
 
+/// The text of one mutator whose lines are separated by slashes.
+fn text_of(alloc: Global, instrs: &str) -> Result<String, Fail> {
+    let lines = format!(in alloc; "/.mutator/{instrs}/")?;
+    Ok(lines.replace(alloc, '/', "\n")?)
+}
+
 /// The program of one mutator whose lines are separated by slashes.
 fn program(alloc: Global, instrs: &str) -> Result<Program, Fail> {
-    let text = format!(in alloc; "/.mutator/{instrs}/")?.replace(alloc, '/', "\n")?;
+    let text = text_of(alloc, instrs)?;
     if text.len() >= 1 << 31 {
         return Err("it is too long".into());
     }
     Ok(assemble(alloc, text.as_bytes())?)
 }
 
+/// Adds what is printed of a line.
+fn push_line(out: &mut String, line: &str) -> Result<(), Fail> {
+    let (line, times) = line.split_once('*').unwrap_or((line, "1"));
+    for _time in 0..times.parse::<u32>()? {
+        writeln!(out, "0: {line}")?;
+    }
+    Ok(())
+}
+
 /// What is printed of a mutator with these lines.
 fn printed(alloc: Global, lines: &str) -> Result<String, Fail> {
     let mut out = String::new(alloc);
     for line in lines.split('/') {
-        let (line, times) = line.split_once('*').unwrap_or((line, "1"));
-        for _time in 0..times.parse::<u32>()? {
-            writeln!(&mut out, "0: {line}")?;
-        }
+        push_line(&mut out, line)?;
     }
     Ok(out)
+}
+
+/// What a run of this program by an order prints.
+fn run_program(alloc: Global, p: &Program, order: &[Mark]) -> Result<Vec<u8>, Fail> {
+    let s = plain_run(alloc, p, TURNS, order)?;
+    Ok(print(alloc, &s)?)
 }
 
 /// What a run of these instructions by an order prints.
 fn run_text(alloc: Global, instrs: &str, order: &[Mark]) -> Result<Vec<u8>, Fail> {
     let p = program(alloc, instrs)?;
-    let s = plain_run(alloc, &p, TURNS, order)?;
-    Ok(print(alloc, &s)?)
+    run_program(alloc, &p, order)
+}
+
+/// The name of a row, its instructions, and its lines.
+fn parts(row: &str) -> Result<(&str, &str, &str), Fail> {
+    let (name, rest) = row.split_once('|').ok_or("there is no bar")?;
+    let (instrs, lines) = rest.split_once('|').ok_or("there is no second bar")?;
+    Ok((name, instrs, lines))
 }
 
 /// Runs the program of a row by an order, and compares what is printed.
 fn check_row(rt: &impl Abort, alloc: Global, row: &str, order: &[Mark]) -> Result<(), Fail> {
-    let (name, rest) = row.split_once('|').ok_or("there is no bar")?;
-    let (instrs, lines) = rest.split_once('|').ok_or("there is no second bar")?;
+    let (name, instrs, lines) = parts(row)?;
     let found = run_text(alloc, instrs, order)?;
     let wanted = printed(alloc, lines)?;
     assert_same(rt, &(name, found.as_slice()), &(name, wanted.as_bytes()));
@@ -115,15 +138,20 @@ fn full(asked: u32) -> Mark {
     }
 }
 
-#[test]
-fn each_instruction_and_each_end(rt: HostRuntime) -> Result<(), Fail> {
-    // Of the first marks the fourth ends a mutator whose first instruction asks for 64 pages, and
-    // the others change nothing.
-    let mut order = vec![in rt.alloc(); Mark::Step(0); 4 + TURNS as usize + 1]?;
+/// An order for all rows. Of its first marks the fourth ends a mutator whose first instruction asks for 64 pages, and the
+/// others change nothing.
+fn long_order(alloc: Global) -> Result<Vec<Mark>, Fail> {
+    let mut order = vec![in alloc; Mark::Step(0); 4 + TURNS as usize + 1]?;
     order[0] = Mark::Step(1);
     order[1] = Mark::Flip(63);
     order[2] = full(63);
     order[3] = full(64);
+    Ok(order)
+}
+
+#[test]
+fn each_instruction_and_each_end(rt: HostRuntime) -> Result<(), Fail> {
+    let order = long_order(rt.alloc())?;
     for row in TABLE.split('\n') {
         check_row(&rt, rt.alloc(), row, &order)?;
     }
@@ -146,15 +174,20 @@ fn check_halted(rt: &impl Abort, s: &PlainState) {
     assert_same(rt, &s.ended(0), &Some(End::Halt));
 }
 
+/// After six steps of this program its mutator has printed 7 and halted, and this is printed.
+fn check_six_steps(rt: &impl Abort, alloc: Global, p: &Program) -> Result<(), Fail> {
+    let s = stepped(alloc, p, 6)?;
+    check_halted(rt, &s);
+    let printed = print(alloc, &s)?;
+    assert_same(rt, &printed.as_slice(), &b"0: 7\n0: halt\n".as_slice());
+    Ok(())
+}
+
 #[test]
 fn six_steps_print_the_number_and_the_end(rt: HostRuntime) -> Result<(), Fail> {
     let alloc = rt.alloc();
     let p = program(alloc, "li r1 7/new r0 2/st r0 1 r1/ld r2 r0 1/out r2/halt")?;
-    let s = stepped(alloc, &p, 6)?;
-    check_halted(&rt, &s);
-    let printed = print(alloc, &s)?;
-    assert_same(&rt, &printed.as_slice(), &b"0: 7\n0: halt\n".as_slice());
-    Ok(())
+    check_six_steps(&rt, alloc, &p)
 }
 
 #[test]

@@ -10,7 +10,7 @@ fn is_spelled(rt: &impl Abort, page_word: PageWord, word: u64) {
 }
 
 fn is_no_page_word(rt: &impl Abort, word: u64) {
-    assert_eq!(rt; read(word), None, "{word} is no page word");
+    assert_same(rt, &(word, read(word)), &(word, None));
 }
 
 #[test]

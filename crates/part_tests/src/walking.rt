@@ -25,21 +25,20 @@ fn a_walk_leaves_out_what_is_reserved_or_closed(rt: HostRuntime) -> Result<(), B
         end: 512,
     };
     let kept = [(0, 0), (0x2_0016, 260)];
-    let record = |at, size| Walked::Record { at, size };
     assert_same(
         &rt,
         &walk_next(spaces, &words, &area, 1, 256, &kept),
-        &record(256, 3),
+        &Walked::Record { at: 256, size: 3 },
     );
     assert_same(
         &rt,
         &walk_next(spaces, &words, &area, 1, 259, &kept),
-        &record(384, 1),
+        &Walked::Record { at: 384, size: 1 },
     );
     assert_same(
         &rt,
         &walk_next(spaces, &words, &area, 1, 385, &kept),
-        &record(385, 3),
+        &Walked::Record { at: 385, size: 3 },
     );
     assert_same(
         &rt,
