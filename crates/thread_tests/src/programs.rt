@@ -1,7 +1,7 @@
 //! Whole programs, each mutator on a thread of its own.
 
 use crate::asserting::assert_same;
-use ael_threads::{NoPace, Pace, RunError, Scanner, run};
+use ael_threads::{NoPace, Outputs, Pace, RunError, Scanner, run};
 use gc_worker::Config;
 use mutator_asm::{Program, assemble};
 use plain_state::End;
@@ -80,6 +80,18 @@ impl Pace for Meeting {
     }
 }
 
+/// Two mutators have printed 5 and halted.
+fn check_both_print(rt: &impl Abort, told: &Outputs) {
+    assert_same(rt, &told.mutators.len(), &2);
+    for one in &told.mutators {
+        assert_same(
+            rt,
+            &(one.numbers.as_slice(), one.end),
+            &(&[5][..], End::Halt),
+        );
+    }
+}
+
 #[test]
 fn all_workers_run_at_once(rt: HostRuntime) -> Result<(), Fail> {
     let lines = "/.mutator/li r0 5/out r0/halt/.mutator/li r0 5/out r0/halt/";
@@ -93,14 +105,7 @@ fn all_workers_run_at_once(rt: HostRuntime) -> Result<(), Fail> {
         let pace = Meeting::new(scanners);
         let told = run(&rt, rt.alloc(), &program, &config, &pace)?;
         assert_same(&rt, &pace.gave_up.load(Ordering::SeqCst), &0);
-        assert_same(&rt, &told.mutators.len(), &2);
-        for told in &told.mutators {
-            assert_same(
-                &rt,
-                &(told.numbers.as_slice(), told.end),
-                &(&[5][..], End::Halt),
-            );
-        }
+        check_both_print(&rt, &told);
     }
     Ok(())
 }
@@ -145,6 +150,19 @@ const ALONE: [Alone; 2] = [
     },
 ];
 
+/// The one mutator has printed its numbers and halted, and the spaces were exchanged so often.
+fn check_alone(rt: &impl Abort, alone: &Alone, told: &Outputs) {
+    let [one] = told.mutators.as_slice() else {
+        panic!(rt; "one mutator")
+    };
+    assert_same(
+        rt,
+        &(one.numbers.as_slice(), one.end),
+        &(alone.printed, End::Halt),
+    );
+    assert_same(rt, &told.cycles, &alone.cycles);
+}
+
 #[test]
 fn one_mutator_with_scanners_does_as_alone(rt: HostRuntime) -> Result<(), Fail> {
     for alone in &ALONE {
@@ -155,15 +173,7 @@ fn one_mutator_with_scanners_does_as_alone(rt: HostRuntime) -> Result<(), Fail> 
             turns: 1_000_000,
         };
         let told = run(&rt, rt.alloc(), &program, &config, &NoPace)?;
-        let [one] = told.mutators.as_slice() else {
-            panic!(rt; "one mutator")
-        };
-        assert_same(
-            &rt,
-            &(one.numbers.as_slice(), one.end),
-            &(alone.printed, End::Halt),
-        );
-        assert_same(&rt, &told.cycles, &alone.cycles);
+        check_alone(&rt, alone, &told);
     }
     Ok(())
 }

@@ -57,6 +57,18 @@ fn make_both(
     panic!(rt; "an instruction isn't executed");
 }
 
+/// Each has read the other's number, and points to the other's record.
+fn check_shared(rt: &impl Abort, one: &Mutator, other: &Mutator) {
+    assert_same(
+        rt,
+        &(one.reg(3), other.reg(3)),
+        &(Reg::Number(8), Reg::Number(7)),
+    );
+    assert_same(rt, &(one.reg(2), other.reg(2)), &(other.reg(0), one.reg(0)));
+    assert!(rt; one.reg(0) != other.reg(0));
+    assert!(rt; matches!(one.reg(0), Reg::Pointer(_)));
+}
+
 /// Each makes a record with a number of its own, puts it on the board, and reads the other's.
 fn share(rt: &impl Abort, h: &Shared, one: &mut Mutator, other: &mut Mutator)
     requires one { (one.old.table ≡ h.now.table.shared.table_id) × (one.old.worker.task ≡ None) }
@@ -84,14 +96,7 @@ fn share(rt: &impl Abort, h: &Shared, one: &mut Mutator, other: &mut Mutator)
         Instr::Ld(3, 2, ZERO),
         Instr::Ld(3, 2, ZERO),
     );
-    assert_same(
-        rt,
-        &(one.reg(3), other.reg(3)),
-        &(Reg::Number(8), Reg::Number(7)),
-    );
-    assert_same(rt, &(one.reg(2), other.reg(2)), &(other.reg(0), one.reg(0)));
-    assert!(rt; one.reg(0) != other.reg(0));
-    assert!(rt; matches!(one.reg(0), Reg::Pointer(_)));
+    check_shared(rt, one, other);
 }
 
 #[test]

@@ -40,6 +40,16 @@ fn work<R: Wait + Abort>(rt: &R, h: &Shared, mut mutator: Mutator, first: u64) -
     mutator
 }
 
+/// Each has printed its own last number, made its records, and halted; and the spaces were exchanged once.
+fn check_both(rt: &impl Abort, first: &Mutator, second: &Mutator) {
+    let printed = (first.outputs(), second.outputs());
+    assert_same(rt, &printed, &(&[1199][..], &[5199][..]));
+    assert_same(rt, &(first.serial(), second.serial()), &(RECORDS, RECORDS));
+    let halted = Some(End::Halt);
+    assert_same(rt, &(first.ended(), second.ended()), &(halted, halted));
+    assert_same(rt, &first.epoch().max(second.epoch()), &1);
+}
+
 #[test]
 fn callers_on_two_threads_keep_their_own(rt: HostRuntime) -> Result<(), Fail> {
     let config = Config {
@@ -56,12 +66,7 @@ fn callers_on_two_threads_keep_their_own(rt: HostRuntime) -> Result<(), Fail> {
         || work(&rt, &h, first, 1000),
         || work(&rt, &h, second, 5000),
     );
-    let printed = (first.outputs(), second.outputs());
-    assert_same(&rt, &printed, &(&[1199][..], &[5199][..]));
-    assert_same(&rt, &(first.serial(), second.serial()), &(RECORDS, RECORDS));
-    let halted = Some(End::Halt);
-    assert_same(&rt, &(first.ended(), second.ended()), &(halted, halted));
-    assert_same(&rt, &first.epoch().max(second.epoch()), &1);
+    check_both(&rt, &first, &second);
     first.absorb(&h, second);
     seats.mutators.push(first)?;
     let _words = h.close(seats);
