@@ -1,29 +1,23 @@
 -- A late mutator's task stays what it is when a pointer in a register takes another's place.
-use Rattle.std.proofs.Common.{◌≡◌, ◌≢◌, ℕ, ◌<◌, Bool, true, false, cond, nat_lt, List, length, map, Option, Some, None, Result, Ok, Err, slice_index, slice_set, refl, sym, ap, ◌∙◌, ⊎_elim, get_or-set_same, get_or-set_other, length-set, arith}
-use Rattle.std.specs.Bool.{⊤}
+use Rattle.std.proofs.Common.{◌≡◌, ◌≢◌, ℕ, ◌<◌, List, length, map, Option, Some, None, Result, Ok, slice_index, slice_set, refl, sym, ap, ◌∙◌, ⊎_elim, get_or-set_same, get_or-set_other, length-set, arith}
 use Rattle.std.specs.Prelude.{slice_index_or}
 use Rattle.std.proofs.lemmas.Option.{same_Some}
 use Rattle.std.proofs.lemmas.Bool.{cases_eq}
 use Rattle.std.proofs.lemmas.List.{map-set, get_or-map}
 use Rattle.heap_words.specs.Decoded.{PointerWord, decode}
 use Rattle.plain_state.specs.declared.end.End.{End}
-use Rattle.plain_state.specs.declared.end.End.TheVariants.{OutputFull}
-use Rattle.plain_state.specs.declared.sizes.TheConstants.{MOST_PRINTED}
-use Rattle.plain_state.specs.declared.kind.Kind.{Kind}
-use Rattle.plain_state.specs.declared.kind.Kind.TheVariants.{Fields, Raw}
-use Rattle.plain_state.specs.declared.operation.Operation.{Operation}
-use Rattle.plain_state.specs.declared.operation.Operation.TheVariants as operations
 use Rattle.plain_state.specs.declared.value.Value.TheVariants.{Number}
-use Rattle.plain_state.specs.Operation.{applied}
 use Rattle.plain_state.specs.State.{Mutator}
 use Rattle.mutator_asm.specs.declared.instr.Instr.{Instr}
-use Rattle.mutator_asm.specs.declared.instr.Instr.TheVariants as instrs
 use Rattle.mutator_asm.specs.declared.operand.Operand.{Operand}
 use Rattle.mutator_asm.specs.declared.operand.Operand.TheVariants as operands
 use Rattle.plain_heap.specs.declared.action.Action.{Action}
-use Rattle.plain_heap.specs.declared.action.Action.TheVariants.{Prints, Makes}
-use Rattle.plain_heap.specs.Action.{◌>>=◌, action, allocates, computes, board_place, length_of, operand, register, number_in, reference_in}
+use Rattle.plain_heap.specs.declared.action.Action.TheVariants.{Makes}
+use Rattle.plain_heap.specs.Action.{◌>>=◌, action, length_of, operand, register, number_in}
 use Rattle.heap_state.specs.Worker.{Account}
+use Rattle.gc_worker.specs.declared.record_asked.RecordAsked.{RecordAsked}
+use Rattle.gc_worker.specs.Asked.{record_asked}
+use Rattle.gc_worker.proofs.Asking.{making_asked, making_by, making_with}
 use Rattle.gc_worker.specs.declared.after.After.{After}
 use Rattle.gc_worker.specs.declared.after.After.TheVariants as afters
 use Rattle.gc_worker.specs.declared.task.Task.{Task}
@@ -35,88 +29,16 @@ abbrev TaskAfter : Account → List ℕ → Option Task → After → Type 0
 TaskAfter account registers task afters.Looks = MayBegin account registers task
 TaskAfter account registers task afters.Places = IsMaking account registers task
 
--- ---- what makes no record
-
-bind_none : {A : Type 0} (r : Result A End) (f : A → Result Action End) → ((x : A) → making_in (f x) ≡ None) → making_in (r >>= f) ≡ None
-bind_none (Ok x) f none = none x
-bind_none (Err why) f none = refl
-
-computes_none : (operation : Operation) (k : Mutator) (d a b : ℕ) → making_in (computes operation k d a b) ≡ None
-computes_none operation k d a b =
-    bind_none (number_in (register k a)) _ (λ x. bind_none (number_in (register k b)) _ (λ y. bind_none (applied operation x y) _ (λ n. refl)))
-
-prints_none : (k : Mutator) (n : ℕ) (fits : Bool) → making_in (cond fits (Ok (Prints n)) (Err OutputFull)) ≡ None
-prints_none k n true = refl
-prints_none k n false = refl
-
-abbrev MakesNone : Instr → Type 0
-MakesNone (instrs.New d x) = ⊥
-MakesNone (instrs.Raw d x) = ⊥
-MakesNone i = ⊤
-
-makes_none : (q : Mutator) (i : Instr) → MakesNone i → making_in (action q i) ≡ None
-unfolding action
-makes_none q (instrs.New d x) never = absurd never
-makes_none q (instrs.Raw d x) never = absurd never
-makes_none q (instrs.Add d a b) never = computes_none operations.Add q d a b
-makes_none q (instrs.Sub d a b) never = computes_none operations.Sub q d a b
-makes_none q (instrs.Mul d a b) never = computes_none operations.Mul q d a b
-makes_none q (instrs.Div d a b) never = computes_none operations.Div q d a b
-makes_none q (instrs.Rem d a b) never = computes_none operations.Rem q d a b
-makes_none q (instrs.Lt d a b) never = computes_none operations.Lt q d a b
-makes_none q (instrs.Li d n) never = refl
-makes_none q (instrs.Mov d a) never = refl
-makes_none q (instrs.Eq d a b) never = refl
-makes_none q (instrs.Jmp target) never = refl
-makes_none q (instrs.Jz a target) never = refl
-makes_none q (instrs.Jal d target) never = refl
-makes_none q (instrs.Isp d a) never = refl
-makes_none q instrs.Halt never = refl
-makes_none q (instrs.Jr a) never = bind_none (number_in (register q a)) _ (λ n. refl)
-makes_none q (instrs.Ld d a x) never = bind_none (reference_in (register q a)) _ (λ i. bind_none (operand q x) _ (λ y. refl))
-makes_none q (instrs.St a x b) never = bind_none (reference_in (register q a)) _ (λ i. bind_none (operand q x) _ (λ y. refl))
-makes_none q (instrs.Len d a) never = bind_none (reference_in (register q a)) _ (λ i. refl)
-makes_none q (instrs.Get d x) never = bind_none (board_place q x) _ (λ y. refl)
-makes_none q (instrs.Put x a) never = bind_none (board_place q x) _ (λ y. refl)
-makes_none q (instrs.Swap d x) never = bind_none (board_place q x) _ (λ y. refl)
-makes_none q (instrs.Out a) never = bind_none (number_in (register q a)) _ (λ n. prints_none q n (nat_lt (length q.printed) MOST_PRINTED))
-
--- ---- what makes one
-
-allocates_same : (k j : Mutator) (kind : Kind) (d : ℕ) (x : Operand) → operand k x ≡ operand j x → making_in (allocates k kind d x) ≡ making_in (allocates j kind d x)
-allocates_same k j kind d x same = ap (λ (o : Result ℕ End). making_in (o >>= (λ n. length_of n >>= (λ len. Ok (Makes kind d len))))) same
+-- ---- the record that an instruction makes
 
 -- two mutators whose operands are the same make the same record
 module _ (k j : Mutator) (same : (x : Operand) → operand k x ≡ operand j x) where
-  no_record : (i : Instr) (never : MakesNone i) → making_in (action k i) ≡ making_in (action j i)
-  no_record i never = makes_none k i never ∙ sym (makes_none j i never)
+  asked_same : (a : Option RecordAsked) → making_by k a ≡ making_by j a
+  asked_same (Some a) = ap (λ (o : Result ℕ End). making_with a (o >>= length_of)) (same a.len)
+  asked_same None = refl
 
   makes_same : (i : Instr) → making_in (action k i) ≡ making_in (action j i)
-  unfolding action
-  makes_same (instrs.New d x) = allocates_same k j Fields d x (same x)
-  makes_same (instrs.Raw d x) = allocates_same k j Raw d x (same x)
-  makes_same (instrs.Li d n) = no_record (instrs.Li d n) tt
-  makes_same (instrs.Mov d a) = no_record (instrs.Mov d a) tt
-  makes_same (instrs.Add d a b) = no_record (instrs.Add d a b) tt
-  makes_same (instrs.Sub d a b) = no_record (instrs.Sub d a b) tt
-  makes_same (instrs.Mul d a b) = no_record (instrs.Mul d a b) tt
-  makes_same (instrs.Div d a b) = no_record (instrs.Div d a b) tt
-  makes_same (instrs.Rem d a b) = no_record (instrs.Rem d a b) tt
-  makes_same (instrs.Lt d a b) = no_record (instrs.Lt d a b) tt
-  makes_same (instrs.Eq d a b) = no_record (instrs.Eq d a b) tt
-  makes_same (instrs.Jmp target) = no_record (instrs.Jmp target) tt
-  makes_same (instrs.Jz a target) = no_record (instrs.Jz a target) tt
-  makes_same (instrs.Jal d target) = no_record (instrs.Jal d target) tt
-  makes_same (instrs.Jr a) = no_record (instrs.Jr a) tt
-  makes_same (instrs.Ld d a x) = no_record (instrs.Ld d a x) tt
-  makes_same (instrs.St a x b) = no_record (instrs.St a x b) tt
-  makes_same (instrs.Len d a) = no_record (instrs.Len d a) tt
-  makes_same (instrs.Isp d a) = no_record (instrs.Isp d a) tt
-  makes_same (instrs.Get d x) = no_record (instrs.Get d x) tt
-  makes_same (instrs.Put x a) = no_record (instrs.Put x a) tt
-  makes_same (instrs.Swap d x) = no_record (instrs.Swap d x) tt
-  makes_same (instrs.Out a) = no_record (instrs.Out a) tt
-  makes_same instrs.Halt = no_record instrs.Halt tt
+  makes_same i = making_asked k i ∙ asked_same (record_asked i) ∙ sym (making_asked j i)
 
 -- ---- a register gets a copy
 

@@ -10,10 +10,10 @@ use Rattle.plain_heap.specs.Action.{◌>>=◌, length_of, operand}
 use Rattle.gc_worker.specs.declared.record_asked.RecordAsked.{RecordAsked}
 
 -- the record, before its operand is read
-abbrev pub asked_for : Instr → Option RecordAsked
-asked_for (New d x) = Some (record { kind = kinds.Fields; into = d; len = x })
-asked_for (Raw d x) = Some (record { kind = kinds.Raw; into = d; len = x })
-asked_for instr = None
+abbrev pub record_asked : Instr → Option RecordAsked
+record_asked (New d x) = Some (record { kind = kinds.Fields; into = d; len = x })
+record_asked (Raw d x) = Some (record { kind = kinds.Raw; into = d; len = x })
+record_asked instr = None
 
 -- the length of a record that an operand names, where it is none too long
 abbrev pub length_named : Mutator → Operand → Result ℕ End

@@ -45,14 +45,14 @@ impl State {
         ensures { result ≡ header_for self.now }
     {
         match self.due {
-            Due::Call => self.header_of(self.instr),
+            Due::Call => self.header_asked(self.instr),
             Due::Stop | Due::Nothing => None,
         }
     }
 
     /// The header of the record that an instruction makes, if it makes one.
     #[tactic(auto, using(crate::proofs::Asking::making_asked))]
-    fn header_of(&self, instr: Instr) -> Option<Header>
+    fn header_asked(&self, instr: Instr) -> Option<Header>
         ensures { result ≡ option_and_then (header_of self.now) (making_in (action (seen_by self.now) instr)) }
     {
         let asked = RecordAsked::by(instr)?;

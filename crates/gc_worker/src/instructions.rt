@@ -3,6 +3,7 @@
 
 ghost use Rattle.std.specs.Prelude.{◌≡◌, ℕ, ◌^◌, ◌<◌, IsTrue, true, nat_lt};
 ghost use Rattle.mutator_asm.specs.Program.{is_valid};
+ghost use Rattle.plain_state.specs.declared.kind.Kind.{Kind};
 ghost use Rattle.plain_state.specs.declared.sizes.TheConstants.{BOARD_WORDS};
 ghost use Rattle.plain_heap.specs.Action.{action, allocates, computes};
 ghost use Rattle.gc_worker.specs.declared.task.Task.{Task};
@@ -19,7 +20,7 @@ use crate::state::State;
 use crate::stepped::Stepped;
 use heap_words::Word;
 use mutator_asm::{Instr, Operand};
-use plain_state::{End, Identity, Kind, MOST_PRINTED, Operation};
+use plain_state::{End, Identity, MOST_PRINTED, Operation};
 
 impl State {
     /// Executes an instruction as far as the registers go.
@@ -108,7 +109,7 @@ impl State {
         }
     }
 
-    /// `new rd x` and `raw rd x`
+    /// `new rd x` and `raw rd x`: the record is that of the task, whatever kind and register these name.
     #[inline(always)]
     fn allocate(&mut self, x: Operand) -> Stepped
         requires at { self.old.stage ≡ Stage.Looks }

@@ -1,5 +1,5 @@
 //! A worker's next step, made on the words that all share: one function for each thing that it may be about to do. Looks, rounds,
-//! scans and copies are put into the loop that steps the workers; with all others it would grow too large for that.
+//! scans and copies are put into the loop that steps the workers; with all the others the compiler would put none there.
 
 ghost use Rattle.std.specs.Prelude.{◌≡◌};
 ghost use Rattle.gc_worker.specs.Made.{MayMake, made};

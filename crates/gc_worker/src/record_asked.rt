@@ -1,5 +1,5 @@
 ghost use Rattle.std.specs.Prelude.{◌≡◌};
-ghost use Rattle.gc_worker.specs.Asked.{asked_for};
+ghost use Rattle.gc_worker.specs.Asked.{record_asked};
 
 use mutator_asm::{Instr, Operand};
 use plain_state::Kind;
@@ -17,7 +17,7 @@ pub(crate) struct RecordAsked {
 impl RecordAsked {
     /// The record that this instruction asks for, if it asks for one.
     pub fn by(instr: Instr) -> Option<RecordAsked>
-        ensures { result ≡ asked_for instr }
+        ensures { result ≡ record_asked instr }
     {
         let (kind, into, len) = match instr {
             Instr::New(into, len) => (Kind::Fields, into, len),

@@ -42,8 +42,8 @@ impl State {
         }
     }
 
-    /// What an access comes to. It stands apart, since the room of each stage that it may begin is cleared at its beginning,
-    /// also where it is inlined.
+    /// What an access comes to. It stands apart, also where it is inlined, so that the room of the stages that it may begin is
+    /// cleared only here, and not at each step of an access.
     #[inline(always)]
     fn has_accessed(&mut self, access: Access, accessed: Accessed) -> Stepped
         requires calls { (stage : AccessStage) × IsAccessing self.old.account self.old.registers self.old.task stage }
