@@ -13,14 +13,12 @@ use Rattle.mutator_asm.specs.declared.item.Item.{Item}
 use Rattle.mutator_asm.specs.declared.jump.Jump.{Jump}
 use Rattle.mutator_asm.specs.declared.jump.Jump.TheVariants.{Always, IfZero, Link}
 use Rattle.mutator_asm.specs.declared.line.Line.{Line as Read}
-use Rattle.mutator_asm.specs.declared.part.Part.{Part}
 use Rattle.mutator_asm.specs.Instr.{jump_to}
 use Rattle.mutator_asm.specs.Labels.{before_of}
 use Rattle.mutator_asm.specs.Line.{Word, Nothing, Begins, Schedules, Does, Jumps, Line, line_of, lines_of}
 use Rattle.mutator_asm.specs.Program.{IsWellFormed, is_valid, is_item, leads_within, is_closed}
-use Rattle.mutator_asm.specs.Part.{parts_view}
 use Rattle.mutator_asm.specs.Read.{line_view, lines_view}
-use Rattle.mutator_asm.specs.Text.{begins, counts, is_begin, has_instr, items_on, items_in, defines, has_label, target_of, instr_by, section_of, sections_in, code_of, schedule_of, IsCleanUpTo, IsText}
+use Rattle.mutator_asm.specs.Text.{begins, counts, is_begin, has_instr, items_on, items_in, defines, has_label, target_of, instr_by, section_of, code_of, schedule_of, IsCleanUpTo, IsText}
 use Rattle.mutator_asm.proofs.Limits.{within_up_to}
 use Rattle.mutator_asm.proofs.Passing.{if_passes, all_weaker, count_by-cons}
 use Rattle.mutator_asm.proofs.Sound.{is_plain, is_jump_valid, is_sound, is_sound_line, lines_sound}
@@ -186,17 +184,16 @@ lines_few text lines e lt =
 
 -- ---- what the code made
 
-pub text_is : (text : List ℕ) (lines split checked scheduled : List Read) (parts coded : List Part) (code : List (List Instr)) (schedule : List Item) → lines_view lines ≡ lines_of text → split ≡ lines → checked ≡ lines → scheduled ≡ lines → coded ≡ parts
-    → IsCleanUpTo (length checked) (lines_view checked) → 1 ≤ count_by begins (lines_view checked) → parts_view parts ≡ [] ∷ sections_in (lines_view split) → code ≡ map section_of (drop 1 (parts_view coded)) → schedule ≡ schedule_of (lines_view scheduled) → IsText text code schedule
-unfolding code_of
-text_is text lines split checked scheduled parts coded code schedule e split-is checked-is scheduled-is coded-is clean begun parts-are code-is schedule-is =
-    let clean2 : IsCleanUpTo (length (lines_view lines)) (lines_view lines) = rw (length-map lines line_view) (rw checked-is at clean) in
-    let sections : drop 1 (parts_view coded) ≡ sections_in (lines_view lines) = ap (λ (ps : List Part). drop 1 (parts_view ps)) coded-is ∙ ap (drop 1) parts-are ∙ ap (λ (ls : List Read). sections_in (lines_view ls)) split-is in
+-- the lines of a text, as they were checked and read
+pub text_is : (text : List ℕ) (lines : List Read) (code : List (List Instr)) (schedule : List Item) → lines_view lines ≡ lines_of text
+    → IsCleanUpTo (length lines) (lines_view lines) → 1 ≤ count_by begins (lines_view lines) → code ≡ code_of (lines_view lines) → schedule ≡ schedule_of (lines_view lines) → IsText text code schedule
+text_is text lines code schedule e clean begun code-is schedule-is =
+    let clean2 : IsCleanUpTo (length (lines_view lines)) (lines_view lines) = rw (length-map lines line_view) clean in
     record {
       clean = rw e at clean2;
-      begun = rw (checked-is, e) at begun;
-      code_is = code-is ∙ ap (map section_of) sections ∙ ap (λ (ls : List Line). map section_of (sections_in ls)) e;
-      schedule_is = schedule-is ∙ ap (λ (ls : List Read). schedule_of (lines_view ls)) scheduled-is ∙ ap schedule_of e;
+      begun = rw e at begun;
+      code_is = code-is ∙ ap code_of e;
+      schedule_is = schedule-is ∙ ap schedule_of e;
     }
 
 pub text_well_formed : (text : List ℕ) (code : List (List Instr)) (schedule : List Item) → IsText text code schedule → IsWellFormed code schedule

@@ -1,9 +1,11 @@
 //! A whole text.
 
-ghost use Rattle.std.specs.Prelude.{◌≡◌, ◌<◌, ◌≤◌, ◌^◌, [], ◌∷◌, length, map, drop, IfOk, IfErr, OnOk, count_by};
+ghost use Rattle.std.specs.Prelude.{◌≡◌, ◌<◌, ◌≤◌, ◌^◌, [], ◌∷◌, List, ℕ, length, map, drop, IfOk, IfErr, OnOk, count_by};
+ghost use Rattle.mutator_asm.specs.Line.{lines_of};
 ghost use Rattle.mutator_asm.specs.Part.{part_view, parts_view};
+ghost use Rattle.mutator_asm.specs.Program.{IsWellFormed};
 ghost use Rattle.mutator_asm.specs.Read.{lines_view};
-ghost use Rattle.mutator_asm.specs.Text.{begins, sections_in, section_of, schedule_of, IsCleanUpTo, IsFaultIn, IsText, NamesFault};
+ghost use Rattle.mutator_asm.specs.Text.{begins, sections_in, section_of, code_of, schedule_of, IsCleanUpTo, IsFaultIn, IsText, NamesFault};
 
 use crate::asm_error::AsmError;
 use crate::before::Before;
@@ -82,6 +84,20 @@ fn schedule(alloc: Global, lines: &[Line]) -> Result<Schedule, AllocError>
     Ok(Schedule::new(items))
 }
 
+/// The program of lines and of their sections, or their first error.
+fn program(alloc: Global, lines: &[Line], parts: &[Part]) -> Result<Program, AsmError>
+    requires few { length lines.now < 2 ^ 32 }
+    requires parts { parts_view parts.now ≡ [] ∷ sections_in (lines_view lines.now) }
+    requires well_formed { IsCleanUpTo (length lines.now) (lines_view lines.now) → 1 ≤ count_by begins (lines_view lines.now) → IsWellFormed (code_of (lines_view lines.now)) (schedule_of (lines_view lines.now)) }
+    ensures text { IfOk result (λ p. (text : List ℕ) → lines_view lines.now ≡ lines_of text → IsText text p.code p.schedule) }
+    ensures fault { IfErr result (λ e. (text : List ℕ) → lines_view lines.now ≡ lines_of text → NamesFault text e) }
+{
+    check(lines, parts)?;
+    let code = code(alloc, parts)?;
+    let schedule = schedule(alloc, lines)?;
+    Ok(Program::new(code, schedule))
+}
+
 /// The program of a text, or its first error.
 pub fn assemble(alloc: Global, text: &[u8]) -> Result<Program, AsmError>
     requires { length text.now < 2 ^ 31 }
@@ -90,8 +106,5 @@ pub fn assemble(alloc: Global, text: &[u8]) -> Result<Program, AsmError>
 {
     let lines = lines(alloc, text)?;
     let parts = parts(alloc, &lines)?;
-    check(&lines, &parts)?;
-    let code = code(alloc, &parts)?;
-    let schedule = schedule(alloc, &lines)?;
-    Ok(Program::new(code, schedule))
+    program(alloc, &lines, &parts)
 }
