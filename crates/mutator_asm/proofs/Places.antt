@@ -3,7 +3,7 @@ use Rattle.std.proofs.Common.{◌≡◌, ℕ, ◌+◌, ◌<◌, ◌≤◌, Bool,
 use Rattle.std.specs.Prelude.{count_by}
 use Rattle.std.specs.HashMap.{HashMap}
 use Rattle.std.specs.List.{before_first}
-use Rattle.std.specs.Option.{option_or}
+use Rattle.std.specs.Option.{is_some, option_or}
 use Rattle.std.specs.Str.{bytes_eq}
 use Rattle.std.proofs.Math.ListN.{drop_of_length-le}
 use Rattle.std.proofs.lemmas.Slice.Eq.{bytes_eq-Decides}
@@ -88,10 +88,14 @@ by_test true o p h = rw (h refl) refl
 by_test false None p h = refl
 by_test false (Some x) p h = refl
 
-by_test_again : (b : Bool) (o : Option Place) (p first : Place) → (b ≡ true → o ≡ Some first) → cond b (Some first) (cond b (Some p) o) ≡ option_or o (cond b (Some p) None)
-by_test_again true o p first h = rw (h refl) refl
-by_test_again false None p first h = refl
-by_test_again false (Some x) p first h = refl
+by_first : (b : Bool) (o : Option Place) (p : Place) → (b ≡ true → is_some o ≡ true) → o ≡ option_or o (cond b (Some p) None)
+by_first b (Some x) p h = refl
+by_first false None p h = refl
+by_first true None p h = let no : false ≡ true = h refl in absurd cc
+
+none_if : (o : Option Place) → is_some o ≡ false → o ≡ None
+none_if None h = refl
+none_if (Some x) h = absurd cc
 
 at_name : {S : Type 0} (labels : Labels S) (label name : List ℕ) (o : Option Place) → get_place labels label ≡ o → bytes_eq label name ≡ true → get_place labels name ≡ o
 at_name labels label name o h e = subst (λ (q : List ℕ). get_place labels q ≡ o) ((bytes_eq-Decides label name).0 e) h
@@ -100,20 +104,17 @@ defines_is : (l : Read) (label : Bor (List ℕ)) (name : List ℕ) → l.label �
 defines_is l label name h = ap (λ (o : Option (Bor (List ℕ))). is_label name (label_view o)) h
 
 -- a label that was not there
-pub kept_new : {S : Type 0} (old new : Labels S) (l : Read) (label : Bor (List ℕ)) (p : Place) → l.label ≡ Some label → get_place old label.now ≡ None
+pub kept_new : {S : Type 0} (old new : Labels S) (l : Read) (label : Bor (List ℕ)) (p : Place) → l.label ≡ Some label → is_some (get_place old label.now) ≡ false
     → ((q : List ℕ) → get_place new q ≡ cond (bytes_eq label.now q) (Some p) (get_place old q))
     → (name : List ℕ) → get_place new name ≡ option_or (get_place old name) (cond (defines name (line_view l)) (Some p) None)
 kept_new old new l label p h away up name =
-    rw (defines_is l label name h) (up name ∙ by_test (bytes_eq label.now name) (get_place old name) p (at_name old label.now name None away))
+    rw (defines_is l label name h) (up name ∙ by_test (bytes_eq label.now name) (get_place old name) p (at_name old label.now name None (none_if (get_place old label.now) away)))
 
--- a label that was there, and has its first place again
-pub kept_first : {S : Type 0} (old mid new : Labels S) (l : Read) (label : Bor (List ℕ)) (p first : Place) → l.label ≡ Some label → get_place old label.now ≡ Some first
-    → ((q : List ℕ) → get_place mid q ≡ cond (bytes_eq label.now q) (Some p) (get_place old q))
-    → ((q : List ℕ) → get_place new q ≡ cond (bytes_eq label.now q) (Some first) (get_place mid q))
-    → (name : List ℕ) → get_place new name ≡ option_or (get_place old name) (cond (defines name (line_view l)) (Some p) None)
-kept_first old mid new l label p first h there up again name =
-    let both : get_place new name ≡ cond (bytes_eq label.now name) (Some first) (cond (bytes_eq label.now name) (Some p) (get_place old name)) = again name ∙ ap (λ (o : Option Place). cond (bytes_eq label.now name) (Some first) o) (up name) in
-    rw (defines_is l label name h) (both ∙ by_test_again (bytes_eq label.now name) (get_place old name) p first (at_name old label.now name (Some first) there))
+-- a label that was there has its first place still
+pub kept_first : {S : Type 0} (labels : Labels S) (l : Read) (label : Bor (List ℕ)) (p : Place) → l.label ≡ Some label → is_some (get_place labels label.now) ≡ true
+    → (name : List ℕ) → get_place labels name ≡ option_or (get_place labels name) (cond (defines name (line_view l)) (Some p) None)
+kept_first labels l label p h there name =
+    rw (defines_is l label name h) (by_first (bytes_eq label.now name) (get_place labels name) p (λ e. subst (λ (q : List ℕ). is_some (get_place labels q) ≡ true) ((bytes_eq-Decides label.now name).0 e) there))
 
 -- ---- a label among the first lines
 

@@ -35,8 +35,8 @@ fn keep<'a>(
     ensures { OnOk result ((name : List ℕ) → get_place labels.new name ≡ option_or (get_place labels.old name) (if defines name (line_view line.now) then Some place else None)) }
 {
     if let Some(label) = line.label {
-        if let Some(first) = labels.insert(label, place)? {
-            labels.insert(label, first)?;
+        if !labels.contains_key(label) {
+            labels.insert(label, place)?;
         }
     }
     Ok(())
