@@ -1,6 +1,6 @@
 //! The listing of a program.
 
-ghost use Rattle.std.specs.Prelude.{◌≡◌, ◌<◌, ◌≤◌, ◌^◌, ◌||◌, ◌++◌, ℕ, IfOk, IfSome, IsTrue, OnOk, length, option_map, slice_get};
+ghost use Rattle.std.specs.Prelude.{◌≡◌, ◌<◌, ◌≤◌, ◌^◌, ◌||◌, ◌++◌, ℕ, IfOk, IfSome, IsTrue, OnOk, codes, length, option_map, slice_get};
 ghost use Rattle.std.specs.List.{flat_map};
 ghost use Rattle.std.specs.String.{string_bytes};
 ghost use Rattle.mutator_asm.specs.Labels.{KnowsTargets};
@@ -38,13 +38,21 @@ fn targets(alloc: Global, section: &[Instr]) -> Result<Vec<bool>, NoMemory>
     Ok(targets)
 }
 
-/// Adds the line of an instruction, behind its label where a jump leads to it.
-fn push_instr(out: &mut String, k: usize, is_target: bool, instr: Instr) -> Result<(), NoMemory>
-    ensures { OnOk result (string_bytes out.new ≡ string_bytes out.old ++ line_text (label_if is_target k ++ instr_tokens instr)) }
+/// Adds the label of a number before an instruction, where a jump leads to it.
+fn push_label(out: &mut String, k: usize, is_target: bool) -> Result<(), NoMemory>
+    ensures { OnOk result (string_bytes out.new ≡ string_bytes out.old ++ flat_map (λ label. label ++ codes " ") (label_if is_target k)) }
 {
     if is_target {
         write!(out, "L{k}: ")?;
     }
+    Ok(())
+}
+
+/// Adds the line of an instruction, behind its label where a jump leads to it.
+fn push_instr(out: &mut String, k: usize, is_target: bool, instr: Instr) -> Result<(), NoMemory>
+    ensures { OnOk result (string_bytes out.new ≡ string_bytes out.old ++ line_text (label_if is_target k ++ instr_tokens instr)) }
+{
+    push_label(out, k, is_target)?;
     writeln!(out, "{instr}")?;
     Ok(())
 }
