@@ -1,6 +1,6 @@
 //! The lines of a text, and what one line says.
 
-ghost use Rattle.std.specs.Prelude.{◌≡◌, ◌==◌, IfOk};
+ghost use Rattle.std.specs.Prelude.{◌≡◌, ◌==◌, ◌∷◌, IfOk};
 ghost use Rattle.std.specs.List.{slice_split};
 ghost use Rattle.mutator_asm.specs.Instr.{instr_of};
 ghost use Rattle.mutator_asm.specs.Line.{jump_of, register_jump_of, jz_of, jal_of, does_or, named_of, labelled_of, begins_of, schedules_of, plain, line_with, line_from, line_of, lines_of};
@@ -225,17 +225,30 @@ fn other<'a>(first: &'a [u8], rest: &[&'a [u8]]) -> Line<'a>
     }
 }
 
+/// A line, from its first token and the others.
+fn line_by_first<'a>(
+    alloc: Global,
+    first: &'a [u8],
+    rest: &[&'a [u8]],
+) -> Result<Line<'a>, AllocError>
+    ensures { IfOk result (λ l. line_view l ≡ line_from (first.now ∷ tokens_view rest.now)) }
+{
+    if first == b".mutator".as_slice() {
+        return Ok(plain(begins(rest)));
+    }
+    if first == b".schedule".as_slice() {
+        return Ok(plain(schedules(alloc, rest)?));
+    }
+    Ok(other(first, rest))
+}
+
 /// What the tokens of a line say.
 fn line_from<'a>(alloc: Global, tokens: &[&'a [u8]]) -> Result<Line<'a>, AllocError>
     ensures { IfOk result (λ l. line_view l ≡ line_from (tokens_view tokens.now)) }
 {
     match tokens {
         [] => Ok(plain(Word::Nothing)),
-        [first, rest @ ..] if *first == b".mutator".as_slice() => Ok(plain(begins(rest))),
-        [first, rest @ ..] if *first == b".schedule".as_slice() => {
-            Ok(plain(schedules(alloc, rest)?))
-        }
-        [first, rest @ ..] => Ok(other(first, rest)),
+        [first, rest @ ..] => line_by_first(alloc, first, rest),
     }
 }
 
