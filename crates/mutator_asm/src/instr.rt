@@ -6,7 +6,7 @@ use std::fmt;
 
 /// An instruction, its operands in the order of the text. A register is its number, 0 to 7. A jump's
 /// target is the number of an instruction in the same section, or the section's length.
-#[derive(Clone, Copy, Debug, PartialEq, Eq)]
+#[derive(Clone, Copy, PartialEq, Eq)]
 pub enum Instr {
     /// `li rd k`: rd becomes the number k.
     Li(u8, u64),
@@ -136,5 +136,12 @@ impl fmt::Display for Instr {
             Instr::Put(x, a) => two(f, name, x, Reg(a)),
             Instr::Halt => f.write_str(name),
         }
+    }
+}
+
+/// Shows an instruction as it is listed.
+impl fmt::Debug for Instr {
+    fn fmt<W: fmt::Write>(&self, f: &mut fmt::Formatter<W>) -> fmt::Result {
+        fmt::Display::fmt(self, f)
     }
 }
