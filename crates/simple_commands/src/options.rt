@@ -1,8 +1,9 @@
 //! Options, operands and flags, as rows of tables that both the command and its readers cite.
 
-ghost use Rattle.std.specs.Prelude.{◌≡◌, ◌++◌, [], ◌∷◌, IfOk, false, map, pos};
+ghost use Rattle.std.specs.Prelude.{◌≡◌, ◌++◌, List, [], ◌∷◌, IfOk, false, map, pos};
 ghost use Rattle.clap.specs.Matches.{found_of};
-ghost use Rattle.clap.specs.Walk.{rows_of, texts};
+ghost use Rattle.clap.specs.Simple.{App};
+ghost use Rattle.clap.specs.Walk.{Rule, rows_of, texts};
 ghost use Rattle.clap.specs.Words.{app_of, rule_of};
 ghost use Rattle.clap.specs.declared.builder.Command.TheViews.{out-Command};
 ghost use Rattle.clap.specs.declared.builder.value_parser.ValueParser.TheVariants as vp;
@@ -106,14 +107,18 @@ fn flag<'a>(alloc: Global, name: &'a str) -> Arg<'a>
     Arg::new(alloc, name).long(name).action(ArgAction::SetTrue)
 }
 
-/// Adds an argument to a command.
-fn add<'a>(command: Command<'a>, arg: Arg<'a>) -> Result<Command<'a>, AllocError>
-    requires command { (out-Command command).has_globals ≡ false }
+/// Adds an argument to a command, unless one before it could not be added.
+fn add<'a>(
+    command: Result<Command<'a>, AllocError>,
+    arg: Arg<'a>,
+) -> Result<Command<'a>, AllocError>
+    requires command { IfOk command (λ r. (out-Command r).has_globals ≡ false) }
     requires arg { arg.global ≡ false }
-    ensures app { IfOk result (λ r. app_of r ≡ with_rules (app_of command.entry) (rule_of arg.entry ∷ [])) }
+    ensures app { (a : App) (rules : List Rule) → IfOk command.entry (λ r. app_of r ≡ with_rules a rules)
+        → IfOk result (λ r. app_of r ≡ with_rules a (rules ++ rule_of arg.entry ∷ [])) }
     ensures local { IfOk result (λ r. (out-Command r).has_globals ≡ false) }
 {
-    command.arg(arg)
+    command?.arg(arg)
 }
 
 /// Adds the options and flags of tables to a command.
@@ -128,17 +133,17 @@ pub fn add_options<'a>(
     ensures app { IfOk result (λ r. app_of r ≡ with_rules (app_of command.entry) (rules_of (map row_of numbers.now) (texts wide.now) (texts flags.now))) }
     ensures local { IfOk result (λ r. (out-Command r).has_globals ≡ false) }
 {
-    let mut command = command;
+    let mut command = Ok(command);
     for option in numbers {
-        command = add(command, number_option(alloc, *option))?;
+        command = add(command, number_option(alloc, *option));
     }
     for name in wide {
-        command = add(command, wide_option(alloc, name))?;
+        command = add(command, wide_option(alloc, name));
     }
     for flag_name in flags {
-        command = add(command, flag(alloc, flag_name))?;
+        command = add(command, flag(alloc, flag_name));
     }
-    Ok(command)
+    command
 }
 
 /// Adds the operands of tables to a command. Their words stand in this order.
@@ -152,12 +157,12 @@ pub fn add_operands<'a>(
     ensures app { IfOk result (λ r. app_of r ≡ with_rules (app_of command.entry) (operand_rules_of (map row_of numbers.now) (texts wide.now))) }
     ensures local { IfOk result (λ r. (out-Command r).has_globals ≡ false) }
 {
-    let mut command = command;
+    let mut command = Ok(command);
     for row in numbers {
-        command = add(command, number_operand(alloc, *row))?;
+        command = add(command, number_operand(alloc, *row));
     }
     for name in wide {
-        command = add(command, wide_operand(alloc, name))?;
+        command = add(command, wide_operand(alloc, name));
     }
-    Ok(command)
+    command
 }

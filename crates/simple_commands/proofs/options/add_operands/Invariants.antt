@@ -1,4 +1,5 @@
 use Rattle.std.proofs.Common.{◌≡◌, ◌++◌, false, map, take}
+use Rattle.std.specs.Prelude.{IfOk}
 use Rattle.clap.specs.Walk.{texts}
 use Rattle.clap.specs.Words.{app_of}
 use Rattle.clap.specs.declared.builder.Command.TheViews.{out-Command}
@@ -8,12 +9,12 @@ use Rattle.simple_commands.proofs.options.add_operands.Given as goal
 -- the rows so far are added
 abbrev pub invariant-loop-row : goal.invariant-loop-row
 invariant-loop-row l = record {
-  app : app_of l.command ≡ with_rules (app_of l.fn.command) (map number_operand (map row_of (take l.row-index l.numbers)));
-  local : (out-Command l.command).has_globals ≡ false;
+  app : IfOk l.command (λ r. app_of r ≡ with_rules (app_of l.fn.command) (map number_operand (map row_of (take l.row-index l.numbers))));
+  local : IfOk l.command (λ r. (out-Command r).has_globals ≡ false);
 }
 
 abbrev pub invariant-loop-name : goal.invariant-loop-name
 invariant-loop-name l = record {
-  app : app_of l.command ≡ with_rules (app_of l.fn.command) (map number_operand (map row_of l.numbers) ++ map wide_operand (texts (take l.name-index l.wide)));
-  local : (out-Command l.command).has_globals ≡ false;
+  app : IfOk l.command (λ r. app_of r ≡ with_rules (app_of l.fn.command) (map number_operand (map row_of l.numbers) ++ map wide_operand (texts (take l.name-index l.wide))));
+  local : IfOk l.command (λ r. (out-Command r).has_globals ≡ false);
 }
