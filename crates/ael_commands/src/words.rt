@@ -1,8 +1,10 @@
 //! The words of the command line, read to a job.
 
-ghost use Rattle.std.specs.Prelude.{◌≡◌, Err, IfOk, IfSome, OnOk, map, option_map, string_bytes, true, false};
+ghost use Rattle.std.specs.Prelude.{◌≡◌, Err, IfOk, IfSome, OnOk, Some, map, option_map, string_bytes, true, false};
+ghost use Rattle.clap.specs.Matches.{found_of};
 ghost use Rattle.clap.specs.Simple.{subcommand_of, subcommand_rows_of};
 ghost use Rattle.clap.specs.Takes.{takes};
+ghost use Rattle.clap.specs.Walk.{rows_of};
 ghost use Rattle.simple_commands.specs.declared.parsing.WordsError.TheVariants.{Refused};
 ghost use Rattle.ael_commands.specs.CommandLine.{ael_app};
 ghost use Rattle.ael_commands.specs.Words.{job_from, job_of, IsInRange, IsKnown};
@@ -16,25 +18,29 @@ use clap::ArgMatches;
 use simple_commands::{WordsError, parse};
 use std::alloc::Global;
 
+/// The job of a subcommand, by its name and what was given for it.
+fn job_named(name: &str, given: &ArgMatches) -> Option<Job>
+    requires { IsKnown (name.now, rows_of (found_of given.now)) }
+    ensures value { result ≡ Some (job_from (name.now, rows_of (found_of given.now))) }
+    ensures range { IfSome result IsInRange }
+{
+    match name {
+        "asm" => Some(Job::Asm),
+        "sim" => Some(Job::Sim(SimOptions::given(given))),
+        "run" => Some(Job::Run(RunOptions::given(given))),
+        "bench" => Some(Job::Bench(BenchOperands::given(given))),
+        _ => None,
+    }
+}
+
 /// The job of the subcommand that was used.
 fn job_in(matches: &ArgMatches) -> Option<Job>
     requires { IfSome (subcommand_rows_of matches.now) IsKnown }
     ensures value { result ≡ option_map job_from (subcommand_rows_of matches.now) }
     ensures range { IfSome result IsInRange }
 {
-    if matches.subcommand_matches("asm").is_some() {
-        return Some(Job::Asm);
-    }
-    if let Some(sim) = matches.subcommand_matches("sim") {
-        return Some(Job::Sim(SimOptions::given(sim)));
-    }
-    if let Some(run) = matches.subcommand_matches("run") {
-        return Some(Job::Run(RunOptions::given(run)));
-    }
-    if let Some(bench) = matches.subcommand_matches("bench") {
-        return Some(Job::Bench(BenchOperands::given(bench)));
-    }
-    None
+    let (name, given) = matches.subcommand()?;
+    job_named(name, given)
 }
 
 /// What `clap` finds in the words.
