@@ -1,7 +1,7 @@
 -- Why an answer is what it is.
 use Rattle.std.proofs.Common.{◌≡◌, ◌≢◌, List, [], ℕ, true, Option, Some, refl, sym, ap, ◌∙◌, subst, inl, inr}
-use Rattle.std.specs.Prelude.{◌⊎◌, Result, Ok, Err, IfErr, IsErrAnd}
-use Rattle.std.specs.Result.{ForOk}
+use Rattle.std.specs.Prelude.{◌⊎◌, Result, Ok, Err, IfOk, IfErr, IsErrAnd}
+use Rattle.std.specs.Result.{ForOk, MatchResult}
 use Rattle.std.proofs.lemmas.Bool.{true≢false}
 use Rattle.simple_commands.specs.declared.parsing.WordsError.{WordsError}
 use Rattle.simple_commands.specs.declared.parsing.WordsError.TheVariants as words
@@ -41,6 +41,18 @@ wanting_if_waiting asked (Err words.NoMemory) is still waits = refl
 pub passed_on : {T : Type 0} (P : Status → Type 0) (r : Result T Status) (e : Status) → IsErrAnd r (λ x. x ≡ e) → P e → IfErr r P
 passed_on P (Ok x) e is p = tt
 passed_on P (Err x) e is p = subst P (sym is) p
+
+-- what holds of what was made holds of what is told of it
+pub kept_ok : {X E : Type 0} (P Q : X → Type 0) (made : Result X E) (r : Result X Status) → MatchResult made (λ x. r ≡ Ok x) (λ _. r ≡ Err NoMemory)
+    → ((x : X) → P x → Q x) → IfOk made P → IfOk r Q
+kept_ok P Q (Ok x) r is weaker p = subst (λ r. IfOk r Q) (sym is) (weaker x p)
+kept_ok P Q (Err e) r is weaker p = subst (λ r. IfOk r Q) (sym is) tt
+
+-- and where nothing was made, there was no memory
+pub none_made : {X E : Type 0} (job : Job) (source : Drawn) (made : Result X E) (r : Result X Status) → MatchResult made (λ x. r ≡ Ok x) (λ _. r ≡ Err NoMemory)
+    → IfErr r (IsCaused job source [])
+none_made job source (Ok x) r is = subst (λ r. IfErr r (IsCaused job source [])) (sym is) tt
+none_made job source (Err e) r is = subst (λ r. IfErr r (IsCaused job source [])) (sym is) (OutOfMemory refl refl)
 
 -- the answer to a job on a program that is read, where there is none
 pub unfit : (job : Job) (source : Drawn) (status : Status) → (task_of job).reads ≡ Everything → IsUnfit source status → IsCaused job source [] status

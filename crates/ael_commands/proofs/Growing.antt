@@ -1,8 +1,10 @@
 -- Bytes that were written in pieces.
 use Rattle.std.proofs.Common.{◌≤◌, ◌+◌, ◌≡◌, ℕ, List, [], ◌∷◌, ◌++◌, length, take, drop, refl, sym, ap, append_assoc, append-nil, ◌∙◌, subst, arith}
-use Rattle.std.specs.Prelude.{Option, Some, None, Result, Ok, Err, OnOk}
+use Rattle.std.specs.Prelude.{◌<◌, IfSome, Option, Some, None, Result, Ok, Err, OnOk}
 use Rattle.std.proofs.lemmas.List.{take-append-drop, length-append, length-take}
 use Rattle.std.proofs.Math.Seq.{take-append_seam}
+use Rattle.ael_commands.specs.declared.reading.TheConstants.{MAX_INPUT}
+use Rattle.ael_commands.specs.Input.{IsPastLimit, IsReadToEnd}
 use Rattle.ael_commands.specs.Stream.{Gives, Grows, GrowsByPrefix, IsFront}
 
 -- the front of the bytes was taken, and the rest was not
@@ -50,3 +52,13 @@ front_more old (Some left) new bytes buf n front gives = rw (gives.2, gives.1, a
 -- and is no more than was asked for
 pub few_more : (bytes buf : List ℕ) (n room limit : ℕ) → n ≤ room → room + length bytes ≤ limit → length (bytes ++ take n buf) ≤ limit
 few_more bytes buf n room limit within few = simp (length-append, length-take) (omega (arith, within, few))
+
+-- where nothing is left, all of them came
+pub all_came : (old new : Option (List ℕ)) (bytes : List ℕ) → IsFront old bytes new → IsReadToEnd new → IfSome old (λ all. bytes ≡ all)
+all_came old None bytes front ended = rw front tt
+all_came old (Some rest) bytes front ended = rw (front, ended) (sym (append-nil bytes))
+
+-- where more came than an input may have, more were to come
+pub past_limit : (old new : Option (List ℕ)) (bytes : List ℕ) → IsFront old bytes new → MAX_INPUT < length bytes → IsPastLimit old
+past_limit old None bytes front long = rw front tt
+past_limit old (Some rest) bytes front long = rw front (simp length-append (omega (arith, long)))

@@ -1,6 +1,6 @@
 -- The command line of `ael`: what it takes, and what it then gives.
-use Rattle.std.proofs.Common.{◌≡◌, refl, sym, subst, List, Option, Some, None, inl, inr}
-use Rattle.std.specs.Prelude.{IfSome, IsTrue}
+use Rattle.std.proofs.Common.{◌≡◌, ◌≢◌, refl, sym, subst, List, Option, Some, None, inl, inr}
+use Rattle.std.specs.Prelude.{IfSome, IsTrue, codes}
 use Rattle.clap.specs.Simple.{App}
 use Rattle.clap.specs.Walk.{Row, Text}
 use Rattle.simple_commands.specs.Exact.{is_exact}
@@ -26,3 +26,10 @@ known a (Some p) is h = elim (subst (λ (x : App). IsSubcommandOf x p) is h) [
     ]
   ]
 ]
+
+-- and have no other names
+pub never_another : (p : Text × List Row) → IsKnown p → p.0 ≢ codes "asm" → p.0 ≢ codes "sim" → p.0 ≢ codes "run" → p.0 ≢ codes "bench" → ⊥
+never_another p (inl asm) not_asm not_sim not_run not_bench = not_asm asm
+never_another p (inr (inl sim)) not_asm not_sim not_run not_bench = not_sim sim.0
+never_another p (inr (inr (inl run))) not_asm not_sim not_run not_bench = not_run run.0
+never_another p (inr (inr (inr bench))) not_asm not_sim not_run not_bench = not_bench bench.0

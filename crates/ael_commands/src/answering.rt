@@ -1,7 +1,7 @@
 //! What is answered to the words, by the job that they ask for.
 
-ghost use Rattle.std.specs.Prelude.{◌≡◌, ◌≢◌, ℕ, List, [], Err, IfOk, IfErr, Option, Some, true};
-ghost use Rattle.std.specs.Result.{ForOk};
+ghost use Rattle.std.specs.Prelude.{◌≡◌, ◌≢◌, ℕ, List, [], Ok, Err, IfOk, IfErr, Option, Some, true};
+ghost use Rattle.std.specs.Result.{ForOk, MatchResult};
 ghost use Rattle.mutator_asm.specs.Text.{IsText};
 ghost use Rattle.ael_commands.specs.declared.job.Job.{Job};
 ghost use Rattle.ael_commands.specs.declared.job.Job.TheVariants.{Run};
@@ -85,7 +85,7 @@ fn wait_for<R: Threads + Wait + Sync, S: Source>(
     ensures drawn { IsDrawnFor (Some (Run options)) (drawn S.Source src.old src.new) }
     ensures counted { result ≢ Err ReadFault → S.faults src.new ≡ S.faults src.old }
 {
-    Ok(run(rt, alloc, &read_program(alloc, src)?, options)?)
+    or_no_memory(run(rt, alloc, &read_program(alloc, src)?, options))
 }
 
 /// The answer to a job that waits for nobody.
@@ -98,8 +98,8 @@ fn work<S: Source>(alloc: Global, job: Job, src: &mut S) -> Result<Answer, Statu
     ensures counted { result ≢ Err ReadFault → S.faults src.new ≡ S.faults src.old }
 {
     match job {
-        Job::Bench(operands) => Ok(bench(alloc, operands)?),
-        job => Ok(make(alloc, &read_program(alloc, src)?, job)?),
+        Job::Bench(operands) => or_no_memory(bench(alloc, operands)),
+        job => or_no_memory(make(alloc, &read_program(alloc, src)?, job)),
     }
 }
 
@@ -117,6 +117,13 @@ fn make(alloc: Global, program: &Program, job: Job) -> Result<Answer, plain_heap
         Job::Bench(_) => unreachable!("it reads no program"),
         Job::Run(_) => unreachable!("it waits for threads"),
     }
+}
+
+/// What was made, or how it is told that there was no memory for it.
+fn or_no_memory(made: Result<Answer, plain_heap::NoMemory>) -> Result<Answer, Status>
+    ensures { MatchResult made (λ answer. result ≡ Ok answer) (λ _. result ≡ Err NoMemory) }
+{
+    Ok(made?)
 }
 
 /// The program whose text is the input.

@@ -3,7 +3,7 @@
 ghost use Rattle.std.specs.Prelude.{◌≡◌, ◌++◌, [], OnOk, if◌then◌else◌, string_bytes};
 ghost use Rattle.plain_heap.specs.Print.{order_line};
 ghost use Rattle.dump_text.specs.Text.{dump_text};
-ghost use Rattle.ael_commands.specs.Told.{cycles_line, heap_lines};
+ghost use Rattle.ael_commands.specs.Told.{cycles_line, heap_lines, live_text};
 
 use crate::dump::push_dump;
 use crate::options::RunOptions;
@@ -20,17 +20,33 @@ pub fn push_order_if(out: &mut String, flag: bool, order: &[Mark]) -> Result<(),
     Ok(())
 }
 
-/// Adds how often the spaces were exchanged and the words that were copied since, where that is asked
-/// for.
+/// Adds how many words were copied since the spaces were last exchanged, where all are.
+fn push_live(out: &mut String, live: Option<u64>) -> Result<(), NoMemory>
+    ensures { OnOk result (string_bytes out.new ≡ string_bytes out.old ++ live_text live) }
+{
+    match live {
+        Some(live) => write!(out, "{live}")?,
+        None => out.push('-')?,
+    }
+    Ok(())
+}
+
+/// Adds how often the spaces were exchanged and the words that were copied since.
+fn push_cycles<H: Report>(out: &mut String, heap: &H) -> Result<(), NoMemory>
+    ensures { OnOk result (string_bytes out.new ≡ string_bytes out.old ++ cycles_line (H.told heap.now)) }
+{
+    write!(out, "cycles {} live ", heap.cycles())?;
+    push_live(out, heap.live_words())?;
+    out.push('\n')?;
+    Ok(())
+}
+
+/// Adds the line of the cycles, where it is asked for.
 fn push_cycles_if<H: Report>(out: &mut String, flag: bool, heap: &H) -> Result<(), NoMemory>
     ensures { OnOk result (string_bytes out.new ≡ string_bytes out.old ++ (if flag then cycles_line (H.told heap.now) else [])) }
 {
     if flag {
-        let cycles = heap.cycles();
-        match heap.live_words() {
-            Some(live) => writeln!(out, "cycles {cycles} live {live}")?,
-            None => writeln!(out, "cycles {cycles} live -")?,
-        }
+        push_cycles(out, heap)?;
     }
     Ok(())
 }
