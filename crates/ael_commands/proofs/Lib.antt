@@ -1,6 +1,7 @@
 pub mod Hex
 pub mod Causes
 pub mod Growing
+pub mod Known
 pub mod Rounds
 pub mod Seeing
 pub mod Simulating

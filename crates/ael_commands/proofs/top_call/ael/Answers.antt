@@ -25,3 +25,24 @@ returns-in-None-clause-prints g c = (holds g c).prints
 
 pub returns-in-None-clause-always_the_same : goal.returns-in-None-clause-always_the_same
 returns-in-None-clause-always_the_same g c = (holds g c).always_the_same
+
+pub returns-in-None-clause-headline : goal.returns-in-None-clause-headline
+returns-in-None-clause-headline g c = (holds g c).answered
+
+pub returns-in-None-clause-lists : goal.returns-in-None-clause-lists
+returns-in-None-clause-lists g c = (holds g c).lists
+
+pub returns-in-Some-clause-headline : goal.returns-in-Some-clause-headline
+returns-in-Some-clause-headline g c = c.in-Some.ensures.holds.answered
+
+pub returns-in-Some-clause-complete : goal.returns-in-Some-clause-complete
+returns-in-Some-clause-complete g c = c.in-Some.ensures.holds.complete
+
+pub returns-in-Some-clause-prints : goal.returns-in-Some-clause-prints
+returns-in-Some-clause-prints g c = c.in-Some.ensures.holds.prints
+
+pub returns-in-Some-clause-lists : goal.returns-in-Some-clause-lists
+returns-in-Some-clause-lists g c = c.in-Some.ensures.holds.lists
+
+pub returns-in-Some-clause-always_the_same : goal.returns-in-Some-clause-always_the_same
+returns-in-Some-clause-always_the_same g c = c.in-Some.ensures.holds.always_the_same
