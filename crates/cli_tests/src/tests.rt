@@ -13,7 +13,7 @@ mod texts;
 mod threads;
 mod words;
 
-use self::rows::{Row, check_long_rows, check_rows};
+use self::rows::{check_long_rows, check_row, check_rows, number_before};
 use ael_commands::{MemSink, MemSource, ael, sure_status};
 use mutator_asm::{Program, assemble};
 use plain_heap::{Mark, PlainState, plain_run, plain_step, print};
@@ -54,27 +54,69 @@ fn same(name: &str, part: &str, found: &[u8], wanted: &[u8]) -> Result<(), Fail>
     Err(Fail::new(format_args!("{part} of {name}: {found:?}, not {wanted:?}")))
 }
 
+/// Fails where a status isn't what was wanted.
+fn same_status(name: &str, found: u8, wanted: u8) -> Result<(), Fail> {
+    if found == wanted {
+        return Ok(());
+    }
+    Err(Fail::new(format_args!("status of {name}: {found}, not {wanted}")))
+}
+
+/// What a call is to write, and its status.
+#[derive(Clone, Copy)]
+struct Wanted<'a> {
+    out: &'a [u8],
+    err: &'a [u8],
+    status: u8,
+}
+
 impl Outcome {
     /// Fails where the call didn't write this or hasn't this status.
-    fn check(&self, name: &str, out: &[u8], err: &[u8], status: u8) -> Result<(), Fail> {
-        same(name, "out", self.out.bytes(), out)?;
-        same(name, "err", self.err.bytes(), err)?;
-        if self.status == status {
-            return Ok(());
-        }
-        let found = self.status;
-        Err(Fail::new(format_args!("status of {name}: {found}, not {status}")))
+    fn check(&self, name: &str, wanted: Wanted) -> Result<(), Fail> {
+        same(name, "out", self.out.bytes(), wanted.out)?;
+        same(name, "err", self.err.bytes(), wanted.err)?;
+        same_status(name, self.status, wanted.status)
     }
+}
+
+/// A word of a line.
+fn word_of(alloc: Global, word: &str) -> Result<String, Fail> {
+    let word = word.replace(alloc, "''", "")?;
+    Ok(word.replace(alloc, '_', " ")?)
 }
 
 /// The words that spaces separate. An empty word is '', and a space in a word is _.
 fn words_of(alloc: Global, line: &str) -> Result<Vec<String>, Fail> {
     let mut words = Vec::new(alloc);
     for word in line.split_whitespace() {
-        let word = word.replace(alloc, "''", "")?;
-        words.push(word.replace(alloc, '_', " ")?)?;
+        words.push(word_of(alloc, word)?)?;
     }
     Ok(words)
+}
+
+/// A source that gives this text, of which a read fails.
+fn source(alloc: Global, text: &str, fails: u64) -> Result<MemSource, Fail> {
+    let input = Vec::from_slice(alloc, text.as_bytes())?;
+    Ok(MemSource::new(input, Vec::from_slice(alloc, &[fails])?))
+}
+
+/// A sink with room for so many bytes.
+fn sink(alloc: Global, room: usize) -> Result<MemSink, Fail> {
+    Ok(MemSink::new(alloc, room, Vec::new(alloc))?)
+}
+
+/// Calls `ael` with these words, over this source and sinks with room for so many bytes.
+fn call_over<R: Threads + Wait + Sync>(
+    rt: &R,
+    alloc: Global,
+    words: &[String],
+    src: &mut MemSource,
+    limits: Limits,
+) -> Result<Outcome, Fail> {
+    let mut out = sink(alloc, limits.out)?;
+    let mut err = sink(alloc, limits.err)?;
+    let status = ael(rt, alloc, words, src, &mut out, &mut err);
+    Ok(Outcome { out, err, status })
 }
 
 /// Calls `ael` with these words, a source that gives this text, and ends with these limits.
@@ -86,12 +128,8 @@ fn call<R: Threads + Wait + Sync>(
     limits: Limits,
 ) -> Result<Outcome, Fail> {
     let words = words_of(alloc, line)?;
-    let input = Vec::from_slice(alloc, text.as_bytes())?;
-    let mut src = MemSource::new(input, Vec::from_slice(alloc, &[limits.read])?);
-    let mut out = MemSink::new(alloc, limits.out, Vec::new(alloc))?;
-    let mut err = MemSink::new(alloc, limits.err, Vec::new(alloc))?;
-    let status = ael(rt, alloc, &words, &mut src, &mut out, &mut err);
-    Ok(Outcome { out, err, status })
+    let mut src = source(alloc, text, limits.read)?;
+    call_over(rt, alloc, &words, &mut src, limits)
 }
 
 const FIRST: &str = ".mutator\nli r1 7\nnew r0 2\nst r0 1 r1\nld r2 r0 1\nout r2\nhalt\n";
@@ -125,14 +163,20 @@ fn calls_give_what_they_should(rt: HostRuntime) -> Result<(), Fail> {
     Ok(())
 }
 
+/// Makes the calls of a lone mutator with other words before each row's options.
+fn check_lone<R: Threads + Wait + Sync>(
+    rt: &R,
+    alloc: Global,
+    table: &str,
+    words: &str,
+) -> Result<(), Fail> {
+    check_rows(rt, alloc, &table.replace(alloc, "|sim ", words)?)
+}
+
 #[test]
 fn a_lone_mutator_sees_no_scanners(rt: HostRuntime) -> Result<(), Fail> {
     for words in ["|sim ", "|sim --scanners 0 ", "|sim --scanners 8 "] {
-        check_rows(
-            &rt,
-            rt.alloc(),
-            &collecting::LONE.replace(rt.alloc(), "|sim ", words)?,
-        )?;
+        check_lone(&rt, rt.alloc(), collecting::LONE, words)?;
     }
     Ok(())
 }
@@ -140,11 +184,11 @@ fn a_lone_mutator_sees_no_scanners(rt: HostRuntime) -> Result<(), Fail> {
 /// Nor on threads, whose order can't be told.
 #[test]
 fn a_lone_mutator_sees_no_threads(rt: HostRuntime) -> Result<(), Fail> {
-    for words in ["|run ", "|run --scanners 0 ", "|run --scanners 8 "] {
-        for row in collecting::LONE.split('\n') {
-            if !row.contains("--order") {
-                check_rows(&rt, rt.alloc(), &row.replace(rt.alloc(), "|sim ", words)?)?;
-            }
+    for row in collecting::LONE.split('\n') {
+        if !row.contains("--order") {
+            check_lone(&rt, rt.alloc(), row, "|run ")?;
+            check_lone(&rt, rt.alloc(), row, "|run --scanners 0 ")?;
+            check_lone(&rt, rt.alloc(), row, "|run --scanners 8 ")?;
         }
     }
     Ok(())
@@ -183,20 +227,24 @@ const ENDS: &str = "\
 0|3|7|both sinks fail|sim|.mutator/li r1 7/new r0 2/st r0 1 r1/ld r2 r0 1/out r2/halt/|0: |ael: wr|6
 0|3|17|out fails, and err has just enough room|sim|.mutator/li r1 7/new r0 2/st r0 1 r1/ld r2 r0 1/out r2/halt/|0: |ael: write fault/|6";
 
+/// The limits that stand before a row, and the row.
+fn limits_before(line: &str) -> Result<(Limits, &str), Fail> {
+    let (read, rest) = number_before(line)?;
+    let (out, rest) = number_before(rest)?;
+    let (err, row) = number_before(rest)?;
+    let limits = Limits {
+        read,
+        out: out as usize,
+        err: err as usize,
+    };
+    Ok((limits, row))
+}
+
 #[test]
 fn ends_that_fail_are_told(rt: HostRuntime) -> Result<(), Fail> {
     for line in ENDS.split('\n') {
-        let (read, rest) = line
-            .split_once('|')
-            .ok_or("the read that fails is missing")?;
-        let (out, rest) = rest.split_once('|').ok_or("the room of out is missing")?;
-        let (err, row) = rest.split_once('|').ok_or("the room of err is missing")?;
-        let limits = Limits {
-            read: read.parse::<u64>()?,
-            out: out.parse::<usize>()?,
-            err: err.parse::<usize>()?,
-        };
-        Row::read(rt.alloc(), row)?.check(&rt, rt.alloc(), limits)?;
+        let (limits, row) = limits_before(line)?;
+        check_row(&rt, rt.alloc(), row, limits)?;
     }
     Ok(())
 }
@@ -205,8 +253,8 @@ fn ends_that_fail_are_told(rt: HostRuntime) -> Result<(), Fail> {
 fn sure_ends_never_fail(rt: HostRuntime) -> Result<(), Fail> {
     let words = words_of(rt.alloc(), "sim")?;
     let first = Vec::from_slice(rt.alloc(), FIRST.as_bytes())?;
-    assert_eq!(rt; sure_status(&rt, rt.alloc(), &words, first), 0);
-    Ok(())
+    let status = sure_status(&rt, rt.alloc(), &words, first);
+    same_status("sure ends", status, 0)
 }
 
 /// What the plain machine prints after so many steps of mutator 0.
@@ -218,13 +266,25 @@ fn stepped(alloc: Global, program: &Program, steps: u32) -> Result<Vec<u8>, Fail
     Ok(print(alloc, &state)?)
 }
 
+/// What the first text prints.
+const FIRST_PRINTED: &[u8] = b"0: 7\n0: halt\n";
+
+/// Fails where the steps of the first text print anything else.
+fn check_steps(alloc: Global, program: &Program) -> Result<(), Fail> {
+    let stepped = stepped(alloc, program, 6)?;
+    same("steps", "out", &stepped, FIRST_PRINTED)
+}
+
+/// Fails where a run of the first text prints anything else.
+fn check_run(alloc: Global, program: &Program) -> Result<(), Fail> {
+    let run = plain_run(alloc, program, 1_000_000, &[Mark::Step(0); 6])?;
+    let printed = print(alloc, &run)?;
+    same("a run", "out", &printed, FIRST_PRINTED)
+}
+
 #[test]
 fn the_plain_machine_prints_the_same(rt: HostRuntime) -> Result<(), Fail> {
-    let alloc = rt.alloc();
-    let program = assemble(alloc, FIRST.as_bytes())?;
-    let stepped = stepped(alloc, &program, 6)?;
-    same("steps", "out", &stepped, b"0: 7\n0: halt\n")?;
-    let run = plain_run(alloc, &program, 1_000_000, &[Mark::Step(0); 6])?;
-    let printed = print(alloc, &run)?;
-    same("a run", "out", &printed, b"0: 7\n0: halt\n")
+    let program = assemble(rt.alloc(), FIRST.as_bytes())?;
+    check_steps(rt.alloc(), &program)?;
+    check_run(rt.alloc(), &program)
 }

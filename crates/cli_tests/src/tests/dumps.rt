@@ -1,6 +1,7 @@
 //! The dump of a run.
 
-use super::{AMPLE, FIRST, call};
+use super::rows::Row;
+use super::{AMPLE, FIRST};
 use std::alloc::Global;
 use std::test::Fail;
 
@@ -40,16 +41,23 @@ pub fn dump_lines(alloc: Global) -> Result<String, Fail> {
     Ok(lines)
 }
 
+/// What is printed, and the dump.
+fn printed(alloc: Global) -> Result<String, Fail> {
+    let mut printed = String::from_str(alloc, "0: 7\n0: halt\n")?;
+    printed.push_str(&dump_lines(alloc)?)?;
+    Ok(printed)
+}
+
 #[test]
 fn a_dump_has_each_word(rt: HostRuntime) -> Result<(), Fail> {
-    let mut wanted = String::from_str(rt.alloc(), "0: 7\n0: halt\n")?;
-    wanted.push_str(&dump_lines(rt.alloc())?)?;
-    let found = call(
-        &rt,
-        rt.alloc(),
-        "sim --pages 4 --scanners 0 --dump",
-        FIRST,
-        AMPLE,
-    )?;
-    found.check("a dump", wanted.as_bytes(), b"", 0)
+    let out = printed(rt.alloc())?;
+    let row = Row {
+        name: "a dump",
+        words: "sim --pages 4 --scanners 0 --dump",
+        text: FIRST,
+        out: &out,
+        err: "",
+        status: 0,
+    };
+    row.check(&rt, rt.alloc(), AMPLE)
 }

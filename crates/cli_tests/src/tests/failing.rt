@@ -1,8 +1,8 @@
 //! Reads and writes that fail at each place of a call.
 
 use super::dumps::dump_lines;
-use super::rows::Row;
-use super::{AMPLE, Limits, call};
+use super::rows::{Row, lines, number_before};
+use super::{AMPLE, Limits, Wanted};
 use std::alloc::Global;
 use std::marker::Sync;
 use std::sync::Wait;
@@ -23,44 +23,96 @@ const ROWS: &str = "\
 0|the benchmark|bench 3 1||0: 8/0: halt/1: 8/1: halt/2: 8/2: halt/3: 8/3: halt/cycles 0 live 0/||0
 0|no seed|bench 3|||usage: ael asm, sim, run, concord or bench/|2";
 
-/// Each read fails in turn, and then out and err have room for each front of what they get.
+/// Each of so many reads fails in turn.
+fn check_reads<R: Threads + Wait + Sync>(
+    rt: &R,
+    alloc: Global,
+    row: &Row,
+    reads: u64,
+) -> Result<(), Fail> {
+    let wanted = Wanted {
+        out: b"",
+        err: b"ael: read fault\n",
+        status: 5,
+    };
+    for read in 1..=reads {
+        row.gives(rt, alloc, Limits { read, ..AMPLE }, wanted)?;
+    }
+    Ok(())
+}
+
+/// Out has room for each front of what it gets.
+fn check_outs<R: Threads + Wait + Sync>(rt: &R, alloc: Global, row: &Row) -> Result<(), Fail> {
+    let all = row.out.as_bytes();
+    for out in 0..all.len() {
+        let wanted = Wanted {
+            out: &all[..out],
+            err: b"ael: write fault\n",
+            status: 6,
+        };
+        row.gives(rt, alloc, Limits { out, ..AMPLE }, wanted)?;
+    }
+    Ok(())
+}
+
+/// Err has room for each front of what it gets.
+fn check_errs<R: Threads + Wait + Sync>(rt: &R, alloc: Global, row: &Row) -> Result<(), Fail> {
+    let line = row.err.as_bytes();
+    for err in 0..line.len() {
+        let wanted = Wanted {
+            out: row.out.as_bytes(),
+            err: &line[..err],
+            status: 6,
+        };
+        row.gives(rt, alloc, Limits { err, ..AMPLE }, wanted)?;
+    }
+    Ok(())
+}
+
+/// Each read fails in turn, then out and err have room for each front of what they get, and then just
+/// for all of it.
 fn check_ends<R: Threads + Wait + Sync>(
     rt: &R,
     alloc: Global,
     row: &Row,
     reads: u64,
 ) -> Result<(), Fail> {
-    for read in 1..=reads {
-        let found = call(rt, alloc, row.words, &row.text, Limits { read, ..AMPLE })?;
-        found.check(row.name, b"", b"ael: read fault\n", 5)?;
-    }
-    let (all, line) = (row.out.as_bytes(), row.err.as_bytes());
-    for out in 0..all.len() {
-        let found = call(rt, alloc, row.words, &row.text, Limits { out, ..AMPLE })?;
-        found.check(row.name, &all[..out], b"ael: write fault\n", 6)?;
-    }
-    for err in 0..line.len() {
-        let found = call(rt, alloc, row.words, &row.text, Limits { err, ..AMPLE })?;
-        found.check(row.name, all, &line[..err], 6)?;
-    }
+    check_reads(rt, alloc, row, reads)?;
+    check_outs(rt, alloc, row)?;
+    check_errs(rt, alloc, row)?;
     let limits = Limits {
         read: reads.saturating_add(1),
-        out: all.len(),
-        err: line.len(),
+        out: row.out.len(),
+        err: row.err.len(),
     };
     row.check(rt, alloc, limits)
 }
 
+/// The row, with the lines of a dump and with spaces in it.
+fn filled(alloc: Global, row: &str, dump: &str, spaces: &str) -> Result<String, Fail> {
+    let row = row.replace(alloc, '@', dump)?;
+    lines(alloc, &row.replace(alloc, '#', spaces)?)
+}
+
+/// Checks the ends of the row that is in a line.
+fn check_line<R: Threads + Wait + Sync>(
+    rt: &R,
+    alloc: Global,
+    line: &str,
+    dump: &str,
+    spaces: &str,
+) -> Result<(), Fail> {
+    let (reads, row) = number_before(line)?;
+    let row = filled(alloc, row, dump, spaces)?;
+    check_ends(rt, alloc, &Row::read(alloc, &row)?, reads)
+}
+
 #[test]
 fn each_read_and_each_byte_may_fail(rt: HostRuntime) -> Result<(), Fail> {
-    let alloc = rt.alloc();
-    let (dump, spaces) = (dump_lines(alloc)?, " ".repeat(alloc, 8192)?);
+    let dump = dump_lines(rt.alloc())?;
+    let spaces = " ".repeat(rt.alloc(), 8192)?;
     for line in ROWS.split('\n') {
-        let (reads, row) = line.split_once('|').ok_or("how often it reads is missing")?;
-        let row = row
-            .replace(alloc, '@', &dump)?
-            .replace(alloc, '#', &spaces)?;
-        check_ends(&rt, alloc, &Row::read(alloc, &row)?, reads.parse::<u64>()?)?;
+        check_line(&rt, rt.alloc(), line, &dump, &spaces)?;
     }
     Ok(())
 }

@@ -1,7 +1,7 @@
 //! What `asm` prints.
 
-use super::rows::{Row, long_row};
-use super::{AMPLE, call};
+use super::AMPLE;
+use super::rows::{Row, lines, long_row};
 use std::alloc::Global;
 use std::marker::Sync;
 use std::sync::Wait;
@@ -39,15 +39,25 @@ a word behind the command|asm x|.mutator/halt/||usage: ael asm, sim, run, concor
 the command twice|asm asm|.mutator/halt/||usage: ael asm, sim, run, concord or bench/|2
 an option of another command|asm --order|.mutator/halt/||usage: ael asm, sim, run, concord or bench/|2";
 
-/// Checks a row, and that the listing of a listing is itself.
-fn check_listing<R: Threads + Wait + Sync>(rt: &R, alloc: Global, row: &str) -> Result<(), Fail> {
-    let row = Row::read(alloc, row)?;
+/// Makes the call of a row, and checks that the listing of a listing is itself.
+fn check_listed<R: Threads + Wait + Sync>(rt: &R, alloc: Global, row: &Row) -> Result<(), Fail> {
     row.check(rt, alloc, AMPLE)?;
     if row.status != 0 {
         return Ok(());
     }
-    let again = call(rt, alloc, "asm", &row.out, AMPLE)?;
-    again.check(row.name, row.out.as_bytes(), b"", 0)
+    let again = Row {
+        words: "asm",
+        text: row.out,
+        err: "",
+        ..*row
+    };
+    again.check(rt, alloc, AMPLE)
+}
+
+/// Checks the listing that a row asks for.
+fn check_listing<R: Threads + Wait + Sync>(rt: &R, alloc: Global, row: &str) -> Result<(), Fail> {
+    let row = lines(alloc, row)?;
+    check_listed(rt, alloc, &Row::read(alloc, &row)?)
 }
 
 #[test]

@@ -1,6 +1,6 @@
 //! Tables of calls: each line is a row, with bars between its parts and slashes for line ends.
 
-use super::{AMPLE, Limits, call};
+use super::{AMPLE, Limits, Wanted, call};
 use std::alloc::Global;
 use std::marker::Sync;
 use std::sync::Wait;
@@ -8,19 +8,19 @@ use std::test::Fail;
 use std::thread::Threads;
 
 /// A call, and what it gives.
-#[derive(Drop)]
+#[derive(Clone, Copy)]
 pub struct Row<'a> {
     pub name: &'a str,
     pub words: &'a str,
-    pub text: String,
-    pub out: String,
-    pub err: String,
+    pub text: &'a str,
+    pub out: &'a str,
+    pub err: &'a str,
     pub status: u8,
 }
 
-/// A text whose line ends are slashes.
-fn lines(alloc: Global, text: &str) -> Result<String, Fail> {
-    Ok(text.replace(alloc, '/', "\n")?)
+/// A row, or a part of it, whose line ends are slashes.
+pub fn lines(alloc: Global, row: &str) -> Result<String, Fail> {
+    Ok(row.replace(alloc, '/', "\n")?)
 }
 
 impl<'a> Row<'a> {
@@ -34,11 +34,22 @@ impl<'a> Row<'a> {
         Ok(Row {
             name,
             words,
-            text: lines(alloc, text)?,
-            out: lines(alloc, out)?,
-            err: lines(alloc, err)?,
+            text,
+            out,
+            err,
             status: status.parse::<u8>()?,
         })
+    }
+
+    /// Makes the call with ends of these limits, and fails where it gives anything but this.
+    pub fn gives<R: Threads + Wait + Sync>(
+        &self,
+        rt: &R,
+        alloc: Global,
+        limits: Limits,
+        wanted: Wanted,
+    ) -> Result<(), Fail> {
+        call(rt, alloc, self.words, self.text, limits)?.check(self.name, wanted)
     }
 
     /// Makes the call, with ends of these limits.
@@ -48,14 +59,24 @@ impl<'a> Row<'a> {
         alloc: Global,
         limits: Limits,
     ) -> Result<(), Fail> {
-        let found = call(rt, alloc, self.words, &self.text, limits)?;
-        found.check(
-            self.name,
-            self.out.as_bytes(),
-            self.err.as_bytes(),
-            self.status,
-        )
+        let wanted = Wanted {
+            out: self.out.as_bytes(),
+            err: self.err.as_bytes(),
+            status: self.status,
+        };
+        self.gives(rt, alloc, limits, wanted)
     }
+}
+
+/// Makes the call of a row, with ends of these limits.
+pub fn check_row<R: Threads + Wait + Sync>(
+    rt: &R,
+    alloc: Global,
+    row: &str,
+    limits: Limits,
+) -> Result<(), Fail> {
+    let row = lines(alloc, row)?;
+    Row::read(alloc, &row)?.check(rt, alloc, limits)
 }
 
 /// Makes the call of each row of a table.
@@ -65,16 +86,22 @@ pub fn check_rows<R: Threads + Wait + Sync>(
     table: &str,
 ) -> Result<(), Fail> {
     for row in table.split('\n') {
-        Row::read(alloc, row)?.check(rt, alloc, AMPLE)?;
+        check_row(rt, alloc, row, AMPLE)?;
     }
     Ok(())
 }
 
+/// The number before a bar, and what stands behind it.
+pub fn number_before(line: &str) -> Result<(u64, &str), Fail> {
+    let (number, rest) = line.split_once('|').ok_or("a number is missing")?;
+    Ok((number.parse::<u64>()?, rest))
+}
+
 /// The row after a number and a piece, which stands in the place of @ so many times.
 pub fn long_row(alloc: Global, line: &str) -> Result<String, Fail> {
-    let (times, rest) = line.split_once('|').ok_or("a number is missing")?;
+    let (times, rest) = number_before(line)?;
     let (piece, row) = rest.split_once('|').ok_or("a piece is missing")?;
-    let pieces = piece.repeat(alloc, times.parse::<usize>()?)?;
+    let pieces = piece.repeat(alloc, times as usize)?;
     Ok(row.replace(alloc, '@', &pieces)?)
 }
 
