@@ -20,11 +20,6 @@ returns-in-Ok-clause-gives_what_the_reader_had_left g c =
     let kept = rw (← c.self.view_is) at c.loop.invariant.kept in
     read_bytes _ _ _ _ _ (search (rules, arith)) c.in-Ok.ensures.bound.0 kept c.in-Ok.ensures.bytes.0
 
-pub returns-in-Err-2-clause-gives_what_the_reader_had_left : goal.returns-in-Err-2-clause-gives_what_the_reader_had_left
-returns-in-Err-2-clause-gives_what_the_reader_had_left g c =
-    let kept = rw (← c.self.view_is) at c.loop.invariant.kept in
-    rw (c.failed_read.ensures.answer, c.failed_read.ensures.reader) (read_failed _ _ c.read.new.buf (stays _ _ _ kept c.in-Err-2.ensures.bytes))
-
 pub returns-clause-gives_what_the_reader_had_left : goal.returns-clause-gives_what_the_reader_had_left
 returns-clause-gives_what_the_reader_had_left g c =
     rw (c.failed_read-2.ensures.answer, c.failed_read-2.ensures.reader) (read_failed _ _ c.loop.buf c.loop.invariant.kept)
