@@ -1,5 +1,5 @@
 -- How the workers of a run are before their first steps, and after their last.
-use Rattle.std.proofs.Common.{◌≡◌, ℕ, zero, suc, ◌+◌, ◌<◌, ◌≤◌, Bool, true, false, nat_lt, List, [], ◌∷◌, ◌++◌, length, None, refl, sym, ◌∙◌, ap, subst, arith, lt-ltb}
+use Rattle.std.proofs.Common.{◌≡◌, ℕ, zero, suc, ◌+◌, ◌<◌, ◌≤◌, Bool, true, false, nat_lt, List, [], ◌∷◌, ◌++◌, length, get_or, None, refl, sym, ◌∙◌, ap, subst, arith, lt-ltb}
 use Rattle.std.specs.Prelude.{IfOk, IsSome, Result, Ok, Err, drop, if◌then◌else◌, take}
 use Rattle.std.proofs.lemmas.List.{append-nil, drop_all, length-append, take_all}
 use Rattle.atomic_table.specs.Seated.{TableId}
@@ -10,7 +10,7 @@ use Rattle.ael_threads.specs.Histories.{Each}
 use Rattle.ael_threads.specs.Opened.{new_scanner, new_scanners}
 use Rattle.ael_threads.specs.Outputs.{HasEnd}
 use Rattle.ael_threads.specs.Readers.{Scanning}
-use Rattle.ael_threads.specs.Running.{AreReady, AreScanning, EachFrom, Executing, HaveRun, HaveScanned, IsScanning, Work}
+use Rattle.ael_threads.specs.Running.{AreReady, AreScanning, EachFrom, Executing, HasScanned, HaveRun, HaveScanned, IsScanning, Work}
 use Rattle.ael_threads.specs.Seats.{Seated, new_callers, new_seated}
 use Rattle.ael_threads.proofs.Programs.{executed_first}
 use Rattle.ael_threads.proofs.Telling.{from_append}
@@ -82,6 +82,15 @@ module _ (w : Work) where
   pub were_scanning : (n : ℕ) (ss : List Scanning) → HaveScanned w n ss → AreScanning w n ss
   were_scanning n [] h = tt
   were_scanning n (s ∷ ss) h = (h.0.scanning, were_scanning (n + 1) ss h.1)
+
+  -- each of them, wherever it stands
+  pub each_scanned : (n : ℕ) (old new : List Scanning) → length new ≡ length old
+      → ((i : ℕ) (s : Scanning) → i < length old → (k : ℕ) → IsScanning w k (get_or old i s).seated → HasScanned w k (get_or new i s).seated) → AreScanning w n old → HaveScanned w n new
+  each_scanned n [] [] many scans h = tt
+  each_scanned n [] (y ∷ ys) many scans h = absurd (omega (arith, many))
+  each_scanned n (x ∷ xs) [] many scans h = absurd (omega (arith, many))
+  each_scanned n (x ∷ xs) (y ∷ ys) many scans h =
+      (scans 0 x (omega arith) n h.0, each_scanned (n + 1) xs ys (omega (arith, many)) (λ i s below. scans (suc i) s (omega (arith, below))) h.1)
 
 -- ---- a run
 

@@ -23,10 +23,10 @@ use space_map::Spaces;
 use std::alloc::Global;
 use std::marker::Sync;
 use std::sync::Wait;
-use std::thread::{Threads, join_mut};
+use std::thread::{Threads, for_each_mut, join_mut};
 
-/// Runs a program on a heap of its own: each mutator executes its section on a thread of its own, and so do the scanners. The workers
-/// are started in order, the mutators first; one for which no thread is to be had is run after those before it, on a thread of theirs.
+/// Runs a program on a heap of its own: each mutator executes its section on a thread of its own, and so do the scanners. The mutators
+/// are started in order, and then the scanners; one for which no thread is to be had is run after those before it, on a thread of theirs.
 ///
 /// `BadPages` comes exactly for fewer than 4 pages or more than 2048. `NoMemory` may come before the first step and after the last one.
 /// A mutator executes at most `config.turns` instructions, which are at most 10,000,000; there are at most 8 scanners. It returns once
@@ -99,20 +99,15 @@ fn run_scanners<R: Threads + Wait + Sync, P: Pace>(job: &Job<R, P>, scanners: &m
     ensures scanned { (from : ℕ) → AreScanning job.now from scanners.old → HaveScanned job.now from scanners.new }
     ensures as_many { length scanners.new ≡ length scanners.old }
 {
-    let Some((first, rest)) = scanners.split_first_mut() else {
-        return;
-    };
-    join_mut(
+    let threads = scanners.len().max(1);
+    for_each_mut(
         job.rt,
-        &mut ||
-            requires { IsSync R.row × IsSync P.row × Each (λ (s : Scanning). s.seated.table ≡ job.now.table) rest.now }
-            ensures scanned { (from : ℕ) → AreScanning job.entry.now from rest.entry.now → HaveScanned job.entry.now from rest.exit.now }
-            ensures as_many { length rest.exit.now ≡ length rest.entry.now }
-        { run_scanners(job, rest) },
-        &mut ||
-            requires { first.now.seated.table ≡ job.now.table }
-            ensures { (k : ℕ) → IsScanning job.entry.now k first.entry.now.seated → HasScanned job.entry.now k first.exit.now.seated }
-        { first.runs(job) },
+        scanners,
+        threads,
+        &|_, scanner: &mut Scanner|
+            requires { scanner.now.seated.table ≡ job.now.table }
+            ensures { (k : ℕ) → IsScanning job.entry.now k scanner.entry.now.seated → HasScanned job.entry.now k scanner.exit.now.seated }
+        { scanner.runs(job) },
     );
 }
 
