@@ -1,13 +1,15 @@
-//! A mutator between two calls.
+//! A mutator between two calls, and two mutators of a heap.
 
-ghost use Rattle.std.specs.Prelude.{◌≡◌, None, IsTrue};
+ghost use Rattle.std.specs.Prelude.{◌≡◌, [], None, IfOk, IsTrue};
 ghost use Rattle.gc_worker.specs.declared.task.Task.TheVariants.{Calls};
 ghost use Rattle.gc_worker.specs.Between.{with_task};
 ghost use Rattle.mutator_asm.specs.Program.{is_valid};
 
 use crate::asserting::assert_same;
-use ael_threads::{Did, Mutator, Shared};
+use ael_threads::{Did, Mutator, Seats, Shared};
+use gc_worker::{Config, OpenError};
 use mutator_asm::Instr;
+use std::alloc::Global;
 use std::process::Abort;
 use std::sync::Wait;
 
@@ -38,4 +40,22 @@ pub fn make<R: Wait + Abort>(rt: &R, h: &Shared, mutator: &mut Mutator, instr: I
     assert!(rt; mutator.serial() < MOST_RECORDS);
     let did = mutator.exec(rt, h, &instr);
     assert_same(rt, &did, &Did::Done);
+}
+
+/// A heap of so many pages with two mutators, which have made no step, and the seats without theirs.
+pub fn open_two(alloc: Global, pages: u32) -> Result<(Shared, Seats, Mutator, Mutator), OpenError>
+    ensures first { IfOk result (λ o. (o.2.table ≡ o.0.table.shared.table_id) × (o.2.worker.task ≡ None)) }
+    ensures second { IfOk result (λ o. (o.3.table ≡ o.0.table.shared.table_id) × (o.3.worker.task ≡ None)) }
+    ensures seats { IfOk result (λ o. (o.1.mutators.items ≡ []) × (o.1.scanners.items ≡ [])) }
+{
+    let config = Config {
+        pages,
+        scanners: 0,
+        turns: 1,
+    };
+    let (heap, mut seats) = Shared::open(alloc, 2, &config)?;
+    let (Some(second), Some(first)) = (seats.mutators.pop(), seats.mutators.pop()) else {
+        unreachable!()
+    };
+    Ok((heap, seats, first, second))
 }

@@ -4,9 +4,9 @@ ghost use Rattle.std.specs.Prelude.{◌≡◌, None, IsTrue, true};
 ghost use Rattle.mutator_asm.specs.Program.{is_valid};
 
 use crate::asserting::assert_same;
-use crate::calling::begin;
+use crate::calling::{begin, open_two};
 use ael_threads::{Mutator, Reg, Shared};
-use gc_worker::{Config, Stepped};
+use gc_worker::Stepped;
 use mutator_asm::{Instr, Operand};
 use std::process::Abort;
 use std::test::Fail;
@@ -101,15 +101,7 @@ fn share(rt: &impl Abort, h: &Shared, one: &mut Mutator, other: &mut Mutator)
 
 #[test]
 fn two_callers_see_what_the_other_shares(rt: HostRuntime) -> Result<(), Fail> {
-    let config = Config {
-        pages: 4,
-        scanners: 0,
-        turns: 1,
-    };
-    let (h, mut seats) = Shared::open(rt.alloc(), 2, &config)?;
-    let (Some(mut other), Some(mut one)) = (seats.mutators.pop(), seats.mutators.pop()) else {
-        unreachable!()
-    };
+    let (h, mut seats, mut one, mut other) = open_two(rt.alloc(), 4)?;
     share(&rt, &h, &mut one, &mut other);
     one.leave(&rt, &h);
     other.leave(&rt, &h);

@@ -4,15 +4,15 @@ ghost use Rattle.std.specs.Prelude.{◌≡◌, ◌≤◌, None};
 ghost use Rattle.gc_worker.specs.declared.stage.Stage.TheVariants.{Gone};
 
 use crate::asserting::assert_same;
-use crate::calling::make;
+use crate::calling::{make, open_two};
 use ael_threads::{Mutator, Reg, Shared};
-use gc_worker::Config;
 use mutator_asm::{Instr, Operand};
 use plain_state::End;
+use std::marker::Sync;
 use std::process::Abort;
 use std::sync::Wait;
 use std::test::Fail;
-use std::thread::join;
+use std::thread::{Threads, join};
 
 /// How many records of four words each of them makes, which take 13 pages. Of both that is more than a space of 16 pages, so that
 /// the spaces are exchanged; once, since there is room then for what is left, whoever is first.
@@ -40,6 +40,25 @@ fn work<R: Wait + Abort>(rt: &R, h: &Shared, mut mutator: Mutator, first: u64) -
     mutator
 }
 
+/// Both work, each on a thread of its own.
+fn work_both<R: Threads + Wait + Abort + Sync>(
+    rt: &R,
+    h: &Shared,
+    first: Mutator,
+    second: Mutator,
+) -> (Mutator, Mutator)
+    requires tables { (first.table ≡ h.now.table.shared.table_id) × (second.table ≡ h.now.table.shared.table_id) }
+    requires rest { (first.worker.task ≡ None) × (second.worker.task ≡ None) }
+    ensures tables { (result.0.table ≡ h.now.table.shared.table_id) × (result.1.table ≡ h.now.table.shared.table_id) }
+    ensures left { (result.0.worker.stage ≡ Gone) × (result.1.worker.stage ≡ Gone) }
+{
+    join(
+        rt,
+        || work(rt, h, first, 1000),
+        || work(rt, h, second, 5000),
+    )
+}
+
 /// Each has printed its own last number, made its records, and halted; and the spaces were exchanged once.
 fn check_both(rt: &impl Abort, first: &Mutator, second: &Mutator) {
     let printed = (first.outputs(), second.outputs());
@@ -52,20 +71,8 @@ fn check_both(rt: &impl Abort, first: &Mutator, second: &Mutator) {
 
 #[test]
 fn callers_on_two_threads_keep_their_own(rt: HostRuntime) -> Result<(), Fail> {
-    let config = Config {
-        pages: PAGES,
-        scanners: 0,
-        turns: 1,
-    };
-    let (h, mut seats) = Shared::open(rt.alloc(), 2, &config)?;
-    let (Some(second), Some(first)) = (seats.mutators.pop(), seats.mutators.pop()) else {
-        unreachable!()
-    };
-    let (mut first, second) = join(
-        &rt,
-        || work(&rt, &h, first, 1000),
-        || work(&rt, &h, second, 5000),
-    );
+    let (h, mut seats, first, second) = open_two(rt.alloc(), PAGES)?;
+    let (mut first, second) = work_both(&rt, &h, first, second);
     check_both(&rt, &first, &second);
     first.absorb(&h, second);
     seats.mutators.push(first)?;
