@@ -2,6 +2,7 @@
 
 ghost use Rattle.std.specs.Prelude.{◌≡◌, ◌<◌, None, IsTrue, OnOk};
 ghost use Rattle.ael_threads.specs.Calls.{Called};
+ghost use Rattle.ael_threads.specs.Histories.{Each};
 ghost use Rattle.ael_threads.specs.declared.view.Did.TheVariants.{Done};
 ghost use Rattle.gc_worker.specs.declared.task.Task.TheVariants.{Calls};
 ghost use Rattle.plain_state.specs.declared.sizes.TheConstants.{REGISTERS};
@@ -69,6 +70,17 @@ impl<'h> Actor<'h> {
             Did::Done => Ok(()),
             Did::Trap(end) => Err(Stop::Ended(end)),
         }
+    }
+
+    /// Its mutator makes these calls, in order, up to the first that is not executed.
+    pub fn calls<R: Wait>(&mut self, rt: &R, instrs: &[Instr]) -> Result<(), Stop>
+        requires { Each (λ i. IsTrue (is_valid i)) instrs.now }
+        ensures of_heap { self.new.table ≡ self.old.table }
+    {
+        for instr in instrs {
+            self.call(rt, *instr)?;
+        }
+        Ok(())
     }
 
     /// What a register holds.

@@ -6,7 +6,7 @@
 
 mod actor;
 
-ghost use Rattle.std.specs.Prelude.{◌≡◌, ◌<◌, None, IfOk, OnOk, vec_len};
+ghost use Rattle.std.specs.Prelude.{◌≡◌, ◌<◌, ◌^◌, None, IfOk, OnOk, vec_len};
 ghost use Rattle.ael_threads.specs.Histories.{Each};
 ghost use Rattle.ael_threads.specs.Seats.{Seated, new_callers};
 
@@ -52,16 +52,27 @@ fn send<R: Wait>(rt: &R, actor: &mut Actor<'_>) -> Result<(), Stop>
     for list in 0..LISTS {
         actor.call(rt, Li(LIST, 0))?;
         for k in 1..=EACH {
-            actor.call(rt, New(LINK, LINK_LENGTH))?;
-            actor.call(rt, Li(NUMBER, list * EACH + k))?;
-            actor.call(rt, St(LINK, NUMBER_FIELD, NUMBER))?;
-            actor.call(rt, St(LINK, REST_FIELD, LIST))?;
-            actor.call(rt, Mov(LIST, LINK))?;
+            prepend(rt, actor, list * EACH + k)?;
         }
         until_empty(rt, actor)?;
         actor.call(rt, Put(LETTERS, LIST))?;
     }
     Ok(())
+}
+
+/// Puts a number in front of the list.
+fn prepend<R: Wait>(rt: &R, actor: &mut Actor<'_>, number: u64) -> Result<(), Stop>
+    requires { number < 2 ^ 62 }
+    ensures { actor.new.table ≡ actor.old.table }
+{
+    let calls = [
+        New(LINK, LINK_LENGTH),
+        Li(NUMBER, number),
+        St(LINK, NUMBER_FIELD, NUMBER),
+        St(LINK, REST_FIELD, LIST),
+        Mov(LIST, LINK),
+    ];
+    actor.calls(rt, &calls)
 }
 
 /// Waits until the box is empty.
@@ -86,13 +97,23 @@ fn receive<R: Wait>(rt: &R, actor: &mut Actor<'_>) -> Result<(), Stop>
     for _ in 0..LISTS {
         take(rt, actor)?;
         for _ in 0..EACH {
-            actor.call(rt, Ld(NUMBER, LIST, NUMBER_FIELD))?;
-            actor.call(rt, Mul(SUM, SUM, BASE))?;
-            actor.call(rt, Add(SUM, SUM, NUMBER))?;
-            actor.call(rt, Ld(LIST, LIST, REST_FIELD))?;
+            add_first(rt, actor)?;
         }
     }
     actor.call(rt, Out(SUM))
+}
+
+/// Adds the list's first number, and goes on with the rest.
+fn add_first<R: Wait>(rt: &R, actor: &mut Actor<'_>) -> Result<(), Stop>
+    ensures { actor.new.table ≡ actor.old.table }
+{
+    let calls = [
+        Ld(NUMBER, LIST, NUMBER_FIELD),
+        Mul(SUM, SUM, BASE),
+        Add(SUM, SUM, NUMBER),
+        Ld(LIST, LIST, REST_FIELD),
+    ];
+    actor.calls(rt, &calls)
 }
 
 /// Waits for a list, and takes it out of the box.
@@ -171,8 +192,8 @@ fn run<R: Threads + Wait + Sync + Print>(
     };
     let (sender, receiver) = exchange(rt, heap, sender, receiver)?;
     tell(rt, &sender, &receiver)?;
-    seats.mutators.push(sender)?;
-    seats.mutators.push(receiver)?;
+    seats.mutators.push_reserved(sender);
+    seats.mutators.push_reserved(receiver);
     Ok(())
 }
 
