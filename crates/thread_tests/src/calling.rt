@@ -1,6 +1,6 @@
 //! A mutator between two calls, and two mutators of a heap.
 
-ghost use Rattle.std.specs.Prelude.{◌≡◌, [], None, IfOk, IsTrue};
+ghost use Rattle.std.specs.Prelude.{◌≡◌, ◌≤◌, [], None, IfOk, IsTrue, vec_capacity};
 ghost use Rattle.gc_worker.specs.declared.task.Task.TheVariants.{Calls};
 ghost use Rattle.gc_worker.specs.Between.{with_task};
 ghost use Rattle.mutator_asm.specs.Program.{is_valid};
@@ -42,11 +42,12 @@ pub fn make<R: Wait + Abort>(rt: &R, h: &Shared, mutator: &mut Mutator, instr: I
     assert_same(rt, &did, &Did::Done);
 }
 
-/// A heap of so many pages with two mutators, which have made no step, and the seats without theirs.
+/// A heap of so many pages with two mutators, which have made no step, and the seats without theirs, for which there is room.
 pub fn open_two(alloc: Global, pages: u32) -> Result<(Shared, Seats, Mutator, Mutator), OpenError>
     ensures first { IfOk result (λ o. (o.2.table ≡ o.0.table.shared.table_id) × (o.2.worker.task ≡ None)) }
     ensures second { IfOk result (λ o. (o.3.table ≡ o.0.table.shared.table_id) × (o.3.worker.task ≡ None)) }
     ensures seats { IfOk result (λ o. (o.1.mutators.items ≡ []) × (o.1.scanners.items ≡ [])) }
+    ensures room { IfOk result (λ o. 2 ≤ vec_capacity o.1.mutators) }
 {
     let config = Config {
         pages,

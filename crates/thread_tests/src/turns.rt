@@ -105,8 +105,8 @@ fn two_callers_see_what_the_other_shares(rt: HostRuntime) -> Result<(), Fail> {
     share(&rt, &h, &mut one, &mut other);
     one.leave(&rt, &h);
     other.leave(&rt, &h);
-    seats.mutators.push(one)?;
-    seats.mutators.push(other)?;
+    seats.mutators.push_reserved(one);
+    seats.mutators.push_reserved(other);
     let _words = h.close(seats);
     Ok(())
 }

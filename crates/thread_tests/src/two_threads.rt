@@ -75,7 +75,7 @@ fn callers_on_two_threads_keep_their_own(rt: HostRuntime) -> Result<(), Fail> {
     let (mut first, second) = work_both(&rt, &h, first, second);
     check_both(&rt, &first, &second);
     first.absorb(&h, second);
-    seats.mutators.push(first)?;
+    seats.mutators.push_reserved(first);
     let _words = h.close(seats);
     Ok(())
 }
