@@ -8,7 +8,7 @@ use mmu_model::read as read_page;
 use plain_state::NoMemory;
 use record_layout::{Header, read as read_header, read_forward};
 use space_map::{AreaWord, GateWord, PAGE_WORDS, PageWord};
-use std::alloc::Global;
+use std::alloc::{AllocError, Global};
 
 /// Where the words of a page begin.
 const LEFT: u32 = 100;
@@ -35,6 +35,12 @@ pub struct Drawing {
 }
 
 impl Drawing {
+    /// Adds a shape, above all others.
+    fn add(&mut self, shape: Shape) -> Result<(), NoMemory> {
+        self.shapes.push(shape)?;
+        Ok(())
+    }
+
     fn block(
         &mut self,
         x: u32,
@@ -43,30 +49,32 @@ impl Drawing {
         height: u32,
         class: Class,
     ) -> Result<(), NoMemory> {
-        self.shapes.push(Shape::Box {
+        self.add(Shape::Box {
             x,
             y,
             width,
             height,
             class,
-        })?;
-        Ok(())
+        })
     }
 
     fn line(&mut self, x: u32, y: u32, to_x: u32, to_y: u32, class: Class) -> Result<(), NoMemory> {
-        self.shapes.push(Shape::Line {
+        self.add(Shape::Line {
             x,
             y,
             to_x,
             to_y,
             class,
-        })?;
-        Ok(())
+        })
     }
 
     fn label(&mut self, x: u32, y: u32, class: Class, text: String) -> Result<(), NoMemory> {
-        self.shapes.push(Shape::Label { x, y, class, text })?;
-        Ok(())
+        self.add(Shape::Label { x, y, class, text })
+    }
+
+    /// A text at the left edge, beside what is drawn next.
+    fn margin(&mut self, text: String) -> Result<(), NoMemory> {
+        self.label(8, self.bottom.saturating_add(12), Class::Plain, text)
     }
 
     fn down(&mut self, by: u32) {
@@ -74,8 +82,11 @@ impl Drawing {
     }
 }
 
-/// What the gate counts of the mutators.
-fn push_gate(text: &mut String, gate: GateWord) -> Result<(), NoMemory> {
+/// What the gate counts of the mutators, where there is a gate.
+fn push_gate(text: &mut String, gate: Option<GateWord>) -> Result<(), AllocError> {
+    let Some(gate) = gate else {
+        return text.push_str("no gate");
+    };
     write!(
         text,
         "epoch {}, live {}, running {}",
@@ -85,8 +96,7 @@ fn push_gate(text: &mut String, gate: GateWord) -> Result<(), NoMemory> {
         text,
         ", behind {}, left {}, request {}",
         gate.behind, gate.left, gate.request
-    )?;
-    Ok(())
+    )
 }
 
 /// The words that are owed for copies.
@@ -98,22 +108,17 @@ fn owed(heap: &Heap) -> u32 {
 }
 
 /// The epoch, the counts of the gate, and what is traced and owed.
-fn push_counts(text: &mut String, heap: &Heap) -> Result<(), NoMemory> {
-    match heap.gate() {
-        Some(gate) => push_gate(text, gate)?,
-        None => text.push_str("no gate")?,
-    }
+fn push_counts(text: &mut String, heap: &Heap) -> Result<(), AllocError> {
+    push_gate(text, heap.gate())?;
     let traced = heap.shared(heap.spaces.traced_place());
-    write!(text, ", TRACED {traced}, owed {}", owed(heap))?;
-    Ok(())
+    write!(text, ", TRACED {traced}, owed {}", owed(heap))
 }
 
 /// The line of text above all else.
 fn draw_counts(alloc: Global, heap: &Heap, drawing: &mut Drawing) -> Result<(), NoMemory> {
     let mut text = String::new(alloc);
     push_counts(&mut text, heap)?;
-    let y = drawing.bottom;
-    drawing.label(8, y.saturating_add(12), Class::Plain, text)?;
+    drawing.margin(text)?;
     drawing.down(24);
     Ok(())
 }
@@ -153,18 +158,18 @@ fn has_records(classes: &[Class], first: u32) -> bool {
 }
 
 /// What is written on a record: its kind and length, and who made it; on a short one the last alone.
-fn name_text(alloc: Global, header: Header) -> Result<String, NoMemory> {
+fn name_text(alloc: Global, header: Header) -> Result<String, AllocError> {
     if header.len < 5 {
-        return Ok(format!(in alloc; "{}.{}", header.mutator, header.serial)?);
+        return format!(in alloc; "{}.{}", header.mutator, header.serial);
     }
     let kind = match header.kind {
         Kind::Fields => "fields",
         Kind::Raw => "raw",
     };
-    Ok(format!(in alloc;
+    format!(in alloc;
         "{kind} {} {}.{}",
         header.len, header.mutator, header.serial
-    )?)
+    )
 }
 
 /// The text on a record, where it has room for one.
@@ -250,11 +255,31 @@ fn record_height(heap: &Heap) -> u32 {
 }
 
 /// The number of a page, and the worker that scans it.
-fn page_text(alloc: Global, page: u32, worker: Option<u8>) -> Result<String, NoMemory> {
-    Ok(match worker {
-        Some(worker) => format!(in alloc; "page {page} by {worker}")?,
-        None => format!(in alloc; "page {page}")?,
-    })
+fn page_text(alloc: Global, page: u32, worker: Option<u8>) -> Result<String, AllocError> {
+    match worker {
+        Some(worker) => format!(in alloc; "page {page} by {worker}"),
+        None => format!(in alloc; "page {page}"),
+    }
+}
+
+/// A page whose words are drawn each by itself, beside its number.
+fn draw_wide_page(
+    alloc: Global,
+    heap: &Heap,
+    classes: &[Class],
+    drawing: &mut Drawing,
+    page: u32,
+    worker: Option<u8>,
+) -> Result<(), NoMemory> {
+    let text = page_text(alloc, page, worker)?;
+    drawing.margin(text)?;
+    draw_words(
+        alloc,
+        heap,
+        classes,
+        drawing,
+        page.saturating_mul(PAGE_WORDS),
+    )
 }
 
 /// A page, and how high it is.
@@ -266,15 +291,12 @@ fn draw_page(
     page: u32,
 ) -> Result<u32, NoMemory> {
     let first = page.saturating_mul(PAGE_WORDS);
-    let y = drawing.bottom;
     let wide = has_records(classes, first);
     let height = if wide { record_height(heap) } else { NARROW };
     let (class, worker) = page_class(heap, page);
-    drawing.block(LEFT - 12, y, 10, height, class)?;
+    drawing.block(LEFT - 12, drawing.bottom, 10, height, class)?;
     if wide && is_by_word(heap) {
-        let text = page_text(alloc, page, worker)?;
-        drawing.label(8, y.saturating_add(12), Class::Plain, text)?;
-        draw_words(alloc, heap, classes, drawing, first)?;
+        draw_wide_page(alloc, heap, classes, drawing, page, worker)?;
     } else {
         draw_bars(classes, drawing, first, height)?;
     }
@@ -367,10 +389,12 @@ fn draw_pages(
     classes: &[Class],
     drawing: &mut Drawing,
     tops: &mut Vec<u32>,
-    from: u32,
-    to: u32,
+    space: u8,
 ) -> Result<(), NoMemory> {
-    for page in from..to {
+    let pages = heap.spaces.pages();
+    let first = pages.saturating_mul(u32::from(space));
+    let count = if space < 2 { pages } else { 1 };
+    for page in first..first.saturating_add(count) {
         tops.push(drawing.bottom)?;
         let height = draw_page(alloc, heap, classes, drawing, page)?;
         drawing.down(height.saturating_add(1));
@@ -380,11 +404,34 @@ fn draw_pages(
 }
 
 /// What a register holds.
-fn register_text(alloc: Global, word: u64) -> Result<String, NoMemory> {
-    Ok(match Word(word).tag() {
-        Tag::Pointer => format!(in alloc; "to {}", word >> 2)?,
-        _ => format!(in alloc; "{}", word >> 2)?,
-    })
+fn register_text(alloc: Global, word: u64) -> Result<String, AllocError> {
+    match Word(word).tag() {
+        Tag::Pointer => format!(in alloc; "to {}", word >> 2),
+        _ => format!(in alloc; "{}", word >> 2),
+    }
+}
+
+/// A line from a register to what it holds.
+fn draw_pointer(
+    heap: &Heap,
+    drawing: &mut Drawing,
+    tops: &[u32],
+    x: u32,
+    word: u64,
+) -> Result<(), NoMemory> {
+    let Some(addr) = Word(word).as_pointer() else {
+        return Ok(());
+    };
+    let Some(top) = top_at(tops, addr) else {
+        return Ok(());
+    };
+    drawing.line(
+        x.saturating_add(54),
+        drawing.bottom,
+        middle_at(addr),
+        top.saturating_add(record_height(heap)),
+        heap.tagged(word),
+    )
 }
 
 /// A register, with a line to what it holds.
@@ -397,8 +444,7 @@ fn draw_register(
     word: u64,
 ) -> Result<(), NoMemory> {
     let y = drawing.bottom;
-    let class = heap.tagged(word);
-    drawing.block(x, y, 108, WIDE, class)?;
+    drawing.block(x, y, 108, WIDE, heap.tagged(word))?;
     let text = register_text(alloc, word)?;
     drawing.label(
         x.saturating_add(4),
@@ -406,19 +452,7 @@ fn draw_register(
         Class::Plain,
         text,
     )?;
-    let Some(addr) = Word(word).as_pointer() else {
-        return Ok(());
-    };
-    let Some(top) = top_at(tops, addr) else {
-        return Ok(());
-    };
-    drawing.line(
-        x.saturating_add(54),
-        y,
-        middle_at(addr),
-        top.saturating_add(record_height(heap)),
-        class,
-    )
+    draw_pointer(heap, drawing, tops, x, word)
 }
 
 /// The registers of a mutator.
@@ -427,12 +461,8 @@ fn draw_mutator(
     heap: &Heap,
     drawing: &mut Drawing,
     tops: &[u32],
-    m: u32,
     registers: &[u64],
 ) -> Result<(), NoMemory> {
-    let text = format!(in alloc; "mutator {m}")?;
-    let y = drawing.bottom;
-    drawing.label(8, y.saturating_add(12), Class::Plain, text)?;
     let mut x = LEFT;
     for word in registers {
         draw_register(alloc, heap, drawing, tops, x, *word)?;
@@ -440,6 +470,12 @@ fn draw_mutator(
     }
     drawing.down(20);
     Ok(())
+}
+
+/// The name of a mutator, beside its registers.
+fn draw_mutator_name(alloc: Global, drawing: &mut Drawing, m: u32) -> Result<(), NoMemory> {
+    let text = format!(in alloc; "mutator {m}")?;
+    drawing.margin(text)
 }
 
 /// The registers of each mutator.
@@ -451,11 +487,31 @@ fn draw_registers(
 ) -> Result<(), NoMemory> {
     let mut m = 0u32;
     for registers in heap.dump.registers.as_slice() {
-        draw_mutator(alloc, heap, drawing, tops, m, registers.as_slice())?;
+        draw_mutator_name(alloc, drawing, m)?;
+        draw_mutator(alloc, heap, drawing, tops, registers.as_slice())?;
         m = m.saturating_add(1);
     }
     drawing.down(8);
     Ok(())
+}
+
+/// A colour beside its name.
+fn draw_colour(
+    alloc: Global,
+    drawing: &mut Drawing,
+    x: u32,
+    class: Class,
+    name: &str,
+) -> Result<(), NoMemory> {
+    let y = drawing.bottom;
+    drawing.block(x, y, 12, 12, class)?;
+    let text = String::from_str(alloc, name)?;
+    drawing.label(
+        x.saturating_add(16),
+        y.saturating_add(10),
+        Class::Plain,
+        text,
+    )
 }
 
 /// A row of colours, each beside its name.
@@ -464,51 +520,47 @@ fn draw_colours(
     drawing: &mut Drawing,
     row: &[(Class, &str)],
 ) -> Result<(), NoMemory> {
-    let y = drawing.bottom;
     let mut x = LEFT;
     for (class, name) in row {
-        drawing.block(x, y, 12, 12, *class)?;
-        let text = String::from_str(alloc, name)?;
-        drawing.label(
-            x.saturating_add(16),
-            y.saturating_add(10),
-            Class::Plain,
-            text,
-        )?;
+        draw_colour(alloc, drawing, x, *class, name)?;
         x = x.saturating_add(126);
     }
     drawing.down(17);
     Ok(())
 }
 
+/// The colours of words.
+const WORD_COLOURS: [(Class, &str); 7] = [
+    (Class::Header, "header"),
+    (Class::Number, "number"),
+    (Class::Raw, "raw word"),
+    (Class::New, "pointer to new"),
+    (Class::Old, "pointer to old"),
+    (Class::Forward, "forward"),
+    (Class::Busy, "being copied"),
+];
+
+/// The colours of pages and of lines in them.
+const PAGE_COLOURS: [(Class, &str); 7] = [
+    (Class::Open, "page open"),
+    (Class::Scanning, "page scanned"),
+    (Class::Earlier, "earlier epoch"),
+    (Class::Unset, "never set"),
+    (Class::Mark, "FRONT"),
+    (Class::Low, "LOW"),
+    (Class::Free, "no record"),
+];
+
 /// What the colours mean.
 fn draw_legend(alloc: Global, drawing: &mut Drawing) -> Result<(), NoMemory> {
-    let words = [
-        (Class::Header, "header"),
-        (Class::Number, "number"),
-        (Class::Raw, "raw word"),
-        (Class::New, "pointer to new"),
-        (Class::Old, "pointer to old"),
-        (Class::Forward, "forward"),
-        (Class::Busy, "being copied"),
-    ];
-    draw_colours(alloc, drawing, &words)?;
-    let pages = [
-        (Class::Open, "page open"),
-        (Class::Scanning, "page scanned"),
-        (Class::Earlier, "earlier epoch"),
-        (Class::Unset, "never set"),
-        (Class::Mark, "FRONT"),
-        (Class::Low, "LOW"),
-        (Class::Free, "no record"),
-    ];
-    draw_colours(alloc, drawing, &pages)?;
+    draw_colours(alloc, drawing, &WORD_COLOURS)?;
+    draw_colours(alloc, drawing, &PAGE_COLOURS)?;
     drawing.down(6);
     Ok(())
 }
 
 /// The name of a space, with where its FRONT and LOW are.
-fn area_title(alloc: Global, heap: &Heap, space: u8, area: AreaWord) -> Result<String, NoMemory> {
+fn area_title(alloc: Global, heap: &Heap, space: u8, area: AreaWord) -> Result<String, AllocError> {
     let start = if space < 2 {
         heap.spaces.space_start(space)
     } else {
@@ -516,15 +568,15 @@ fn area_title(alloc: Global, heap: &Heap, space: u8, area: AreaWord) -> Result<S
     };
     let front = start.saturating_add(area.front);
     let low = start.saturating_add(area.low);
-    Ok(format!(in alloc; "space {space}: FRONT {front}, LOW {low}")?)
+    format!(in alloc; "space {space}: FRONT {front}, LOW {low}")
 }
 
 /// The name of a space or the board.
-fn title(alloc: Global, heap: &Heap, space: u8) -> Result<String, NoMemory> {
+fn title(alloc: Global, heap: &Heap, space: u8) -> Result<String, AllocError> {
     match heap.area(space) {
         Some(area) => area_title(alloc, heap, space, area),
-        None if space < 2 => Ok(format!(in alloc; "space {space}")?),
-        None => Ok(String::from_str(alloc, "board")?),
+        None if space < 2 => format!(in alloc; "space {space}"),
+        None => String::from_str(alloc, "board"),
     }
 }
 
@@ -542,25 +594,19 @@ fn draw_title(
     Ok(())
 }
 
-/// The pages of both spaces and of the board, each under its name; answers the top of each page.
+/// The pages of both spaces and of the board, each under its name; notes the top of each page.
 fn draw_spaces(
     alloc: Global,
     heap: &Heap,
     classes: &[Class],
     drawing: &mut Drawing,
-) -> Result<Vec<u32>, NoMemory> {
-    let pages = heap.spaces.pages();
-    let rows = [
-        (0, pages, 0u8),
-        (pages, 2 * pages, 1),
-        (2 * pages, 2 * pages + 1, 2),
-    ];
-    let mut tops = Vec::new(alloc);
-    for (from, to, space) in rows {
+    tops: &mut Vec<u32>,
+) -> Result<(), NoMemory> {
+    for space in 0..3u8 {
         draw_title(alloc, heap, drawing, space)?;
-        draw_pages(alloc, heap, classes, drawing, &mut tops, from, to)?;
+        draw_pages(alloc, heap, classes, drawing, tops, space)?;
     }
-    Ok(tops)
+    Ok(())
 }
 
 /// FRONT and LOW of both spaces.
@@ -574,15 +620,27 @@ fn draw_marks(heap: &Heap, drawing: &mut Drawing, tops: &[u32]) -> Result<(), No
     Ok(())
 }
 
+/// What leads to the pages, and what is drawn over them.
+fn draw_lines(
+    alloc: Global,
+    heap: &Heap,
+    classes: &[Class],
+    drawing: &mut Drawing,
+    tops: &[u32],
+) -> Result<(), NoMemory> {
+    if is_by_word(heap) {
+        draw_forwards(heap, classes, drawing, tops)?;
+    }
+    draw_registers(alloc, heap, drawing, tops)?;
+    draw_marks(heap, drawing, tops)
+}
+
 /// All but the counts and the legend.
 fn draw_heap(alloc: Global, heap: &Heap, drawing: &mut Drawing) -> Result<(), NoMemory> {
     let classes = heap.classes(alloc)?;
-    let tops = draw_spaces(alloc, heap, classes.as_slice(), drawing)?;
-    if is_by_word(heap) {
-        draw_forwards(heap, classes.as_slice(), drawing, tops.as_slice())?;
-    }
-    draw_registers(alloc, heap, drawing, tops.as_slice())?;
-    draw_marks(heap, drawing, tops.as_slice())
+    let mut tops = Vec::new(alloc);
+    draw_spaces(alloc, heap, classes.as_slice(), drawing, &mut tops)?;
+    draw_lines(alloc, heap, classes.as_slice(), drawing, tops.as_slice())
 }
 
 /// The whole picture.

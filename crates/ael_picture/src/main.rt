@@ -10,7 +10,7 @@ mod svg;
 use crate::drawing::{WIDTH, draw};
 use crate::heap::Heap;
 use crate::svg::svg;
-use dump_text::{DumpError, read};
+use dump_text::{Dump, DumpError, read};
 use plain_state::NoMemory;
 use space_map::Spaces;
 use std::alloc::Global;
@@ -21,24 +21,27 @@ use std::process::ExitCode;
 /// What standard error gets where there was no memory.
 const NO_MEMORY: &str = "ael_picture: out of memory";
 
+/// The picture of a dump whose spaces lie so.
+fn heap_picture(alloc: Global, spaces: Spaces, dump: &Dump) -> Result<String, NoMemory> {
+    let mut heap = Heap {
+        spaces,
+        epoch: 0,
+        dump,
+    };
+    if let Some(gate) = heap.gate() {
+        heap.epoch = gate.epoch;
+    }
+    let drawing = draw(alloc, &heap)?;
+    svg(alloc, WIDTH, drawing.bottom, drawing.shapes.as_slice())
+}
+
 /// The picture of a dump.
 fn picture(alloc: Global, bytes: &[u8]) -> Result<String, DumpError> {
     let dump = read(alloc, bytes)?;
     let Ok(spaces) = Spaces::new(dump.pages) else {
         return Err(DumpError::Bad { line: 1 });
     };
-    let mut heap = Heap {
-        spaces,
-        epoch: 0,
-        dump: &dump,
-    };
-    if let Some(gate) = heap.gate() {
-        heap.epoch = gate.epoch;
-    }
-    let Ok(drawing) = draw(alloc, &heap) else {
-        return Err(DumpError::NoMemory);
-    };
-    match svg(alloc, WIDTH, drawing.bottom, drawing.shapes.as_slice()) {
+    match heap_picture(alloc, spaces, &dump) {
         Ok(text) => Ok(text),
         Err(NoMemory) => Err(DumpError::NoMemory),
     }
@@ -62,16 +65,9 @@ fn has_words(rt: &HostRuntime) -> Result<bool, NoMemory> {
     }
 }
 
-/// Draws what standard input has.
-fn run(rt: &HostRuntime) -> ExitCode {
-    let mut bytes = Vec::new(rt.alloc());
-    if let Err(error) = rt.stdin().read_to_end(&mut bytes) {
-        if error.kind() == ErrorKind::OutOfMemory {
-            return failed(rt, NO_MEMORY, 7);
-        }
-        return failed(rt, "ael_picture: read fault", 5);
-    }
-    match picture(rt.alloc(), bytes.as_slice()) {
+/// Writes the picture of a dump, or tells why there is none.
+fn show(rt: &HostRuntime, bytes: &[u8]) -> ExitCode {
+    match picture(rt.alloc(), bytes) {
         Ok(text) => match rt.stdout().write_all(text.as_str().as_bytes()) {
             Ok(()) => ExitCode::from(0),
             Err(_) => failed(rt, "ael_picture: write fault", 6),
@@ -81,6 +77,16 @@ fn run(rt: &HostRuntime) -> ExitCode {
             let _ = eprintln!(rt; "ael_picture: line {line}: not a dump");
             ExitCode::from(1)
         }
+    }
+}
+
+/// Draws what standard input has.
+fn run(rt: &HostRuntime) -> ExitCode {
+    let mut bytes = Vec::new(rt.alloc());
+    match rt.stdin().read_to_end(&mut bytes) {
+        Ok(_) => show(rt, bytes.as_slice()),
+        Err(error) if error.kind() == ErrorKind::OutOfMemory => failed(rt, NO_MEMORY, 7),
+        Err(_) => failed(rt, "ael_picture: read fault", 5),
     }
 }
 
