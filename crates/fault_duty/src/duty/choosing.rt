@@ -71,13 +71,20 @@ impl Duty {
         };
         match self.state_of(says) {
             PageState::Opened | PageState::Scanned => self.end(RoundEnd::NothingNow(word)),
-            PageState::Waits | PageState::Past => {
-                if page == self.spaces.board_page() {
-                    self.claim(page, says, false)
-                } else {
-                    self.go_to(DutyStage::LoadsFrontFor(seen, WantedPage { page, says }))
-                }
-            }
+            PageState::Waits | PageState::Past => self.want_page(seen, WantedPage { page, says }),
+        }
+    }
+
+    /// Claims the page that is wanted, or looks first whether it is full: the board always is.
+    #[inline(always)]
+    fn want_page(&mut self, seen: Findings, wanted: WantedPage)
+        requires { IsSoundRound (at_stage self.old (round.wanted_one self.old seen wanted)) }
+        ensures { self.new ≡ at_stage self.old (round.wanted_one self.old seen wanted) }
+    {
+        if wanted.page == self.spaces.board_page() {
+            self.claim(wanted.page, wanted.says, false)
+        } else {
+            self.go_to(DutyStage::LoadsFrontFor(seen, wanted))
         }
     }
 
