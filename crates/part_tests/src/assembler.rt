@@ -28,41 +28,45 @@ fn program_of(alloc: Global, text: &str) -> Result<Program, Fail> {
     )
 }
 
+/// A text with each instruction.
+const EACH_INSTRUCTION: &str =
+    ".mutator\nli r1 7\nmov r2 r1\nadd r0 r1 r2\nsub r0 r1 r2\nmul r0 r1 r2\ndiv r0 r1 r2\nrem r0 r1 r2\nlt r0 r1 r2\neq r0 r1 r2\njmp end\njz r1 end\njal r7 end\njr r3\nnew r0 2\nraw r0 r1\nld r2 r0 1\nst r0 1 r7\nlen r1 r0\nisp r1 r0\nget r1 15\nput r2 r1\nswap r1 0\nend: out r2\nhalt\n";
+
+/// Its instructions.
+const INSTRUCTIONS: [Instr; 24] = [
+    Instr::Li(1, 7),
+    Instr::Mov(2, 1),
+    Instr::Add(0, 1, 2),
+    Instr::Sub(0, 1, 2),
+    Instr::Mul(0, 1, 2),
+    Instr::Div(0, 1, 2),
+    Instr::Rem(0, 1, 2),
+    Instr::Lt(0, 1, 2),
+    Instr::Eq(0, 1, 2),
+    Instr::Jmp(22),
+    Instr::Jz(1, 22),
+    Instr::Jal(7, 22),
+    Instr::Jr(3),
+    Instr::New(0, Operand::Number(2)),
+    Instr::Raw(0, Operand::Reg(1)),
+    Instr::Ld(2, 0, Operand::Number(1)),
+    Instr::St(0, Operand::Number(1), 7),
+    Instr::Len(1, 0),
+    Instr::Isp(1, 0),
+    Instr::Get(1, Operand::Number(15)),
+    Instr::Put(Operand::Reg(2), 1),
+    Instr::Swap(1, Operand::Number(0)),
+    Instr::Out(2),
+    Instr::Halt,
+];
+
 #[test]
 fn a_text_gives_its_instructions(rt: HostRuntime) -> Result<(), Fail> {
-    let all =
-        ".mutator\nli r1 7\nmov r2 r1\nadd r0 r1 r2\nsub r0 r1 r2\nmul r0 r1 r2\ndiv r0 r1 r2\nrem r0 r1 r2\nlt r0 r1 r2\neq r0 r1 r2\njmp end\njz r1 end\njal r7 end\njr r3\nnew r0 2\nraw r0 r1\nld r2 r0 1\nst r0 1 r7\nlen r1 r0\nisp r1 r0\nget r1 15\nput r2 r1\nswap r1 0\nend: out r2\nhalt\n";
-    let wanted = [
-        Instr::Li(1, 7),
-        Instr::Mov(2, 1),
-        Instr::Add(0, 1, 2),
-        Instr::Sub(0, 1, 2),
-        Instr::Mul(0, 1, 2),
-        Instr::Div(0, 1, 2),
-        Instr::Rem(0, 1, 2),
-        Instr::Lt(0, 1, 2),
-        Instr::Eq(0, 1, 2),
-        Instr::Jmp(22),
-        Instr::Jz(1, 22),
-        Instr::Jal(7, 22),
-        Instr::Jr(3),
-        Instr::New(0, Operand::Number(2)),
-        Instr::Raw(0, Operand::Reg(1)),
-        Instr::Ld(2, 0, Operand::Number(1)),
-        Instr::St(0, Operand::Number(1), 7),
-        Instr::Len(1, 0),
-        Instr::Isp(1, 0),
-        Instr::Get(1, Operand::Number(15)),
-        Instr::Put(Operand::Reg(2), 1),
-        Instr::Swap(1, Operand::Number(0)),
-        Instr::Out(2),
-        Instr::Halt,
-    ];
-    let program = program_of(rt.alloc(), all)?;
+    let program = program_of(rt.alloc(), EACH_INSTRUCTION)?;
     assert_same(
         &rt,
         &program.code.sections()[0].as_slice(),
-        &wanted.as_slice(),
+        &INSTRUCTIONS.as_slice(),
     );
     assert_same(&rt, &program.instr(0, 9), &Some(Instr::Jmp(22)));
     Ok(())
@@ -91,9 +95,8 @@ const SECTIONS: [(&str, &[Instr]); 7] = [
     ),
 ];
 
-/// The text has one section, of these instructions, and no schedule.
-fn check_section(rt: &impl Abort, alloc: Global, text: &str, wanted: &[Instr]) -> Result<(), Fail> {
-    let program = program_of(alloc, text)?;
+/// The program has one section, of these instructions, and no schedule.
+fn check_program(rt: &impl Abort, text: &str, program: &Program, wanted: &[Instr]) {
     assert_same(rt, &(text, program.code.len()), &(text, 1));
     assert_same(
         rt,
@@ -101,12 +104,18 @@ fn check_section(rt: &impl Abort, alloc: Global, text: &str, wanted: &[Instr]) -
         &(text, wanted),
     );
     assert_same(rt, &(text, program.schedule.is_empty()), &(text, true));
+}
+
+/// The text has one section, of these instructions, and no schedule.
+fn check_section(rt: &impl Abort, alloc: Global, text: &str, wanted: &[Instr]) -> Result<(), Fail> {
+    let program = program_of(alloc, text)?;
+    check_program(rt, text, &program, wanted);
     Ok(())
 }
 
 #[test]
 fn a_label_is_the_number_of_the_next_instruction(rt: HostRuntime) -> Result<(), Fail> {
-    for (text, wanted) in SECTIONS {
+    for (text, wanted) in SECTIONS.iter() {
         check_section(&rt, rt.alloc(), text, wanted)?;
     }
     Ok(())
@@ -117,16 +126,21 @@ fn item(worker: u8, times: u32) -> Item {
     Item { worker, times }
 }
 
+/// The program has two sections, each with a jump to a label of its own, and four items in its schedule.
+fn check_two_sections(rt: &impl Abort, program: &Program) {
+    assert_same(rt, &program.code.len(), &2);
+    assert_same(rt, &program.code.instr(0, 0), &Some(Instr::Jmp(0)));
+    assert_same(rt, &program.code.instr(1, 1), &Some(Instr::Jmp(1)));
+    let wanted = [item(1, 1), item(23, 1_000_000), item(0, 2), item(5, 1)];
+    assert_same(rt, &program.schedule.as_slice(), &wanted.as_slice());
+}
+
 #[test]
 fn sections_have_labels_of_their_own(rt: HostRuntime) -> Result<(), Fail> {
     let text =
         ".schedule 1 023*001000000\n.mutator\nl: jmp l\n.schedule 0*2\n.mutator\nhalt\nl: jmp l\n.schedule 5";
     let program = program_of(rt.alloc(), text)?;
-    assert_same(&rt, &program.code.len(), &2);
-    assert_same(&rt, &program.code.instr(0, 0), &Some(Instr::Jmp(0)));
-    assert_same(&rt, &program.code.instr(1, 1), &Some(Instr::Jmp(1)));
-    let wanted = [item(1, 1), item(23, 1_000_000), item(0, 2), item(5, 1)];
-    assert_same(&rt, &program.schedule.as_slice(), &wanted.as_slice());
+    check_two_sections(&rt, &program);
     Ok(())
 }
 
@@ -186,18 +200,28 @@ const FIRST_FAULTS: &str = "\
 8 1|.schedule 24/foo
 9 2|.mutator/li r0 4611686018427387904/foo";
 
+/// The number and the line that a row names.
+fn place_of(place: &str) -> Result<(u8, u32), Fail> {
+    let (number, line) = place.split_once(' ').ok_or("there is no line")?;
+    Ok((number.parse::<u8>()?, line.parse::<u32>()?))
+}
+
 /// The number and the line of a row's error, and the lines of its text.
 fn fault_row(row: &str) -> Result<((u8, u32), &str), Fail> {
     let (place, lines) = row.split_once('|').ok_or("there is no bar")?;
-    let (number, line) = place.split_once(' ').ok_or("there is no line")?;
-    Ok(((number.parse::<u8>()?, line.parse::<u32>()?), lines))
+    Ok((place_of(place)?, lines))
+}
+
+/// The text, by this name, has this error.
+fn check_error(rt: &impl Abort, alloc: Global, name: &str, text: &str, wanted: (u8, u32)) {
+    assert_same(rt, &(name, fault_of(alloc, text)), &(name, wanted));
 }
 
 /// The text of a row has its error.
 fn check_fault(rt: &impl Abort, alloc: Global, row: &str) -> Result<(), Fail> {
     let (wanted, lines) = fault_row(row)?;
     let text = lines.replace(alloc, '/', "\n")?;
-    assert_same(rt, &(row, fault_of(alloc, &text)), &(row, wanted));
+    check_error(rt, alloc, row, &text, wanted);
     Ok(())
 }
 
@@ -256,11 +280,7 @@ fn check_line(
 ) -> Result<(), Fail> {
     for (byte, digit) in bytes.chars().zip(digits.chars()) {
         text.push(byte)?;
-        assert_same(
-            rt,
-            &(text.as_str(), fault_of(alloc, text.as_str())),
-            &(text.as_str(), prefix_fault(digit, line)),
-        );
+        check_error(rt, alloc, text, text, prefix_fault(digit, line));
     }
     Ok(())
 }
@@ -319,43 +339,51 @@ const LIMITS: [(&str, &str, u32, &str, (u8, u32)); 11] = [
     ),
 ];
 
-/// The number and the line of such a text's error.
-fn repeated_fault(
+/// Such a text has this error.
+fn check_limit(
+    rt: &impl Abort,
     alloc: Global,
     first: &str,
     line: &str,
     times: u32,
     last: &str,
-) -> Result<(u8, u32), Fail> {
+    wanted: (u8, u32),
+) -> Result<(), Fail> {
     let text = repeated(alloc, first, line, times, last)?;
-    Ok(fault_of(alloc, &text))
-}
-
-#[test]
-fn limits_are_those_of_the_whole_text(rt: HostRuntime) -> Result<(), Fail> {
-    for (first, line, times, last, wanted) in LIMITS {
-        let found = repeated_fault(rt.alloc(), first, line, times, last)?;
-        assert_same(&rt, &(line, last, found), &(line, last, wanted));
-    }
+    assert_same(
+        rt,
+        &(line, last, fault_of(alloc, &text)),
+        &(line, last, wanted),
+    );
     Ok(())
 }
 
 #[test]
+fn limits_are_those_of_the_whole_text(rt: HostRuntime) -> Result<(), Fail> {
+    for (first, line, times, last, wanted) in LIMITS.iter() {
+        check_limit(&rt, rt.alloc(), first, line, *times, last, *wanted)?;
+    }
+    Ok(())
+}
+
+/// The texts of all errors, by their numbers.
+const ERROR_TEXTS: [(u8, &str); 9] = [
+    (1, "line 20: error 1: unknown instruction"),
+    (2, "line 20: error 2: bad operand"),
+    (3, "line 20: error 3: unknown label"),
+    (4, "line 20: error 4: label twice"),
+    (5, "line 20: error 5: no mutator"),
+    (6, "line 20: error 6: too many mutators"),
+    (7, "line 20: error 7: code too long"),
+    (8, "line 20: error 8: bad schedule"),
+    (9, "line 20: error 9: number too big"),
+];
+
+#[test]
 fn an_error_has_its_text(rt: HostRuntime) -> Result<(), Fail> {
-    let rows = [
-        (1, "line 20: error 1: unknown instruction"),
-        (2, "line 20: error 2: bad operand"),
-        (3, "line 20: error 3: unknown label"),
-        (4, "line 20: error 4: label twice"),
-        (5, "line 20: error 5: no mutator"),
-        (6, "line 20: error 6: too many mutators"),
-        (7, "line 20: error 7: code too long"),
-        (8, "line 20: error 8: bad schedule"),
-        (9, "line 20: error 9: number too big"),
-    ];
-    for (no, wanted) in rows {
-        let text = AsmError::Text { no, line: 20 }.to_string(rt.alloc())?;
-        assert_same(&rt, &text.as_str(), &wanted);
+    for (no, wanted) in ERROR_TEXTS.iter() {
+        let text = AsmError::Text { no: *no, line: 20 }.to_string(rt.alloc())?;
+        assert_same(&rt, &text.as_str(), wanted);
     }
     Ok(())
 }
@@ -408,17 +436,24 @@ fn check_lists_itself(rt: &impl Abort, alloc: Global, name: &str, text: &str) ->
     Ok(())
 }
 
+/// The text of a first line, a line that is repeated so many times, and a last one is its own listing.
+fn check_lists_repeated(
+    rt: &impl Abort,
+    alloc: Global,
+    first: &str,
+    line: &str,
+    times: u32,
+    last: &str,
+) -> Result<(), Fail> {
+    let text = repeated(alloc, first, line, times, last)?;
+    check_lists_itself(rt, alloc, line, &text)
+}
+
 #[test]
 fn texts_at_the_limits_list_themselves(rt: HostRuntime) -> Result<(), Fail> {
-    let rows = [
-        ("", ".mutator\n", 16, ""),
-        (".mutator\n", "halt\n", 65536, ""),
-        (".schedule", " 0", 65536, "\n.mutator\n"),
-    ];
-    for (first, line, times, last) in rows {
-        let text = repeated(rt.alloc(), first, line, times, last)?;
-        check_lists_itself(&rt, rt.alloc(), line, &text)?;
-    }
+    check_lists_repeated(&rt, rt.alloc(), "", ".mutator\n", 16, "")?;
+    check_lists_repeated(&rt, rt.alloc(), ".mutator\n", "halt\n", 65536, "")?;
+    check_lists_repeated(&rt, rt.alloc(), ".schedule", " 0", 65536, "\n.mutator\n")?;
     let text = loops(rt.alloc(), 65536)?;
     check_lists_itself(&rt, rt.alloc(), "loops", &text)
 }

@@ -1,7 +1,8 @@
 use crate::asserting::assert_same;
-use dump_text::{DumpError, Kept, read};
+use dump_text::{Dump, DumpError, Kept, read};
 use plain_state::NoMemory;
 use std::alloc::Global;
+use std::process::Abort;
 
 /// Adds the text so many times.
 fn add(out: &mut String, text: &str, times: u32) -> Result<(), NoMemory> {
@@ -49,45 +50,50 @@ fn wrong_line(alloc: Global, text: &str) -> Option<u32> {
     named(read(alloc, text.as_bytes()).err()?)
 }
 
+/// The dump has what was printed.
+fn check_dump(rt: &impl Abort, dump: &Dump) {
+    assert_same(rt, &dump.pages, &4);
+    assert_same(
+        rt,
+        &dump.registers.as_slice(),
+        &[[0x401, 0x1c, 0x601, 0, 0, 0, 0, 0xfedc_ba98_7654_3210]].as_slice(),
+    );
+    let kept = Kept {
+        header: 0x10022,
+        place: 0x101,
+    };
+    assert_same(rt, &dump.kept.as_slice(), &[kept].as_slice());
+    assert_same(rt, &dump.words.len(), &633);
+}
+
 #[test]
 fn a_dump_is_read_back(rt: HostRuntime) -> Result<(), NoMemory> {
     let text = printed(rt.alloc(), 633)?;
     match read(rt.alloc(), text.as_str().as_bytes()) {
-        Ok(dump) => {
-            assert_same(&rt, &dump.pages, &4);
-            assert_same(
-                &rt,
-                &dump.registers.as_slice(),
-                &[[0x401, 0x1c, 0x601, 0, 0, 0, 0, 0xfedc_ba98_7654_3210]].as_slice(),
-            );
-            let kept = Kept {
-                header: 0x10022,
-                place: 0x101,
-            };
-            assert_same(&rt, &dump.kept.as_slice(), &[kept].as_slice());
-            assert_same(&rt, &dump.words.len(), &633);
-        }
+        Ok(dump) => check_dump(&rt, &dump),
         Err(error) => assert_same(&rt, &error, &DumpError::NoMemory),
     }
     Ok(())
 }
 
+/// Texts that are no dumps, each with its first wrong line.
+const WRONG_LINES: [(&str, u32); 10] = [
+    ("", 1),
+    ("dump 4 1 1", 1),
+    ("dump 4 1\n", 1),
+    ("dump 04 1 1\n", 1),
+    ("dump 3 1 1\n", 1),
+    ("dump 4 17 17\n", 1),
+    ("dump 4 1 10\n", 1),
+    ("dump 4 1 1\n", 2),
+    ("dump 4 1 1\n0000000000000000\n", 2),
+    ("dump 4 1 1\n000000000000000G", 2),
+];
+
 #[test]
 fn the_first_wrong_line_is_told(rt: HostRuntime) -> Result<(), NoMemory> {
-    let rows = [
-        ("", 1),
-        ("dump 4 1 1", 1),
-        ("dump 4 1\n", 1),
-        ("dump 04 1 1\n", 1),
-        ("dump 3 1 1\n", 1),
-        ("dump 4 17 17\n", 1),
-        ("dump 4 1 10\n", 1),
-        ("dump 4 1 1\n", 2),
-        ("dump 4 1 1\n0000000000000000\n", 2),
-        ("dump 4 1 1\n000000000000000G", 2),
-    ];
-    for (text, line) in rows {
-        assert_same(&rt, &wrong_line(rt.alloc(), text), &Some(line));
+    for (text, line) in WRONG_LINES.iter() {
+        assert_same(&rt, &wrong_line(rt.alloc(), text), &Some(*line));
     }
     assert_same(&rt, &wrong_line_of(rt.alloc(), 632)?, &Some(636));
     assert_same(&rt, &wrong_line_of(rt.alloc(), 634)?, &Some(637));
