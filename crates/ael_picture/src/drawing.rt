@@ -82,21 +82,21 @@ impl Drawing {
     }
 }
 
-/// What the gate counts of the mutators, where there is a gate.
-fn push_gate(text: &mut String, gate: Option<GateWord>) -> Result<(), AllocError> {
-    let Some(gate) = gate else {
-        return text.push_str("no gate");
-    };
+/// What the gate counts of the mutators.
+fn push_gate(text: &mut String, gate: GateWord) -> Result<(), AllocError> {
     write!(
         text,
-        "epoch {}, live {}, running {}",
-        gate.epoch, gate.live, gate.running
-    )?;
-    write!(
-        text,
-        ", behind {}, left {}, request {}",
-        gate.behind, gate.left, gate.request
+        "epoch {}, live {}, running {}, behind {}, left {}, request {}",
+        gate.epoch, gate.live, gate.running, gate.behind, gate.left, gate.request
     )
+}
+
+/// The same, where there is a gate.
+fn push_any_gate(text: &mut String, gate: Option<GateWord>) -> Result<(), AllocError> {
+    match gate {
+        Some(gate) => push_gate(text, gate),
+        None => text.push_str("no gate"),
+    }
 }
 
 /// The words that are owed for copies.
@@ -109,7 +109,7 @@ fn owed(heap: &Heap) -> u32 {
 
 /// The epoch, the counts of the gate, and what is traced and owed.
 fn push_counts(text: &mut String, heap: &Heap) -> Result<(), AllocError> {
-    push_gate(text, heap.gate())?;
+    push_any_gate(text, heap.gate())?;
     let traced = heap.shared(heap.spaces.traced_place());
     write!(text, ", TRACED {traced}, owed {}", owed(heap))
 }
@@ -282,14 +282,14 @@ fn draw_wide_page(
     )
 }
 
-/// A page, and how high it is.
+/// A page.
 fn draw_page(
     alloc: Global,
     heap: &Heap,
     classes: &[Class],
     drawing: &mut Drawing,
     page: u32,
-) -> Result<u32, NoMemory> {
+) -> Result<(), NoMemory> {
     let first = page.saturating_mul(PAGE_WORDS);
     let wide = has_records(classes, first);
     let height = if wide { record_height(heap) } else { NARROW };
@@ -300,7 +300,8 @@ fn draw_page(
     } else {
         draw_bars(classes, drawing, first, height)?;
     }
-    Ok(height)
+    drawing.down(height.saturating_add(1));
+    Ok(())
 }
 
 /// FRONT or LOW, so many words into a space: a line in the page where it lies.
@@ -396,8 +397,7 @@ fn draw_pages(
     let count = if space < 2 { pages } else { 1 };
     for page in first..first.saturating_add(count) {
         tops.push(drawing.bottom)?;
-        let height = draw_page(alloc, heap, classes, drawing, page)?;
-        drawing.down(height.saturating_add(1));
+        draw_page(alloc, heap, classes, drawing, page)?;
     }
     drawing.down(10);
     Ok(())
