@@ -1,6 +1,6 @@
 use Rattle.std.proofs.Common.{sym}
 use Rattle.dump_text.specs.Pieces.{registers_at}
-use Rattle.dump_text.proofs.Loop.{goes_on, stops}
+use Rattle.dump_text.proofs.Loop.{goes_on, is_done, stops}
 use Rattle.dump_text.proofs.lines.all_registers.Goals as goal
 
 pub returns-in_default : goal.returns-in_default
@@ -8,3 +8,6 @@ returns-in_default c = stops registers_at c.loop-i.found.items c.args.count c.lo
 
 pub loop-i-preserved : goal.loop-i-preserved
 loop-i-preserved c = rw c.in_ok-push.ensures.items (goes_on registers_at c.loop-i.found.items c.args.count c.loop-i.i c.args.line c.loop-i.rest.now _ c.in-Some.read.0 c.in-Some.read.1.now c.loop-i-test.true (sym c.in-Some.ensures) c.loop-i.invariant)
+
+pub returns : goal.returns
+returns c = is_done registers_at c.loop-i.found.items c.args.count c.loop-i.i c.args.line c.loop-i.rest.now _ c.loop-i-test.false c.loop-i.invariant
