@@ -1,4 +1,5 @@
 pub mod Headers
+mod Words
 pub mod Lowering
 pub mod Looking
 pub mod Replacing

@@ -2,7 +2,7 @@ ghost use Rattle.std.specs.Prelude.{◌≡◌, ◌+◌, ◌^◌, ◌<◌, ◌≤
 ghost use Rattle.atom_store.specs.Step.{place_in};
 ghost use Rattle.heap_state.specs.FieldSpan.{first_field};
 ghost use Rattle.heap_state.specs.Ghost.{said_kind};
-ghost use Rattle.heap_words.specs.Decoded.{decode};
+ghost use Rattle.heap_words.specs.Decoded.{PointerWord, decode};
 ghost use Rattle.space_map.specs.AreaWord.{decode_area};
 ghost use Rattle.space_map.specs.Spaces.{board_page, to_space};
 ghost use Rattle.space_map.specs.Table.{table_length};
@@ -191,7 +191,7 @@ impl Scan {
         })
     }
 
-    /// A pointer into the old space is asked about.
+    /// A word of the board, or a field: what is no pointer is passed.
     #[inline(always)]
     fn reads_word(&mut self, spot: Spot, word: u64) -> Turn<Scanned>
         requires on_page { IsOnPage self.old.layout.pages self.old.page spot }
@@ -199,10 +199,25 @@ impl Scan {
         ensures state { self.new ≡ record self.old { stage = by_word self.old.layout self.old.page self.old.epoch self.old.in_place spot (decode word) } }
         ensures told { result ≡ told (by_word self.old.layout self.old.page self.old.epoch self.old.in_place spot (decode word)) }
     {
-        let old_space = 1 - self.spaces.to_space(self.epoch);
         match Word(word).as_pointer() {
-            Some(old) if self.spaces.in_space(old, old_space) => self.asks(Asked { spot, old }),
-            _ => self.passes(spot),
+            Some(address) => self.reads_pointer(spot, address),
+            None => self.passes(spot),
+        }
+    }
+
+    /// A pointer into the old space is asked about.
+    #[inline(always)]
+    fn reads_pointer(&mut self, spot: Spot, address: u32) -> Turn<Scanned>
+        requires on_page { IsOnPage self.old.layout.pages self.old.page spot }
+        requires sound { IsSound (record self.old { stage = by_word self.old.layout self.old.page self.old.epoch self.old.in_place spot (PointerWord address) }) }
+        ensures state { self.new ≡ record self.old { stage = by_word self.old.layout self.old.page self.old.epoch self.old.in_place spot (PointerWord address) } }
+        ensures told { result ≡ told (by_word self.old.layout self.old.page self.old.epoch self.old.in_place spot (PointerWord address)) }
+    {
+        let old_space = 1 - self.spaces.to_space(self.epoch);
+        if self.spaces.in_space(address, old_space) {
+            self.asks(Asked { spot, old: address })
+        } else {
+            self.passes(spot)
         }
     }
 
