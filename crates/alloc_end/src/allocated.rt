@@ -1,7 +1,7 @@
 use crate::shortage::Shortage;
 
 /// What an allocation comes to.
-#[derive(Clone, Copy, Debug, PartialEq, Eq)]
+#[derive(Clone, Copy)]
 pub enum Allocated {
     /// The record's header stands at this address.
     Placed(u32),

@@ -1,7 +1,7 @@
 use space_map::AreaWord;
 
 /// An area into which the pages that are asked for fit.
-#[derive(Clone, Copy, Debug)]
+#[derive(Clone, Copy)]
 pub struct Fitting {
     /// Whether the epoch was found traced, so that no room has to be kept.
     pub traced: bool,

@@ -1,5 +1,5 @@
 /// Pages that were claimed, and are made ready one word and one page at a time.
-#[derive(Clone, Copy, Debug)]
+#[derive(Clone, Copy)]
 pub struct NewPages {
     /// Their first word.
     pub first: u32,

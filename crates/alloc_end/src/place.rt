@@ -20,7 +20,7 @@ use space_map::{AreaWord, PAGE_WORDS, Spaces};
 use std::marker::Model;
 
 /// The allocation of one record, by a running mutator.
-#[derive(Clone, Copy, Debug)]
+#[derive(Clone, Copy)]
 pub struct Place {
     spaces: Spaces,
     run: Run,

@@ -3,7 +3,7 @@ use crate::fitting::Fitting;
 use crate::new_pages::NewPages;
 
 /// What an allocation is about to do.
-#[derive(Clone, Copy, Debug)]
+#[derive(Clone, Copy)]
 pub enum PlaceStage {
     /// Load TRACED, whether room has to be kept for copies.
     LoadsTraced,

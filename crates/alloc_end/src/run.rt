@@ -1,5 +1,5 @@
 /// The words that a mutator has for its next new records.
-#[derive(Clone, Copy, Debug, PartialEq, Eq)]
+#[derive(Clone, Copy)]
 pub struct Run {
     /// Where its next record goes.
     pub at: u32,

@@ -1,5 +1,5 @@
 /// Why pages could not be claimed: numbers of pages and of words, by the words read.
-#[derive(Clone, Copy, Debug, PartialEq, Eq)]
+#[derive(Clone, Copy)]
 pub struct Shortage {
     /// The pages asked for.
     pub asked: u32,

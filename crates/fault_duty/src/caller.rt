@@ -1,5 +1,5 @@
 /// For whom a round is made.
-#[derive(Clone, Copy, Debug)]
+#[derive(Clone, Copy)]
 pub enum Caller {
     /// A mutator that faulted on this page.
     Faulted(u32),

@@ -1,7 +1,7 @@
 use crate::findings::Findings;
 
 /// The choice of a page among the board and the full pages.
-#[derive(Clone, Copy, Debug)]
+#[derive(Clone, Copy)]
 pub struct Choice {
     pub seen: Findings,
     /// The address of FRONT, below which the full pages lie.

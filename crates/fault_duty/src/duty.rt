@@ -22,7 +22,7 @@ use space_map::{AreaWord, PAGE_WORDS, PageWord, Spaces};
 use std::marker::Model;
 
 /// One round of what is to be done for the tracing of an epoch.
-#[derive(Clone, Copy, Debug)]
+#[derive(Clone, Copy)]
 pub struct Duty {
     spaces: Spaces,
     caller: Caller,

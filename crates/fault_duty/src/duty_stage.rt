@@ -7,7 +7,7 @@ use page_slots::Claim;
 use space_map::PageWord;
 
 /// What a round is about to do.
-#[derive(Clone, Copy, Debug)]
+#[derive(Clone, Copy)]
 pub enum DutyStage {
     /// Load the gate: its epoch must be the round's, and a scanner takes it from there.
     LoadsGate,

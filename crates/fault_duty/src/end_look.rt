@@ -1,5 +1,5 @@
 /// A look at the end of the copied area.
-#[derive(Clone, Copy, Debug)]
+#[derive(Clone, Copy)]
 pub struct EndLook {
     /// The word of TRACED.
     pub traced: u64,

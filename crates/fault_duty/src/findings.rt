@@ -1,5 +1,5 @@
 /// What a round has found before it chooses a page.
-#[derive(Clone, Copy, Debug)]
+#[derive(Clone, Copy)]
 pub struct Findings {
     /// The word of TRACED, which isn't that of the round's epoch.
     pub traced: u64,

@@ -1,5 +1,5 @@
 /// What a round comes to.
-#[derive(Clone, Copy, Debug, PartialEq, Eq)]
+#[derive(Clone, Copy)]
 pub enum RoundEnd {
     /// This page is claimed: it is to be scanned, and opened.
     ScanPage(u32),

@@ -23,7 +23,7 @@ use space_map::{AreaWord, PAGE_WORDS, Spaces};
 use std::marker::Model;
 
 /// The copy of the record at an address of the old space of an epoch, by one worker.
-#[derive(Clone, Copy, Debug)]
+#[derive(Clone, Copy)]
 pub struct Evac {
     spaces: Spaces,
     addr: u32,

@@ -4,7 +4,7 @@ use crate::reserved::Reserved;
 use space_map::AreaWord;
 
 /// What the machine does next.
-#[derive(Clone, Copy, Debug, PartialEq, Eq)]
+#[derive(Clone, Copy)]
 pub enum EvacStage {
     /// Loads the old record's first word.
     LoadsHeader,

@@ -1,5 +1,5 @@
 /// The header of an old record. Its worker keeps it from when it takes the record until it stores the forward.
-#[derive(Clone, Copy, Debug, PartialEq, Eq)]
+#[derive(Clone, Copy)]
 pub struct KeptHeader {
     pub word: u64,
     /// The number of words after the header.

@@ -14,7 +14,7 @@ use space_map::{AreaWord, GateWord, PAGE_WORDS, Spaces};
 use std::marker::Model;
 
 /// The flip out of one epoch, by the mutator that requested it.
-#[derive(Clone, Copy, Debug)]
+#[derive(Clone, Copy)]
 pub struct Flip {
     spaces: Spaces,
     epoch: u32,

@@ -3,7 +3,7 @@ use crate::reset::Reset;
 use space_map::GateWord;
 
 /// What a flip is about to do.
-#[derive(Clone, Copy, Debug)]
+#[derive(Clone, Copy)]
 pub enum FlipStage {
     /// Load the gate, whether all mutators have stopped and none is behind.
     LoadsGate,

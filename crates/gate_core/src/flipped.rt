@@ -1,5 +1,5 @@
 /// What a flip comes to.
-#[derive(Clone, Copy, Debug, PartialEq, Eq)]
+#[derive(Clone, Copy)]
 pub enum Flipped {
     /// The spaces are exchanged. The flipper had asked for so many pages.
     Went(u32),

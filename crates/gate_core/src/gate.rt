@@ -14,7 +14,7 @@ use space_map::{GateWord, Spaces};
 use std::marker::Model;
 
 /// A passage of the gate by one mutator: a load, and the exchange from the word read where that allows it.
-#[derive(Clone, Copy, Debug)]
+#[derive(Clone, Copy)]
 pub struct Gate {
     spaces: Spaces,
     passage: Passage,

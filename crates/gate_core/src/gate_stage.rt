@@ -2,7 +2,7 @@ use crate::passed::Passed;
 use space_map::GateWord;
 
 /// What a passage is about to do.
-#[derive(Clone, Copy, Debug)]
+#[derive(Clone, Copy)]
 pub enum GateStage {
     /// Load the gate.
     Loads,

@@ -1,5 +1,5 @@
 /// What a passage comes to.
-#[derive(Clone, Copy, Debug, PartialEq, Eq)]
+#[derive(Clone, Copy)]
 pub enum Passed {
     /// It was made, and this is the gate's word since.
     Went(u64),

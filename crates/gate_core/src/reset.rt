@@ -1,7 +1,7 @@
 use space_map::GateWord;
 
 /// What a flipper has read.
-#[derive(Clone, Copy, Debug)]
+#[derive(Clone, Copy)]
 pub struct Reset {
     /// The gate, with nobody running and nobody behind.
     pub gate: GateWord,

@@ -21,7 +21,7 @@ use record_layout::{Header, read};
 use space_map::Spaces;
 
 /// The access that one instruction makes to a record or to the board.
-#[derive(Clone, Copy, Debug)]
+#[derive(Clone, Copy)]
 pub struct Access {
     pub spaces: Spaces,
     pub epoch: u32,

@@ -3,7 +3,7 @@ use crate::field_access::{FieldAccess, FieldUse};
 use crate::record_access::RecordAccess;
 
 /// What an access is about to do.
-#[derive(Clone, Copy, Debug)]
+#[derive(Clone, Copy)]
 pub enum AccessStage {
     /// Load the word of the header's page: it must be open.
     LooksAtRecord(RecordAccess),

@@ -1,7 +1,7 @@
 use plain_state::End;
 
 /// What an access comes to.
-#[derive(Clone, Copy, Debug)]
+#[derive(Clone, Copy)]
 pub enum Accessed {
     /// This page isn't open.
     Faults(u32),

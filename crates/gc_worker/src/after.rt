@@ -1,5 +1,5 @@
 /// Where a mutator that stopped goes on.
-#[derive(Clone, Copy, Debug)]
+#[derive(Clone, Copy)]
 pub enum After {
     /// At the look that begins an instruction.
     Looks,

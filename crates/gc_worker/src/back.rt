@@ -1,7 +1,7 @@
 use crate::access::Access;
 
 /// What a worker goes back to after a round of the duty.
-#[derive(Clone, Copy, Debug)]
+#[derive(Clone, Copy)]
 pub enum Back {
     /// To the look at the page on which the access faulted.
     ToAccess(Access),

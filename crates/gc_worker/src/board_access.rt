@@ -1,5 +1,5 @@
 /// What is done with a word of the board.
-#[derive(Clone, Copy, Debug)]
+#[derive(Clone, Copy)]
 pub enum BoardUse {
     /// This register gets it.
     Loads(u8),
@@ -10,7 +10,7 @@ pub enum BoardUse {
 }
 
 /// The access to a word of the board.
-#[derive(Clone, Copy, Debug)]
+#[derive(Clone, Copy)]
 pub struct BoardAccess {
     /// The word's number, from 0.
     pub word: u32,
@@ -18,7 +18,7 @@ pub struct BoardAccess {
 }
 
 /// The exchange of a word of the board for another.
-#[derive(Clone, Copy, Debug)]
+#[derive(Clone, Copy)]
 pub struct BoardSwap {
     /// The word's number, from 0.
     pub word: u32,

@@ -1,5 +1,5 @@
 /// What stands at a word of a record.
-#[derive(Clone, Copy, Debug)]
+#[derive(Clone, Copy)]
 pub enum Role {
     /// A number or a pointer, with its tag.
     Field,
@@ -8,7 +8,7 @@ pub enum Role {
 }
 
 /// A word of a record whose header was read.
-#[derive(Clone, Copy, Debug)]
+#[derive(Clone, Copy)]
 pub struct FieldAccess {
     /// The record's address.
     pub at: u32,
@@ -18,7 +18,7 @@ pub struct FieldAccess {
 }
 
 /// What is done with it.
-#[derive(Clone, Copy, Debug)]
+#[derive(Clone, Copy)]
 pub enum FieldUse {
     /// This register gets what stands there.
     Loads(u8),

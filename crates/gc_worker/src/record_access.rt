@@ -1,5 +1,5 @@
 /// What is done with a record.
-#[derive(Clone, Copy, Debug)]
+#[derive(Clone, Copy)]
 pub enum RecordUse {
     /// This register gets its length.
     TellsLength(u8),
@@ -10,7 +10,7 @@ pub enum RecordUse {
 }
 
 /// The access to a record whose header isn't read yet.
-#[derive(Clone, Copy, Debug)]
+#[derive(Clone, Copy)]
 pub struct RecordAccess {
     /// The record's address.
     pub at: u32,

@@ -5,7 +5,7 @@ use mutator_asm::{Instr, Operand};
 use plain_state::Kind;
 
 /// The record that an instruction asks for.
-#[derive(Clone, Copy, Debug)]
+#[derive(Clone, Copy)]
 pub(crate) struct RecordAsked {
     pub kind: Kind,
     /// The register that is to lead to it.

@@ -10,7 +10,7 @@ use page_scan::Scan;
 use page_slots::Open;
 
 /// What a worker is about to do.
-#[derive(Clone, Copy, Debug)]
+#[derive(Clone, Copy)]
 pub enum Stage {
     /// Look at the gate, which begins an instruction.
     Looks,

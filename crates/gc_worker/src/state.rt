@@ -9,7 +9,7 @@ use space_map::Spaces;
 use std::marker::Model;
 
 /// What a worker holds between two steps.
-#[derive(Debug, Drop)]
+#[derive(Drop)]
 pub(crate) struct State {
     pub number: u8,
     pub spaces: Spaces,

@@ -18,10 +18,11 @@ use mutator_asm::Instr;
 use plain_state::{End, MOST_PRINTED, REGISTERS};
 use space_map::Spaces;
 use std::alloc::Global;
+use std::fmt;
 use std::marker::Model;
 
 /// One worker of the collected heap. It names its next step and takes the reply; who has the words makes the step.
-#[derive(Debug, Drop)]
+#[derive(Drop)]
 pub struct Worker {
     state: State,
 }
@@ -35,6 +36,18 @@ impl Model for Worker {
     ghost view = { λ w. w.state };
 
     ghost invariant = { λ w. IsSound w.state };
+}
+
+/// Shows which worker it is and where it has come to, and not what it holds between two steps.
+impl fmt::Debug for Worker {
+    fn fmt<W: fmt::Write>(&self, f: &mut fmt::Formatter<W>) -> fmt::Result {
+        f.debug_struct("Worker")
+            .field("number", &self.state.number)
+            .field("epoch", &self.state.epoch)
+            .field("counter", &self.state.counter)
+            .field("end", &self.state.end)
+            .finish_non_exhaustive()
+    }
 }
 
 impl Worker {

@@ -27,7 +27,7 @@ use std::marker::Model;
 const BOARD_WORDS: u32 = 16;
 
 /// The scan of a page in an epoch, by the worker that has claimed it.
-#[derive(Clone, Copy, Debug)]
+#[derive(Clone, Copy)]
 pub struct Scan {
     spaces: Spaces,
     page: u32,

@@ -4,7 +4,7 @@ use crate::scanned_record::ScannedRecord;
 use crate::spot::Spot;
 
 /// What the machine does next.
-#[derive(Clone, Copy, Debug, PartialEq, Eq)]
+#[derive(Clone, Copy)]
 pub enum ScanStage {
     /// Loads the page's crossing word.
     LoadsCross,

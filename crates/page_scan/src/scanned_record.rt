@@ -1,5 +1,5 @@
 /// A record whose header the scan has read. All three are addresses.
-#[derive(Clone, Copy, Debug, PartialEq, Eq)]
+#[derive(Clone, Copy)]
 pub struct ScannedRecord {
     pub at: u32,
     /// The first word behind its fields: those are its words from the one after the header up to this.

@@ -17,7 +17,7 @@ use std::marker::Model;
 const LAST_WORKER: u8 = 23;
 
 /// The claim of a page, to scan it, by one worker in one epoch.
-#[derive(Clone, Copy, Debug, PartialEq, Eq)]
+#[derive(Clone, Copy)]
 pub struct Claim {
     spaces: Spaces,
     page: u32,

@@ -1,7 +1,7 @@
 use crate::claimed::Claimed;
 
 /// What a claim is about to do.
-#[derive(Clone, Copy, Debug, PartialEq, Eq)]
+#[derive(Clone, Copy)]
 pub enum ClaimStage {
     /// Load the place that this worker has announced for a copy.
     LooksAtPlace(u8),

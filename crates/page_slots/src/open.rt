@@ -13,7 +13,7 @@ use space_map::Spaces;
 use std::marker::Model;
 
 /// The opening of a page to mutators in one epoch.
-#[derive(Clone, Copy, Debug)]
+#[derive(Clone, Copy)]
 pub struct Open {
     spaces: Spaces,
     page: u32,

@@ -1,7 +1,7 @@
 use crate::opened::Opened;
 
 /// What an opening is about to do.
-#[derive(Clone, Copy, Debug)]
+#[derive(Clone, Copy)]
 pub enum OpenStage {
     /// Store the word that opens the page.
     StoresOpen,

@@ -4,7 +4,7 @@ use plain_state::{Identity, Kind, Value};
 
 /// What is left to do of an instruction: with its mutator, or with one record or one word of the
 /// board.
-#[derive(Clone, Copy, Debug)]
+#[derive(Clone, Copy)]
 pub enum Action {
     /// A register takes a value.
     Sets(u8, Value),
