@@ -15,12 +15,6 @@ stays (Some xs) None new kept more = absurd kept
 stays (Some xs) (Some ys) None kept more = absurd more
 stays (Some xs) (Some ys) (Some zs) kept more = more ∙ kept
 
--- a read that failed takes nothing
-pub read_failed : (old new : Option (List ℕ)) (buf : List ℕ) → Keeps old new → ReadsKnown old got.Failed buf new
-read_failed None new buf kept = tt
-read_failed (Some xs) None buf kept = absurd kept
-read_failed (Some xs) (Some ys) buf kept = ap (λ zs. Some zs) kept
-
 at_end : (old mid new : Option (List ℕ)) (buf : List ℕ) → Keeps old mid → Consumes mid new (take 0 buf) → IsAtEnd new → ReadsKnown old got.End buf new
 at_end None mid new buf kept consumed ended = tt
 at_end (Some xs) None new buf kept consumed ended = absurd kept

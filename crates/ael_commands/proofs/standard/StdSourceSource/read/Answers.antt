@@ -1,5 +1,5 @@
 use Rattle.std.proofs.Common.{arith, rules}
-use Rattle.ael_commands.proofs.Known.{read_bytes, read_end, read_failed, stays}
+use Rattle.ael_commands.proofs.Known.{read_bytes, read_end, stays}
 use Rattle.ael_commands.proofs.standard.StdSourceSource.read.Goals as goal
 
 pub loop-preserved : goal.loop-preserved
@@ -19,7 +19,3 @@ pub returns-in-Ok-clause-gives_what_the_reader_had_left : goal.returns-in-Ok-cla
 returns-in-Ok-clause-gives_what_the_reader_had_left g c =
     let kept = rw (← c.self.view_is) at c.loop.invariant.kept in
     read_bytes _ _ _ _ _ (search (rules, arith)) c.in-Ok.ensures.bound.0 kept c.in-Ok.ensures.bytes.0
-
-pub returns-clause-gives_what_the_reader_had_left : goal.returns-clause-gives_what_the_reader_had_left
-returns-clause-gives_what_the_reader_had_left g c =
-    rw (c.failed_read-2.ensures.answer, c.failed_read-2.ensures.reader) (read_failed _ _ c.loop.buf c.loop.invariant.kept)
