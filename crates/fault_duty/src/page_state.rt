@@ -1,5 +1,5 @@
 /// What a page's word says to a round of an epoch.
-#[derive(Clone, Copy, Debug, PartialEq, Eq)]
+#[derive(Clone, Copy, PartialEq, Eq)]
 pub enum PageState {
     /// The page is open in this epoch.
     Opened,

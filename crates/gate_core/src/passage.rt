@@ -1,5 +1,5 @@
 /// A mutator's way past the gate.
-#[derive(Clone, Copy, Debug, PartialEq, Eq)]
+#[derive(Clone, Copy, PartialEq, Eq)]
 pub enum Passage {
     /// It runs, and goes on if no flip is requested.
     Look,

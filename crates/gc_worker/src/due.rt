@@ -1,5 +1,5 @@
 /// Whether the next look at the gate begins something.
-#[derive(Clone, Copy, Debug, PartialEq, Eq)]
+#[derive(Clone, Copy, PartialEq, Eq)]
 pub enum Due {
     Nothing,
     /// An instruction.

@@ -38,7 +38,7 @@ impl Model for Worker {
     ghost invariant = { λ w. IsSound w.state };
 }
 
-/// Shows which worker it is and where it has come to, and not what it holds between two steps.
+/// Shows which worker it is and where it has come to, and neither its registers nor its stage.
 impl fmt::Debug for Worker {
     fn fmt<W: fmt::Write>(&self, f: &mut fmt::Formatter<W>) -> fmt::Result {
         f.debug_struct("Worker")
