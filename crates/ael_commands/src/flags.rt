@@ -20,7 +20,7 @@ pub fn push_order_if(out: &mut String, flag: bool, order: &[Mark]) -> Result<(),
     Ok(())
 }
 
-/// Adds how many words were copied since the spaces were last exchanged, where all are.
+/// Adds how many words were copied since the spaces were last exchanged, where all are, and `-` else.
 fn push_live(out: &mut String, live: Option<u64>) -> Result<(), NoMemory>
     ensures { OnOk result (string_bytes out.new ≡ string_bytes out.old ++ live_text live) }
 {

@@ -26,7 +26,7 @@ use std::sync::Wait;
 use std::thread::{Threads, for_each_mut, join_mut};
 
 /// Runs a program on a heap of its own: each mutator executes its section on a thread of its own, and so do the scanners. The mutators
-/// are started in order, and then the scanners; one for which no thread is to be had is run after those before it, on a thread of theirs.
+/// are started in order, and then the scanners; workers for which no thread is to be had are run after others, on a thread of theirs.
 ///
 /// `BadPages` comes exactly for fewer than 4 pages or more than 2048. `NoMemory` may come before the first step and after the last one.
 /// A mutator executes at most `config.turns` instructions, which are at most 10,000,000; there are at most 8 scanners. It returns once
@@ -93,7 +93,7 @@ fn run_workers<R: Threads + Wait + Sync, P: Pace>(
     );
 }
 
-/// Runs these scanners, each on a thread of its own.
+/// Runs these scanners, if any, each on a thread of its own.
 fn run_scanners<R: Threads + Wait + Sync, P: Pace>(job: &Job<R, P>, scanners: &mut [Scanner])
     requires { Each (λ (s : Scanning). s.seated.table ≡ job.now.table) scanners.old }
     ensures scanned { (from : ℕ) → AreScanning job.now from scanners.old → HaveScanned job.now from scanners.new }

@@ -18,13 +18,13 @@ pub struct Row<'a> {
     pub status: u8,
 }
 
-/// A row, or a part of it, whose line ends are slashes.
+/// A row whose line ends are slashes, with line ends in their place.
 pub fn lines(alloc: Global, row: &str) -> Result<String, Fail> {
     Ok(row.replace(alloc, '/', "\n")?)
 }
 
 impl<'a> Row<'a> {
-    /// The parts are the name, the words, the text, what out and err get, and the status.
+    /// The parts are the name, the words, the text, what out and err get, and the status, with their line ends.
     pub fn read(alloc: Global, row: &'a str) -> Result<Row<'a>, Fail> {
         let parts: Vec<&str> = row.split('|').collect(alloc)?;
         let [name, words, text, out, err, status] = parts.as_slice() else {
