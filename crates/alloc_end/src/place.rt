@@ -14,9 +14,8 @@ use crate::place_stage::PlaceStage;
 use crate::run::Run;
 use crate::shortage::Shortage;
 use atom_store::{Reply, Step, Turn};
-use mmu_model::unprotect;
 use record_layout::{Header, pack};
-use space_map::{AreaWord, PAGE_WORDS, Spaces};
+use space_map::{AreaWord, PAGE_WORDS, PageWord, Spaces};
 use std::marker::Model;
 
 /// The allocation of one record, by a running mutator.
@@ -88,7 +87,10 @@ impl Place {
             ),
             PlaceStage::StoresZero(new) => Step::Store(spaces.word_place(new.next), 0),
             PlaceStage::OpensPage(new) => {
-                Step::Store(spaces.page_place(new.next), unprotect(self.epoch))
+                Step::Store(
+                    spaces.page_place(new.next),
+                    PageWord::Open(self.epoch).pack(),
+                )
             }
             PlaceStage::StoresHeader => {
                 Step::Store(spaces.word_place(self.run.at), pack(&self.header))

@@ -1,18 +1,10 @@
--- The pages whose first word a record holds, and the record that holds a page's first word.
-use Rattle.std.specs.Prelude.{◌≡◌, ℕ, ◌+◌, ◌/◌, ◌<◌, ◌≤◌, Contains, List, map}
-use Rattle.space_map.specs.Spaces.{first_word}
+-- The record that holds a page's first word.
+use Rattle.std.specs.Prelude.{◌≡◌, ℕ, ◌<◌, ◌≤◌, Contains, List, map}
+use Rattle.space_map.specs.Spaces.{HoldsFirstWord, first_word}
 use Rattle.heap_state.specs.Kept.{Kept, IsReservedIn}
 use Rattle.heap_state.specs.Era.{era_of, memory_of}
 use Rattle.heap_state.specs.Table.{Table}
 use Rattle.heap_state.specs.Walk.{Walked, walk_in}
-
--- the record at this address, of so many words, holds the page's first word
-abbrev pub HoldsFirstWord : (at size page : ℕ) → Type 0
-HoldsFirstWord at size page = (at ≤ first_word page) × (first_word page < at + size)
-
--- the first page that begins at the address or behind it
-abbrev pub first_page_from : ℕ → ℕ
-first_page_from address = (address + 63) / 64
 
 -- what each worker keeps, where pairs say it: the header, and the place and one more
 abbrev pub pairs_kept : List (ℕ × ℕ) → List Kept

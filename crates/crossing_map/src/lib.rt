@@ -17,7 +17,8 @@ mod walk;
 mod walked;
 
 pub use area::Area;
-pub use crossing::{covers, crossed};
+pub use crossing::covers;
 pub use laws::{walk_next_is_next_in_walk, worked_spaces_are_walked};
+pub use space_map::crossed;
 pub use walk::walk_next;
 pub use walked::Walked;

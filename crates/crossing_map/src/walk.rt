@@ -11,7 +11,6 @@ ghost use Rattle.crossing_map.specs.Walking.{next_in, next_walked, nothing_reser
 use crate::area::Area;
 use crate::first_word::record_size;
 use crate::walked::Walked;
-use mmu_model::read as read_page;
 use record_layout::read;
 use space_map::{PAGE_WORDS, PageWord, Spaces};
 
@@ -107,7 +106,7 @@ fn reserved_size(kept: &[(u64, u64)], at: u32) -> u32
 fn is_open(word: u64, epoch: u32) -> bool
     ensures { IsTrue result ↔ (is_closed epoch (page_said word) ≡ false) }
 {
-    match read_page(word) {
+    match PageWord::read(word) {
         Some(PageWord::Open(opened)) => opened == epoch,
         _ => false,
     }

@@ -8,8 +8,7 @@ use Rattle.atom_store.specs.Machine.{Machine}
 use Rattle.heap_words.specs.Decoded.{Decoded, NumberWord, PointerWord, HeaderWord, ForwardWord, BusyWord, Malformed, decode}
 use Rattle.space_map.specs.declared.area_word.AreaWord.{AreaWord}
 use Rattle.space_map.specs.AreaWord.{decode_area}
-use Rattle.space_map.specs.Spaces.{Layout, first_word}
-use Rattle.crossing_map.specs.Crossing.{first_page_from}
+use Rattle.space_map.specs.Spaces.{Layout, first_page_from, first_word}
 use Rattle.forwarding.specs.declared.kept_header.KeptHeader.{KeptHeader}
 use Rattle.forwarding.specs.declared.reserved.Reserved.{Reserved}
 use Rattle.forwarding.specs.declared.evac_stage.EvacStage.{EvacStage}

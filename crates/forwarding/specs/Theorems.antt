@@ -13,9 +13,8 @@ use Rattle.heap_words.specs.Decoded.{HeaderWord, ForwardWord, decode}
 use Rattle.heap_words.specs.Word.{busy_word, forward_word}
 use Rattle.space_map.specs.declared.area_word.AreaWord.{AreaWord}
 use Rattle.space_map.specs.AreaWord.{encode_area}
-use Rattle.space_map.specs.Spaces.{to_space, first_word}
+use Rattle.space_map.specs.Spaces.{first_page_from, first_word, to_space}
 use Rattle.space_map.specs.Table.{Row, Area, Cross, HeapWord, Announce, place_of}
-use Rattle.crossing_map.specs.Crossing.{first_page_from}
 use Rattle.forwarding.specs.declared.evac_stage.EvacStage.TheVariants.{LoadsHeader, TakesHeader, Announces, Reserves, StoresHeader, Clears, Ended}
 use Rattle.forwarding.specs.declared.kept_header.KeptHeader.{KeptHeader}
 use Rattle.forwarding.specs.declared.reserved.Reserved.{Reserved}

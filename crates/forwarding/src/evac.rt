@@ -17,9 +17,8 @@ use crate::loaded_word::LoadedWord;
 use crate::reserved::Reserved;
 use crate::to::To;
 use atom_store::{Reply, Step, Turn};
-use crossing_map::crossed;
 use record_layout::{Busy, Forward, pack_busy, pack_forward, read, read_forward};
-use space_map::{AreaWord, PAGE_WORDS, Spaces};
+use space_map::{AreaWord, PAGE_WORDS, Spaces, crossed};
 use std::marker::Model;
 
 /// The copy of the record at an address of the old space of an epoch, by one worker.

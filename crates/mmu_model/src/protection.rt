@@ -5,7 +5,6 @@ ghost use Rattle.space_map.specs.Table.{HeapWord, IsRow, place_of, table_length}
 ghost use Rattle.mmu_model.specs.Access.{access_of};
 
 use crate::access::Access;
-use crate::page_words::{pack, read};
 use space_map::{PageWord, Spaces};
 
 /// Whether a mutator may access the page in this epoch, by the page's word.
@@ -14,7 +13,7 @@ pub fn check(page: u32, word: u64, epoch: u32) -> Access
     ensures allowed_exactly_where_open { (result ≡ Access.Allowed) ↔ (decode_page word ≡ Some (PageWord.Open epoch)) }
     ensures else_fault { decode_page word ≢ Some (PageWord.Open epoch) → result ≡ Access.Fault page }
 {
-    match read(word) {
+    match PageWord::read(word) {
         Some(PageWord::Open(opened)) if opened == epoch => Access::Allowed,
         _ => Access::Fault(page),
     }
@@ -35,7 +34,7 @@ pub fn unprotect(epoch: u32) -> u64
     ensures word { result ≡ encode_page (PageWord.Open epoch) }
     ensures opens { decode_page result ≡ Some (PageWord.Open epoch) }
 {
-    pack(PageWord::Open(epoch))
+    PageWord::Open(epoch).pack()
 }
 
 /// Where the collector reaches a heap word, whatever the protection of its page.

@@ -10,7 +10,6 @@ ghost use Rattle.space_map.specs.Table.{Page, place_of, table_length};
 use crate::claim_stage::ClaimStage;
 use crate::claimed::Claimed;
 use atom_store::{Reply, Step, Turn};
-use mmu_model::pack;
 use space_map::{GateWord, PAGE_WORDS, PageWord, Spaces};
 use std::marker::Model;
 
@@ -101,7 +100,7 @@ impl Claim {
             ClaimStage::LooksAtGate => Step::Load(spaces.gate_place()),
             ClaimStage::Exchanges => Step::Exchange(
                 self.page_place(),
-                pack(self.found),
+                self.found.pack(),
                 self.own_word(),
             ),
             ClaimStage::Ended(_) => unreachable!(),
@@ -119,7 +118,7 @@ impl Claim {
     fn own_word(&self) -> u64
         ensures { result ≡ encode_page (PageWord.Scanning self.now.epoch self.now.worker) }
     {
-        pack(PageWord::Scanning(self.epoch, self.worker))
+        PageWord::Scanning(self.epoch, self.worker).pack()
     }
 
     /// Takes the reply to it.

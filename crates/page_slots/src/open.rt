@@ -8,8 +8,7 @@ ghost use Rattle.space_map.specs.Table.{table_length};
 use crate::open_stage::OpenStage;
 use crate::opened::Opened;
 use atom_store::{Reply, Step, Turn};
-use mmu_model::unprotect;
-use space_map::Spaces;
+use space_map::{PageWord, Spaces};
 use std::marker::Model;
 
 /// The opening of a page to mutators in one epoch.
@@ -58,7 +57,7 @@ impl Open {
         match self.stage {
             OpenStage::StoresOpen => Step::Store(
                 self.spaces.page_place(self.page),
-                unprotect(self.epoch),
+                PageWord::Open(self.epoch).pack(),
             ),
             OpenStage::Ended(_) => unreachable!(),
         }

@@ -2,4 +2,5 @@ pub mod Bits
 pub mod Rows
 pub mod AreaWords
 pub mod GateWords
+pub mod Narrowed
 pub mod PageWords

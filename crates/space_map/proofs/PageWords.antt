@@ -1,5 +1,5 @@
 -- A page word says what it was made from, and nothing else is made as that word.
-use Rattle.std.proofs.Common.{◌≡◌, ℕ, zero, suc, ◌+◌, ◌*◌, ◌/◌, ◌%◌, ◌^◌, ◌<◌, ◌≤◌, Bool, true, false, cond, ◌&&◌, nat_lt, Option, Some, None, refl, arith}
+use Rattle.std.proofs.Common.{◌≡◌, ◌≢◌, ℕ, zero, suc, ◌+◌, ◌*◌, ◌/◌, ◌%◌, ◌^◌, ◌<◌, ◌≤◌, Bool, true, false, cond, ◌&&◌, nat_lt, Option, Some, None, IfSome, IfNone, refl, sym, arith}
 use Rattle.std.proofs.lemmas.Bool.Decides.{nat_tests}
 use Rattle.space_map.specs.declared.page_word.PageWord.{PageWord}
 use Rattle.space_map.specs.declared.page_word.PageWord.TheVariants.{Unset, Open, Scanning}
@@ -106,4 +106,22 @@ same_page p q p_fits q_fits same =
     let from_p = decode_page-encode_page p p_fits in
     let from_q = decode_page-encode_page q q_fits in
     let at_p : decode_page (encode_page p) ≡ Some q = rw same from_q in
+    cc
+
+-- ---- from what was read
+
+pub spelled : (w : ℕ) (said : Option PageWord) → said ≡ decode_page w → IfSome said (λ page. encode_page page ≡ w)
+spelled w (Some page) is = encode_page-decode_page w page (sym is)
+spelled w None is = tt
+
+pub fitting : (w : ℕ) (said : Option PageWord) → said ≡ decode_page w → IfSome said PageFits
+fitting w (Some page) is = PageFits-decode_page w page (sym is)
+fitting w None is = tt
+
+pub no_page_word : (w : ℕ) (said : Option PageWord) → said ≡ decode_page w
+    → IfNone said ((page : PageWord) → PageFits page → encode_page page ≢ w)
+no_page_word w (Some page) is = tt
+no_page_word w None is = λ page fits same.
+    let reads : decode_page (encode_page page) ≡ Some page = decode_page-encode_page page fits in
+    let at_w : decode_page w ≡ Some page = rw (← same) reads in
     cc

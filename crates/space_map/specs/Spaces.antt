@@ -18,6 +18,14 @@ page_of addr = addr / PAGE_WORDS
 abbrev pub first_word : ℕ → ℕ
 first_word page = PAGE_WORDS * page
 
+-- the first page that begins at the address or behind it
+abbrev pub first_page_from : ℕ → ℕ
+first_page_from address = (address + 63) / 64
+
+-- the record at this address, of so many words, holds the page's first word
+abbrev pub HoldsFirstWord : (at size page : ℕ) → Type 0
+HoldsFirstWord at size page = (at ≤ first_word page) × (first_word page < at + size)
+
 -- the space into which records are copied in an epoch
 abbrev pub to_space : ℕ → ℕ
 to_space epoch = epoch % 2

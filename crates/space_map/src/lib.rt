@@ -7,6 +7,7 @@
 
 mod area_word;
 mod bad_pages;
+mod crossing;
 mod gate_word;
 mod laws;
 mod page_word;
@@ -14,6 +15,7 @@ mod spaces;
 
 pub use area_word::AreaWord;
 pub use bad_pages::BadPages;
+pub use crossing::crossed;
 pub use gate_word::GateWord;
 pub use laws::{
     area_words_are_unambiguous, gate_words_are_unambiguous, page_words_are_unambiguous,

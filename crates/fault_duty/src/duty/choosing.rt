@@ -18,7 +18,6 @@ use crate::page_state::PageState;
 use crate::round_end::RoundEnd;
 use crate::wanted_page::WantedPage;
 use atom_store::{Reply, Turn};
-use mmu_model::{pack, read};
 use page_slots::{Claim, Claimed};
 use space_map::{AreaWord, GateWord, PageWord};
 
@@ -66,7 +65,7 @@ impl Duty {
         requires { IsSoundRound (at_stage self.old (round.looked_at_wanted self.old seen page word (decode_page word))) }
         ensures { self.new ≡ at_stage self.old (round.looked_at_wanted self.old seen page word (decode_page word)) }
     {
-        let Some(says) = read(word) else {
+        let Some(says) = PageWord::read(word) else {
             return self.go_to(DutyStage::LoadsWanted(seen, page));
         };
         match self.state_of(says) {
@@ -123,7 +122,7 @@ impl Duty {
         requires allowed { IsSoundRound (at_stage self.old (round.looked_at_page self.old choice page word (decode_page word))) }
         ensures { self.new ≡ at_stage self.old (round.looked_at_page self.old choice page word (decode_page word)) }
     {
-        let Some(says) = read(word) else {
+        let Some(says) = PageWord::read(word) else {
             return self.go_to(DutyStage::LoadsPage(choice, page));
         };
         match self.state_of(says) {
@@ -163,7 +162,7 @@ impl Duty {
         ensures { self.new ≡ at_stage self.old (round.claimed_by self.old page says in_place (round.state_of says self.old.epoch)) }
     {
         if self.state_of(says) != PageState::Waits {
-            return self.end(RoundEnd::NothingNow(pack(says)));
+            return self.end(RoundEnd::NothingNow(says.pack()));
         }
         let claim = Claim::new(self.spaces, page, self.epoch, self.worker, says, in_place);
         self.go_to(DutyStage::Claims(claim))

@@ -14,7 +14,6 @@ use crate::duty_stage::DutyStage;
 use crate::end_look::EndLook;
 use crate::page_state::PageState;
 use crate::round_end::RoundEnd;
-use mmu_model::{read, unprotect};
 use space_map::{AreaWord, GateWord, PAGE_WORDS, PageWord};
 
 impl Duty {
@@ -51,7 +50,7 @@ impl Duty {
         requires allowed { IsSoundRound (at_stage self.old (round.ended_page self.old look page word)) }
         ensures { self.new ≡ at_stage self.old (round.ended_page self.old look page word) }
     {
-        if word != unprotect(self.epoch) {
+        if word != PageWord::Open(self.epoch).pack() {
             return self.end(RoundEnd::NothingNow(word));
         }
         let next = self.page_after(page);
@@ -69,7 +68,7 @@ impl Duty {
         requires { IsSoundRound (at_stage self.old (round.looked_at_filling self.old look word (decode_page word))) }
         ensures { self.new ≡ at_stage self.old (round.looked_at_filling self.old look word (decode_page word)) }
     {
-        let Some(says) = read(word) else {
+        let Some(says) = PageWord::read(word) else {
             return self.go_to(DutyStage::EndFilling(look));
         };
         match self.state_of(says) {

@@ -2,7 +2,7 @@ use Rattle.std.proofs.Common.{◌≡◌, ◌+◌, ◌*◌, ◌%◌, ◌^◌, ref
 use Rattle.space_map.specs.PageWord.{encode_page}
 use Rattle.space_map.proofs.Bits.{or_above}
 use Rattle.space_map.proofs.PageWords.{decode_page-encode_page}
-use Rattle.mmu_model.proofs.page_words.pack.Goals as goal
+use Rattle.space_map.proofs.page_word.PageWord.pack.Goals as goal
 
 pub returns-in-Unset-clause-word : goal.returns-in-Unset-clause-word
 unfolding encode_page
@@ -10,7 +10,7 @@ returns-in-Unset-clause-word c = rw c.in-Unset.is refl
 
 pub returns-in-Unset-clause-reads_back : goal.returns-in-Unset-clause-reads_back
 returns-in-Unset-clause-reads_back c =
-    rw (returns-in-Unset-clause-word c) (decode_page-encode_page c.args.p (rw c.in-Unset.is tt))
+    rw (returns-in-Unset-clause-word c) (decode_page-encode_page c.args.self (rw c.in-Unset.is tt))
 
 pub returns-in-Open-clause-word : goal.returns-in-Open-clause-word
 unfolding encode_page
@@ -21,7 +21,7 @@ returns-in-Open-clause-word c =
 
 pub returns-in-Open-clause-reads_back : goal.returns-in-Open-clause-reads_back
 returns-in-Open-clause-reads_back c =
-    rw (returns-in-Open-clause-word c) (decode_page-encode_page c.args.p (rw c.in-Open.is (omega arith)))
+    rw (returns-in-Open-clause-word c) (decode_page-encode_page c.args.self (rw c.in-Open.is (omega arith)))
 
 pub returns-in-Scanning-clause-word : goal.returns-in-Scanning-clause-word
 unfolding encode_page
@@ -40,4 +40,4 @@ returns-in-Scanning-clause-word c =
 
 pub returns-in-Scanning-clause-reads_back : goal.returns-in-Scanning-clause-reads_back
 returns-in-Scanning-clause-reads_back c =
-    rw (returns-in-Scanning-clause-word c) (decode_page-encode_page c.args.p (rw c.in-Scanning.is (omega arith, omega arith)))
+    rw (returns-in-Scanning-clause-word c) (decode_page-encode_page c.args.self (rw c.in-Scanning.is (omega arith, omega arith)))
