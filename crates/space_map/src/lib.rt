@@ -1,8 +1,8 @@
 //! The memory of the collected heap: two spaces of pages and the board, and the table of words in which they lie
 //! beside the words that the collector shares.
 //!
-//! The formats of all shared words but those of records are defined here, in `specs`. What stands above speaks of rows
-//! in place of places, and of words decoded.
+//! The formats of all shared words but those of records are defined here, in `specs`, and these words are made and read
+//! here. What stands above speaks of rows in place of places, and of words decoded.
 #![tactic(auto)]
 
 mod area_word;
