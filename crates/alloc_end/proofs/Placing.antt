@@ -19,7 +19,7 @@ use Rattle.space_map.specs.AreaWord.{decode_area}
 use Rattle.space_map.specs.PageWord.{decode_page, encode_page}
 use Rattle.space_map.specs.Spaces.{page_of}
 use Rattle.space_map.specs.Table.{Page, HeapWord, place_of}
-use Rattle.space_map.specs.TableWords.{word_in, HoldsTable}
+use Rattle.space_map.specs.TableWords.{row_word, HoldsTable}
 use Rattle.space_map.proofs.PageWords.{decode_page-encode_page}
 use Rattle.space_map.proofs.Rows.{place_of-apart, place_of-lt}
 use Rattle.alloc_end.specs.declared.fitting.Fitting.{Fitting}
@@ -47,39 +47,39 @@ page_apart n page other apart same = apart (omega arith)
 
 -- after a store in a word of the heap its other words are what they were
 other_word : (n a b value : ℕ) (before after : List ℕ) → after ≡ words_after (Store (place_of n (HeapWord b)) value) before → a ≢ b
-    → word_in n (HeapWord a) after ≡ word_in n (HeapWord a) before
+    → row_word n (HeapWord a) after ≡ row_word n (HeapWord a) before
 other_word n a b value before after makes apart =
-    ap (word_in n (HeapWord a)) makes ∙ slice_index-words_after (Store (place_of n (HeapWord b)) value) before (place_of n (HeapWord a)) (word_apart n a b apart)
+    ap (row_word n (HeapWord a)) makes ∙ slice_index-words_after (Store (place_of n (HeapWord b)) value) before (place_of n (HeapWord a)) (word_apart n a b apart)
 
 this_word : (n a value : ℕ) (before after : List ℕ) → HoldsTable n before → a ≤ 128 * n + 63
-    → after ≡ words_after (Store (place_of n (HeapWord a)) value) before → word_in n (HeapWord a) after ≡ value
+    → after ≡ words_after (Store (place_of n (HeapWord a)) value) before → row_word n (HeapWord a) after ≡ value
 this_word n a value before after whole is_word makes =
     let inside = place_of-lt n (HeapWord a) is_word in
-    ap (word_in n (HeapWord a)) makes ∙ slice_index-stored (place_of n (HeapWord a)) value before (omega (arith, inside, whole))
+    ap (row_word n (HeapWord a)) makes ∙ slice_index-stored (place_of n (HeapWord a)) value before (omega (arith, inside, whole))
 
 -- so do page words, and words of the heap after a store in a page word
 page_stays : (n page b value : ℕ) (before after : List ℕ) → page ≤ 2 * n → b ≤ 128 * n + 63
-    → after ≡ words_after (Store (place_of n (HeapWord b)) value) before → word_in n (Page page) after ≡ word_in n (Page page) before
+    → after ≡ words_after (Store (place_of n (HeapWord b)) value) before → row_word n (Page page) after ≡ row_word n (Page page) before
 page_stays n page b value before after is_page is_word makes =
-    ap (word_in n (Page page)) makes
+    ap (row_word n (Page page)) makes
     ∙ slice_index-words_after (Store (place_of n (HeapWord b)) value) before (place_of n (Page page)) (page_word_apart n page b is_page is_word)
 
 word_stays : (n a page value : ℕ) (before after : List ℕ) → page ≤ 2 * n → a ≤ 128 * n + 63
-    → after ≡ words_after (Store (place_of n (Page page)) value) before → word_in n (HeapWord a) after ≡ word_in n (HeapWord a) before
+    → after ≡ words_after (Store (place_of n (Page page)) value) before → row_word n (HeapWord a) after ≡ row_word n (HeapWord a) before
 word_stays n a page value before after is_page is_word makes =
-    ap (word_in n (HeapWord a)) makes
+    ap (row_word n (HeapWord a)) makes
     ∙ slice_index-words_after (Store (place_of n (Page page)) value) before (place_of n (HeapWord a)) (λ same. page_word_apart n page a is_page is_word (sym same))
 
 other_page : (n page other value : ℕ) (before after : List ℕ) → after ≡ words_after (Store (place_of n (Page other)) value) before → page ≢ other
-    → word_in n (Page page) after ≡ word_in n (Page page) before
+    → row_word n (Page page) after ≡ row_word n (Page page) before
 other_page n page other value before after makes apart =
-    ap (word_in n (Page page)) makes ∙ slice_index-words_after (Store (place_of n (Page other)) value) before (place_of n (Page page)) (page_apart n page other apart)
+    ap (row_word n (Page page)) makes ∙ slice_index-words_after (Store (place_of n (Page other)) value) before (place_of n (Page page)) (page_apart n page other apart)
 
 this_page : (n page value : ℕ) (before after : List ℕ) → HoldsTable n before → page ≤ 2 * n
-    → after ≡ words_after (Store (place_of n (Page page)) value) before → word_in n (Page page) after ≡ value
+    → after ≡ words_after (Store (place_of n (Page page)) value) before → row_word n (Page page) after ≡ value
 this_page n page value before after whole is_page makes =
     let inside = place_of-lt n (Page page) is_page in
-    ap (word_in n (Page page)) makes ∙ slice_index-stored (place_of n (Page page)) value before (omega (arith, inside, whole))
+    ap (row_word n (Page page)) makes ∙ slice_index-stored (place_of n (Page page)) value before (omega (arith, inside, whole))
 
 -- ---- zeros and open pages
 

@@ -12,7 +12,7 @@ use Rattle.space_map.specs.declared.area_word.AreaWord.{AreaWord}
 use Rattle.space_map.specs.AreaWord.{decode_area, encode_area}
 use Rattle.space_map.specs.Spaces.{to_space}
 use Rattle.space_map.specs.Table.{Traced, Area, place_of}
-use Rattle.space_map.specs.TableWords.{word_in, HoldsTable}
+use Rattle.space_map.specs.TableWords.{row_word, HoldsTable}
 use Rattle.space_map.proofs.AreaWords.{decode_area-encode_area}
 use Rattle.space_map.proofs.Rows.{place_of-lt}
 use Rattle.alloc_end.specs.declared.fitting.Fitting.{Fitting}
@@ -37,7 +37,7 @@ test_same m n test = grind (arith, nat_tests)
 pub looks_at_traced : (p : Placing) (before after : List ℕ) (turn : Turn Allocated) → Acts place_machine (at_stage p LoadsTraced) before after turn
     → LooksAtTraced p before after
 looks_at_traced p before after turn acts =
-    let loaded : ℕ = word_in p.layout.pages Traced before in
+    let loaded : ℕ = row_word p.layout.pages Traced before in
     record { traced = nat_eq loaded (p.epoch + 1); exactly = (test_same loaded (p.epoch + 1), same_test loaded (p.epoch + 1)); goes = refl; stays = acts.makes }
 
 -- ---- the exchange

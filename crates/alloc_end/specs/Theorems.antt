@@ -11,7 +11,7 @@ use Rattle.space_map.specs.AreaWord.{decode_area, encode_area}
 use Rattle.space_map.specs.PageWord.{decode_page}
 use Rattle.space_map.specs.Spaces.{to_space, page_of}
 use Rattle.space_map.specs.Table.{Traced, Area, Page, HeapWord}
-use Rattle.space_map.specs.TableWords.{word_in, HoldsTable, ChangesOnly}
+use Rattle.space_map.specs.TableWords.{row_word, HoldsTable, ChangesOnly}
 use Rattle.alloc_end.specs.declared.fitting.Fitting.{Fitting}
 use Rattle.alloc_end.specs.declared.shortage.Shortage.{Shortage}
 use Rattle.alloc_end.specs.declared.allocated.Allocated.{Allocated}
@@ -23,14 +23,14 @@ use Rattle.alloc_end.specs.Soundness.{IsSoundPlacing}
 
 -- the area of the space that is copied into
 abbrev pub area_word : Placing → List ℕ → ℕ
-area_word p words = word_in p.layout.pages (Area (to_space p.epoch)) words
+area_word p words = row_word p.layout.pages (Area (to_space p.epoch)) words
 
 -- ---- TRACED
 
 -- whether room has to be kept is told by TRACED as it is read: that the epoch is traced or not; no word changes
 pub record LooksAtTraced (p : Placing) (before after : List ℕ) : Type 0 where
   pub traced : Bool
-  pub exactly : IsTrue traced ↔ (word_in p.layout.pages Traced before ≡ p.epoch + 1)
+  pub exactly : IsTrue traced ↔ (row_word p.layout.pages Traced before ≡ p.epoch + 1)
   pub goes : (stepped place_machine (at_stage p LoadsTraced) before).stage ≡ LoadsArea traced
   pub stays : after ≡ before
 
@@ -66,11 +66,11 @@ PagesAreLost = (p : Placing) (f : Fitting) (before after : List ℕ) (turn : Tur
 
 -- the words from one to another are 0
 abbrev pub AreZero : (pages from upto : ℕ) → List ℕ → Type 0
-AreZero n from upto words = (a : ℕ) → from ≤ a → a < upto → word_in n (HeapWord a) words ≡ 0
+AreZero n from upto words = (a : ℕ) → from ≤ a → a < upto → row_word n (HeapWord a) words ≡ 0
 
 -- the pages from one to another are open in an epoch
 abbrev pub AreOpen : (pages epoch from upto : ℕ) → List ℕ → Type 0
-AreOpen n epoch from upto words = (page : ℕ) → from ≤ page → page < upto → decode_page (word_in n (Page page) words) ≡ Some (Open epoch)
+AreOpen n epoch from upto words = (page : ℕ) → from ≤ page → page < upto → decode_page (row_word n (Page page) words) ≡ Some (Open epoch)
 
 -- What an allocation has made ready: words that are 0, pages that are open. A run that it is given is to be so.
 abbrev pub IsReady : Placing → PlaceStage → List ℕ → Type 0
@@ -94,7 +94,7 @@ PagesAreMadeReady = (p : Placing) (before after : List ℕ) (turn : Turn Allocat
 pub record PlacesRecord (p : Placing) (before after : List ℕ) (at : ℕ) : Type 0 where
   pub at_run : at ≡ p.run.at
   pub in_run : at + size_of p.header ≤ p.run.end
-  pub header : word_in p.layout.pages (HeapWord at) after ≡ encode (header_says p.header)
+  pub header : row_word p.layout.pages (HeapWord at) after ≡ encode (header_says p.header)
   pub zero : AreZero p.layout.pages (at + 1) p.run.end after
   pub opened : AreOpen p.layout.pages p.epoch (page_of at) (page_of p.run.end) after
   pub run_goes_on : (stepped place_machine p before).run ≡ record { at = at + size_of p.header; end = p.run.end }

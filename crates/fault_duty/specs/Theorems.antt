@@ -11,7 +11,7 @@ use Rattle.space_map.specs.GateWord.{decode_gate}
 use Rattle.space_map.specs.PageWord.{age_of, encode_page, decode_page}
 use Rattle.space_map.specs.Spaces.{to_space, page_of, board_page, first_word}
 use Rattle.space_map.specs.Table.{Row, Gate, Traced, Area, Page}
-use Rattle.space_map.specs.TableWords.{word_in, HoldsTable, ChangesOnly}
+use Rattle.space_map.specs.TableWords.{row_word, HoldsTable, ChangesOnly}
 use Rattle.page_slots.specs.Claim.{Claiming, begun, claim_machine}
 use Rattle.page_slots.specs.Theorems.{WinsPage, ShowsTaken}
 use Rattle.fault_duty.specs.declared.caller.Caller.TheVariants.{Scans}
@@ -26,7 +26,7 @@ use Rattle.fault_duty.specs.Soundness.{Forbids, IsChoice, IsOwnClaim, IsSoundRou
 
 -- the word of a row of the round's table
 abbrev pub row_of : Round → Row → List ℕ → ℕ
-row_of d row words = word_in d.layout.pages row words
+row_of d row words = row_word d.layout.pages row words
 
 -- ---- nothing to do now
 

@@ -18,7 +18,7 @@ use Rattle.space_map.specs.GateWord.{GateFits, decode_gate, encode_gate}
 use Rattle.space_map.specs.Spaces.{IsPageCount, to_space}
 use Rattle.space_map.specs.Table as row
 use Rattle.space_map.specs.Table.{Row, IsRow, place_of}
-use Rattle.space_map.specs.TableWords.{word_in, HoldsTable}
+use Rattle.space_map.specs.TableWords.{row_word, HoldsTable}
 use Rattle.space_map.proofs.AreaWords.{decode_area-encode_area}
 use Rattle.space_map.proofs.GateWords.{decode_gate-encode_gate}
 use Rattle.space_map.proofs.Rows.{place_of-apart, place_of-lt}
@@ -36,10 +36,10 @@ at f stage = record f { stage = stage }
 
 -- the words of rows
 abbrev gate_of : Flipping → List ℕ → ℕ
-gate_of f words = word_in f.layout.pages row.Gate words
+gate_of f words = row_word f.layout.pages row.Gate words
 
 abbrev area_of : Flipping → (epoch : ℕ) → List ℕ → ℕ
-area_of f epoch words = word_in f.layout.pages (row.Area (to_space epoch)) words
+area_of f epoch words = row_word f.layout.pages (row.Area (to_space epoch)) words
 
 -- ---- rows
 

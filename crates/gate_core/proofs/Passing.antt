@@ -14,7 +14,7 @@ use Rattle.space_map.specs.declared.gate_word.GateWord.{GateWord}
 use Rattle.space_map.specs.GateWord.{GateFits, decode_gate, encode_gate}
 use Rattle.space_map.specs.Table as row
 use Rattle.space_map.specs.Table.{place_of}
-use Rattle.space_map.specs.TableWords.{word_in, HoldsTable}
+use Rattle.space_map.specs.TableWords.{row_word, HoldsTable}
 use Rattle.space_map.proofs.GateWords.{decode_gate-encode_gate}
 use Rattle.space_map.proofs.Rows.{place_of-lt}
 use Rattle.gate_core.specs.declared.passage.Passage.{Passage}
@@ -175,14 +175,14 @@ exchange_never_hindered passage g reply.Done word tells = cc
 pub passes : (p : Passing) (stage : GateStage) (before after : List ℕ) (word : ℕ) → IsSoundPassing (at p stage) → HoldsTable p.layout.pages before
     → Acts gate_machine (at p stage) before after (Finished (Went word)) → PassesGate p before after word
 passes p Loads before after word sound whole acts =
-    let loaded : ℕ = word_in p.layout.pages row.Gate before in
+    let loaded : ℕ = row_word p.layout.pages row.Gate before in
     let found = looks p.passage loaded word (decode_gate loaded) acts.tells in
     record {
       gate = found.gate;
       was = found.is;
       allowed = is_allowed p.passage found.gate found.test;
-      is = ap (λ ws. decode_gate (word_in p.layout.pages row.Gate ws)) acts.makes ∙ found.is ∙ ap Some (sym (ap (λ z. gate_after z found.gate) found.alone));
-      tells = found.same ∙ sym (ap (word_in p.layout.pages row.Gate) acts.makes);
+      is = ap (λ ws. decode_gate (row_word p.layout.pages row.Gate ws)) acts.makes ∙ found.is ∙ ap Some (sym (ap (λ z. gate_after z found.gate) found.alone));
+      tells = found.same ∙ sym (ap (row_word p.layout.pages row.Gate) acts.makes);
       others = λ place apart. ap (λ ws. slice_index ws place) acts.makes;
     }
 passes p (Exchanges g) before after word sound whole acts =
@@ -206,7 +206,7 @@ passes p (Ended result) before after word sound whole acts = absurd (no_step act
 pub hindered : (p : Passing) (stage : GateStage) (before after : List ℕ) (word : ℕ)
     → Acts gate_machine (at p stage) before after (Finished (NotYet word)) → ForbidsPassage p before after word
 hindered p Loads before after word acts =
-    let loaded : ℕ = word_in p.layout.pages row.Gate before in
+    let loaded : ℕ = row_word p.layout.pages row.Gate before in
     let found = hinders p.passage loaded word (decode_gate loaded) acts.tells in
     record {
       gate = found.gate;

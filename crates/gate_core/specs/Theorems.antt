@@ -9,7 +9,7 @@ use Rattle.space_map.specs.AreaWord.{decode_area}
 use Rattle.space_map.specs.GateWord.{decode_gate}
 use Rattle.space_map.specs.Spaces.{to_space}
 use Rattle.space_map.specs.Table as row
-use Rattle.space_map.specs.TableWords.{word_in, HoldsTable, ChangesOnly}
+use Rattle.space_map.specs.TableWords.{row_word, HoldsTable, ChangesOnly}
 use Rattle.gate_core.specs.declared.passage.Passage.{Passage}
 use Rattle.gate_core.specs.declared.passage.Passage.TheVariants.{Look, Attach, Park, Request, Resume, Forwarded, Leave}
 use Rattle.gate_core.specs.declared.passed.Passed.TheVariants as passed
@@ -47,10 +47,10 @@ IsForbidden Leave gate = ⊥
 -- The gate's word allowed the passage, and says then what comes of it, as is told; no other word changes.
 pub record PassesGate (p : Passing) (before after : List ℕ) (word : ℕ) : Type 0 where
   pub gate : GateWord
-  pub was : decode_gate (word_in p.layout.pages row.Gate before) ≡ Some gate
+  pub was : decode_gate (row_word p.layout.pages row.Gate before) ≡ Some gate
   pub allowed : IsAllowed p.passage gate
-  pub is : decode_gate (word_in p.layout.pages row.Gate after) ≡ Some (gate_after p.passage gate)
-  pub tells : word ≡ word_in p.layout.pages row.Gate after
+  pub is : decode_gate (row_word p.layout.pages row.Gate after) ≡ Some (gate_after p.passage gate)
+  pub tells : word ≡ row_word p.layout.pages row.Gate after
   pub others : ChangesOnly p.layout.pages row.Gate before after
 
 abbrev pub PassagesAreMade : Type 0
@@ -62,7 +62,7 @@ pub record ForbidsPassage (p : Passing) (before after : List ℕ) (word : ℕ) :
   pub gate : GateWord
   pub says : decode_gate word ≡ Some gate
   pub forbidden : IsForbidden p.passage gate
-  pub tells : word ≡ word_in p.layout.pages row.Gate before
+  pub tells : word ≡ row_word p.layout.pages row.Gate before
   pub stays : after ≡ before
 
 abbrev pub HinderedPassagesShowIt : Type 0
@@ -73,19 +73,19 @@ HinderedPassagesShowIt = (p : Passing) (before after : List ℕ) (word : ℕ)
 
 -- the gate that the flip has read stands, and the words in use that it counted are those in use
 pub record CountsUsed (f : Flipping) (reset : Reset) (words : List ℕ) : Type 0 where
-  pub gate : decode_gate (word_in f.layout.pages row.Gate words) ≡ Some reset.gate
+  pub gate : decode_gate (row_word f.layout.pages row.Gate words) ≡ Some reset.gate
   pub area : AreaWord
-  pub read : decode_area (word_in f.layout.pages (row.Area (to_space f.epoch)) words) ≡ Some area
+  pub read : decode_area (row_word f.layout.pages (row.Area (to_space f.epoch)) words) ≡ Some area
   pub used : reset.used ≡ used_in f.layout.pages area
 
 -- the area of the other space is that of an empty one
 abbrev pub IsReset : Flipping → Reset → List ℕ → Type 0
-IsReset f reset words = decode_area (word_in f.layout.pages (row.Area (to_space (f.epoch + 1))) words) ≡ Some (area_reset f.layout.pages reset.used)
+IsReset f reset words = decode_area (row_word f.layout.pages (row.Area (to_space (f.epoch + 1))) words) ≡ Some (area_reset f.layout.pages reset.used)
 
 -- what the flip has read stands, and so does what it has stored
 abbrev pub StandsAt : Flipping → FlipStage → List ℕ → Type 0
 StandsAt f LoadsGate words = ⊤
-StandsAt f (LoadsArea gate) words = decode_gate (word_in f.layout.pages row.Gate words) ≡ Some gate
+StandsAt f (LoadsArea gate) words = decode_gate (row_word f.layout.pages row.Gate words) ≡ Some gate
 StandsAt f (StoresArea reset) words = CountsUsed f reset words
 StandsAt f (Exchanges reset) words = CountsUsed f reset words × IsReset f reset words
 StandsAt f (Ended result) words = ⊤
@@ -100,12 +100,12 @@ FlipsKeepWhatTheyRead = (f : Flipping) (before after : List ℕ) (turn : Turn Fl
 -- more. The other space is empty, and owes as many words as are in use in the one that was copied into until now.
 pub record FlipsHeap (f : Flipping) (before after : List ℕ) : Type 0 where
   pub gate : GateWord
-  pub was : decode_gate (word_in f.layout.pages row.Gate before) ≡ Some gate
+  pub was : decode_gate (row_word f.layout.pages row.Gate before) ≡ Some gate
   pub still : (gate.running ≡ 0) × (gate.behind ≡ 0)
-  pub is : decode_gate (word_in f.layout.pages row.Gate after) ≡ Some (gate_flipped gate)
+  pub is : decode_gate (row_word f.layout.pages row.Gate after) ≡ Some (gate_flipped gate)
   pub area : AreaWord
-  pub in_use : decode_area (word_in f.layout.pages (row.Area (to_space f.epoch)) after) ≡ Some area
-  pub empty : decode_area (word_in f.layout.pages (row.Area (to_space (f.epoch + 1))) after)
+  pub in_use : decode_area (row_word f.layout.pages (row.Area (to_space f.epoch)) after) ≡ Some area
+  pub empty : decode_area (row_word f.layout.pages (row.Area (to_space (f.epoch + 1))) after)
       ≡ Some (area_reset f.layout.pages (used_in f.layout.pages area))
   pub others : ChangesOnly f.layout.pages row.Gate before after
 
@@ -119,7 +119,7 @@ pub record ForbidsFlip (f : Flipping) (before after : List ℕ) (word : ℕ) : T
   pub gate : GateWord
   pub says : decode_gate word ≡ Some gate
   pub forbidden : (gate.running ≢ 0) ⊎ (gate.behind ≢ 0)
-  pub tells : word ≡ word_in f.layout.pages row.Gate before
+  pub tells : word ≡ row_word f.layout.pages row.Gate before
   pub stays : after ≡ before
 
 abbrev pub HinderedFlipsShowIt : Type 0

@@ -24,7 +24,8 @@ use Rattle.gc_worker.specs.Goes.{Is, Goes, Wins}
 use Rattle.gc_worker.specs.Held.{Held}
 use Rattle.gc_worker.specs.Knows.{knows, post_in}
 use Rattle.gc_worker.specs.Turned.{Outcome, Answers, PageWon, turned, told, won}
-use Rattle.gc_worker.proofs.Steps.{row_is, prepared}
+use Rattle.gc_worker.proofs.Steps.{prepared}
+use Rattle.heap_state.proofs.Table.Stores.{entry_has_row}
 
 module _ (c : Configuration) (p : Plain) (s : Stands c p) (k : ℕ) (x : Held) where
   -- what a law of the heap says of a step of worker k that is one of the plain machine
@@ -33,7 +34,7 @@ module _ (c : Configuration) (p : Plain) (s : Stands c p) (k : ℕ) (x : Held) w
 
   -- the row that it says is written is one of the table
   pub row_fits_to : (e : Entry) (w : Worker) (h : Ghost) (q : Plain) → k < length c.workers → LawTo (Some e) w h q → IsRow c.pages (row_of e)
-  row_fits_to e w h q below l = row_is c.pages e (plain_steps_are_lifted c p q s (Some e) k w h below l).fits
+  row_fits_to e w h q below l = entry_has_row c.pages e (plain_steps_are_lifted c p q s (Some e) k w h below l).fits
 
   -- a step that answers the task, after which the worker is this
   pub answers : (e : Option Entry) (reply : Reply) (y : Held) (h : Ghost) (q : Mutator) (task : Task) (outcome : Outcome) → turned x reply ≡ y → told x reply ≡ Answers task outcome

@@ -17,7 +17,7 @@ unfolding table_of
 area_word c space = λ i. area_in (area_now c space)
 
 pub area_says : (c : Configuration) (p : Plain) → Stands c p → (space : ℕ) → space < 2 → decode_area (area_now c space) ≡ Some ((table c).area space)
-area_says c p s space small = decode_area-short (area_now c space) (s.formed.areas space small) ∙ ap Some (sym (area_word c space))
+area_says c p s space small = decode_area-short (area_now c space) (s.formed.rows (Area space) small) ∙ ap Some (sym (area_word c space))
 
 -- the word is this area's, and so the area is this one
 pub area_is : (c : Configuration) (space : ℕ) (area : AreaWord) → AreaFits area → area_now c space ≡ encode_area area → (table c).area space ≡ area

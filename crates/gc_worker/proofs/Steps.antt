@@ -9,7 +9,7 @@ use Rattle.atom_store.specs.declared.reply.Reply.TheVariants.{Value, Done, Won, 
 use Rattle.space_map.specs.Table.{Row, IsRow, place_of}
 use Rattle.space_map.proofs.Rows.{place_of-lt}
 use Rattle.heap_state.specs.Configuration.{Configuration, Stands, era, memory, team}
-use Rattle.heap_state.specs.Entries.{Entry, EntryFits, GateIs, TracedIs, AreaIs, PageIs, CrossIs, WordIs, AnnounceIs, row_of, word_of}
+use Rattle.heap_state.specs.Entries.{Entry, row_of, word_of}
 use Rattle.heap_state.specs.Ghost.{Ghost}
 use Rattle.heap_state.specs.Table.{word_in}
 use Rattle.heap_state.specs.Worker.{Worker}
@@ -21,21 +21,12 @@ use Rattle.heap_laws.proofs.Lifting.Configurations.{ready}
 use Rattle.heap_laws.proofs.Lifting.Laws.{steps_are_lifted}
 use Rattle.heap_laws.proofs.Steps.Composing.{steps_forget}
 use Rattle.heap_state.proofs.Table.Places.{word_in-row}
+use Rattle.heap_state.proofs.Table.Stores.{entry_has_row}
 use Rattle.gc_worker.specs.Fits.{Fits, Takes}
 use Rattle.gc_worker.specs.Goes.{Is, Goes, Steps, Wins}
 use Rattle.gc_worker.specs.Held.{Held}
 use Rattle.gc_worker.specs.Knows.{knows}
 use Rattle.gc_worker.specs.Turned.{Silent, PageWon, turned, told, won}
-
--- what the entry fits is a row of the table
-pub row_is : (n : ℕ) (e : Entry) → EntryFits n e → IsRow n (row_of e)
-row_is n (GateIs gate) fits = tt
-row_is n (TracedIs word) fits = tt
-row_is n (AreaIs space area) fits = fits.0
-row_is n (PageIs page word) fits = fits.0
-row_is n (CrossIs page place) fits = fits
-row_is n (WordIs addr word) fits = fits
-row_is n (AnnounceIs worker place) fits = fits
 
 module _ (c : Configuration) (p : Plain) (s : Stands c p) (k : ℕ) (x : Held) where
   -- what a law of the heap says of a step of worker k
@@ -65,7 +56,7 @@ module _ (c : Configuration) (p : Plain) (s : Stands c p) (k : ℕ) (x : Held) w
 
   -- the row that a law says is written is one of the table
   pub row_fits : (e : Entry) (w : Worker) (h : Ghost) → k < length c.workers → Law (Some e) w h → IsRow c.pages (row_of e)
-  row_fits e w h below l = row_is c.pages e (steps_are_lifted c p s (Some e) k w h below l).fits
+  row_fits e w h below l = entry_has_row c.pages e (steps_are_lifted c p s (Some e) k w h below l).fits
 
   in_table : (row : Row) → IsRow c.pages row → place_of c.pages row < length c.words
   in_table row is = let w = s.formed.whole in let l = place_of-lt c.pages row is in omega (arith, w, l)

@@ -14,7 +14,7 @@ use Rattle.gate_core.specs.Flip.{Flipping}
 use Rattle.gate_core.specs.Gate.{Passing}
 use Rattle.heap_state.specs.Configuration.{Configuration, Stands, table, era, memory, team}
 use Rattle.heap_state.specs.Cycle.{Cycle}
-use Rattle.heap_state.specs.Entries.{Entry, GateIs, TracedIs, AreaIs, PageIs, CrossIs, WordIs, AnnounceIs}
+use Rattle.heap_state.specs.Entries.{Entry, GateIs}
 use Rattle.space_map.specs.PageWord.{age_of}
 use Rattle.heap_state.specs.Ghost.{Ghost}
 use Rattle.heap_laws.specs.Lifting.{StandsWith, stepped, Leaves, Flipped}
@@ -149,13 +149,7 @@ module _ (h : Heap) (p o : Plain) (k : ℕ) (x : Held) (q : Step) (st : WorkersS
         let ours : Flipped (read h) gate k (knows y) p g = leads in
         let cfg = ap (λ (f : Option Entry). stepped (read h) f k (knows y)) (sym same) in
         comes g p p (subst (λ (d : Configuration). StandsWith d p g) cfg ours.standing) (subst (λ (d : Configuration). Cycle (era d) (memory d) (team d) g p) cfg ours.begins)
-    stands_by (Marks asked) None same g leads = absurd leads
-    stands_by (Marks asked) (Some (TracedIs word)) same g leads = absurd leads
-    stands_by (Marks asked) (Some (AreaIs space area)) same g leads = absurd leads
-    stands_by (Marks asked) (Some (PageIs page word)) same g leads = absurd leads
-    stands_by (Marks asked) (Some (CrossIs page at)) same g leads = absurd leads
-    stands_by (Marks asked) (Some (WordIs addr word)) same g leads = absurd leads
-    stands_by (Marks asked) (Some (AnnounceIs worker at)) same g leads = absurd leads
+    stands_by (Marks asked) _ same g leads = absurd leads
 
     -- no page word's epoch falls
     ages_by : (t : Told) (e : Option Entry) → steps.entry ≡ e → (g : Ghost) → Leads (read h) p st.stands.ghost k e y g t
@@ -166,13 +160,7 @@ module _ (h : Heap) (p o : Plain) (k : ℕ) (x : Held) (q : Step) (st : WorkersS
         let ours : Flipped (read h) gate k (knows y) p g = leads in
         let kept : (table later).page ≡ (table (read h)).page = ap (λ (f : Option Entry). (table (stepped (read h) f k (knows y))).page) same ∙ ours.pages in
         rw kept (omega arith)
-    ages_by (Marks asked) None same g leads page = absurd leads
-    ages_by (Marks asked) (Some (TracedIs word)) same g leads page = absurd leads
-    ages_by (Marks asked) (Some (AreaIs space area)) same g leads page = absurd leads
-    ages_by (Marks asked) (Some (PageIs place word)) same g leads page = absurd leads
-    ages_by (Marks asked) (Some (CrossIs place at)) same g leads page = absurd leads
-    ages_by (Marks asked) (Some (WordIs addr word)) same g leads page = absurd leads
-    ages_by (Marks asked) (Some (AnnounceIs worker at)) same g leads page = absurd leads
+    ages_by (Marks asked) _ same g leads page = absurd leads
     ages_by (Answers task outcome) e same g leads page =
         (subst (λ (f : Option Entry). Leaves (read h) f k (knows y) (after_told p k (Answers task outcome)) st.stands.ghost g) (sym same) leads).ages page
 
@@ -211,13 +199,7 @@ module _ (h : Heap) (p o : Plain) (k : ℕ) (x : Held) (q : Step) (st : WorkersS
           epoch = epoch_is ∙ own.1;
           next = epoch_after p' o' w ∙ (cfg ∙ (ours.epoch ∙ ap (λ (e : ℕ). e + 1) own.1));
         }
-    next_epoch asked p' o' own w None same g leads = absurd leads
-    next_epoch asked p' o' own w (Some (TracedIs word)) same g leads = absurd leads
-    next_epoch asked p' o' own w (Some (AreaIs space area)) same g leads = absurd leads
-    next_epoch asked p' o' own w (Some (PageIs place word)) same g leads = absurd leads
-    next_epoch asked p' o' own w (Some (CrossIs place at)) same g leads = absurd leads
-    next_epoch asked p' o' own w (Some (WordIs addr word)) same g leads = absurd leads
-    next_epoch asked p' o' own w (Some (AnnounceIs worker at)) same g leads = absurd leads
+    next_epoch asked p' o' own w _ same g leads = absurd leads
 
     flips_by : (t : Told) → FlipIsOwn (read h) x t → WorkersStand (moved h k x q) (after_told p k t) (at_flip p o t) → Leads (read h) p st.stands.ghost k steps.entry y steps.goes.ghost_after t
         → FlipsWhereTold h.pages h.words (words_after q h.words) x t

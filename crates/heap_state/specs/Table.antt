@@ -1,5 +1,5 @@
 -- The table of the heap's words, decoded.
-use Rattle.std.specs.Prelude.{◌≡◌, ℕ, ◌+◌, ◌*◌, ◌^◌, ◌<◌, ◌≤◌, Bool, true, List, length, Some, nat_lt, nat_le, unwrap_or, slice_index, if◌then◌else◌}
+use Rattle.std.specs.Prelude.{◌≡◌, ℕ, ◌^◌, ◌<◌, ◌≤◌, ⊤, List, length, Some, unwrap_or, slice_index, if◌then◌else◌}
 use Rattle.space_map.specs.declared.area_word.AreaWord.{AreaWord}
 use Rattle.space_map.specs.declared.gate_word.GateWord.{GateWord}
 use Rattle.space_map.specs.declared.page_word.PageWord.{PageWord}
@@ -7,23 +7,25 @@ use Rattle.space_map.specs.declared.page_word.PageWord.TheVariants.{Unset}
 use Rattle.space_map.specs.AreaWord.{area_in}
 use Rattle.space_map.specs.GateWord.{gate_in}
 use Rattle.space_map.specs.PageWord.{decode_page}
-use Rattle.space_map.specs.Table.{Row, Gate, Traced, Area, Page, Cross, HeapWord, Announce, place_of, table_length}
+use Rattle.space_map.specs.Table.{Row, Gate, Traced, Area, Page, Cross, HeapWord, Announce, IsRow, place_of, table_length}
+pub use Rattle.space_map.specs.Table.{is_row}
 
 -- ---- one word
-
--- the table has this row
-abbrev pub is_row : ℕ → Row → Bool
-is_row n Gate = true
-is_row n Traced = true
-is_row n (Area space) = nat_lt space 2
-is_row n (Page page) = nat_le page (2 * n)
-is_row n (Cross page) = nat_lt page (2 * n)
-is_row n (HeapWord addr) = nat_le addr (128 * n + 63)
-is_row n (Announce worker) = nat_le worker 23
 
 -- the word in a row of the table, or 0 where the table has no such row
 unfoldable pub word_in : ℕ → List ℕ → Row → ℕ
 word_in n words row = if is_row n row then slice_index words (place_of n row) else 0
+
+-- a page's word; one that is no page word says nothing
+abbrev pub page_said : ℕ → PageWord
+page_said w = unwrap_or (decode_page w) Unset
+
+-- the word has no bit that the format of its row doesn't have; a row without a format has any word
+abbrev pub HasForm : Row → ℕ → Type 0
+HasForm Gate word = word < 2 ^ 62
+HasForm (Area space) word = word < 2 ^ 54
+HasForm (Page page) word = decode_page word ≡ Some (page_said word)
+HasForm row word = ⊤
 
 -- ---- the table
 
@@ -40,28 +42,25 @@ pub record Table : Type 0 where
   pub heap : ℕ → ℕ
   pub announced : ℕ → ℕ
 
--- a page's word; one that is no page word says nothing
-abbrev pub page_said : ℕ → PageWord
-page_said w = unwrap_or (decode_page w) Unset
-
--- what the words of a table with n pages a space say
-unfoldable pub table_of : ℕ → List ℕ → Table
-table_of n words = record {
+-- what the words of its rows say, with n pages a space
+abbrev pub table_by : ℕ → (Row → ℕ) → Table
+table_by n word = record {
   pages = n;
   in_use = λ space. n;
-  gate = gate_in (word_in n words Gate);
-  traced = word_in n words Traced;
-  area = λ space. area_in (word_in n words (Area space));
-  page = λ page. page_said (word_in n words (Page page));
-  cross = λ page. word_in n words (Cross page);
-  heap = λ addr. word_in n words (HeapWord addr);
-  announced = λ worker. word_in n words (Announce worker);
+  gate = gate_in (word Gate);
+  traced = word Traced;
+  area = λ space. area_in (word (Area space));
+  page = λ page. page_said (word (Page page));
+  cross = λ page. word (Cross page);
+  heap = λ addr. word (HeapWord addr);
+  announced = λ worker. word (Announce worker);
 }
 
--- The words hold a whole table, and each shared word can be read: it has no bit that its format doesn't have. Words behind the
--- table are no part of it.
+-- what the words of a table say
+unfoldable pub table_of : ℕ → List ℕ → Table
+table_of n words = table_by n (word_in n words)
+
+-- The words hold a whole table, and each can be read: it has the form of its row. Words behind the table are no part of it.
 pub record IsFormed (n : ℕ) (words : List ℕ) : Type 0 where
   pub whole : table_length n ≤ length words
-  pub gate : word_in n words Gate < 2 ^ 62
-  pub areas : (space : ℕ) → space < 2 → word_in n words (Area space) < 2 ^ 54
-  pub pages : (page : ℕ) → page ≤ 2 * n → decode_page (word_in n words (Page page)) ≡ Some ((table_of n words).page page)
+  pub rows : (row : Row) → IsRow n row → HasForm row (word_in n words row)

@@ -12,8 +12,7 @@ use Rattle.heap_state.specs.Configuration.{Configuration, Stands, table}
 use Rattle.heap_state.specs.Entries.{Entry, EntryFits, with_entry, row_of, word_of}
 use Rattle.heap_state.specs.Table.{Table, table_of, word_in}
 use Rattle.heap_state.proofs.Table.Places.{word_in-row}
-use Rattle.heap_state.proofs.Table.Writing.{stores_entry}
-use Rattle.gc_worker.proofs.Steps.{row_is}
+use Rattle.heap_state.proofs.Table.Stores.{entry_has_row, stores_entry}
 
 module _ (c : Configuration) (p : Plain) (s : Stands c p) (P : Table → Reply → Type 0) where
   -- it holds of what the step makes of the table and of its reply
@@ -33,5 +32,5 @@ module _ (c : Configuration) (p : Plain) (s : Stands c p) (P : Table → Reply �
   pub exchanges : (e : Entry) (old : ℕ) → EntryFits c.pages e → word_in c.pages c.words (row_of e) ≡ old → P (with_entry e (table c)) Won
       → HoldsBy (Exchange (place_of c.pages (row_of e)) old (word_of e))
   exchanges e old fits same holds =
-      let test = eq-eqb (slice_index c.words (place_of c.pages (row_of e))) old (reads (row_of e) (row_is c.pages e fits) ∙ same) in
+      let test = eq-eqb (slice_index c.words (place_of c.pages (row_of e))) old (reads (row_of e) (entry_has_row c.pages e fits) ∙ same) in
       rw test (subst (λ (t : Table). P t Won) (sym (stores_entry c.pages c.words e s.formed fits).says) holds)

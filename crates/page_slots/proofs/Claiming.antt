@@ -14,7 +14,7 @@ use Rattle.space_map.specs.declared.page_word.PageWord.TheVariants.{Scanning}
 use Rattle.space_map.specs.GateWord.{decode_gate}
 use Rattle.space_map.specs.PageWord.{decode_page, encode_page}
 use Rattle.space_map.specs.Table.{Gate, Page, Announce, place_of}
-use Rattle.space_map.specs.TableWords.{word_in, HoldsTable}
+use Rattle.space_map.specs.TableWords.{row_word, HoldsTable}
 use Rattle.space_map.proofs.PageWords.{decode_page-encode_page}
 use Rattle.space_map.proofs.Rows.{place_of-lt}
 use Rattle.page_slots.specs.declared.claimed.Claimed.TheVariants.{Won, Taken}
@@ -84,9 +84,9 @@ gate_shows epoch loaded word None tells = cc
 
 pub wins : (c : Claiming) (stage : ClaimStage) (before after : List ℕ) → IsSoundClaim c → HoldsTable c.layout.pages before
     → Acts claim_machine (at c stage) before after (Finished Won) → WinsPage c before after
-wins c (LooksAtPlace k) before after sound whole acts = absurd (place_never_won c.page k (word_in c.layout.pages (Announce k) before) _ _ acts.tells)
+wins c (LooksAtPlace k) before after sound whole acts = absurd (place_never_won c.page k (row_word c.layout.pages (Announce k) before) _ _ acts.tells)
 wins c LooksAtGate before after sound whole acts =
-    absurd (gate_never_won c.epoch (word_in c.layout.pages Gate before) (decode_gate (word_in c.layout.pages Gate before)) acts.tells)
+    absurd (gate_never_won c.epoch (row_word c.layout.pages Gate before) (decode_gate (row_word c.layout.pages Gate before)) acts.tells)
 wins c Exchanges before after sound whole acts =
     let place : ℕ = place_of c.layout.pages (Page c.page) in
     let new : ℕ = encode_page (Scanning c.epoch c.worker) in
@@ -107,7 +107,7 @@ wins c (Ended result) before after sound whole acts = absurd (no_step acts.has_s
 pub takes : (c : Claiming) (stage : ClaimStage) (before after : List ℕ) (word : ℕ) → IsSoundClaim (at c stage)
     → Acts claim_machine (at c stage) before after (Finished (Taken word)) → ShowsTaken c before word × (after ≡ before)
 takes c (LooksAtPlace k) before after word sound acts =
-    let announced : ℕ = word_in c.layout.pages (Announce k) before in
+    let announced : ℕ = row_word c.layout.pages (Announce k) before in
     let shows = place_shows k announced word (names_below_end c.page announced) (nat_eq k 23) acts.tells in
     let below = names_below c.page announced shows.0 in
     (Announced k sound.stage.0 shows.1 (rw shows.1 below.0) (rw shows.1 below.1), acts.makes)
@@ -115,7 +115,7 @@ takes c (LooksAtPlace k) before after word sound acts =
     names_below : (page announced : ℕ) → names_below_end page announced ≡ true → (0 < announced) × (announced ≤ 64 * (page + 1))
     names_below page announced is = grind (arith, nat_tests)
 takes c LooksAtGate before after word sound acts =
-    let loaded : ℕ = word_in c.layout.pages Gate before in
+    let loaded : ℕ = row_word c.layout.pages Gate before in
     let shows = gate_shows c.epoch loaded word (decode_gate loaded) acts.tells in
     (OtherEpoch shows.gate shows.same (ap decode_gate shows.same ∙ shows.is) shows.other, acts.makes)
 takes c Exchanges before after word sound acts =

@@ -9,7 +9,7 @@ use Rattle.space_map.specs.GateWord.{decode_gate}
 use Rattle.space_map.specs.PageWord.{IsEarlier, decode_page, encode_page}
 use Rattle.space_map.specs.Spaces.{first_word}
 use Rattle.space_map.specs.Table.{Gate, Page, Announce}
-use Rattle.space_map.specs.TableWords.{word_in, HoldsTable, ChangesOnly}
+use Rattle.space_map.specs.TableWords.{row_word, HoldsTable, ChangesOnly}
 use Rattle.page_slots.specs.declared.claimed.Claimed.TheVariants.{Won, Taken}
 use Rattle.page_slots.specs.declared.opened.Opened.{Opened}
 use Rattle.page_slots.specs.Claim.{Claiming, claim_machine}
@@ -21,9 +21,9 @@ use Rattle.page_slots.specs.Soundness.{IsSoundClaim, IsSoundOpening}
 -- the page's word said no epoch, or one before the claim's, and says then that this worker scans it; no other word changes
 pub record WinsPage (c : Claiming) (before after : List ℕ) : Type 0 where
   pub found : PageWord
-  pub was : decode_page (word_in c.layout.pages (Page c.page) before) ≡ Some found
+  pub was : decode_page (row_word c.layout.pages (Page c.page) before) ≡ Some found
   pub earlier : IsEarlier found c.epoch
-  pub is : decode_page (word_in c.layout.pages (Page c.page) after) ≡ Some (page_word.Scanning c.epoch c.worker)
+  pub is : decode_page (row_word c.layout.pages (Page c.page) after) ≡ Some (page_word.Scanning c.epoch c.worker)
   pub others : ChangesOnly c.layout.pages (Page c.page) before after
 
 abbrev pub WonPagesAreClaimed : Type 0
@@ -33,9 +33,9 @@ WonPagesAreClaimed = (c : Claiming) (before after : List ℕ) → IsSoundClaim c
 -- A word of the table shows that a page is not to be had: a place is announced below the page's end, the gate is of another
 -- epoch than the claim, or the page's word is no longer the one that was read.
 pub data ShowsTaken (c : Claiming) (words : List ℕ) (word : ℕ) : Type 0 where
-  Announced : (k : ℕ) → k ≤ 23 → word ≡ word_in c.layout.pages (Announce k) words → 0 < word → word ≤ first_word (c.page + 1) → ShowsTaken c words word
-  OtherEpoch : (gate : GateWord) → word ≡ word_in c.layout.pages Gate words → decode_gate word ≡ Some gate → gate.epoch ≢ c.epoch → ShowsTaken c words word
-  OtherWord : word ≡ word_in c.layout.pages (Page c.page) words → word ≢ encode_page c.found → ShowsTaken c words word
+  Announced : (k : ℕ) → k ≤ 23 → word ≡ row_word c.layout.pages (Announce k) words → 0 < word → word ≤ first_word (c.page + 1) → ShowsTaken c words word
+  OtherEpoch : (gate : GateWord) → word ≡ row_word c.layout.pages Gate words → decode_gate word ≡ Some gate → gate.epoch ≢ c.epoch → ShowsTaken c words word
+  OtherWord : word ≡ row_word c.layout.pages (Page c.page) words → word ≢ encode_page c.found → ShowsTaken c words word
 
 abbrev pub TakenPagesShowIt : Type 0
 TakenPagesShowIt = (c : Claiming) (before after : List ℕ) (word : ℕ) → IsSoundClaim c
@@ -45,7 +45,7 @@ TakenPagesShowIt = (c : Claiming) (before after : List ℕ) (word : ℕ) → IsS
 
 -- the page's word says then that the page is open in this epoch; no other word changes
 pub record OpensPage (o : Opening) (before after : List ℕ) : Type 0 where
-  pub is : decode_page (word_in o.layout.pages (Page o.page) after) ≡ Some (page_word.Open o.epoch)
+  pub is : decode_page (row_word o.layout.pages (Page o.page) after) ≡ Some (page_word.Open o.epoch)
   pub others : ChangesOnly o.layout.pages (Page o.page) before after
 
 abbrev pub OpenedPagesAreOpen : Type 0

@@ -1,6 +1,38 @@
 -- Rows that the table has stand at places of their own, and the table ends after them.
-use Rattle.std.proofs.Common.{◌≡◌, ◌≢◌, ℕ, ◌<◌, refl, arith, ap}
-use Rattle.space_map.specs.Table.{Row, Gate, Traced, Area, Page, Cross, HeapWord, Announce, IsRow, place_of, table_length}
+use Rattle.std.proofs.Common.{◌≡◌, ◌≢◌, ℕ, ◌==◌, ◌<◌, Bool, true, false, Decides, refl, arith, ap}
+use Rattle.std.proofs.lemmas.Bool.Decides.{Decides-eqb, Decides-like, nat_tests}
+use Rattle.space_map.specs.Table.{Row, Gate, Traced, Area, Page, Cross, HeapWord, Announce, IsRow, is_row, place_of, table_length}
+
+-- the test tells whether the table has the row
+pub is_row-decides : (n : ℕ) (row : Row) → Decides (is_row n row) (IsRow n row)
+is_row-decides n Gate = (λ test. tt, λ is. refl)
+is_row-decides n Traced = (λ test. tt, λ is. refl)
+is_row-decides n _ = (λ test. grind (arith, nat_tests), λ is. grind (arith, nat_tests))
+
+-- ---- two rows
+
+-- two rows are one
+abbrev pub row_eq : Row → Row → Bool
+row_eq Gate Gate = true
+row_eq Traced Traced = true
+row_eq (Area x) (Area y) = x == y
+row_eq (Page x) (Page y) = x == y
+row_eq (Cross x) (Cross y) = x == y
+row_eq (HeapWord x) (HeapWord y) = x == y
+row_eq (Announce x) (Announce y) = x == y
+row_eq _ _ = false
+
+pub row_eq-decides : (a b : Row) → Decides (row_eq a b) (a ≡ b)
+row_eq-decides Gate Gate = (λ test. refl, λ same. refl)
+row_eq-decides Traced Traced = (λ test. refl, λ same. refl)
+row_eq-decides (Area x) (Area y) = Decides-like (x == y) (ap Area) (λ same. cc) (Decides-eqb x y)
+row_eq-decides (Page x) (Page y) = Decides-like (x == y) (ap Page) (λ same. cc) (Decides-eqb x y)
+row_eq-decides (Cross x) (Cross y) = Decides-like (x == y) (ap Cross) (λ same. cc) (Decides-eqb x y)
+row_eq-decides (HeapWord x) (HeapWord y) = Decides-like (x == y) (ap HeapWord) (λ same. cc) (Decides-eqb x y)
+row_eq-decides (Announce x) (Announce y) = Decides-like (x == y) (ap Announce) (λ same. cc) (Decides-eqb x y)
+row_eq-decides _ _ = (λ test. absurd (cc), λ same. absurd (cc))
+
+-- ---- their places
 
 -- one row's place is another's only where the rows are one
 pub same_row : (n : ℕ) (a b : Row) → IsRow n a → IsRow n b → place_of n a ≡ place_of n b → a ≡ b
@@ -19,10 +51,5 @@ place_of-apart n a b a_is b_is apart same = apart (same_row n a b a_is b_is same
 
 pub place_of-lt : (n : ℕ) (row : Row) → IsRow n row → place_of n row < table_length n
 unfolding place_of
-place_of-lt n Gate row = omega arith
-place_of-lt n Traced row = omega arith
-place_of-lt n (Area space) row = omega arith
-place_of-lt n (Page page) row = omega arith
-place_of-lt n (Cross page) row = omega arith
-place_of-lt n (HeapWord addr) row = omega arith
-place_of-lt n (Announce worker) row = omega arith
+place_of-lt n Gate is = omega arith
+place_of-lt n _ is = omega arith

@@ -3,8 +3,8 @@ use Rattle.std.specs.Prelude.{◌≡◌, ◌≢◌, ℕ, ◌≤◌, List, length
 use Rattle.space_map.specs.Table.{Row, place_of, table_length}
 
 -- the word of a row, in a table with n pages a space
-abbrev pub word_in : (pages : ℕ) → Row → List ℕ → ℕ
-word_in n row words = slice_index words (place_of n row)
+abbrev pub row_word : (pages : ℕ) → Row → List ℕ → ℕ
+row_word n row words = slice_index words (place_of n row)
 
 -- the words hold such a table
 abbrev pub HoldsTable : (pages : ℕ) → List ℕ → Type 0

@@ -139,7 +139,7 @@ module _ (c : Configuration) (p : Plain) (s : Stands c p) (k : ℕ) (y : Held) (
   row_of_area = omega arith
 
   read : decode_area (area_now c) ≡ Some (area_read c)
-  read = decode_area-short (area_now c) (s.formed.areas (to_space (era c).epoch) (omega arith))
+  read = decode_area-short (area_now c) (s.formed.rows (Area (to_space (era c).epoch)) row_of_area)
 
   -- FRONT as the machine reckons it
   front_is : (z : EvacStage) → Is c k (here_too z) → front_of v.layout v.epoch (area_read c) ≡ (memory c).front

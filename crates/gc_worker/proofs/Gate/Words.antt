@@ -25,7 +25,7 @@ unfolding table_of
 gate_word c = λ i. gate_in (gate_now c)
 
 pub gate_says : (c : Configuration) (p : Plain) → Stands c p → decode_gate (gate_now c) ≡ Some (table c).gate
-gate_says c p s = decode_gate-short (gate_now c) s.formed.gate ∙ ap Some (sym (gate_word c))
+gate_says c p s = decode_gate-short (gate_now c) (s.formed.rows Gate tt) ∙ ap Some (sym (gate_word c))
 
 -- the word is this gate's, and so the gate is this one
 pub gate_is : (c : Configuration) (g : GateWord) → GateFits g → gate_now c ≡ encode_gate g → (table c).gate ≡ g

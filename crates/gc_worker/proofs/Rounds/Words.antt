@@ -18,7 +18,8 @@ abbrev pub page_now : Configuration → ℕ → ℕ
 page_now c page = word_in c.pages c.words (Page page)
 
 pub page_says : (c : Configuration) (p : Plain) → Stands c p → (page : ℕ) → page ≤ 2 * c.pages → decode_page (page_now c page) ≡ Some ((table c).page page)
-page_says c p s page is = s.formed.pages page is
+unfolding table_of
+page_says c p s page is = s.formed.rows (Page page) is
 
 pub page_age : (c : Configuration) (page : ℕ) → age_of ((table c).page page) ≡ age c.pages c.words page
 unfolding table_of

@@ -35,7 +35,7 @@ use Rattle.gc_worker.proofs.Steps.{Law, quiet, loads, prepared}
 -- a space's area is what its word says
 pub area_says : (c : Configuration) (p : Plain) → Stands c p → (space : ℕ) → space < 2 → decode_area (word_in c.pages c.words (Area space)) ≡ Some ((table c).area space)
 unfolding table_of
-area_says c p s space below = decode_area-short (word_in c.pages c.words (Area space)) (s.formed.areas space below)
+area_says c p s space below = decode_area-short (word_in c.pages c.words (Area space)) (s.formed.rows (Area space) below)
 
 module _ (c : Configuration) (p : Plain) (s : Stands c p) (k : ℕ) (y : Held) (v : Scanning) (r : ScannedRecord) (back : Back) where
   abbrev at_end : Scanning

@@ -12,7 +12,7 @@ use Rattle.heap_state.specs.Table.{table_of, IsFormed, Table}
 use Rattle.heap_state.specs.Worker.{Team, Worker}
 use Rattle.heap_state.proofs.Table.LaidOut.{laid_out, table_pages}
 use Rattle.heap_state.proofs.Workers.Teams.{team_changes}
-use Rattle.heap_state.proofs.Table.Writing.{stores_entry}
+use Rattle.heap_state.proofs.Table.Stores.{stores_entry}
 use Rattle.heap_laws.specs.Lifting.{words_after, table_after, RowFits, stepped, StandingIsReady, StandsWith}
 
 pub ready : StandingIsReady

@@ -16,7 +16,7 @@ use Rattle.heap_state.specs.Worker.{Worker, Team, Account, Quest, Scan, Round, O
 use Rattle.heap_state.proofs.Workers.Frames.{counted_put, staffed_put, stocks_put, numbered_put, rooted_put}
 use Rattle.heap_state.proofs.Puts.{put_same, put_twice, each_put, some_same}
 use Rattle.heap_laws.specs.Composing.{IsAtMost, IsLess, IsLessScan, IsScanWithin, SameScan, LessScan, StepsForget, StepsAreReady, StepsFollow, PlainStepsForget, PlainStepsAreReady, PlainStepsFollow}
-use Rattle.heap_laws.specs.Steps.{Writes, NoRow, InGate, InTraced, InArea, InOldArea, InPage, InCross, InWord, InAnnounce, with_worker, Preserves, Steps}
+use Rattle.heap_laws.specs.Steps.{Writes, NoRow, InGate, with_worker, Preserves, Steps}
 use Rattle.heap_laws.proofs.Steps.Learning.{shown_put, scanned_on}
 
 -- ---- forgetting
@@ -201,13 +201,7 @@ plain_steps_forget E m team g k e v w h q s most = record {
 still_at_gate : {E : Era} {m : Memory} {e : Option Entry} {n : Memory} → Writes E m e n → m.gate.epoch ≡ E.epoch → n.gate.epoch ≡ E.epoch
 still_at_gate NoRow y = y
 still_at_gate (InGate gate fits same) y = same
-still_at_gate (InTraced word) y = y
-still_at_gate (InArea area fits) y = y
-still_at_gate (InOldArea area fits) y = y
-still_at_gate (InPage page word below fits) y = y
-still_at_gate (InCross page place below) y = y
-still_at_gate (InWord addr word below) y = y
-still_at_gate (InAnnounce worker place below) y = y
+still_at_gate _ y = y
 
 pub steps_are_ready : StepsAreReady
 steps_are_ready E m team g k e v h ready s = record { laid_out = ready.laid_out; at_gate = still_at_gate s.writes ready.at_gate; invariant = s.keeps.invariant; member = ready.member }
@@ -224,14 +218,7 @@ keeps_on {E} {n} {team} {h} {k} {e} {w} {i} none s = by_row e s.later s.writes n
   where
     by_row : (e : Option Entry) (later : Memory) → Writes E n e later → e ≡ None → Preserves E n later team (with_worker team k w) h i → KeepsOn E n team (with_worker team k w) h i
     by_row _ _ NoRow none p = record { keeps = p }
-    by_row _ _ (InGate gate fits same) none p = absurd (cc)
-    by_row _ _ (InTraced word) none p = absurd (cc)
-    by_row _ _ (InArea area fits) none p = absurd (cc)
-    by_row _ _ (InOldArea area fits) none p = absurd (cc)
-    by_row _ _ (InPage page word below fits) none p = absurd (cc)
-    by_row _ _ (InCross page place below) none p = absurd (cc)
-    by_row _ _ (InWord addr word below) none p = absurd (cc)
-    by_row _ _ (InAnnounce worker place below) none p = absurd (cc)
+    by_row _ _ _ none p = absurd (cc)
 
 pub steps_follow : StepsFollow
 steps_follow E m team g k e v w h i s t =

@@ -1,34 +1,21 @@
 -- A store in a row of the table changes what that row says and nothing else.
-use Rattle.std.proofs.Common.{◌≡◌, ◌≢◌, ℕ, ◌+◌, ◌*◌, ◌<◌, ◌≤◌, true, false, List, length, refl, ◌∙◌, arith, get_or, set, get_or-set_other, get_or-set_same, ⊎_elim}
+use Rattle.std.proofs.Common.{◌≡◌, ◌≢◌, ℕ, ◌<◌, ◌≤◌, true, false, cond, List, length, refl, ap, ◌∙◌, arith, get_or, set, get_or-set_other, get_or-set_same, ⊎_elim}
 use Rattle.std.proofs.Math.ListN.{length-set}
-use Rattle.std.proofs.lemmas.Bool.{cases_Bool, ltb-true, leb-true, lt-ltb, le-leb}
-use Rattle.space_map.specs.Table.{Row, Gate, Traced, Area, Page, Cross, HeapWord, Announce, IsRow, place_of, table_length}
-use Rattle.space_map.proofs.Rows.{place_of-apart, place_of-lt}
-use Rattle.heap_state.specs.Table.{is_row, word_in}
+use Rattle.std.proofs.Math.Path.{fun_ext}
+use Rattle.std.proofs.lemmas.Bool.{cases_Bool}
+use Rattle.std.proofs.lemmas.Bool.Decides.{not_from_Decides}
+use Rattle.space_map.specs.Table.{Row, IsRow, is_row, place_of, table_length}
+use Rattle.space_map.proofs.Rows.{is_row-decides, place_of-apart, place_of-lt, row_eq, row_eq-decides}
+use Rattle.heap_state.specs.Table.{word_in}
 
 -- a row that the table has is one that it has
 pub row_is : (n : ℕ) (row : Row) → is_row n row ≡ true → IsRow n row
-row_is n Gate e = tt
-row_is n Traced e = tt
-row_is n (Area space) e = ltb-true space 2 e
-row_is n (Page page) e = leb-true page (2 * n) e
-row_is n (Cross page) e = ltb-true page (2 * n) e
-row_is n (HeapWord addr) e = leb-true addr (128 * n + 63) e
-row_is n (Announce worker) e = leb-true worker 23 e
-
-pub is_row_of : (n : ℕ) (row : Row) → IsRow n row → is_row n row ≡ true
-is_row_of n Gate e = refl
-is_row_of n Traced e = refl
-is_row_of n (Area space) e = lt-ltb space 2 e
-is_row_of n (Page page) e = le-leb page (2 * n) e
-is_row_of n (Cross page) e = lt-ltb page (2 * n) e
-is_row_of n (HeapWord addr) e = le-leb addr (128 * n + 63) e
-is_row_of n (Announce worker) e = le-leb worker 23 e
+row_is n row test = (is_row-decides n row).0 test
 
 -- the word of a row that the table has
 pub word_in-row : (n : ℕ) (words : List ℕ) (row : Row) → IsRow n row → word_in n words row ≡ get_or words (place_of n row) 0
 unfolding word_in
-word_in-row n words row is = rw (is_row_of n row is)
+word_in-row n words row is = rw ((is_row-decides n row).1 is)
 
 module _ (n : ℕ) (words : List ℕ) (row : Row) (word : ℕ) (is : IsRow n row) where
   abbrev after : List ℕ
@@ -49,3 +36,17 @@ module _ (n : ℕ) (words : List ℕ) (row : Row) (word : ℕ) (is : IsRow n row
 
   pub length-after : length after ≡ length words
   length-after = length-set words (place_of n row) word
+
+-- ---- the words of all rows
+
+-- those where one row has this word
+abbrev pub put_row : (Row → ℕ) → Row → ℕ → Row → ℕ
+put_row words row word other = cond (row_eq other row) word (words other)
+
+pub word_in-set : (n : ℕ) (words : List ℕ) (row : Row) (word : ℕ) → IsRow n row → table_length n ≤ length words
+    → word_in n (set words (place_of n row) word) ≡ put_row (word_in n words) row word
+word_in-set n words row word is whole = fun_ext (λ other. ⊎_elim
+    (λ (test : row_eq other row ≡ true). rw test
+    (ap (word_in n (after n words row word is)) ((row_eq-decides other row).0 test) ∙ word_in-same n words row word is whole))
+    (λ (test : row_eq other row ≡ false). rw test (word_in-other n words row word is other (not_from_Decides (row_eq other row) (row_eq-decides other row) test)))
+    (cases_Bool (row_eq other row)))

@@ -11,9 +11,9 @@ pub spelled : (n : ℕ) (words : List ℕ) → IsFormed n words → SpellsTable 
 unfolding table_of
 spelled n words formed = record {
   gate = sym (encode_gate-gate_in (word_in n words Gate));
-  gate_fits = GateFits-gate_in (word_in n words Gate) formed.gate;
+  gate_fits = GateFits-gate_in (word_in n words Gate) (formed.rows Gate tt);
   areas = λ space. sym (encode_area-area_in (word_in n words (Area space)));
-  areas_fit = λ space short. AreaFits-area_in (word_in n words (Area space)) (formed.areas space short);
-  pages = λ p short. sym (encode_page-decode_page (word_in n words (Page p)) ((table_of n words).page p) (formed.pages p short));
-  pages_fit = λ p short. PageFits-decode_page (word_in n words (Page p)) ((table_of n words).page p) (formed.pages p short);
+  areas_fit = λ space short. AreaFits-area_in (word_in n words (Area space)) (formed.rows (Area space) short);
+  pages = λ p short. sym (encode_page-decode_page (word_in n words (Page p)) ((table_of n words).page p) (formed.rows (Page p) short));
+  pages_fit = λ p short. PageFits-decode_page (word_in n words (Page p)) ((table_of n words).page p) (formed.rows (Page p) short);
 }

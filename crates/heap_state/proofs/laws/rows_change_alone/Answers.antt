@@ -1,27 +1,28 @@
-use Rattle.heap_state.proofs.Table.Stores.{stores_gate, stores_traced, stores_area, stores_page, stores_cross, stores_heap_word, stores_announce}
-use Rattle.heap_state.proofs.Table.Writing.{stores_entry, writes_tables}
+use Rattle.heap_state.specs.Entries.{GateIs, TracedIs, AreaIs, PageIs, CrossIs, WordIs, AnnounceIs}
+use Rattle.heap_state.proofs.Table.Stores.{stores_entry}
+use Rattle.heap_state.proofs.Table.Writing.{writes_tables}
 use Rattle.heap_state.proofs.laws.rows_change_alone.Goals as goal
 
 pub returns-clause-gate : goal.returns-clause-gate
-returns-clause-gate c = λ n words gate formed. stores_gate n words formed gate
+returns-clause-gate c = λ n words gate formed fits. stores_entry n words (GateIs gate) formed fits
 
 pub returns-clause-traced : goal.returns-clause-traced
-returns-clause-traced c = λ n words word formed. stores_traced n words formed word
+returns-clause-traced c = λ n words word formed. stores_entry n words (TracedIs word) formed tt
 
 pub returns-clause-area : goal.returns-clause-area
-returns-clause-area c = λ n words space area formed. stores_area n words formed space area
+returns-clause-area c = λ n words space area formed is fits. stores_entry n words (AreaIs space area) formed (is, fits)
 
 pub returns-clause-page : goal.returns-clause-page
-returns-clause-page c = λ n words p page formed. stores_page n words formed p page
+returns-clause-page c = λ n words p page formed is fits. stores_entry n words (PageIs p page) formed (is, fits)
 
 pub returns-clause-cross : goal.returns-clause-cross
-returns-clause-cross c = λ n words p word formed. stores_cross n words formed p word
+returns-clause-cross c = λ n words p word formed is. stores_entry n words (CrossIs p word) formed is
 
 pub returns-clause-heap_word : goal.returns-clause-heap_word
-returns-clause-heap_word c = λ n words addr word formed. stores_heap_word n words formed addr word
+returns-clause-heap_word c = λ n words addr word formed is. stores_entry n words (WordIs addr word) formed is
 
 pub returns-clause-announce : goal.returns-clause-announce
-returns-clause-announce c = λ n words worker word formed. stores_announce n words formed worker word
+returns-clause-announce c = λ n words worker word formed is. stores_entry n words (AnnounceIs worker word) formed is
 
 pub returns-clause-entry : goal.returns-clause-entry
 returns-clause-entry c = stores_entry
