@@ -1,7 +1,9 @@
 -- The options of runs, and the operands of the benchmark, by the rows of what was given.
 use Rattle.std.specs.Prelude.{ℕ, ◌≤◌, IsTrue, List, [], ◌∷◌, codes, unwrap_or}
 use Rattle.clap.specs.Walk.{Row, Text}
-use Rattle.gc_core.specs.Core.{is_size}
+use Rattle.space_map.specs.declared.spaces.TheConstants.{MAX_PAGES, MIN_PAGES, MOST_SCANNERS}
+use Rattle.space_map.specs.Spaces.{is_size}
+use Rattle.gc_worker.specs.declared.config.TheConstants.{MOST_TURNS}
 use Rattle.simple_commands.specs.Options.{number_given}
 use Rattle.simple_commands.specs.Readers.{number_of, was_given}
 use Rattle.simple_commands.specs.declared.options.Numbers.{Numbers}
@@ -11,15 +13,15 @@ use Rattle.ael_commands.specs.declared.options.SimOptions.{SimOptions}
 
 -- `--pages`
 abbrev pub pages_option : Text × Numbers
-pages_option = (codes "pages", record { least = 4; most = 2048; default = 256 })
+pages_option = (codes "pages", record { least = MIN_PAGES; most = MAX_PAGES; default = 256 })
 
 -- `--scanners`
 abbrev pub scanners_option : Text × Numbers
-scanners_option = (codes "scanners", record { least = 0; most = 8; default = 1 })
+scanners_option = (codes "scanners", record { least = 0; most = MOST_SCANNERS; default = 1 })
 
 -- `--turns`
 abbrev pub turns_option : Text × Numbers
-turns_option = (codes "turns", record { least = 1; most = 10000000; default = 1000000 })
+turns_option = (codes "turns", record { least = 1; most = MOST_TURNS; default = 1000000 })
 
 -- `--steps`
 abbrev pub steps_option : Text × Numbers
@@ -92,8 +94,8 @@ sim_options_of rows = record {
 -- a space may have so many pages, there may be so many scanners, and a mutator may execute so many instructions
 pub record AreInRange (options : RunOptions) : Type 0 where
   pub pages : IsTrue (is_size options.pages)
-  pub scanners : options.scanners ≤ 8
-  pub turns : (1 ≤ options.turns) × (options.turns ≤ 10000000)
+  pub scanners : options.scanners ≤ MOST_SCANNERS
+  pub turns : (1 ≤ options.turns) × (options.turns ≤ MOST_TURNS)
 
 abbrev pub operands_of : List Row → BenchOperands
 operands_of rows = record { depth = number_given depth_operand rows; seed = unwrap_or (number_of seed_option rows) 0 }

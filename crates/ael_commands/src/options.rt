@@ -2,14 +2,16 @@
 
 use clap::ArgMatches;
 use gc_core::Config;
+use gc_worker::MOST_TURNS;
 use simple_commands::{Numbers, is_given, number_of, wide_number};
+use space_map::{MAX_PAGES, MIN_PAGES, MOST_SCANNERS};
 
 /// The pages of a space.
 pub const PAGES: (&str, Numbers) = (
     "pages",
     Numbers {
-        least: 4,
-        most: 2048,
+        least: MIN_PAGES,
+        most: MAX_PAGES,
         default: 256,
     },
 );
@@ -19,7 +21,7 @@ pub const SCANNERS: (&str, Numbers) = (
     "scanners",
     Numbers {
         least: 0,
-        most: 8,
+        most: MOST_SCANNERS,
         default: 1,
     },
 );
@@ -29,7 +31,7 @@ pub const TURNS: (&str, Numbers) = (
     "turns",
     Numbers {
         least: 1,
-        most: 10_000_000,
+        most: MOST_TURNS,
         default: 1_000_000,
     },
 );

@@ -1,14 +1,10 @@
 -- A heap as it is opened.
-use Rattle.std.specs.Prelude.{ℕ, zero, suc, ◌+◌, ◌&&◌, Bool, List, [], ◌∷◌, ◌++◌, nat_le}
+use Rattle.std.specs.Prelude.{ℕ, zero, suc, ◌+◌, List, [], ◌∷◌, ◌++◌}
 use Rattle.atomic_table.specs.Seated.{TableId}
 use Rattle.gc_worker.specs.declared.config.Config.{Config}
 use Rattle.ael_threads.specs.declared.view.Plan.{Plan}
 use Rattle.ael_threads.specs.Readers.{Scanning}
 use Rattle.ael_threads.specs.Seats.{new_seated}
-
--- the numbers of pages that a space may have
-abbrev pub is_size : ℕ → Bool
-is_size pages = nat_le 4 pages && nat_le pages 2048
 
 abbrev pub plan_of : (mutators : ℕ) → Config → Plan
 plan_of mutators config = record { spaces = record { pages = config.pages }; mutators = mutators; scanners = config.scanners }

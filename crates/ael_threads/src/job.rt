@@ -1,6 +1,7 @@
 //! What all threads of a run share.
 
 ghost use Rattle.std.specs.Prelude.{◌≤◌};
+ghost use Rattle.gc_worker.specs.declared.config.TheConstants.{MOST_TURNS};
 
 use crate::shared::Shared;
 use mutator_asm::Program;
@@ -15,7 +16,7 @@ pub(crate) struct Job<'a, R, P> {
     pub heap: &'a Shared,
     pub program: &'a Program,
     pub turns: u32,
-    pub ghost few: { turns ≤ 10000000 },
+    pub ghost few: { turns ≤ MOST_TURNS },
 }
 
 impl<'a, R, P> Model for Job<'a, R, P> {

@@ -3,9 +3,11 @@
 ghost use Rattle.std.specs.Prelude.{◌≡◌, ◌+◌, ◌-◌, ◌≤◌, ◌<◌, ◌↔◌, [], IfOk, IsErrOf, IsTrue, not};
 ghost use Rattle.heap_laws.specs.Opening.{opening_entries};
 ghost use Rattle.heap_state.specs.Entries.{written};
+ghost use Rattle.space_map.specs.declared.spaces.TheConstants.{MOST_SCANNERS};
+ghost use Rattle.space_map.specs.Spaces.{is_size};
 ghost use Rattle.space_map.specs.Table.{table_length};
 ghost use Rattle.ael_threads.specs.Histories.{first_held, new_hands};
-ghost use Rattle.ael_threads.specs.Opened.{is_size, new_scanners, plan_of};
+ghost use Rattle.ael_threads.specs.Opened.{new_scanners, plan_of};
 ghost use Rattle.ael_threads.specs.Rule.{crew, first_view, view};
 ghost use Rattle.ael_threads.specs.Seats.{new_callers, new_seated};
 
@@ -50,7 +52,7 @@ impl Shared {
     /// comes exactly for fewer than 4 pages or more than 2048, else `NoMemory` where memory is wanting. The words and the room for the most numbers of each mutator are taken here; no later call takes memory.
     pub fn open(alloc: Global, mutators: u8, config: &Config) -> Result<(Shared, Seats), OpenError>
         requires mutators { (1 ≤ mutators) × (mutators ≤ 16) }
-        requires scanners { config.now.scanners ≤ 8 }
+        requires scanners { config.now.scanners ≤ MOST_SCANNERS }
         ensures key { IfOk result (λ o. o.0.table.shared.key ≡ plan_of mutators config.now) }
         ensures words { IfOk result (λ o. o.0.table.shared.table_id.words ≡ table_length config.now.pages) }
         ensures mutators { IfOk result (λ o. o.1.mutators.items ≡ new_callers o.0.table.shared.table_id (plan_of mutators config.now) 0 mutators) }

@@ -2,9 +2,11 @@
 
 ghost use Rattle.std.specs.Prelude.{◌≡◌, ◌+◌, ◌<◌, ◌≤◌, ◌↔◌, ℕ, length, vec_len, IfOk, IsErrOf, IsTrue, not};
 ghost use Rattle.std.specs.Thread.{IsSync};
+ghost use Rattle.space_map.specs.declared.spaces.TheConstants.{MOST_SCANNERS};
+ghost use Rattle.space_map.specs.Spaces.{is_size};
 ghost use Rattle.space_map.specs.Table.{table_length};
+ghost use Rattle.gc_worker.specs.declared.config.TheConstants.{MOST_TURNS};
 ghost use Rattle.ael_threads.specs.Histories.{Each};
-ghost use Rattle.ael_threads.specs.Opened.{is_size};
 ghost use Rattle.ael_threads.specs.Outputs.{HasEnd, IsTold, Runs};
 ghost use Rattle.ael_threads.specs.Readers.{Scanning};
 ghost use Rattle.ael_threads.specs.Running.{AreReady, AreScanning, Executing, HasRun, HasScanned, HaveRun, HaveScanned, IsScanning};
@@ -38,8 +40,8 @@ pub fn run<R: Threads + Wait + Sync, P: Pace>(
     config: &Config,
     pace: &P,
 ) -> Result<Outputs, RunError>
-    requires turns { config.now.turns ≤ 10000000 }
-    requires scanners { config.now.scanners ≤ 8 }
+    requires turns { config.now.turns ≤ MOST_TURNS }
+    requires scanners { config.now.scanners ≤ MOST_SCANNERS }
     ensures bad_pages { IsErrOf result RunError.BadPages ↔ IsTrue (not (is_size config.now.pages)) }
     ensures runs { IfOk result (λ told. Runs program.now.code config.now told) }
 {

@@ -5,7 +5,8 @@ use Rattle.std.specs.List.{flat_map, AllByRecursion}
 use Rattle.heap_state.specs.Kept.{Kept}
 use Rattle.plain_state.specs.declared.sizes.TheConstants.{REGISTERS}
 use Rattle.space_map.specs.Table.{table_length}
-use Rattle.dump_text.specs.declared.head.TheConstants.{MOST_MUTATORS, MOST_SCANNERS}
+use Rattle.space_map.specs.declared.spaces.TheConstants.{MOST_MUTATORS, MOST_SCANNERS}
+use Rattle.space_map.specs.Spaces.{is_size}
 
 -- the pages of a space, the registers of each mutator, what each worker keeps, and the words of the table
 pub record Dumped : Type 0 where
@@ -53,16 +54,12 @@ pub record Counts : Type 0 where
 abbrev pub counts_of : Dumped → Counts
 counts_of d = record { pages = d.pages; mutators = length d.registers; workers = length d.kept }
 
--- a space may have so many pages
-abbrev pub are_pages : ℕ → Bool
-are_pages n = nat_le 4 n && nat_le n 2048
-
 -- so many of the workers may be mutators, the others being scanners
 abbrev pub are_workers : (mutators workers : ℕ) → Bool
 are_workers mutators workers = nat_le 1 mutators && nat_le mutators MOST_MUTATORS && nat_le mutators workers && nat_le workers (mutators + MOST_SCANNERS)
 
 abbrev pub are_counts : Counts → Bool
-are_counts c = are_pages c.pages && are_workers c.mutators c.workers
+are_counts c = is_size c.pages && are_workers c.mutators c.workers
 
 abbrev pub IsWord : ℕ → Type 0
 IsWord word = word < 2 ^ 64

@@ -4,17 +4,12 @@ ghost use Rattle.std.specs.Prelude.{IfSome, ◌≡◌, ◌<◌, ◌≤◌, ◌+�
 ghost use Rattle.std.specs.Char.{is_ascii_digit};
 ghost use Rattle.std.specs.List.{list_all};
 ghost use Rattle.std.specs.Str.Parse.{digits_value};
+ghost use Rattle.space_map.specs.declared.spaces.TheConstants.{MOST_MUTATORS, MOST_SCANNERS};
 ghost use Rattle.dump_text.specs.Pieces.{digit_count, number_at, keyword_at, head_at, head_view};
 ghost use Rattle.dump_text.specs.Text.{are_workers};
 
 use crate::word::after;
-use space_map::Spaces;
-
-/// A heap has at most so many mutators.
-const MOST_MUTATORS: u32 = 16;
-
-/// A heap has at most so many scanners.
-const MOST_SCANNERS: u32 = 8;
+use space_map::{MOST_MUTATORS, MOST_SCANNERS, Spaces};
 
 /// How the spaces lie, how many mutators there are, and how many workers.
 #[derive(Clone, Copy)]

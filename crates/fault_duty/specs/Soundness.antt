@@ -3,6 +3,7 @@
 use Rattle.std.specs.Prelude.{◌≡◌, ◌≢◌, ℕ, ◌+◌, ◌*◌, ◌%◌, ◌^◌, ◌<◌, ◌≤◌, ⊤, Option, Some, None}
 use Rattle.space_map.specs.declared.gate_word.GateWord.{GateWord}
 use Rattle.space_map.specs.declared.page_word.PageWord.TheVariants.{Scanning}
+use Rattle.space_map.specs.declared.spaces.TheConstants.{LAST_WORKER}
 use Rattle.space_map.specs.GateWord.{decode_gate}
 use Rattle.space_map.specs.PageWord.{PageFits, decode_page}
 use Rattle.space_map.specs.Spaces.{IsPageCount, board_page, first_word}
@@ -77,7 +78,7 @@ pub record IsSoundRound (d : Round) : Type 0 where
   pub pages : IsPageCount d.layout.pages
   pub caller : FitsCaller d.layout.pages d.caller
   pub epoch : d.epoch < 2 ^ 32
-  pub worker : d.worker ≤ 23
+  pub worker : d.worker ≤ LAST_WORKER
   pub stage : FitsDutyStage d d.stage
 
 -- the round makes a claim

@@ -1,6 +1,7 @@
 ghost use Rattle.std.specs.Prelude.{◌≡◌, ◌≢◌, ℕ, ◌+◌, ◌*◌, ◌^◌, ◌<◌, ◌≤◌, Some, IsTrue};
 ghost use Rattle.atom_store.specs.Step.{place_in};
 ghost use Rattle.atom_store.specs.declared.turn.Turn.TheVariants.{More, Finished};
+ghost use Rattle.space_map.specs.declared.spaces.TheConstants.{LAST_WORKER};
 ghost use Rattle.space_map.specs.AreaWord.{decode_area};
 ghost use Rattle.space_map.specs.GateWord.{decode_gate};
 ghost use Rattle.space_map.specs.PageWord.{decode_page, PageFits};
@@ -48,7 +49,7 @@ impl Duty {
     /// The round of a mutator of this epoch that faulted on a page, or lacks room.
     pub fn new(spaces: Spaces, page: Option<u32>, epoch: u32, worker: u8) -> Duty
         requires page { FitsCaller spaces.pages (caller_for page) }
-        requires worker { worker ≤ 23 }
+        requires worker { worker ≤ LAST_WORKER }
         ensures { result ≡ begun spaces (caller_for page) epoch worker }
     {
         let caller = match page {
@@ -60,7 +61,7 @@ impl Duty {
 
     /// The round of a scanner beside so many mutators.
     pub fn scanner(spaces: Spaces, worker: u8, mutators: u8) -> Duty
-        requires { worker ≤ 23 }
+        requires { worker ≤ LAST_WORKER }
         ensures { result ≡ begun spaces (Caller.Scans mutators) 0 worker }
     {
         Duty::begin(spaces, Caller::Scans(mutators), 0, worker)
@@ -68,7 +69,7 @@ impl Duty {
 
     fn begin(spaces: Spaces, caller: Caller, epoch: u32, worker: u8) -> Duty
         requires caller { FitsCaller spaces.pages caller }
-        requires worker { worker ≤ 23 }
+        requires worker { worker ≤ LAST_WORKER }
         ensures { result ≡ begun spaces caller epoch worker }
     {
         let _pages = spaces.pages();

@@ -3,6 +3,7 @@ use Rattle.std.specs.Prelude.{◌≡◌, ℕ, ◌+◌, ◌*◌, ◌^◌, ◌<◌
 use Rattle.heap_words.specs.declared.kind.Kind.{Kind}
 use Rattle.heap_words.specs.Decoded.{HeaderWord, decode}
 use Rattle.space_map.specs.declared.area_word.AreaWord.{AreaWord}
+use Rattle.space_map.specs.declared.spaces.TheConstants.{LAST_WORKER}
 use Rattle.space_map.specs.AreaWord.{AreaFits}
 use Rattle.space_map.specs.Spaces.{IsPageCount, first_word}
 use Rattle.forwarding.specs.declared.kept_header.KeptHeader.{KeptHeader}
@@ -48,6 +49,6 @@ FitsStage n a (Ended to) = to < 2 ^ 32
 
 pub record IsSound (v : Evacuation) : Type 0 where
   pub pages : IsPageCount v.layout.pages
-  pub worker : v.worker ≤ 23
+  pub worker : v.worker ≤ LAST_WORKER
   pub addr : v.addr < 128 * v.layout.pages
   pub fits : FitsStage v.layout.pages v.addr v.stage

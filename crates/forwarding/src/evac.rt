@@ -3,6 +3,7 @@ ghost use Rattle.atom_store.specs.declared.reply.Reply.TheVariants.{Value, Done,
 ghost use Rattle.atom_store.specs.Step.{place_in};
 ghost use Rattle.heap_words.specs.Decoded.{decode};
 ghost use Rattle.heap_words.specs.Word.{busy_word, forward_word};
+ghost use Rattle.space_map.specs.declared.spaces.TheConstants.{LAST_WORKER};
 ghost use Rattle.space_map.specs.AreaWord.{AreaFits, decode_area};
 ghost use Rattle.space_map.specs.Table.{table_length};
 ghost use Rattle.forwarding.specs.Evacuation.{IsGoing, area_past, begun, front_of, size_of, wanted};
@@ -48,7 +49,7 @@ impl Evac {
     /// The copy of the record at an address, which is to lie in the space that isn't the epoch's.
     pub fn new(spaces: Spaces, addr: u32, epoch: u32, worker: u8) -> Evac
         requires addr { addr < 128 * spaces.pages }
-        requires worker { worker ≤ 23 }
+        requires worker { worker ≤ LAST_WORKER }
         ensures { result ≡ begun spaces addr epoch worker }
     {
         let _pages = spaces.pages();

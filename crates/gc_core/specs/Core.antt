@@ -1,5 +1,6 @@
 -- What the machine with a collected heap is between two events.
-use Rattle.std.specs.Prelude.{ℕ, ◌&&◌, Bool, nat_le, List, length}
+use Rattle.std.specs.Prelude.{ℕ, List, length}
+pub use Rattle.space_map.specs.Spaces.{is_size}
 use Rattle.mutator_asm.specs.declared.instr.Instr.{Instr}
 use Rattle.gc_worker.specs.Between.{opening}
 use Rattle.gc_worker.specs.Law.{Heap}
@@ -10,17 +11,6 @@ pub record CoreState : Type 0 where
   pub code : List (List Instr)
   pub turns : ℕ
   pub heap : Heap
-
--- the numbers of pages that a space may have
-abbrev pub is_size : ℕ → Bool
-is_size pages = nat_le 4 pages && nat_le pages 2048
-
--- the most instructions that a mutator may execute, and the most scanners
-abbrev pub most_turns : ℕ
-most_turns = 10000000
-
-abbrev pub most_scanners : ℕ
-most_scanners = 8
 
 -- the core in which a program begins: a mutator for each section, and the scanners
 abbrev pub opening_core : List (List Instr) → Config → CoreState

@@ -9,6 +9,7 @@ use Rattle.mutator_asm.specs.Program.{is_valid}
 use Rattle.plain_heap.specs.Step.{asked_by}
 use Rattle.plain_heap.specs.Order.{Story, state_after, story_after, end_of}
 use Rattle.heap_state.specs.Represents.{Represents}
+use Rattle.gc_worker.specs.declared.config.TheConstants.{MOST_TURNS}
 use Rattle.gc_worker.specs.declared.task.Task.{Task}
 use Rattle.gc_worker.specs.Full.{FindsNoRoom}
 use Rattle.gc_worker.specs.Held as held
@@ -32,7 +33,7 @@ pub record IsOnTask (s : CoreState) (m : ℕ) : Type 0 where
 pub record IsSteady (s : CoreState) : Type 0 where
   pub valid : IsTrue (list_all (list_all is_valid) s.code)
   pub sections : length s.code ≡ s.heap.mutators
-  pub turns_fit : s.turns ≤ 10000000
+  pub turns_fit : s.turns ≤ MOST_TURNS
   pub on_task : (m : ℕ) → m < s.heap.mutators → IsOnTask s m
 
 -- it is steady, and its heap stands for some plain state

@@ -4,6 +4,8 @@ ghost use Rattle.std.specs.Prelude.{◌≡◌, ◌+◌, ◌≤◌, ◌<◌, ◌�
 ghost use Rattle.heap_state.specs.Entries.{written};
 ghost use Rattle.heap_laws.specs.Opening.{opening_entries};
 ghost use Rattle.gc_worker.specs.Between.{fresh_worker, fresh_workers};
+ghost use Rattle.space_map.specs.declared.spaces.TheConstants.{LAST_WORKER, MOST_SCANNERS};
+ghost use Rattle.gc_worker.specs.declared.config.TheConstants.{MOST_TURNS};
 ghost use Rattle.gc_core.specs.Core.{opening_core, workers_of, is_size};
 
 use crate::machine::Core;
@@ -36,7 +38,7 @@ fn words(alloc: Global, spaces: Spaces) -> Result<PlainAtoms, NoMemory>
 /// Worker `k` before its first step.
 fn worker(alloc: Global, spaces: Spaces, k: u8, mutators: u8) -> Result<Slot, NoMemory>
     requires few { mutators ≤ 16 }
-    requires all { k ≤ 23 }
+    requires all { k ≤ LAST_WORKER }
     ensures { IfOk result (λ slot. slot ≡ fresh_worker spaces.pages mutators k) }
 {
     if k < mutators {
@@ -64,8 +66,8 @@ impl<'p> Core<'p> {
     /// A core in which nobody has made a step. `BadPages` comes exactly for fewer than 4 pages or more than 2048. The words
     /// and the room for the most numbers of each mutator are taken here; no later call takes memory.
     pub fn open(alloc: Global, program: &'p Program, config: &Config) -> Result<Core<'p>, OpenError>
-        requires scanners { config.now.scanners ≤ 8 }
-        requires turns { (1 ≤ config.now.turns) × (config.now.turns ≤ 10000000) }
+        requires scanners { config.now.scanners ≤ MOST_SCANNERS }
+        requires turns { (1 ≤ config.now.turns) × (config.now.turns ≤ MOST_TURNS) }
         ensures opened { IfOk result (λ c. c ≡ opening_core program.now.code config.now) }
         ensures workers { IfOk result (λ c. workers_of c ≡ length program.now.code + config.now.scanners) }
         ensures bad_pages { IsErrOf result OpenError.BadPages ↔ IsTrue (not (is_size config.now.pages)) }

@@ -3,6 +3,7 @@
 ghost use Rattle.std.specs.Prelude.{◌≡◌, ◌-◌, ◌≤◌, ◌<◌, ◌^◌, ℕ, true, IsTrue};
 ghost use Rattle.std.specs.List.{list_all};
 ghost use Rattle.mutator_asm.specs.Program.{is_valid};
+ghost use Rattle.gc_worker.specs.declared.config.TheConstants.{MOST_TURNS};
 ghost use Rattle.gc_worker.specs.Counted.{counted};
 ghost use Rattle.gc_worker.specs.Made.{MayMake, made};
 ghost use Rattle.gc_worker.specs.Stepped.{IsSound, awaits};
@@ -41,7 +42,7 @@ impl Slot {
 
     /// Where the worker may be given its next task, it is.
     pub fn ready(&mut self, program: &Program, turns: u32, m: u8)
-        requires turns { turns ≤ 10000000 }
+        requires turns { turns ≤ MOST_TURNS }
         requires valid { IsTrue (list_all (list_all is_valid) program.now.code) }
         requires sound { IsSound self.old }
         requires counted { awaits self.old ≡ true → self.old.account.serial ≤ self.old.account.executed }

@@ -1,3 +1,6 @@
+/// The most instructions that a mutator may execute.
+pub const MOST_TURNS: u32 = 10_000_000;
+
 /// The size of a heap, and who works on it.
 #[derive(Clone, Copy, Debug, PartialEq, Eq)]
 pub struct Config {

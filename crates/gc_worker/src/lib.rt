@@ -43,7 +43,7 @@ pub use accessed::Accessed;
 pub use after::After;
 pub use back::Back;
 pub use board_access::{BoardAccess, BoardSwap, BoardUse};
-pub use config::Config;
+pub use config::{Config, MOST_TURNS};
 pub use field_access::{FieldAccess, FieldUse, Role};
 pub use forwarding_register::ForwardingRegister;
 pub use laws::{

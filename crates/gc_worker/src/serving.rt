@@ -1,6 +1,7 @@
 //! Accesses, and the duty: rounds, scans, copies and openings of pages.
 
 ghost use Rattle.std.specs.Prelude.{◌≡◌, ◌≤◌};
+ghost use Rattle.space_map.specs.declared.spaces.TheConstants.{LAST_WORKER};
 ghost use Rattle.space_map.specs.Spaces.{board_page};
 ghost use Rattle.gc_worker.specs.declared.access_stage.AccessStage.{AccessStage};
 ghost use Rattle.gc_worker.specs.Fits.{FitsStage, IsAccessing, Takes};
@@ -140,7 +141,7 @@ impl State {
     fn begin_next_round(&mut self)
         requires at { IsServing self.old.stage }
         requires back { back_at self.old.stage ≡ Back.ToScanner }
-        requires few { self.old.number ≤ 23 }
+        requires few { self.old.number ≤ LAST_WORKER }
         ensures { self.new ≡ back_from self.old Back.ToScanner }
     {
         let round = Duty::scanner(self.spaces, self.number, self.mutators);

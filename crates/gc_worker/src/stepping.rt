@@ -2,6 +2,7 @@
 
 ghost use Rattle.std.specs.Prelude.{◌≡◌, ◌<◌, ◌≤◌, [], IfSome, IsSome, vec_capacity};
 ghost use Rattle.atom_store.specs.Step.{place_in};
+ghost use Rattle.space_map.specs.declared.spaces.TheConstants.{LAST_WORKER};
 ghost use Rattle.space_map.specs.Table.{table_length};
 ghost use Rattle.gc_worker.specs.declared.task.Task.TheVariants.{Calls, Stops};
 ghost use Rattle.gc_worker.specs.Between.{fresh, fresh_mutator, fresh_scanner, with_task};
@@ -37,7 +38,7 @@ impl State {
 
     /// A scanner before its first round.
     pub fn scanner(spaces: Spaces, number: u8, mutators: u8, printed: Vec<u64>) -> State
-        requires few { number ≤ 23 }
+        requires few { number ≤ LAST_WORKER }
         requires room { HasRoom number mutators (vec_capacity printed) }
         requires empty { printed.items ≡ [] }
         ensures { result ≡ fresh_scanner spaces.pages mutators number }

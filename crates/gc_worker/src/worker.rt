@@ -1,5 +1,6 @@
 ghost use Rattle.std.specs.Prelude.{◌≡◌, ◌≤◌, ◌<◌, Some, IfOk, IfSome, IsSome};
 ghost use Rattle.atom_store.specs.Step.{place_in};
+ghost use Rattle.space_map.specs.declared.spaces.TheConstants.{LAST_WORKER};
 ghost use Rattle.space_map.specs.Table.{table_length};
 ghost use Rattle.gc_worker.specs.declared.task.Task.TheVariants.{Calls, Stops};
 ghost use Rattle.gc_worker.specs.Between.{IsIdle, fresh_mutator, fresh_scanner, with_task};
@@ -71,7 +72,7 @@ impl Worker {
     /// A scanner before its first round.
     pub fn scanner(alloc: Global, spaces: Spaces, number: u8, mutators: u8) -> Worker
         requires number { mutators ≤ number }
-        requires few { number ≤ 23 }
+        requires few { number ≤ LAST_WORKER }
         ensures { result ≡ fresh_scanner spaces.pages mutators number }
     {
         let _pages = spaces.pages();

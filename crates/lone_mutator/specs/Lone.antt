@@ -1,5 +1,6 @@
 -- A heap with one mutator and no other worker: what the mutator has read is so still, since nobody else makes a step.
 use Rattle.std.specs.Prelude.{◌≡◌, ◌≢◌, ℕ, ◌+◌, ◌<◌, ◌≤◌, ⊤, Bool, true, false, length, None}
+use Rattle.space_map.specs.declared.spaces.TheConstants.{LAST_WORKER}
 use Rattle.space_map.specs.Spaces.{Layout, to_space}
 use Rattle.alloc_end.specs.declared.place_stage.PlaceStage.{PlaceStage}
 use Rattle.alloc_end.specs.declared.place_stage.PlaceStage.TheVariants as place_stage
@@ -108,7 +109,7 @@ announces stage = false
 
 -- nobody else announces a place
 abbrev pub NobodyElseAnnounces : (announced : ℕ → ℕ) (own : Bool) → Type 0
-NobodyElseAnnounces announced own = (k : ℕ) → k ≤ 23 → (k ≡ 0 → own ≡ false) → announced k ≡ 0
+NobodyElseAnnounces announced own = (k : ℕ) → k ≤ LAST_WORKER → (k ≡ 0 → own ≡ false) → announced k ≡ 0
 
 -- ---- the whole
 

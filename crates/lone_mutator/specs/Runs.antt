@@ -4,8 +4,9 @@ use Rattle.mutator_asm.specs.declared.instr.Instr.{Instr}
 use Rattle.mutator_asm.specs.declared.item.Item.{Item}
 use Rattle.mutator_asm.specs.Program.{IsWellFormed}
 use Rattle.gc_worker.specs.declared.config.Config.{Config}
+use Rattle.gc_worker.specs.declared.config.TheConstants.{MOST_TURNS}
 use Rattle.gc_worker.specs.Law.{held_at}
-use Rattle.gc_core.specs.Core.{CoreState, most_turns, opening_core, is_size}
+use Rattle.gc_core.specs.Core.{CoreState, opening_core, is_size}
 use Rattle.gc_core.specs.Run.{run_from}
 use Rattle.lone_mutator.specs.Bound.{most_steps}
 
@@ -24,11 +25,11 @@ KeepsPace pages steps s = (has_end s 0 ≡ true) ⊎ (steps / most_steps pages �
 -- every run of every program of one section, without scanners and for any number of steps
 abbrev pub LoneMutatorsGoOn : Type 0
 LoneMutatorsGoOn = (section : List Instr) (items : List Item) (config : Config) (schedule : ℕ → ℕ) (steps : ℕ)
-    → IsWellFormed (section ∷ []) items → IsTrue (is_size config.pages) → config.turns ≤ most_turns → config.scanners ≡ 0 → ((at : ℕ) → schedule at ≡ 0)
+    → IsWellFormed (section ∷ []) items → IsTrue (is_size config.pages) → config.turns ≤ MOST_TURNS → config.scanners ≡ 0 → ((at : ℕ) → schedule at ≡ 0)
     → KeepsPace config.pages steps (run_from schedule 0 steps (opening_core (section ∷ []) config)).last
 
 -- with turns for so many instructions it has its end after so many steps
 abbrev pub LoneRunsEnd : Type 0
 LoneRunsEnd = (section : List Instr) (items : List Item) (config : Config) (schedule : ℕ → ℕ) (steps : ℕ)
-    → IsWellFormed (section ∷ []) items → IsTrue (is_size config.pages) → config.turns ≤ most_turns → config.scanners ≡ 0 → ((at : ℕ) → schedule at ≡ 0)
+    → IsWellFormed (section ∷ []) items → IsTrue (is_size config.pages) → config.turns ≤ MOST_TURNS → config.scanners ≡ 0 → ((at : ℕ) → schedule at ≡ 0)
     → (config.turns + 1) * most_steps config.pages ≤ steps → has_end (run_from schedule 0 steps (opening_core (section ∷ []) config)).last 0 ≡ true

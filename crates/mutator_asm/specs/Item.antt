@@ -2,6 +2,7 @@
 use Rattle.std.specs.Prelude.{ℕ, List, Option, Some, None, Result, Ok, Err, ◌&&◌, nat_le, ◌==◌, Bool, if◌then◌else◌}
 use Rattle.std.specs.List.{list_any, before_first, after_first}
 use Rattle.mutator_asm.specs.declared.item.Item.{Item}
+use Rattle.mutator_asm.specs.declared.item.TheConstants.{LAST_WORKER, TIMES_MAX}
 use Rattle.mutator_asm.specs.declared.mistake.Mistake.{Mistake}
 use Rattle.mutator_asm.specs.Token.{number_of}
 
@@ -16,11 +17,11 @@ within low high (Err mistake) = None
 
 -- a worker, by its number
 abbrev pub worker_of : List ℕ → Option ℕ
-worker_of t = within 0 23 (number_of t)
+worker_of t = within 0 LAST_WORKER (number_of t)
 
 -- how many steps a worker makes
 abbrev pub times_of : List ℕ → Option ℕ
-times_of t = within 1 1000000 (number_of t)
+times_of t = within 1 TIMES_MAX (number_of t)
 
 -- an item, where both its parts could be read
 abbrev pub item_from : Option ℕ → Option ℕ → Option Item

@@ -5,6 +5,7 @@ use Rattle.plain_state.specs.declared.sizes.TheConstants.{NUMBERS, REGISTERS}
 use Rattle.mutator_asm.specs.declared.instr.Instr.{Instr}
 use Rattle.mutator_asm.specs.declared.instr.Instr.TheVariants.{Li, Mov, Add, Sub, Mul, Div, Rem, Lt, Eq, Jmp, Jz, Jal, Jr, New, Raw, Ld, St, Len, Isp, Get, Put, Swap, Out, Halt}
 use Rattle.mutator_asm.specs.declared.item.Item.{Item}
+use Rattle.mutator_asm.specs.declared.item.TheConstants.{LAST_WORKER, TIMES_MAX}
 use Rattle.mutator_asm.specs.declared.operand.Operand.{Operand}
 use Rattle.mutator_asm.specs.declared.operand.Operand.TheVariants.{Reg, Number}
 
@@ -68,9 +69,9 @@ leads_within n _ = true
 abbrev pub is_closed : List Instr → Bool
 is_closed section = list_all (leads_within (length section)) section
 
--- an item of a schedule names a worker from 0 to 23 and 1 to 1,000,000 of its steps
+-- an item of a schedule names a worker that may be named, and 1 to 1,000,000 of its steps
 abbrev pub is_item : Item → Bool
-is_item i = nat_le i.worker 23 && nat_le 1 i.times && nat_le i.times 1000000
+is_item i = nat_le i.worker LAST_WORKER && nat_le 1 i.times && nat_le i.times TIMES_MAX
 
 -- what the program of any text is like
 pub record IsWellFormed (code : List (List Instr)) (schedule : List Item) : Type 0 where

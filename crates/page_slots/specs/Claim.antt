@@ -10,6 +10,7 @@ use Rattle.atom_store.specs.Machine.{Machine}
 use Rattle.space_map.specs.declared.gate_word.GateWord.{GateWord}
 use Rattle.space_map.specs.declared.page_word.PageWord.{PageWord}
 use Rattle.space_map.specs.declared.page_word.PageWord.TheVariants.{Scanning}
+use Rattle.space_map.specs.declared.spaces.TheConstants.{LAST_WORKER}
 use Rattle.space_map.specs.GateWord.{decode_gate}
 use Rattle.space_map.specs.PageWord.{encode_page}
 use Rattle.space_map.specs.Spaces.{Layout, board_page, first_word}
@@ -68,7 +69,7 @@ names_below_end page announced = nat_lt 0 announced && nat_le announced (first_w
 -- after a worker's announced place, the next worker's; after the last, the gate
 abbrev pub looked_at_place : (page k announced : ℕ) → ClaimStage
 looked_at_place page k announced =
-    if names_below_end page announced then Ended (claimed.Taken announced) else (if k == 23 then LooksAtGate else LooksAtPlace (k + 1))
+    if names_below_end page announced then Ended (claimed.Taken announced) else (if k == LAST_WORKER then LooksAtGate else LooksAtPlace (k + 1))
 
 -- by what the gate's word says
 abbrev pub looked_at_gate : (epoch word : ℕ) → Option GateWord → ClaimStage

@@ -1,5 +1,6 @@
 -- What the machines keep of themselves: the rows that they want are in the table, and their words can be packed.
 use Rattle.std.specs.Prelude.{◌≡◌, ◌≢◌, ℕ, ◌^◌, ◌<◌, ◌≤◌, false, ⊤}
+use Rattle.space_map.specs.declared.spaces.TheConstants.{LAST_WORKER}
 use Rattle.space_map.specs.PageWord.{PageFits, IsEarlier}
 use Rattle.space_map.specs.Spaces.{IsPageCount, board_page}
 use Rattle.page_slots.specs.declared.claim_stage.ClaimStage.{ClaimStage}
@@ -11,7 +12,7 @@ use Rattle.page_slots.specs.Open.{Opening}
 
 -- announced places are looked at for a full page alone
 abbrev pub FitsClaimStage : Claiming → ClaimStage → Type 0
-FitsClaimStage c (claim_stage.LooksAtPlace k) = (k ≤ 23) × (c.in_place ≡ false) × (c.page ≢ board_page c.layout.pages)
+FitsClaimStage c (claim_stage.LooksAtPlace k) = (k ≤ LAST_WORKER) × (c.in_place ≡ false) × (c.page ≢ board_page c.layout.pages)
 FitsClaimStage c claim_stage.LooksAtGate = ⊤
 FitsClaimStage c claim_stage.Exchanges = ⊤
 FitsClaimStage c (claim_stage.Ended result) = ⊤
@@ -20,7 +21,7 @@ FitsClaimStage c (claim_stage.Ended result) = ⊤
 pub record IsSoundClaim (c : Claiming) : Type 0 where
   pub pages : IsPageCount c.layout.pages
   pub page : c.page ≤ board_page c.layout.pages
-  pub worker : c.worker ≤ 23
+  pub worker : c.worker ≤ LAST_WORKER
   pub epoch : c.epoch < 2 ^ 32
   pub found : PageFits c.found
   pub earlier : IsEarlier c.found c.epoch

@@ -5,6 +5,7 @@ use Rattle.atom_store.specs.Acts.{Acts}
 use Rattle.space_map.specs.declared.gate_word.GateWord.{GateWord}
 use Rattle.space_map.specs.declared.page_word.PageWord.{PageWord}
 use Rattle.space_map.specs.declared.page_word.PageWord.TheVariants as page_word
+use Rattle.space_map.specs.declared.spaces.TheConstants.{LAST_WORKER}
 use Rattle.space_map.specs.GateWord.{decode_gate}
 use Rattle.space_map.specs.PageWord.{IsEarlier, decode_page, encode_page}
 use Rattle.space_map.specs.Spaces.{first_word}
@@ -33,7 +34,7 @@ WonPagesAreClaimed = (c : Claiming) (before after : List ℕ) → IsSoundClaim c
 -- A word of the table shows that a page is not to be had: a place is announced below the page's end, the gate is of another
 -- epoch than the claim, or the page's word is no longer the one that was read.
 pub data ShowsTaken (c : Claiming) (words : List ℕ) (word : ℕ) : Type 0 where
-  Announced : (k : ℕ) → k ≤ 23 → word ≡ row_word c.layout.pages (Announce k) words → 0 < word → word ≤ first_word (c.page + 1) → ShowsTaken c words word
+  Announced : (k : ℕ) → k ≤ LAST_WORKER → word ≡ row_word c.layout.pages (Announce k) words → 0 < word → word ≤ first_word (c.page + 1) → ShowsTaken c words word
   OtherEpoch : (gate : GateWord) → word ≡ row_word c.layout.pages Gate words → decode_gate word ≡ Some gate → gate.epoch ≢ c.epoch → ShowsTaken c words word
   OtherWord : word ≡ row_word c.layout.pages (Page c.page) words → word ≢ encode_page c.found → ShowsTaken c words word
 

@@ -1,5 +1,6 @@
 ghost use Rattle.std.specs.Prelude.{◌≡◌, ◌<◌, ◌≤◌, ◌^◌, Some, IsTrue};
 ghost use Rattle.atom_store.specs.Step.{place_in};
+ghost use Rattle.space_map.specs.declared.spaces.TheConstants.{LAST_WORKER};
 ghost use Rattle.space_map.specs.PageWord.{IsEarlier, encode_page};
 ghost use Rattle.space_map.specs.Spaces.{board_page};
 ghost use Rattle.page_slots.specs.Claim.{begun, wanted, taken, told, left, advances, looked_at_place, looked_at_gate, first_stage};
@@ -10,10 +11,8 @@ ghost use Rattle.space_map.specs.Table.{Page, place_of, table_length};
 use crate::claim_stage::ClaimStage;
 use crate::claimed::Claimed;
 use atom_store::{Reply, Step, Turn};
-use space_map::{GateWord, PAGE_WORDS, PageWord, Spaces};
+use space_map::{GateWord, LAST_WORKER, PAGE_WORDS, PageWord, Spaces};
 use std::marker::Model;
-
-const LAST_WORKER: u8 = 23;
 
 /// The claim of a page, to scan it, by one worker in one epoch.
 #[derive(Clone, Copy)]
@@ -51,7 +50,7 @@ impl Claim {
         in_place: bool,
     ) -> Claim
         requires page { page ≤ board_page spaces.pages }
-        requires worker { worker ≤ 23 }
+        requires worker { worker ≤ LAST_WORKER }
         requires not_later { IsEarlier found epoch }
         ensures { result ≡ begun spaces page epoch worker found in_place }
     {

@@ -1,5 +1,6 @@
 -- The heap's table of words, with n pages a space: its rows and the place of each.
 use Rattle.std.specs.Prelude.{ℕ, ◌+◌, ◌*◌, ◌<◌, ◌≤◌, ⊤, Bool, true, nat_lt, nat_le}
+use Rattle.space_map.specs.declared.spaces.TheConstants.{LAST_WORKER}
 
 -- a word of the table by what it is for
 pub data Row : Type 0 where
@@ -19,7 +20,7 @@ IsRow n (Area space) = space < 2
 IsRow n (Page page) = page ≤ 2 * n
 IsRow n (Cross page) = page < 2 * n
 IsRow n (HeapWord addr) = addr ≤ 128 * n + 63
-IsRow n (Announce worker) = worker ≤ 23
+IsRow n (Announce worker) = worker ≤ LAST_WORKER
 
 -- the same as a test
 abbrev pub is_row : ℕ → Row → Bool
@@ -29,7 +30,7 @@ is_row n (Area space) = nat_lt space 2
 is_row n (Page page) = nat_le page (2 * n)
 is_row n (Cross page) = nat_lt page (2 * n)
 is_row n (HeapWord addr) = nat_le addr (128 * n + 63)
-is_row n (Announce worker) = nat_le worker 23
+is_row n (Announce worker) = nat_le worker LAST_WORKER
 
 -- where the row stands in the table
 unfoldable pub place_of : ℕ → Row → ℕ

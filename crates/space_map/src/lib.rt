@@ -22,4 +22,6 @@ pub use laws::{
     rows_lie_apart,
 };
 pub use page_word::PageWord;
-pub use spaces::{PAGE_WORDS, Spaces};
+pub use spaces::{
+    LAST_WORKER, MAX_PAGES, MIN_PAGES, MOST_MUTATORS, MOST_SCANNERS, PAGE_WORDS, Spaces,
+};

@@ -8,11 +8,20 @@ use std::marker::Model;
 /// The number of words in a page.
 pub const PAGE_WORDS: u32 = 64;
 
-const MIN_PAGES: u32 = 4;
+/// The fewest pages of a space.
+pub const MIN_PAGES: u32 = 4;
 
-const MAX_PAGES: u32 = 2048;
+/// The most pages of a space.
+pub const MAX_PAGES: u32 = 2048;
 
-const WORKERS: usize = 24;
+/// The most mutators of a heap.
+pub const MOST_MUTATORS: u32 = 16;
+
+/// The most scanners of a heap.
+pub const MOST_SCANNERS: u32 = 8;
+
+/// The last of the workers for which the table has room: they are numbered from 0, the mutators first.
+pub const LAST_WORKER: u8 = 23;
 
 const GATE_PLACE: usize = 0;
 
@@ -117,7 +126,7 @@ impl Spaces {
     pub fn table_len(self) -> usize
         ensures { result ≡ table_length self.pages }
     {
-        self.announce_start() + WORKERS
+        self.announce_start() + usize::from(LAST_WORKER) + 1
     }
 
     /// The place of the gate word.

@@ -3,6 +3,7 @@ use Rattle.std.specs.Prelude.{◌≡◌, ℕ, ◌+◌, ◌*◌, ◌<◌, ◌≤�
 use Rattle.space_map.specs.declared.area_word.AreaWord.{AreaWord}
 use Rattle.space_map.specs.declared.gate_word.GateWord.{GateWord}
 use Rattle.space_map.specs.declared.page_word.PageWord.{PageWord}
+use Rattle.space_map.specs.declared.spaces.TheConstants.{LAST_WORKER}
 use Rattle.space_map.specs.AreaWord.{AreaFits, encode_area}
 use Rattle.space_map.specs.GateWord.{GateFits, encode_gate}
 use Rattle.space_map.specs.PageWord.{PageFits, encode_page}
@@ -63,7 +64,7 @@ StoresHeapWord = (n : ℕ) (words : List ℕ) (addr word : ℕ) → IsFormed n w
     → Stored n words (HeapWord addr) word (record (table_of n words) { heap = put (table_of n words).heap addr word })
 
 abbrev pub StoresAnnounce : Type 0
-StoresAnnounce = (n : ℕ) (words : List ℕ) (worker word : ℕ) → IsFormed n words → worker ≤ 23
+StoresAnnounce = (n : ℕ) (words : List ℕ) (worker word : ℕ) → IsFormed n words → worker ≤ LAST_WORKER
     → Stored n words (Announce worker) word (record (table_of n words) { announced = put (table_of n words).announced worker word })
 
 -- ---- what the epoch sees of them

@@ -8,11 +8,11 @@ use Rattle.heap_state.specs.Entries.{written}
 use Rattle.space_map.specs.Table.{table_length}
 use Rattle.gc_worker.specs.declared.open_error.OpenError.{OpenError}
 use Rattle.gc_worker.specs.declared.open_error.OpenError.TheVariants.{BadPages, NoMemory}
-use Rattle.space_map.specs.Spaces.{IsPageCount}
+use Rattle.space_map.specs.Spaces.{IsPageCount, is_size}
 use Rattle.atomic_table.specs.Table as table
 use Rattle.gc_worker.specs.declared.config.Config.{Config}
 use Rattle.ael_threads.specs.declared.view.Plan.{Plan}
-use Rattle.ael_threads.specs.Opened.{is_size, new_scanners}
+use Rattle.ael_threads.specs.Opened.{new_scanners}
 use Rattle.ael_threads.specs.Rule.{Kept, crew, first_view}
 use Rattle.ael_threads.specs.Seats.{new_callers}
 use Rattle.ael_threads.proofs.Beginning.{opens_kept}
