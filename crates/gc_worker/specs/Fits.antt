@@ -1,6 +1,7 @@
 -- What a worker keeps of itself: each machine is sound, and its layout, its worker and its epoch are the worker's own.
 use Rattle.std.specs.Prelude.{◌≡◌, ℕ, ◌+◌, ◌^◌, ◌<◌, ◌≤◌, ◌⊎◌, ⊤, Bool, true, false, List, length, Option, Some, None, Ok, is_some, nat_lt, slice_index, IsTrue}
 use Rattle.atom_store.specs.declared.reply.Reply.{Reply}
+use Rattle.space_map.specs.declared.spaces.TheConstants.{LAST_WORKER}
 use Rattle.space_map.specs.Spaces.{Layout, IsPageCount, board_page, first_word, space_start, to_space}
 use Rattle.alloc_end.specs.declared.run.Run.{Run}
 use Rattle.alloc_end.specs.Place as place
@@ -286,7 +287,7 @@ FitsRun n (Some run) = IsRun n run
 -- worker k of a heap with n pages a space and so many mutators
 pub record Fits (n mutators k : ℕ) (x : Held) : Type 0 where
   pub number : x.number ≡ k
-  pub few : k ≤ 23
+  pub few : k ≤ LAST_WORKER
   pub pages : x.layout.pages ≡ n
   pub counted : IsPageCount n
   pub beside : x.mutators ≡ mutators
