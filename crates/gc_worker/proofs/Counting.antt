@@ -409,16 +409,7 @@ module _ (count : ℕ) (x : Held) where
 
   fits_so : (n mutators k : ℕ) → Fits n mutators k x → Fits n mutators k z
   fits_so n mutators k f = record {
-    number = f.number;
-    few = f.few;
-    pages = f.pages;
-    counted = f.counted;
-    beside = f.beside;
-    epoch = f.epoch;
-    eight = f.eight;
-    registers = f.registers;
-    few_printed = f.few_printed;
-    run = f.run;
+    worker = f.worker;
     end = f.end;
     side = f.side;
     task = fits_task x.stage f.task;

@@ -9,19 +9,16 @@ use Rattle.heap_state.specs.Functions.{put}
 use Rattle.heap_state.specs.Worker.{Account}
 use Rattle.heap_state.proofs.Puts.{put_is}
 use Rattle.gc_worker.specs.declared.stage.Stage.TheVariants.{Looks}
-use Rattle.gc_worker.specs.Fits.{Fits, FitsRun}
+use Rattle.gc_worker.specs.Fits.{AreValues, Fits, FitsRun}
 use Rattle.gc_worker.specs.Held.{Held}
 use Rattle.gc_worker.specs.Seen.{IsValueWord}
 use Rattle.gc_worker.specs.Turned.{ended}
-use Rattle.gc_worker.proofs.Fitting.{page_count}
+use Rattle.gc_worker.proofs.Fitting.{with_parts, page_count}
 
 -- a register changed in the list is changed in the function
 pub registers_put : (registers : List ℕ) (r v : ℕ) → r < length registers → (λ (j : ℕ). slice_index (slice_set registers r v) j) ≡ put (λ (j : ℕ). slice_index registers j) r v
 registers_put registers r v l =
     put_is (λ (j : ℕ). slice_index registers j) (λ (j : ℕ). slice_index (slice_set registers r v) j) r v (get_or-set_same registers r v 0 l) (λ j d. get_or-set_other registers r j v 0 d)
-
-abbrev pub AreValues : List ℕ → Type 0
-AreValues registers = (r : ℕ) → r < REGISTERS → IsValueWord (slice_index registers r)
 
 -- registers of which one gets a value's word
 pub values_set : (registers : List ℕ) (d v : ℕ) → length registers ≡ REGISTERS → IsValueWord v → AreValues registers → AreValues (slice_set registers d v)
@@ -37,16 +34,7 @@ settled_as x account registers run = record x { account = account; registers = r
 pub settled_fits : (n mutators k : ℕ) (x : Held) (f : Fits n mutators k x) → nat_lt x.number x.mutators ≡ true → (account : Account) (registers : List ℕ) (run : Option Run) → is_some account.end ≡ false
     → length registers ≡ REGISTERS → AreValues registers → length account.printed ≤ MOST_PRINTED → FitsRun n run → Fits n mutators k (settled_as x account registers run)
 settled_fits n mutators k x f mutator account registers run unended eight values few own = record {
-  number = f.number;
-  few = f.few;
-  pages = f.pages;
-  counted = f.counted;
-  beside = f.beside;
-  epoch = f.epoch;
-  eight = eight;
-  registers = values;
-  few_printed = few;
-  run = own;
+  worker = with_parts f.worker f.epoch eight values few own;
   end = unended;
   side = mutator;
   task = tt;
@@ -56,16 +44,7 @@ settled_fits n mutators k x f mutator account registers run unended eight values
 -- with an end it leaves
 pub ended_fits : (n mutators k : ℕ) (x : Held) (f : Fits n mutators k x) → nat_lt x.number x.mutators ≡ true → (end : End) → Fits n mutators k (ended x end)
 ended_fits n mutators k x f mutator end = record {
-  number = f.number;
-  few = f.few;
-  pages = f.pages;
-  counted = f.counted;
-  beside = f.beside;
-  epoch = f.epoch;
-  eight = f.eight;
-  registers = f.registers;
-  few_printed = f.few_printed;
-  run = f.run;
+  worker = f.worker;
   end = refl;
   side = mutator;
   task = refl;

@@ -284,18 +284,30 @@ abbrev pub FitsRun : (pages : ℕ) → Option Run → Type 0
 FitsRun n None = ⊤
 FitsRun n (Some run) = IsRun n run
 
--- worker k of a heap with n pages a space and so many mutators
-pub record Fits (n mutators k : ℕ) (x : Held) : Type 0 where
-  pub number : x.number ≡ k
+abbrev pub AreValues : List ℕ → Type 0
+AreValues registers = (r : ℕ) → r < REGISTERS → IsValueWord (slice_index registers r)
+
+-- What a worker is at any stage, by its parts: worker k of a heap with n pages a space and so many mutators.
+pub record IsWorkerOf (n mutators k : ℕ) (own size others now : ℕ) (words printed : List ℕ) (own_run : Option Run) : Type 0 where
+  pub number : own ≡ k
   pub few : k ≤ LAST_WORKER
-  pub pages : x.layout.pages ≡ n
+  pub pages : size ≡ n
   pub counted : IsPageCount n
-  pub beside : x.mutators ≡ mutators
-  pub epoch : x.epoch < 2 ^ 32
-  pub eight : length x.registers ≡ REGISTERS
-  pub registers : (r : ℕ) → r < REGISTERS → IsValueWord (slice_index x.registers r)
-  pub few_printed : length x.account.printed ≤ MOST_PRINTED
-  pub run : FitsRun n x.run
+  pub beside : others ≡ mutators
+  pub epoch : now < 2 ^ 32
+  pub eight : length words ≡ REGISTERS
+  pub registers : AreValues words
+  pub few_printed : length printed ≤ MOST_PRINTED
+  pub run : FitsRun n own_run
+
+-- It names the parts alone: so it is one and the same of a worker with another stage, task or account, but for the numbers printed.
+abbrev pub IsWorker : (n mutators k : ℕ) → Held → Type 0
+IsWorker n mutators k x = IsWorkerOf n mutators k x.number x.layout.pages x.mutators x.epoch x.registers x.account.printed x.run
+
+-- it is such a worker, and sound at its stage
+pub record Fits (n mutators k : ℕ) (x : Held) : Type 0 where
+  pub worker : IsWorker n mutators k x
+  pub open worker use *
   pub end : FitsEnd x.stage (is_some x.account.end)
   pub side : IsOnSide x.stage (nat_lt x.number x.mutators) (is_some x.account.end)
   pub task : FitsTask x x.stage

@@ -1,5 +1,6 @@
 pub mod Rows
 pub mod Learning
 pub mod Composing
+pub mod Forgotten
 pub mod Composites
 pub mod Answers

@@ -35,28 +35,54 @@ pub record IsLessRound (r : Round) (o : Option Round) : Type 0 where
   pub traced : r.traced ≡ more.traced
   pub front : IsLess r.front more.front
 
--- Worker w knows at most what v knows. What others read of it is the same, and so are its searches and copies. It scans the same page
--- as far. Who flips, or is about to exchange the gate, still knows whether the epoch is traced.
+-- The parts of a worker by groups. Each group names its own parts alone: so of two workers that have the same there it says what it
+-- says of one of them.
+
+-- what others read of it is the same, and so are its searches and copies
+abbrev pub SameToOthers : (w v : Worker) → Type 0
+SameToOthers w v = record {
+  post : w.post ≡ v.post;
+  epoch : w.epoch ≡ v.epoch;
+  account : w.account ≡ v.account;
+  registers : w.registers ≡ v.registers;
+  done : w.done ≡ v.done;
+  quest : w.quest ≡ v.quest;
+  copy : w.copy ≡ v.copy;
+}
+
+-- of its run, its access and the page that it found open it knows at most as much
+abbrev pub LessAtHand : (w v : Worker) → Type 0
+LessAtHand w v = record {
+  stock : IsLess w.stock v.stock;
+  access : IsLess w.access v.access;
+  opened : IsLess w.opened v.opened;
+}
+
+-- and so of its round of the duty
+abbrev pub LessAtPages : (w v : Worker) → Type 0
+LessAtPages w v = record {
+  round : (r : Round) → w.round ≡ Some r → IsLessRound r v.round;
+  claim : IsLess w.claim v.claim;
+  look : IsLess w.look v.look;
+  last_look : IsLess w.last_look v.last_look;
+}
+
+-- And so of the gate. Who flips, or is about to exchange the gate, still knows whether the epoch is traced.
+abbrev pub LessAtGate : (w v : Worker) → Type 0
+LessAtGate w v = record {
+  gate_step : IsLess w.gate_step v.gate_step;
+  reset : IsLess w.reset v.reset;
+  traced_seen : w.traced_seen ≡ true → v.traced_seen ≡ true;
+  asks : (is_flipper w.post ≡ true) ⊎ (is_some w.gate_step ≡ true) → w.traced_seen ≡ v.traced_seen;
+}
+
+-- worker w knows at most what v knows, and scans the same page as far
 pub record IsAtMost (w v : Worker) : Type 0 where
-  pub post : w.post ≡ v.post
-  pub epoch : w.epoch ≡ v.epoch
-  pub account : w.account ≡ v.account
-  pub registers : w.registers ≡ v.registers
-  pub done : w.done ≡ v.done
-  pub quest : w.quest ≡ v.quest
-  pub copy : w.copy ≡ v.copy
+  pub others : SameToOthers w v
   pub scan : IsScanWithin w.scan v.scan
-  pub stock : IsLess w.stock v.stock
-  pub access : IsLess w.access v.access
-  pub opened : IsLess w.opened v.opened
-  pub round : (r : Round) → w.round ≡ Some r → IsLessRound r v.round
-  pub claim : IsLess w.claim v.claim
-  pub look : IsLess w.look v.look
-  pub last_look : IsLess w.last_look v.last_look
-  pub gate_step : IsLess w.gate_step v.gate_step
-  pub reset : IsLess w.reset v.reset
-  pub traced_seen : w.traced_seen ≡ true → v.traced_seen ≡ true
-  pub asks : (is_flipper w.post ≡ true) ⊎ (is_some w.gate_step ≡ true) → w.traced_seen ≡ v.traced_seen
+  pub hand : LessAtHand w v
+  pub pages : LessAtPages w v
+  pub gate : LessAtGate w v
 
 -- a worker whose round of the duty ends: it forgets the round, its claim and its looks
 abbrev pub ends_round : Worker → Worker

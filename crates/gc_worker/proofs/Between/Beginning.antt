@@ -166,16 +166,7 @@ module _ (x : Held) (task : Task) where
 
     with_it : (n mutators k : ℕ) → Waits x.stage → Fits n mutators k x → Fits n mutators k y
     with_it n mutators k w f = record {
-      number = f.number;
-      few = f.few;
-      pages = f.pages;
-      counted = f.counted;
-      beside = f.beside;
-      epoch = f.epoch;
-      eight = f.eight;
-      registers = f.registers;
-      few_printed = f.few_printed;
-      run = f.run;
+      worker = f.worker;
       end = f.end;
       side = f.side;
       task = fits_task x.stage w;

@@ -19,6 +19,7 @@ use Rattle.gc_worker.specs.Held.{Held}
 use Rattle.gc_worker.specs.Knows.{knows}
 use Rattle.gc_worker.specs.Law.{read, nobody}
 use Rattle.gc_worker.specs.Seen.{IsValueAs, IsValueWord}
+use Rattle.gc_worker.proofs.Fitting.{new_worker}
 
 -- ---- one worker
 
@@ -41,16 +42,7 @@ module _ (n mutators k : ℕ) where
   module _ (size : IsPageCount n) (few : k ≤ 23) where
     pub mutator_fits : nat_lt k mutators ≡ true → Fits n mutators k (fresh_mutator n mutators k)
     mutator_fits side = record {
-      number = refl;
-      few = few;
-      pages = refl;
-      counted = size;
-      beside = refl;
-      epoch = omega arith;
-      eight = refl;
-      registers = is_value;
-      few_printed = omega arith;
-      run = tt;
+      worker = new_worker n mutators k size few is_value;
       end = refl;
       side = side;
       task = tt;
@@ -59,16 +51,7 @@ module _ (n mutators k : ℕ) where
 
     pub scanner_fits : nat_lt k mutators ≡ false → Fits n mutators k (fresh_scanner n mutators k)
     scanner_fits side = record {
-      number = refl;
-      few = few;
-      pages = refl;
-      counted = size;
-      beside = refl;
-      epoch = omega arith;
-      eight = refl;
-      registers = is_value;
-      few_printed = omega arith;
-      run = tt;
+      worker = new_worker n mutators k size few is_value;
       end = refl;
       side = side;
       task = refl;

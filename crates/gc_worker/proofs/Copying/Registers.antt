@@ -25,13 +25,13 @@ use Rattle.heap_state.specs.Worker.{Worker, Quest, Register, is_late}
 use Rattle.heap_laws.specs.Composites.{AsksAt, AllDone, AsksNext, LeadNowhere, forwarded_to}
 use Rattle.heap_laws.proofs.Copying.Laws.{announces_are_cleared}
 use Rattle.heap_laws.proofs.Steps.Composites.{registers_find_forwards, registers_are_settled}
-use Rattle.gc_worker.proofs.Settling.{AreValues, registers_put, values_set}
+use Rattle.gc_worker.proofs.Settling.{registers_put, values_set}
 use Rattle.gc_worker.proofs.Tasks.{task_stays}
 use Rattle.gc_worker.specs.Seen.{IsValueAs}
 use Rattle.gc_worker.specs.declared.after.After.{After}
 use Rattle.gc_worker.specs.declared.stage.Stage.{Stage}
 use Rattle.gc_worker.specs.declared.stage.Stage.TheVariants.{Forwards}
-use Rattle.gc_worker.specs.Fits.{Fits, FitsEnd, FitsStage, FitsTask, FitsTaskAfter, IsOnSide}
+use Rattle.gc_worker.specs.Fits.{AreValues, Fits, FitsEnd, FitsStage, FitsTask, FitsTaskAfter, IsOnSide}
 use Rattle.gc_worker.specs.Goes.{Is, Goes, StepsSo}
 use Rattle.gc_worker.specs.Held.{Held, at_stage}
 use Rattle.gc_worker.specs.Knows.{knows, found_in}
@@ -40,7 +40,7 @@ use Rattle.gc_worker.proofs.Copying.Finding.{loads_header}
 use Rattle.gc_worker.proofs.Copying.Hosts.{Host, ForRegister, at, machine_at, wants_its, is_sound, has_pages, is_worker, takes, with_sound, tells_nothing, wins_nothing, quest_with, quest_is}
 use Rattle.gc_worker.proofs.Copying.Words.{heap_word}
 use Rattle.gc_worker.proofs.Eras.{board_is}
-use Rattle.gc_worker.proofs.Fitting.{page_count}
+use Rattle.gc_worker.proofs.Fitting.{with_parts, page_count}
 use Rattle.gc_worker.proofs.Gate.Resuming.{end_none}
 use Rattle.gc_worker.proofs.Gate.Words.{wants}
 use Rattle.gc_worker.proofs.Pointers.{Found, Nowhere, There, word_at, found, is_pointer, leads_nowhere}
@@ -133,16 +133,7 @@ module _ (c : Configuration) (p : Plain) (s : Stands c p) (k : ℕ) (y : Held) (
       refits_it : (stage : Stage) → FitsEnd stage (is_some y.account.end) → IsOnSide stage (nat_lt y.number y.mutators) (is_some y.account.end)
           → FitsTask (at_stage (with_it to) stage) stage → FitsStage (at_stage (with_it to) stage) stage → Fits c.pages c.mutators k (at_stage (with_it to) stage)
       refits_it stage end side task fits = record {
-        number = is.fits.number;
-        few = is.fits.few;
-        pages = is.fits.pages;
-        counted = is.fits.counted;
-        beside = is.fits.beside;
-        epoch = is.fits.epoch;
-        eight = length-set y.registers r (pointer_word to) ∙ is.fits.eight;
-        registers = value_words;
-        few_printed = is.fits.few_printed;
-        run = is.fits.run;
+        worker = with_parts is.fits.worker is.fits.epoch (length-set y.registers r (pointer_word to) ∙ is.fits.eight) value_words is.fits.few_printed is.fits.run;
         end = end;
         side = side;
         task = task;

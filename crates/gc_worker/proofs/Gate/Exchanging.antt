@@ -21,6 +21,7 @@ use Rattle.heap_state.specs.Worker.{Worker, is_mutator}
 use Rattle.heap_state.specs.Worker as workers
 use Rattle.heap_laws.specs.Gate as laws
 use Rattle.heap_laws.proofs.Gate.Passages.{passes_gate}
+use Rattle.heap_laws.proofs.Steps.Forgotten.{reads_are_forgotten}
 use Rattle.gc_worker.specs.declared.after.After.{After}
 use Rattle.gc_worker.specs.declared.stage.Stage.TheVariants.{Passes, Flips, Looks, Gone}
 use Rattle.gc_worker.specs.Fits.{Fits, IsGoneBy}
@@ -28,7 +29,6 @@ use Rattle.gc_worker.specs.Goes.{Is, Goes, StepsSo}
 use Rattle.gc_worker.specs.Held.{Held, at_stage, asked_by}
 use Rattle.gc_worker.specs.Knows.{knows, known_at, post_gone}
 use Rattle.gc_worker.specs.Turned.{passes, goes_on, turned, in_epoch, epoch_said, epoch_in}
-use Rattle.gc_worker.proofs.Forgetting.{reads_are_forgotten}
 use Rattle.gc_worker.proofs.Fitting.{refit, come, before_passage, page_count}
 use Rattle.gc_worker.proofs.Going.{goes_on_known, goes_on_fits}
 use Rattle.gc_worker.proofs.Gate.Words.{wants, gate_now, gate_is}

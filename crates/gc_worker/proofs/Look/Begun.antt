@@ -9,16 +9,7 @@ use Rattle.gc_worker.specs.Turned.{begins}
 
 pub begun_fits : (n mutators k : ℕ) (y : Held) → Fits n mutators k (at_stage y Looks) → Fits n mutators k (begins (at_stage y Looks))
 begun_fits n mutators k y f = record {
-  number = f.number;
-  few = f.few;
-  pages = f.pages;
-  counted = f.counted;
-  beside = f.beside;
-  epoch = f.epoch;
-  eight = f.eight;
-  registers = f.registers;
-  few_printed = f.few_printed;
-  run = f.run;
+  worker = f.worker;
   end = f.end;
   side = f.side;
   task = f.task;

@@ -24,7 +24,7 @@ use Rattle.heap_laws.specs.Fields.Stores.{IsAs}
 use Rattle.heap_laws.proofs.Fields.Laws.{mutators_step}
 use Rattle.gc_worker.specs.declared.stage.Stage.TheVariants.{Looks}
 use Rattle.gc_worker.specs.declared.task.Task.TheVariants.{Calls}
-use Rattle.gc_worker.specs.Fits.{Fits}
+use Rattle.gc_worker.specs.Fits.{AreValues, Fits}
 use Rattle.gc_worker.specs.Goes.{Is, Goes}
 use Rattle.gc_worker.specs.Held.{Held, at_stage}
 use Rattle.gc_worker.specs.Knows.{knows}
@@ -36,7 +36,7 @@ use Rattle.gc_worker.proofs.Answering.{LawTo, IsIts, may_hold, going, next_as}
 use Rattle.gc_worker.proofs.Effecting.{counted, loaded_goes, loaded_as, effect}
 use Rattle.gc_worker.proofs.Look.Begun.{begun_fits}
 use Rattle.gc_worker.proofs.Seeing.{sight, Holds, holds_number, alike, is_value, names, writes}
-use Rattle.gc_worker.proofs.Settling.{AreValues, values_set, settled_as, settled_fits}
+use Rattle.gc_worker.proofs.Settling.{values_set, settled_as, settled_fits}
 use Rattle.gc_worker.proofs.Steps.{prepared}
 use Rattle.gc_worker.proofs.Targets.{WritesRegister}
 

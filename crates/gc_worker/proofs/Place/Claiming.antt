@@ -27,7 +27,7 @@ use Rattle.heap_laws.proofs.Allocation.Laws.{room_is_seen, claims_pages}
 use Rattle.heap_laws.proofs.Gate.Reading.{sees_traced}
 use Rattle.heap_laws.proofs.Steps.Answers.{areas_are_read}
 use Rattle.heap_laws.proofs.Steps.Composing.{steps_forget}
-use Rattle.heap_laws.proofs.Steps.Composites.{traced_is_forgotten}
+use Rattle.heap_laws.proofs.Steps.Forgotten.{traced_is_forgotten}
 use Rattle.gc_worker.specs.declared.stage.Stage.TheVariants.{Places}
 use Rattle.gc_worker.specs.Fits.{Fits}
 use Rattle.gc_worker.specs.Goes.{Is, Goes, StepsSo}

@@ -25,7 +25,7 @@ use Rattle.heap_laws.specs.Steps.{IsAreaNow}
 use Rattle.heap_laws.proofs.Fields.Laws.{mutators_find_no_room}
 use Rattle.heap_laws.proofs.Steps.Answers.{areas_are_read}
 use Rattle.heap_laws.proofs.Steps.Composing.{plain_steps_forget}
-use Rattle.heap_laws.proofs.Steps.Composites.{traced_is_forgotten}
+use Rattle.heap_laws.proofs.Steps.Forgotten.{traced_is_forgotten}
 use Rattle.gate_core.specs.declared.passage.Passage.TheVariants.{Request}
 use Rattle.gc_worker.specs.declared.after.After.TheVariants as afters
 use Rattle.gc_worker.specs.declared.task.Task.{Task}

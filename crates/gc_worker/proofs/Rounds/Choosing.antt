@@ -29,7 +29,7 @@ use Rattle.heap_laws.specs.Composing.{IsAtMost}
 use Rattle.heap_laws.specs.Scanning.Claims.{MayClaim}
 use Rattle.heap_laws.specs.Tracing.{IsFrontFor, in_round}
 use Rattle.heap_laws.proofs.Steps.Answers.{areas_are_read}
-use Rattle.heap_laws.proofs.Steps.Composites.{round_fronts_are_forgotten}
+use Rattle.heap_laws.proofs.Steps.Forgotten.{round_fronts_are_forgotten}
 use Rattle.heap_laws.proofs.Tracing.Looks.{reads_front}
 use Rattle.gc_worker.specs.declared.back.Back.{Back}
 use Rattle.gc_worker.specs.Goes.{Is, Goes, StepsSo}

@@ -25,9 +25,10 @@ use Rattle.heap_state.specs.Entries.{Entry, TracedIs}
 use Rattle.heap_state.specs.Worker.{Worker, Look, LastLook}
 use Rattle.heap_state.specs.Worker as workers
 use Rattle.heap_state.proofs.Table.LaidOut.{table_pages}
-use Rattle.heap_laws.specs.Composing.{ends_round, SameScan}
+use Rattle.heap_laws.specs.Composing.{ends_round}
 use Rattle.heap_laws.specs.Tracing.{first_look, looking, has_traced}
 use Rattle.heap_laws.proofs.Steps.Composing.{steps_forget}
+use Rattle.heap_laws.proofs.Steps.Forgotten.{of_round}
 use Rattle.heap_laws.proofs.Tracing.Looks.{begins_look, looks_at_front, looks_at_filling}
 use Rattle.heap_laws.proofs.Tracing.Traced as tracing
 use Rattle.gc_worker.specs.declared.back.Back.{Back}
@@ -134,27 +135,8 @@ module _ (c : Configuration) (p : Plain) (s : Stands c p) (k : ℕ) (y : Held) (
         subst (λ (w : Worker). Law c p s k x3 None (looking w (first_look (era c) r)) s.ghost) is.as_known
         (begins_look (era c) (memory c) (team c) s.ghost k r (prepared c p s k x3 is)
         (record { round = ap (λ (w : Worker). w.round) is.as_known; same = of_now ∙ ap (λ (w : Worker). w.epoch) (sym is.as_known); none = none })) in
-        steps_forget (era c) (memory c) (team c) s.ghost k None (looking (knows x3) (first_look (era c) r)) (knows (at c p s k y d back (EndArea traced))) s.ghost t (record {
-          post = refl;
-          epoch = refl;
-          account = refl;
-          registers = refl;
-          done = refl;
-          quest = refl;
-          copy = refl;
-          scan = SameScan refl;
-          stock = λ _ e. e;
-          access = λ _ e. e;
-          opened = λ _ e. e;
-          round = λ _ e. absurd (cc);
-          claim = λ _ e. e;
-          look = λ l e. (rw (← start) refl) ∙ e;
-          last_look = λ _ e. e;
-          gate_step = λ _ e. e;
-          reset = λ _ e. e;
-          traced_seen = λ e. e;
-          asks = λ _. refl;
-        })
+        steps_forget (era c) (memory c) (team c) s.ghost k None (looking (knows x3) (first_look (era c) r)) (knows (at c p s k y d back (EndArea traced))) s.ghost t
+        (of_round (looking (knows x3) (first_look (era c) r)) None (knows (at c p s k y d back (EndArea traced))).look (λ _ e. absurd (cc)) (λ l e. (rw (← start) refl) ∙ e))
 
     gate_by : (b : Bool) → ((gate.epoch == d.epoch) && (gate.behind == 0)) ≡ b
         → duty.taken_at (round c p s k y d back (EndGate traced)) (EndGate traced) (Value (gate_now c)) ≡ round c p s k y d back (if b then EndArea traced else Ended (NothingNow (gate_now c)))

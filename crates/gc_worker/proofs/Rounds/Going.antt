@@ -31,7 +31,7 @@ use Rattle.gc_worker.specs.Goes.{Is, Goes, StepsSo}
 use Rattle.gc_worker.specs.Held.{Held, header_for}
 use Rattle.gc_worker.specs.Knows.{knows, own_stock, epoch_at}
 use Rattle.gc_worker.specs.Turned.{turned_round, back_from, won_in}
-use Rattle.gc_worker.proofs.Fitting.{refit}
+use Rattle.gc_worker.proofs.Fitting.{with_parts, refit}
 use Rattle.gc_worker.proofs.Going.{places_known}
 use Rattle.gc_worker.proofs.GoingBack.{back_fits}
 use Rattle.gc_worker.proofs.Steps.{Law, becomes, loads, prepared}
@@ -143,16 +143,7 @@ module _ (c : Configuration) (p : Plain) (s : Stands c p) (k : ℕ) (y : Held) (
         let f = is.fits in
         let own = f.stage.0 in
         record {
-          number = f.number;
-          few = f.few;
-          pages = f.pages;
-          counted = f.counted;
-          beside = f.beside;
-          epoch = own.sound.epoch;
-          eight = f.eight;
-          registers = f.registers;
-          few_printed = f.few_printed;
-          run = f.run;
+          worker = with_parts f.worker own.sound.epoch f.eight f.registers f.few_printed f.run;
           end = f.end;
           side = f.side;
           task = f.task;

@@ -1,5 +1,5 @@
 -- A scan goes on: what the worker then knows of it, and that it fits.
-use Rattle.std.proofs.Common.{◌≡◌, ℕ, ◌<◌, ◌^◌, false, Some, is_some, refl, nat_lt}
+use Rattle.std.proofs.Common.{◌≡◌, ℕ, ◌<◌, ◌^◌, false, is_some, refl, nat_lt}
 use Rattle.page_slots.specs.Open as open_page
 use Rattle.page_scan.specs.Scanning.{Scanning, HasStep}
 use Rattle.page_scan.specs.Soundness as scan_sound
@@ -7,8 +7,6 @@ use Rattle.page_scan.specs.Taken.{told}
 use Rattle.page_scan.specs.declared.ending.Ending.{Ending}
 use Rattle.page_scan.specs.declared.scan_stage.ScanStage.{ScanStage}
 use Rattle.page_scan.specs.declared.scan_stage.ScanStage.TheVariants as scan_stage
-use Rattle.heap_state.specs.Worker.{Worker, Scan}
-use Rattle.heap_laws.specs.Composing.{IsAtMost, IsLessScan, LessScan}
 use Rattle.gc_worker.specs.declared.back.Back.{Back}
 use Rattle.gc_worker.specs.declared.back.Back.TheVariants.{ToAccess, ToPlace, ToScanner}
 use Rattle.gc_worker.specs.declared.stage.Stage.{Stage}
@@ -17,30 +15,6 @@ use Rattle.gc_worker.specs.Fits.{Fits, FitsScan, FitsBack, FitsTaskBack, IsOnSid
 use Rattle.gc_worker.specs.Held.{Held, at_stage}
 use Rattle.gc_worker.specs.Turned.{turned_scan}
 use Rattle.gc_worker.proofs.Fitting.{refit, page_count}
-
--- a worker that knows less of its scan, and the rest
-pub of_scan : (w : Worker) (a b : Scan) → IsLessScan a b → IsAtMost (record w { scan = Some a }) (record w { scan = Some b })
-of_scan w a b less = record {
-  post = refl;
-  epoch = refl;
-  account = refl;
-  registers = refl;
-  done = refl;
-  quest = refl;
-  copy = refl;
-  scan = LessScan a b refl refl less;
-  stock = λ _ e. e;
-  access = λ _ e. e;
-  opened = λ _ e. e;
-  round = λ r e. record { more = r; is = e; traced = refl; front = λ _ y. y };
-  claim = λ _ e. e;
-  look = λ _ e. e;
-  last_look = λ _ e. e;
-  gate_step = λ _ e. e;
-  reset = λ _ e. e;
-  traced_seen = λ e. e;
-  asks = λ _. refl;
-}
 
 -- where it goes back to stays
 pub still_back : (x : Held) (next : Stage) (back : Back) → FitsBack x back → FitsBack (at_stage x next) back

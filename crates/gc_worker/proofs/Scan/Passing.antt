@@ -20,7 +20,8 @@ use Rattle.gc_worker.specs.declared.stage.Stage.TheVariants.{Scans}
 use Rattle.gc_worker.specs.Fits.{Fits, FitsScan, FitsBack, FitsTaskBack, IsOnSideBack}
 use Rattle.gc_worker.specs.Held.{Held}
 use Rattle.gc_worker.specs.Knows.{knows, scan_of, seen_of}
-use Rattle.gc_worker.proofs.Scan.GoingOn.{of_scan, scans_to, going_fits, ended_fits}
+use Rattle.heap_laws.proofs.Steps.Forgotten.{of_scan}
+use Rattle.gc_worker.proofs.Scan.GoingOn.{scans_to, going_fits, ended_fits}
 
 module _ (y : Held) (v : Scanning) (back : Back) (r : ScannedRecord) (z : ℕ) where
   abbrev x : Held
@@ -52,15 +53,15 @@ module _ (y : Held) (v : Scanning) (back : Back) (r : ScannedRecord) (z : ℕ) w
 
     less_by : (b1 b2 b3 in_place : Bool) → nat_lt z (first_word (v.page + 1)) ≡ b2 → nat_lt r.next (first_word (v.page + 1)) ≡ b3 → v.in_place ≡ in_place
         → IsAtMost (knows (scans_to x v back (stage_by b1 b2 b3 in_place))) (scanning (knows x) (gone_to (if b1 then z else r.next)))
-    less_by true true b3 ip e f g = of_scan (scanning (knows x) (gone_to z)) (scan_of v (scan_stage.LoadsWord (InRecord r z))) (gone_to z)
+    less_by true true b3 ip e f g = of_scan (scanning (knows x) (gone_to z)) (scan_of v (scan_stage.LoadsWord (InRecord r z))) (gone_to z) refl
         (record { page = refl; cursor = refl; in_place = refl; over = λ _ u. u; current = λ _ u. u; inner = λ u. u; ended = sym (past_by z true e) })
-    less_by true false b3 ip e f g = of_scan (scanning (knows x) (gone_to z)) (scan_of v (scan_stage.Ended (record { cursor = z; at_front = false }))) (gone_to z)
+    less_by true false b3 ip e f g = of_scan (scanning (knows x) (gone_to z)) (scan_of v (scan_stage.Ended (record { cursor = z; at_front = false }))) (gone_to z) refl
         (record { page = refl; cursor = refl; in_place = refl; over = λ _ u. u; current = λ _ u. absurd (cc); inner = λ u. u; ended = sym (past_by z false e) })
-    less_by false b2 true true e f g = of_scan (scanning (knows x) (gone_to r.next)) (scan_of v (scan_stage.LoadsFront r)) (gone_to r.next)
+    less_by false b2 true true e f g = of_scan (scanning (knows x) (gone_to r.next)) (scan_of v (scan_stage.LoadsFront r)) (gone_to r.next) refl
         (record { page = refl; cursor = refl; in_place = refl; over = λ _ u. u; current = λ _ u. u; inner = λ u. u; ended = sym (past_by r.next true f) })
-    less_by false b2 true false e f g = of_scan (scanning (knows x) (gone_to r.next)) (scan_of v (scan_stage.LoadsNext r)) (gone_to r.next)
+    less_by false b2 true false e f g = of_scan (scanning (knows x) (gone_to r.next)) (scan_of v (scan_stage.LoadsNext r)) (gone_to r.next) refl
         (record { page = refl; cursor = refl; in_place = refl; over = λ _ u. u; current = λ _ u. u; inner = λ u. sym g ∙ u; ended = sym (past_by r.next true f) })
-    less_by false b2 false ip e f g = of_scan (scanning (knows x) (gone_to r.next)) (scan_of v (scan_stage.Ended (record { cursor = r.next; at_front = false }))) (gone_to r.next)
+    less_by false b2 false ip e f g = of_scan (scanning (knows x) (gone_to r.next)) (scan_of v (scan_stage.Ended (record { cursor = r.next; at_front = false }))) (gone_to r.next) refl
         (record { page = refl; cursor = refl; in_place = refl; over = λ _ u. u; current = λ _ u. absurd (cc); inner = λ u. u; ended = sym (past_by r.next false f) })
 
     pub goes_on_less : IsAtMost (knows (scans_to x v back (goes_on v.page v.in_place r z))) (scanning (knows x) (gone_to (next_in (seen_of r) z)))

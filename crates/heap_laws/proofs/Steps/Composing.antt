@@ -72,17 +72,17 @@ less_rounds same less p = record { traced_then = rw same p.traced_then; front_th
 module _ (E : Era) (n : Memory) (h : Ghost) (k : ℕ) (w v : Worker) (most : IsAtMost w v)
     (me : Knows E n.gate n.traced n.front n.low n.old_front n.old_low n.old_owed h n.page n.cross n.announced n.heap k v) where
   late : is_late E.epoch w ≡ is_late E.epoch v
-  late = rw (most.post, most.epoch) refl
+  late = rw (most.others.post, most.others.epoch) refl
 
   origin : (q : Quest) → w.quest ≡ Some q → IsOrigin E h.size h.writer h.kind n.heap (is_late E.epoch w) w.done w.registers w.scan q.old q.origin
-  origin q e = rw (late, most.done, most.registers) (from q.origin (me.origin q (sym most.quest ∙ e)))
+  origin q e = rw (late, most.others.done, most.others.registers) (from q.origin (me.origin q (sym most.others.quest ∙ e)))
     where
       from : (o : Origin) → IsOrigin E h.size h.writer h.kind n.heap (is_late E.epoch v) v.done v.registers v.scan q.old o → IsOrigin E h.size h.writer h.kind n.heap (is_late E.epoch v) v.done v.registers w.scan q.old o
       from (Register r) p = p
       from (Scanned x) p = let z = (within most.scan).has p.0.0 p.0.1 in ((z.0, z.1, z.2.cursor ∙ p.0.2, p.0.3 ∙ sym z.2.page, z.2.ended ∙ p.0.4), p.1, p.2)
 
   licensed : Licensed n.gate.behind h.kept k (is_late E.epoch w) w.copy w.quest w.scan
-  licensed = rw (late, most.copy, most.quest) (record {
+  licensed = rw (late, most.others.copy, most.others.quest) (record {
     licensed = λ c e. ⊎_elim
         (λ (y : (s : Scan) × (v.scan ≡ Some s)). let z = (within most.scan).has y.0 y.1 in inl (z.0, z.1))
         (λ (y : is_late E.epoch v ≡ true). inr y)
@@ -94,31 +94,31 @@ module _ (E : Era) (n : Memory) (h : Ghost) (k : ℕ) (w v : Worker) (most : IsA
 
   pub knows_less : Knows E n.gate n.traced n.front n.low n.old_front n.old_low n.old_owed h n.page n.cross n.announced n.heap k w
   knows_less = record {
-    timely = rw (most.post, most.epoch, most.done) me.timely;
-    ends = rw (most.post, most.account) me.ends;
-    outside = λ e. rw most.registers (me.outside (sym most.post ∙ e));
-    stock = λ q e. rw most.epoch (me.stock q (most.stock q e));
-    registers = λ u e. rw (late, most.done, most.registers) (me.registers (ap is_mutator (sym most.post) ∙ u) (ap (λ (a : Account). a.end) (sym most.account) ∙ e));
-    active = λ f e. rw most.post (me.active f (most.access f e));
-    access = λ f e. me.access f (most.access f e);
-    opened = λ p e. rw most.post (me.opened p (most.opened p e));
+    timely = rw (most.others.post, most.others.epoch, most.others.done) me.timely;
+    ends = rw (most.others.post, most.others.account) me.ends;
+    outside = λ e. rw most.others.registers (me.outside (sym most.others.post ∙ e));
+    stock = λ q e. rw most.others.epoch (me.stock q (most.hand.stock q e));
+    registers = λ u e. rw (late, most.others.done, most.others.registers) (me.registers (ap is_mutator (sym most.others.post) ∙ u) (ap (λ (a : Account). a.end) (sym most.others.account) ∙ e));
+    active = λ f e. rw most.others.post (me.active f (most.hand.access f e));
+    access = λ f e. me.access f (most.hand.access f e);
+    opened = λ p e. rw most.others.post (me.opened p (most.hand.opened p e));
     origin = origin;
-    quest = λ q e. me.quest q (sym most.quest ∙ e);
+    quest = λ q e. me.quest q (sym most.others.quest ∙ e);
     licensed = licensed;
-    copy = λ c e. me.copy c (sym most.copy ∙ e);
-    keeps = λ c e. me.keeps c (sym most.copy ∙ e);
-    present = λ s e. let z = (within most.scan).had s e in most.epoch ∙ me.present z.0 z.1;
+    copy = λ c e. me.copy c (sym most.others.copy ∙ e);
+    keeps = λ c e. me.keeps c (sym most.others.copy ∙ e);
+    present = λ s e. let z = (within most.scan).had s e in most.others.epoch ∙ me.present z.0 z.1;
     scan = λ s e. let z = (within most.scan).had s e in less_scans z.2 (me.scan z.0 z.1);
     stepping = λ s e. let z = (within most.scan).had s e in less_steps z.2 (me.stepping z.0 z.1);
-    round = λ r e. let z = most.round r e in rw most.epoch (less_rounds z.traced z.front (me.round z.more z.is));
-    claim = λ c e. rw most.epoch (me.claim c (most.claim c e));
-    look = λ l e. rw most.epoch (me.look l (most.look l e));
-    last_look = λ l e. rw most.epoch (me.last_look l (most.last_look l e));
-    seen_traced = λ e. rw most.post (me.seen_traced (most.traced_seen e));
-    flips = λ e. most.asks (inl e) ∙ me.flips (ap is_flipper (sym most.post) ∙ e);
-    passage = λ s e. rw (most.post, most.epoch, most.done, most.account, most.asks (inr (ap is_some e))) (me.passage s (most.gate_step s e));
-    resets = λ r e. ap is_flipper most.post ∙ me.resets r (most.reset r e);
-    reset = λ r e. me.reset r (most.reset r e);
+    round = λ r e. let z = most.pages.round r e in rw most.others.epoch (less_rounds z.traced z.front (me.round z.more z.is));
+    claim = λ c e. rw most.others.epoch (me.claim c (most.pages.claim c e));
+    look = λ l e. rw most.others.epoch (me.look l (most.pages.look l e));
+    last_look = λ l e. rw most.others.epoch (me.last_look l (most.pages.last_look l e));
+    seen_traced = λ e. rw most.others.post (me.seen_traced (most.gate.traced_seen e));
+    flips = λ e. most.gate.asks (inl e) ∙ me.flips (ap is_flipper (sym most.others.post) ∙ e);
+    passage = λ s e. rw (most.others.post, most.others.epoch, most.others.done, most.others.account, most.gate.asks (inr (ap is_some e))) (me.passage s (most.gate.gate_step s e));
+    resets = λ r e. ap is_flipper most.others.post ∙ me.resets r (most.gate.reset r e);
+    reset = λ r e. me.reset r (most.gate.reset r e);
   }
 
 -- the team in which it is the other
@@ -146,11 +146,11 @@ module _ (E : Era) (n : Memory) (team : Team) (h : Ghost) (k : ℕ) (w v : Worke
 
       kept : Invariant E n (with_worker before k w) h
       kept =
-          let p1 = counted_put before.worker k w (same (λ u. u.post) most.post) (same (λ u. u.epoch) most.epoch) inv.counted in
-          let p2 = staffed_put before.worker k w (same (λ u. is_mutator u.post) (ap is_mutator most.post)) inv.staffed in
+          let p1 = counted_put before.worker k w (same (λ u. u.post) most.others.post) (same (λ u. u.epoch) most.others.epoch) inv.counted in
+          let p2 = staffed_put before.worker k w (same (λ u. is_mutator u.post) (ap is_mutator most.others.post)) inv.staffed in
           let p3 = scanned_on before.worker k w on inv.scanned in
-          let p4 = stocks_put before.worker k w (λ q e. ap (λ (u : Worker). u.stock) there ∙ most.stock q e) inv.stocks in
-          let p5 = numbered_put before.worker k w (same (λ u. u.account.serial) (ap (λ (a : Account). a.serial) most.account)) inv.numbered in
+          let p4 = stocks_put before.worker k w (λ q e. ap (λ (u : Worker). u.stock) there ∙ most.hand.stock q e) inv.stocks in
+          let p5 = numbered_put before.worker k w (same (λ u. u.account.serial) (ap (λ (a : Account). a.serial) most.others.account)) inv.numbered in
           let p6 : (j : ℕ) → j < before.count → KnowsThen j (put before.worker k w j) = λ j l. each_put KnowsThen before.worker k w j (λ d. inv.workers j l) (λ e. rw e (own (rw e at l))) in
           assumption
         where
@@ -158,16 +158,16 @@ module _ (E : Era) (n : Memory) (team : Team) (h : Ghost) (k : ℕ) (w v : Worke
           own l = knows_less E n h k w v most (rw there at (inv.workers k l))
 
   forgets_shown : (p : Plain) → Shown E n before h p → Shown E n (with_worker team k w) h p
-  forgets_shown p s = rw twice at (shown_put E n n before h k w p (most.account ∙ ap (λ (u : Worker). u.account) (sym there)) (most.registers ∙ ap (λ (u : Worker). u.registers) (sym there)) refl s)
+  forgets_shown p s = rw twice at (shown_put E n n before h k w p (most.others.account ∙ ap (λ (u : Worker). u.account) (sym there)) (most.others.registers ∙ ap (λ (u : Worker). u.registers) (sym there)) refl s)
 
   forgets_cycle : (p : Plain) → Cycle E n before h p → Cycle E n (with_worker team k w) h p
   forgets_cycle p c = record {
     copying = c.copying;
     rooted = rw twice at (rooted_put before.worker k w
-        (ap is_mutator most.post ∙ ap (λ (u : Worker). is_mutator u.post) (sym there))
-        (most.account ∙ ap (λ (u : Worker). u.account) (sym there))
-        (most.registers ∙ ap (λ (u : Worker). u.registers) (sym there))
-        (λ _ _ a b. let a' : is_late E.epoch v ≡ true = rw there at a in (rw (most.post, most.epoch) a', let b' = rw there at b in rw most.done b'))
+        (ap is_mutator most.others.post ∙ ap (λ (u : Worker). is_mutator u.post) (sym there))
+        (most.others.account ∙ ap (λ (u : Worker). u.account) (sym there))
+        (most.others.registers ∙ ap (λ (u : Worker). u.registers) (sym there))
+        (λ _ _ a b. let a' : is_late E.epoch v ≡ true = rw there at a in (rw (most.others.post, most.others.epoch) a', let b' = rw there at b in rw most.others.done b'))
         c.rooted);
   }
 

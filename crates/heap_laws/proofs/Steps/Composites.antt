@@ -1,121 +1,24 @@
 -- Atomic steps that are several changes of what a worker knows.
-use Rattle.std.proofs.Common.{◌≡◌, ℕ, zero, suc, ◌+◌, ◌-◌, ◌<◌, ◌≤◌, true, Option, Some, None, is_some, refl, sym, ap, ◌∙◌, arith, ⊎_elim, subst}
+use Rattle.std.proofs.Common.{◌≡◌, ℕ, zero, suc, ◌+◌, ◌-◌, ◌<◌, ◌≤◌, true, Option, Some, None, refl, sym, ap, ◌∙◌, arith, subst}
 use Rattle.heap_words.specs.Decoded.{decode}
 use Rattle.heap_state.specs.Entries.{Entry, AnnounceIs}
 use Rattle.heap_state.specs.Era.{Era, Memory}
 use Rattle.heap_state.specs.Functions.{put}
 use Rattle.heap_state.specs.Ghost.{Ghost}
-use Rattle.heap_state.specs.Worker.{Worker, Team, Register, Quest, Round, is_late}
-use Rattle.heap_state.proofs.Puts.{put_same, put_other, some_same, none≢some}
-use Rattle.heap_laws.specs.Composing.{SameScan, LessScan, IsLessRound, ends_round, of_no_record, RoundsAreForgotten, TracedIsForgotten, ScannedRecordsAreForgotten, RoundFrontsAreForgotten}
+use Rattle.heap_state.specs.Worker.{Worker, Team, Register, Quest, is_late}
+use Rattle.heap_state.proofs.Puts.{put_same, put_other}
+use Rattle.heap_laws.specs.Composing.{ends_round}
 use Rattle.heap_laws.specs.Composites.{AsksAt, AllDone, AsksNext, LeadNowhere, come_to, RegistersArePassed, forwarded_to, RegistersFindForwards, RegistersAreSettled, LookingAtLastPageKeeps, ClaimsBegin, RoundsEnd}
 use Rattle.heap_laws.specs.Flipping.Registers.{past_register, forwarded}
 use Rattle.heap_laws.specs.Scanning.Claims.{claiming, claim_of}
 use Rattle.heap_laws.specs.Steps.{Ready, Steps, with_worker}
 use Rattle.heap_laws.specs.Tracing.{looking}
 use Rattle.heap_laws.proofs.Steps.Composing.{steps_forget, steps_are_ready, steps_follow}
+use Rattle.heap_laws.proofs.Steps.Forgotten.{of_round, rounds_are_forgotten}
 use Rattle.heap_laws.proofs.Copying.Laws.{nothing_else_changes, forwards_are_found, announces_are_cleared}
 use Rattle.heap_laws.proofs.Flipping.Registers.{passes_register, asks_for_register, forwards_register}
 use Rattle.heap_laws.proofs.Scanning.Claims.{begins_claim}
 use Rattle.heap_laws.proofs.Tracing.Looks.{looks_at_page, looks_at_filling}
-
--- ---- what is forgotten
-
--- nothing of a round is forgotten
-all_of_round : {o : Option Round} (r : Round) → o ≡ Some r → IsLessRound r o
-all_of_round r e = record { more = r; is = e; traced = refl; front = λ _ y. y }
-
-pub rounds_are_forgotten : RoundsAreForgotten
-rounds_are_forgotten w = record {
-  post = refl;
-  epoch = refl;
-  account = refl;
-  registers = refl;
-  done = refl;
-  quest = refl;
-  copy = refl;
-  scan = SameScan refl;
-  stock = λ _ e. e;
-  access = λ _ e. e;
-  opened = λ _ e. e;
-  round = λ _ e. absurd (cc);
-  claim = λ _ e. absurd (cc);
-  look = λ _ e. absurd (cc);
-  last_look = λ _ e. absurd (cc);
-  gate_step = λ _ e. e;
-  reset = λ _ e. e;
-  traced_seen = λ e. e;
-  asks = λ _. refl;
-}
-
-pub traced_is_forgotten : TracedIsForgotten
-traced_is_forgotten w flips none = record {
-  post = refl;
-  epoch = refl;
-  account = refl;
-  registers = refl;
-  done = refl;
-  quest = refl;
-  copy = refl;
-  scan = SameScan refl;
-  stock = λ _ e. e;
-  access = λ _ e. e;
-  opened = λ _ e. e;
-  round = λ r e. all_of_round r e;
-  claim = λ _ e. e;
-  look = λ _ e. e;
-  last_look = λ _ e. e;
-  gate_step = λ _ e. e;
-  reset = λ _ e. e;
-  traced_seen = λ e. absurd (cc);
-  asks = λ o. absurd (⊎_elim (λ f. let q = sym flips ∙ f in cc) (λ f. let q = sym (ap is_some none) ∙ f in cc) o);
-}
-
-pub scanned_records_are_forgotten : ScannedRecordsAreForgotten
-scanned_records_are_forgotten w s has = record {
-  post = refl;
-  epoch = refl;
-  account = refl;
-  registers = refl;
-  done = refl;
-  quest = refl;
-  copy = refl;
-  scan = LessScan (of_no_record s) s refl has (record { page = refl; cursor = refl; in_place = refl; over = λ _ e. absurd (cc); current = λ _ e. absurd (cc); inner = λ e. e; ended = refl });
-  stock = λ _ e. e;
-  access = λ _ e. e;
-  opened = λ _ e. e;
-  round = λ r e. all_of_round r e;
-  claim = λ _ e. e;
-  look = λ _ e. e;
-  last_look = λ _ e. e;
-  gate_step = λ _ e. e;
-  reset = λ _ e. e;
-  traced_seen = λ e. e;
-  asks = λ _. refl;
-}
-
-pub round_fronts_are_forgotten : RoundFrontsAreForgotten
-round_fronts_are_forgotten w r has = record {
-  post = refl;
-  epoch = refl;
-  account = refl;
-  registers = refl;
-  done = refl;
-  quest = refl;
-  copy = refl;
-  scan = SameScan refl;
-  stock = λ _ e. e;
-  access = λ _ e. e;
-  opened = λ _ e. e;
-  round = λ z e. record { more = r; is = has; traced = ap (λ (y : Round). y.traced) (sym (some_same e)); front = λ f y. absurd (let q = ap (λ (y : Round). y.front) (some_same e) in none≢some (q ∙ y)) };
-  claim = λ _ e. e;
-  look = λ _ e. e;
-  last_look = λ _ e. e;
-  gate_step = λ _ e. e;
-  reset = λ _ e. e;
-  traced_seen = λ e. e;
-  asks = λ _. refl;
-}
 
 -- ---- one more step of the same worker
 
@@ -245,24 +148,5 @@ pub rounds_end : RoundsEnd
 rounds_end E m team g k ready = steps_forget E m team g k None (team.worker k) (ends_round (team.worker k)) g (nothing_else_changes E m team g k ready) (rounds_are_forgotten (team.worker k))
 
 pub claims_begin : ClaimsBegin
-claims_begin E m team g k p old ready may = steps_forget E m team g k None (claiming (team.worker k) (claim_of old p)) (claiming (ends_round (team.worker k)) (claim_of old p)) g (begins_claim E m team g k p old ready may) (record {
-  post = refl;
-  epoch = refl;
-  account = refl;
-  registers = refl;
-  done = refl;
-  quest = refl;
-  copy = refl;
-  scan = SameScan refl;
-  stock = λ _ e. e;
-  access = λ _ e. e;
-  opened = λ _ e. e;
-  round = λ _ e. absurd (cc);
-  claim = λ _ e. e;
-  look = λ _ e. absurd (cc);
-  last_look = λ _ e. absurd (cc);
-  gate_step = λ _ e. e;
-  reset = λ _ e. e;
-  traced_seen = λ e. e;
-  asks = λ _. refl;
-})
+claims_begin E m team g k p old ready may = steps_forget E m team g k None (claiming (team.worker k) (claim_of old p)) (claiming (ends_round (team.worker k)) (claim_of old p)) g (begins_claim E m team g k p old ready may)
+    (of_round (claiming (team.worker k) (claim_of old p)) (Some (claim_of old p)) None (λ _ e. e) (λ _ e. absurd (cc)))

@@ -1,4 +1,4 @@
-use Rattle.heap_laws.proofs.Steps.Composites.{rounds_are_forgotten, traced_is_forgotten, scanned_records_are_forgotten, round_fronts_are_forgotten}
+use Rattle.heap_laws.proofs.Steps.Forgotten.{rounds_are_forgotten, traced_is_forgotten, scanned_records_are_forgotten, round_fronts_are_forgotten}
 use Rattle.heap_laws.proofs.laws_composing.knowledge_is_forgotten.Goals as goal
 
 pub returns-clause-round : goal.returns-clause-round
