@@ -37,7 +37,7 @@ use Rattle.gc_worker.proofs.Cycles.Flips.{flips_are_first, flips_stay_first}
 use Rattle.gc_worker.proofs.Cycles.Lows.{low_falls_by_claims}
 use Rattle.gc_worker.proofs.Cycles.SetAside.{claims_are_set_aside}
 use Rattle.gc_worker.proofs.Gate.Resuming.{end_none}
-use Rattle.gc_worker.proofs.Making.{asked_is, plain_pages}
+use Rattle.gc_worker.proofs.NewRecords.{asked_is, plain_pages}
 use Rattle.gc_worker.proofs.Whole.{steps_keep}
 use Rattle.ael_threads.specs.declared.view.Entry.{Entry}
 use Rattle.ael_threads.specs.Cycles.{AreAskedFor, Counts, EachEntry, EntryIs, IsAskedFor, IsFilled, IsFilledByEnd, IsTallied, Tally, Tasks, aside_in, asked_by, being_made, next_task, pages_by, tally, tasks_of}

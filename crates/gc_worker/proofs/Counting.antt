@@ -59,7 +59,7 @@ use Rattle.gc_worker.specs.Held.{Held, asked_by, at_stage, header_for, header_of
 use Rattle.gc_worker.specs.Seen.{Making, making_in, seen}
 use Rattle.gc_worker.specs.Turned.{Told, Silent, acted, begins, end_of, ended, full_by, goes_back, goes_on, is_full, loads, looked_by, of_round, passed_by, passes, places, started, told_access, told_acted, told_at, told_effect, told_end, told_flip, told_full, told_gate, told_place, told_start, turned_access, turned_at, turned_copy, turned_flip, turned_gate, turned_opening, turned_place, turned_register, turned_round, turned_scan, went_on, with_evac, with_record}
 use Rattle.gc_worker.specs.Wanted.{wanted_at}
-use Rattle.gc_worker.proofs.Making.{made, made_is}
+use Rattle.gc_worker.proofs.NewRecords.{made, made_is}
 
 -- no action depends on the count
 same_action : (m : Mutator) (count : ℕ) (i : Instr) → action (record m { executed = count }) i ≡ action m i

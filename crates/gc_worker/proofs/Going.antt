@@ -15,7 +15,7 @@ use Rattle.gc_worker.specs.Held.{Held, at_stage, header_for, run_of, run_in}
 use Rattle.gc_worker.specs.Knows.{knows, known_at, stock_at, own_stock}
 use Rattle.gc_worker.specs.Turned.{places, goes_on}
 use Rattle.gc_worker.proofs.Fitting.{refit, page_count}
-use Rattle.gc_worker.proofs.Making.{makes_header}
+use Rattle.gc_worker.proofs.NewRecords.{makes_header}
 
 -- ---- an allocation begins
 

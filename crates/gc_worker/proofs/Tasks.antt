@@ -8,16 +8,17 @@ use Rattle.heap_words.specs.Decoded.{PointerWord, decode}
 use Rattle.plain_state.specs.declared.end.End.{End}
 use Rattle.plain_state.specs.declared.value.Value.TheVariants.{Number}
 use Rattle.plain_state.specs.State.{Mutator}
+use Rattle.plain_state.specs.declared.kind.Kind.{Kind}
+use Rattle.plain_state.specs.declared.kind.Kind.TheVariants as kinds
 use Rattle.mutator_asm.specs.declared.instr.Instr.{Instr}
+use Rattle.mutator_asm.specs.declared.instr.Instr.TheVariants as instrs
 use Rattle.mutator_asm.specs.declared.operand.Operand.{Operand}
 use Rattle.mutator_asm.specs.declared.operand.Operand.TheVariants as operands
 use Rattle.plain_heap.specs.declared.action.Action.{Action}
 use Rattle.plain_heap.specs.declared.action.Action.TheVariants.{Makes}
-use Rattle.plain_heap.specs.Action.{◌>>=◌, action, length_of, operand, register, number_in}
+use Rattle.plain_heap.specs.Action.{◌>>=◌, action, allocates, length_of, operand, register, number_in}
 use Rattle.heap_state.specs.Worker.{Account}
-use Rattle.gc_worker.specs.declared.record_asked.RecordAsked.{RecordAsked}
-use Rattle.gc_worker.specs.Asked.{record_asked}
-use Rattle.gc_worker.proofs.Asking.{making_asked, making_by, making_with}
+use Rattle.gc_worker.proofs.Asking.{makes_of, made_of}
 use Rattle.gc_worker.specs.declared.after.After.{After}
 use Rattle.gc_worker.specs.declared.after.After.TheVariants as afters
 use Rattle.gc_worker.specs.declared.task.Task.{Task}
@@ -33,12 +34,16 @@ TaskAfter account registers task afters.Places = IsMaking account registers task
 
 -- two mutators whose operands are the same make the same record
 module _ (k j : Mutator) (same : (x : Operand) → operand k x ≡ operand j x) where
-  asked_same : (a : Option RecordAsked) → making_by k a ≡ making_by j a
-  asked_same (Some a) = ap (λ (o : Result ℕ End). making_with a (o >>= length_of)) (same a.len)
-  asked_same None = refl
+  allocates_same : (kind : Kind) (d : ℕ) (x : Operand) → making_in (allocates k kind d x) ≡ making_in (allocates j kind d x)
+  allocates_same kind d x = ap (λ (o : Result ℕ End). making_in (o >>= (λ n. length_of n >>= (λ len. Ok (Makes kind d len))))) (same x)
+
+  makes_of_same : (i : Instr) → makes_of k i ≡ makes_of j i
+  makes_of_same (instrs.New d x) = allocates_same kinds.Fields d x
+  makes_of_same (instrs.Raw d x) = allocates_same kinds.Raw d x
+  makes_of_same i = refl
 
   makes_same : (i : Instr) → making_in (action k i) ≡ making_in (action j i)
-  makes_same i = making_asked k i ∙ asked_same (record_asked i) ∙ sym (making_asked j i)
+  makes_same i = made_of k i ∙ makes_of_same i ∙ sym (made_of j i)
 
 -- ---- a register gets a copy
 

@@ -22,4 +22,3 @@ pub mod Counted
 pub mod Made
 pub mod Marks
 pub mod Readers
-pub mod Asked

@@ -4,14 +4,16 @@ use Rattle.std.specs.Prelude.{ℕ, ⊤, List, map, Option, Some, None, Result, O
 use Rattle.heap_words.specs.Decoded.{Decoded, NumberWord, PointerWord, HeaderWord, ForwardWord, BusyWord, Malformed, decode}
 use Rattle.heap_words.specs.Word.{number_word, pointer_word}
 use Rattle.plain_state.specs.declared.end.End.{End}
-use Rattle.plain_state.specs.declared.kind.Kind.{Kind}
 use Rattle.plain_state.specs.declared.value.Identity.{Identity}
 use Rattle.plain_state.specs.declared.value.Value.{Value}
 use Rattle.plain_state.specs.declared.value.Value.TheVariants.{Number, Reference}
 use Rattle.plain_state.specs.State.{Mutator}
+use Rattle.mutator_asm.specs.declared.operand.Operand.{Operand}
 use Rattle.plain_heap.specs.declared.action.Action.{Action}
 use Rattle.plain_heap.specs.declared.action.Action.TheVariants.{Makes}
+use Rattle.plain_heap.specs.Action.{◌>>=◌, length_of, operand}
 use Rattle.heap_state.specs.Worker.{Account}
+pub use Rattle.gc_worker.specs.declared.allocating.Making.{Making}
 
 abbrev pub by_address : ℕ → Identity
 by_address address = record { mutator = 0; serial = address }
@@ -57,12 +59,11 @@ seen account registers = record {
 
 -- ---- new records
 
--- the record that an instruction makes: its kind, the register that gets it, and its length
-pub record Making : Type 0 where
-  pub kind : Kind
-  pub into : ℕ
-  pub len : ℕ
+-- the length of a record that an operand names, if it is none too long
+abbrev pub length_named : Mutator → Operand → Result ℕ End
+length_named k x = operand k x >>= length_of
 
+-- the record that an instruction makes: its kind, the register that gets it, and its length
 abbrev pub making_in : Result Action End → Option Making
 making_in (Ok (Makes kind d n)) = Some (record { kind = kind; into = d; len = n })
 making_in other = None

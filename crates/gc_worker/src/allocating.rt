@@ -1,13 +1,12 @@
 //! The allocation of the record that an instruction makes.
 
 ghost use Rattle.std.specs.Prelude.{◌≡◌, ◌+◌, ◌^◌, ◌<◌};
-ghost use Rattle.std.specs.Option.{option_and_then};
 ghost use Rattle.heap_words.specs.Decoded.{HeaderWord};
 ghost use Rattle.record_layout.specs.Layout.{header_in};
 ghost use Rattle.heap_state.specs.Ghost.{header_kind};
-ghost use Rattle.plain_heap.specs.Action.{action};
+ghost use Rattle.plain_heap.specs.Action.{action, allocates};
 ghost use Rattle.gc_worker.specs.Fits.{FitsStage, IsMaking, Takes};
-ghost use Rattle.gc_worker.specs.Held.{asked_by, at_stage, header_for, header_of, making_for};
+ghost use Rattle.gc_worker.specs.Held.{asked_by, at_stage, header_for, making_for};
 ghost use Rattle.gc_worker.specs.Seen.{making_in};
 ghost use Rattle.gc_worker.specs.Stepped.{IsPlacing, IsSound, seen_by, stepped_by, uncounted};
 ghost use Rattle.gc_worker.specs.Turned.{full_by, places, told, told_effect, told_full, turned, with_record};
@@ -15,7 +14,6 @@ ghost use Rattle.gc_worker.specs.Turned.{full_by, places, told, told_effect, tol
 use crate::after::After;
 use crate::back::Back;
 use crate::due::Due;
-use crate::record_asked::RecordAsked;
 use crate::stage::Stage;
 use crate::state::State;
 use crate::stepped::Stepped;
@@ -24,13 +22,22 @@ use atom_store::{Reply, Turn};
 use fault_duty::Duty;
 use gate_core::Gate;
 use heap_words::{Kind as HeaderKind, Word};
-use mutator_asm::Instr;
+use mutator_asm::{Instr, Operand};
 use plain_state::{End, Kind, LONGEST_RECORD};
 use record_layout::Header;
 use space_map::PAGE_WORDS;
 
 /// The greatest serial that a header can have.
 const LAST_SERIAL: u64 = 0xff_ffff_ffff;
+
+/// The record that an instruction makes.
+#[derive(Clone, Copy)]
+pub struct Making {
+    pub kind: Kind,
+    /// The register that is to lead to it.
+    pub into: u8,
+    pub len: u16,
+}
 
 impl State {
     /// The header of the next record, which has this kind and length, if a header can say that.
@@ -45,19 +52,32 @@ impl State {
         ensures { result ≡ header_for self.now }
     {
         match self.due {
-            Due::Call => self.header_asked(self.instr),
+            Due::Call => {
+                let making = self.making(self.instr)?;
+                self.next_header(making.kind, making.len)
+            }
             Due::Stop | Due::Nothing => None,
         }
     }
 
-    /// The header of the record that an instruction makes, if it makes one.
-    #[tactic(auto, using(crate::proofs::Asking::making_asked))]
-    fn header_asked(&self, instr: Instr) -> Option<Header>
-        ensures { result ≡ option_and_then (header_of self.now) (making_in (action (seen_by self.now) instr)) }
+    /// The record that an instruction makes, if it makes one.
+    #[tactic(auto, using(crate::proofs::Asking::made_of))]
+    fn making(&self, instr: Instr) -> Option<Making>
+        ensures { result ≡ making_in (action (seen_by self.now) instr) }
     {
-        let asked = RecordAsked::by(instr)?;
-        match self.length(asked.len) {
-            Ok(len) => self.next_header(asked.kind, len),
+        match instr {
+            Instr::New(into, len) => self.making_of(Kind::Fields, into, len),
+            Instr::Raw(into, len) => self.making_of(Kind::Raw, into, len),
+            _ => None,
+        }
+    }
+
+    /// A record whose length an operand names, if that is none too long.
+    fn making_of(&self, kind: Kind, into: u8, len: Operand) -> Option<Making>
+        ensures { result ≡ making_in (allocates (seen_by self.now) kind into len) }
+    {
+        match self.length(len) {
+            Ok(len) => Some(Making { kind, into, len }),
             Err(_) => None,
         }
     }
@@ -128,12 +148,12 @@ impl State {
         ensures state { self.new ≡ uncounted (with_record self.old run at (making_for self.old self.old.task)) }
         ensures tells { result ≡ stepped_by self.old.number (told_effect self.old.task) }
     {
-        self.run = Some(run);
-        self.stage = Stage::Looks;
-        match RecordAsked::by(self.instr) {
-            Some(asked) => {
+        match self.making(self.instr) {
+            Some(made) => {
+                self.run = Some(run);
+                self.stage = Stage::Looks;
                 self.serial += 1;
-                self.load(asked.into, Word::pointer(at).0)
+                self.load(made.into, Word::pointer(at).0)
             }
             None => unreachable!(),
         }

@@ -3,8 +3,8 @@
 ghost use Rattle.std.specs.Prelude.{◌≡◌, ◌^◌, ◌<◌, IfOk, if◌then◌else◌};
 ghost use Rattle.plain_state.specs.declared.value.Value.TheVariants.{Number};
 ghost use Rattle.plain_state.specs.Operation.{one_if};
-ghost use Rattle.gc_worker.specs.Asked.{length_named};
 ghost use Rattle.plain_heap.specs.Action.{are_same, board_place, is_reference, is_zero, next_of, number_in, operand, reference_in, register};
+ghost use Rattle.gc_worker.specs.Seen.{length_named};
 ghost use Rattle.gc_worker.specs.Stepped.{FitsValue, seen_by};
 
 use crate::seen_value::value_in;

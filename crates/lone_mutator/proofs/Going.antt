@@ -14,7 +14,7 @@ use Rattle.gc_worker.specs.declared.stage.Stage.TheVariants.{Places}
 use Rattle.gc_worker.specs.Fits.{FitsTaskBack, IsMaking}
 use Rattle.gc_worker.specs.Held.{Held, at_stage, header_for, run_of}
 use Rattle.gc_worker.specs.Turned.{places, back_from}
-use Rattle.gc_worker.proofs.Making.{header_made, header_is}
+use Rattle.gc_worker.proofs.NewRecords.{header_made, header_is}
 use Rattle.lone_mutator.specs.Bound.{longest_placing}
 use Rattle.lone_mutator.specs.Lone.{AccessStands, BackStands, IsLook, NobodyElseAnnounces, Remembers}
 use Rattle.lone_mutator.specs.Potential.{back_left, due_in, flip_left, potential_in}

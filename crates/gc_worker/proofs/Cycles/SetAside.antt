@@ -27,7 +27,7 @@ use Rattle.gc_worker.specs.Law.{Heap, WorkersStand, read}
 use Rattle.gc_worker.specs.Turned.{Told, Silent, Answers, Marks, Effect, Ends, told, told_effect, told_place, turned, turned_place}
 use Rattle.gc_worker.proofs.Answering.{its_mutator}
 use Rattle.gc_worker.proofs.Gate.Resuming.{end_none}
-use Rattle.gc_worker.proofs.Making.{asked_is, plain_pages}
+use Rattle.gc_worker.proofs.NewRecords.{asked_is, plain_pages}
 use Rattle.gc_worker.proofs.Members.{member}
 use Rattle.gc_worker.proofs.Place.Acts.{makes_alike}
 

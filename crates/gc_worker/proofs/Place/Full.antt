@@ -41,7 +41,7 @@ use Rattle.gc_worker.specs.Turned as turning
 use Rattle.gc_worker.proofs.Answering.{LawTo, IsIts, answers}
 use Rattle.gc_worker.proofs.Areas.{area_now, area_says, is_space}
 use Rattle.gc_worker.proofs.Gate.Words.{gate_says}
-use Rattle.gc_worker.proofs.Making.{header_made, plain_pages}
+use Rattle.gc_worker.proofs.NewRecords.{header_made, plain_pages}
 use Rattle.gc_worker.proofs.Place.Claiming.{placing, at, now}
 use Rattle.gc_worker.proofs.Rounds.Words.{traced_word}
 use Rattle.gc_worker.proofs.Settling.{ended_fits}

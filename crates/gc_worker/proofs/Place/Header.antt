@@ -45,7 +45,7 @@ use Rattle.gc_worker.proofs.Answering.{LawTo, IsIts, answers, its_mutator, row_f
 use Rattle.gc_worker.proofs.Effecting.{moved, moved_goes, moved_as}
 use Rattle.gc_worker.proofs.Gate.Resuming.{end_none}
 use Rattle.gc_worker.proofs.Gate.Words.{wants}
-use Rattle.gc_worker.proofs.Making.{made, made_is, header_made}
+use Rattle.gc_worker.proofs.NewRecords.{made, made_is, header_made}
 use Rattle.gc_worker.proofs.Place.Acts.{makes_alike}
 use Rattle.gc_worker.proofs.Place.Claiming.{placing, at}
 use Rattle.gc_worker.proofs.Settling.{registers_put, values_set, settled_as, settled_fits}

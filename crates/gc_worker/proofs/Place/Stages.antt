@@ -12,7 +12,7 @@ use Rattle.gc_worker.specs.declared.stage.Stage.TheVariants.{Places}
 use Rattle.gc_worker.specs.Goes.{Is, StepsSo}
 use Rattle.gc_worker.specs.Fits.{IsMaking}
 use Rattle.gc_worker.specs.Held.{Held, at_stage, header_for}
-use Rattle.gc_worker.proofs.Making.{header_made, header_is}
+use Rattle.gc_worker.proofs.NewRecords.{header_made, header_is}
 use Rattle.gc_worker.proofs.Place.Areas.{loads_area}
 use Rattle.gc_worker.proofs.Place.Claiming.{at, loads_traced, exchanges_area}
 use Rattle.gc_worker.proofs.Place.Header.{stores_header}

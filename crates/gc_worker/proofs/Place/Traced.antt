@@ -31,7 +31,7 @@ use Rattle.gc_worker.proofs.Areas.{area_now, area_says, is_space}
 use Rattle.gc_worker.proofs.Fitting.{before_passage}
 use Rattle.gc_worker.proofs.Gate.Resuming.{end_none}
 use Rattle.gc_worker.proofs.Gate.Words.{wants}
-use Rattle.gc_worker.proofs.Making.{header_made}
+use Rattle.gc_worker.proofs.NewRecords.{header_made}
 use Rattle.gc_worker.proofs.Place.Acts.{makes_alike}
 use Rattle.gc_worker.proofs.Place.Claiming.{placing, at, replace}
 use Rattle.gc_worker.proofs.Place.Full.{finds_no_room}
