@@ -31,12 +31,6 @@ pub failed_counts : {P : Type 0} (status final : Status) → (final ≡ status) 
 failed_counts status final (inl same) counted not = counted (λ e. not (same ∙ e))
 failed_counts status final (inr none) counted not = counted (λ e. true≢false (sym none.1 ∙ ap is_made e))
 
--- words of what waits, of which no job was read that waits: there was no memory to read them
-pub wanting_if_waiting : (asked : Option Job) (read : Result Job WordsError) → IsAsked asked read → ForOk read IsStill → is_waiting asked ≡ true → read ≡ Err words.NoMemory
-wanting_if_waiting asked (Ok job) is still waits = absurd (true≢false (sym waits ∙ (ap is_waiting is ∙ still job refl)))
-wanting_if_waiting asked (Err words.Refused) is still waits = absurd (true≢false (sym waits ∙ ap is_waiting is))
-wanting_if_waiting asked (Err words.NoMemory) is still waits = refl
-
 -- an error that is passed on
 pub passed_on : {T : Type 0} (P : Status → Type 0) (r : Result T Status) (e : Status) → IsErrAnd r (λ x. x ≡ e) → P e → IfErr r P
 passed_on P (Ok x) e is p = tt

@@ -13,10 +13,6 @@ pub record Wrote (old new : Option (List ℕ)) (bytes rest : List ℕ) : Type 0 
   pub split : bytes ≡ front ++ rest
   pub grown : Grows old front new
 
-pub wrote_none : (old : Option (List ℕ)) (bytes : List ℕ) → Wrote old old bytes bytes
-wrote_none None bytes = record { front = []; split = refl; grown = refl }
-wrote_none (Some held) bytes = record { front = []; split = refl; grown = ap (λ x. Some x) (sym (append-nil held)) }
-
 pub Grows-append : (old mid new : Option (List ℕ)) (x y : List ℕ) → Grows old x mid → Grows mid y new → Grows old (x ++ y) new
 Grows-append None mid new x y a b = rw (b, a)
 Grows-append (Some held) mid new x y a b = rw (b, a, append_assoc)
@@ -29,20 +25,11 @@ wrote_more old mid new bytes rest n w taken = record {
   grown = Grows-append old mid new w.front (take n rest) w.grown taken;
 }
 
-pub wrote_all : (old new : Option (List ℕ)) (bytes rest : List ℕ) → Wrote old new bytes rest → length rest ≡ 0 → Grows old bytes new
-wrote_all old new bytes [] w none = let e : bytes ≡ w.front = w.split ∙ append-nil w.front in rw e w.grown
-wrote_all old new bytes (x ∷ xs) w none = absurd (omega (arith, none))
-
 pub wrote_some : (old new : Option (List ℕ)) (bytes rest : List ℕ) → Wrote old new bytes rest → GrowsByPrefix old bytes new
 wrote_some old new bytes rest w =
     let e : take (length w.front) bytes ≡ w.front = rw w.split (take-append_seam w.front rest) in
     let P : List ℕ → Type 0 = λ front. Grows old front new in
     (length w.front, simp (w.split, length-append) (omega arith), subst P (sym e) w.grown)
-
--- what follows from a fact follows where the call went well
-pub OnOk-map : {T E : Type 0} {P Q : Type 0} (r : Result T E) → (P → Q) → OnOk r P → OnOk r Q
-OnOk-map (Ok x) f p = f p
-OnOk-map (Err e) f p = tt
 
 -- what a read gives comes next of the bytes that were to come
 pub front_more : (old mid new : Option (List ℕ)) (bytes buf : List ℕ) (n : ℕ) → IsFront old bytes mid → Gives mid n buf new → IsFront old (bytes ++ take n buf) new

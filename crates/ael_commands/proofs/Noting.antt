@@ -14,10 +14,6 @@ pub record HasCome (schedule : ℕ → ℕ) (at steps : ℕ) (s : CoreState) (Ha
   pub noted : HasNoted marks
   pub comes : ComesToOrder schedule at steps s marks all
 
-pub comes_all_noted : (schedule : ℕ → ℕ) (steps : ℕ) (s : CoreState) (HasNoted : List Mark → Type 0) → HasNoted []
-    → HasCome schedule 0 steps s HasNoted (run_from schedule 0 steps s)
-comes_all_noted schedule steps s HasNoted fresh = record { marks = []; noted = fresh; comes = comes_all_order schedule steps s }
-
 pub comes_on_noted : (schedule : ℕ → ℕ) (at steps : ℕ) (s : CoreState) (HasNoted HasNotedNext : List Mark → Type 0) (all : Ran) → at < steps → all_ended s ≡ false
     → ((order : List Mark) → HasNoted order → HasNotedNext (order ++ option_to_list (mark_of (event_of s (schedule at)).told)))
     → HasCome schedule at steps s HasNoted all → HasCome schedule (at + 1) steps (core_after s (schedule at)) HasNotedNext all

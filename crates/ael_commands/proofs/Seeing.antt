@@ -30,9 +30,6 @@ pub record Told {A : Type 0} (text : A → List ℕ) (told : List ℕ) (m : ℕ)
 pub told_more : {A : Type 0} (text : A → List ℕ) (told all : List ℕ) (m : ℕ) (xs : List A) (x : A) → slice_get xs m ≡ Some x → Told text told m xs all → Told text (told ++ text x) (m + 1) xs all
 told_more text told all m xs x is h = record { rest = rw append_assoc (rw (found-next xs m x is) at h.rest) }
 
-pub told_all : {A : Type 0} (text : A → List ℕ) (told all : List ℕ) (m : ℕ) (xs : List A) → length xs ≤ m → Told text told m xs all → told ≡ all
-told_all text told all m xs past h = sym (append-nil told) ∙ (rw (found-end xs m past) at h.rest)
-
 -- ---- mutators
 
 -- what is seen of a mutator, by its numbers and its end
@@ -69,9 +66,6 @@ pub halts_not : (m : ℕ) (ks : List Seen) (end : Option End) → option_map (λ
 halts_not m ks end is goes h =
     let at_m = end_is (slice_get ks m) end is in
     sym (rw (at_m.2, goes) at (rw (found-next ks m at_m.0 at_m.1) at h.rest))
-
-pub halts_all : (m : ℕ) (ks : List Seen) → length ks ≤ m → HaltsBelow m ks → list_all has_halted ks ≡ true
-halts_all m ks past h = sym (rw (found-end ks m past) at h.rest)
 
 -- ---- how a run went
 

@@ -120,9 +120,6 @@ to_start-le d =
 to_start-to_page : (d : Round) → Duty.to_start d ≡ 64 * Duty.to_page d
 to_start-to_page d = omega arith
 
-pages_left-board : (d : Round) → Duty.pages_left d (board_page d.layout.pages) ≡ d.layout.pages + 1
-pages_left-board d = rw (board_tested d.layout.pages) refl
-
 apart_tested : (m n : ℕ) → m ≢ n → nat_eq m n ≡ false
 apart_tested m n apart = grind (arith, nat_tests)
 

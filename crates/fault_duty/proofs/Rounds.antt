@@ -29,14 +29,14 @@ use Rattle.fault_duty.specs.declared.caller.Caller.TheVariants.{Faulted, Allocat
 use Rattle.fault_duty.specs.declared.choice.Choice.{Choice}
 use Rattle.fault_duty.specs.declared.end_look.EndLook.{EndLook}
 use Rattle.fault_duty.specs.declared.round_end.RoundEnd.{RoundEnd}
-use Rattle.fault_duty.specs.declared.round_end.RoundEnd.TheVariants.{ScanPage, ScanInPlace, Marked, AllLeft, NothingNow}
+use Rattle.fault_duty.specs.declared.round_end.RoundEnd.TheVariants.{Marked, AllLeft, NothingNow}
 use Rattle.fault_duty.specs.declared.duty_stage.DutyStage.{DutyStage}
 use Rattle.fault_duty.specs.declared.duty_stage.DutyStage.TheVariants.{LoadsGate, LoadsTraced, LoadsWanted, LoadsFrontFor, LoadsFront, LoadsPage, Claims, EndGate, EndArea, EndPage, EndFilling, EndAreaAgain, Traces, Ended}
 use Rattle.fault_duty.specs.Duty
 use Rattle.fault_duty.specs.Duty.{Round, at_stage, duty_machine, told, told_at, taken_at}
 use Rattle.fault_duty.specs.Soundness.{Forbids, PageInScan, IsHindrance, IsSoundRound}
 use Rattle.fault_duty.specs.Theorems.{row_of, IsPastPage, ShowsNothing, SeesAllLeft, MarksEpoch, ClaimsPage}
-use Rattle.fault_duty.proofs.Telling.{gate_ends, left_ends, traced_ends, wanted_ends, front_for_ends, front_never, ChoiceEnds, ByHindrance, ByScan, ByPast, page_ends, claim_nothing, claim_scans, claim_scans_in_place, claim_never, end_gate_ends, end_area_never, end_page_ends, filling_ends, AreaAgainEnds, ByFront, ByFilling, area_again_ends}
+use Rattle.fault_duty.proofs.Telling.{gate_ends, left_ends, traced_ends, wanted_ends, front_for_ends, front_never, ChoiceEnds, ByHindrance, ByScan, ByPast, page_ends, claim_nothing, claimed_page, claim_scans, claim_never, end_gate_ends, end_area_never, end_page_ends, filling_ends, AreaAgainEnds, ByFront, ByFilling, area_again_ends}
 
 told_word : (word other : ℕ) → NothingNow word ≡ NothingNow other → word ≡ other
 told_word word other same = cc
@@ -273,11 +273,9 @@ last_alone (Ended result') result other is = other.not_nothing is.0 is.1
 marked_other : IsOther Marked
 marked_other = record { not_nothing = λ word e. cc; not_left = λ word e. cc }
 
-scan_other : (page : ℕ) → IsOther (ScanPage page)
-scan_other page = record { not_nothing = λ word e. cc; not_left = λ word e. cc }
-
-in_place_other : (page : ℕ) → IsOther (ScanInPlace page)
-in_place_other page = record { not_nothing = λ word e. cc; not_left = λ word e. cc }
+claimed_other : (in_place : Bool) (page : ℕ) → IsOther (claimed_page in_place page)
+claimed_other true page = record { not_nothing = λ word e. cc; not_left = λ word e. cc }
+claimed_other false page = record { not_nothing = λ word e. cc; not_left = λ word e. cc }
 
 -- ---- marked
 
@@ -305,23 +303,19 @@ marks d stage before after sound whole acts =
 
 -- ---- claimed
 
-trace_never_scans : (d : Round) (traced : ℕ) (r : Reply) (page : ℕ) → told (taken_at (at_stage d (Traces traced)) (Traces traced) r) ≡ Finished (ScanPage page) → ⊥
-trace_never_scans d traced reply.Won page e = cc
-trace_never_scans d traced (reply.Lost lost) page e = cc
-trace_never_scans d traced (reply.Value value) page e = cc
-trace_never_scans d traced reply.Done page e = cc
+trace_never_claims : (d : Round) (traced : ℕ) (r : Reply) (in_place : Bool) (page : ℕ) → told (taken_at (at_stage d (Traces traced)) (Traces traced) r) ≡ Finished (claimed_page in_place page) → ⊥
+trace_never_claims d traced reply.Won true page e = cc
+trace_never_claims d traced reply.Won false page e = cc
+trace_never_claims d traced (reply.Lost lost) true page e = cc
+trace_never_claims d traced (reply.Lost lost) false page e = cc
+trace_never_claims d traced (reply.Value value) in_place page e = cc
+trace_never_claims d traced reply.Done in_place page e = cc
 
-trace_never_in_place : (d : Round) (traced : ℕ) (r : Reply) (page : ℕ) → told (taken_at (at_stage d (Traces traced)) (Traces traced) r) ≡ Finished (ScanInPlace page) → ⊥
-trace_never_in_place d traced reply.Won page e = cc
-trace_never_in_place d traced (reply.Lost lost) page e = cc
-trace_never_in_place d traced (reply.Value value) page e = cc
-trace_never_in_place d traced reply.Done page e = cc
-
-claims_by : (d : Round) (stage : DutyStage) (before after : List ℕ) (page : ℕ) → IsLast stage → IsSoundRound (at_stage d stage) → HoldsTable d.layout.pages before
-    → Acts duty_machine (at_stage d stage) before after (Finished (ScanPage page)) → ClaimsPage (at_stage d stage) page false before after
-claims_by d (Claims c) before after page last sound whole acts =
-    let tells = claim_tells d c (claim.wanted c) before (ScanPage page) acts.tells in
-    let scans = claim_scans (stepped claim_machine c before) (claim.told (stepped claim_machine c before)) page tells in
+claims_by : (d : Round) (stage : DutyStage) (before after : List ℕ) (in_place : Bool) (page : ℕ) → IsLast stage → IsSoundRound (at_stage d stage) → HoldsTable d.layout.pages before
+    → Acts duty_machine (at_stage d stage) before after (Finished (claimed_page in_place page)) → ClaimsPage (at_stage d stage) page in_place before after
+claims_by d (Claims c) before after in_place page last sound whole acts =
+    let tells = claim_tells d c (claim.wanted c) before (claimed_page in_place page) acts.tells in
+    let scans = claim_scans (stepped claim_machine c before) (claim.told (stepped claim_machine c before)) in_place page tells in
     let own = sound.stage in
     record {
       claim = c;
@@ -331,35 +325,13 @@ claims_by d (Claims c) before after page last sound whole acts =
       wins = claims.wins c c.stage before after own.sound (subst (λ l. HoldsTable l.pages before) (sym own.layout) whole)
           (record { has_step = acts.has_step; makes = acts.makes; tells = scans.0 });
     }
-claims_by d (Traces traced) before after page last sound whole acts = absurd (trace_never_scans d traced _ page acts.tells)
-claims_by d _ before after page last sound whole acts = elim last [ ]
+claims_by d (Traces traced) before after in_place page last sound whole acts = absurd (trace_never_claims d traced _ in_place page acts.tells)
+claims_by d _ before after in_place page last sound whole acts = elim last [ ]
 
-pub scans : (d : Round) (stage : DutyStage) (before after : List ℕ) (page : ℕ) → IsSoundRound (at_stage d stage) → HoldsTable d.layout.pages before
-    → Acts duty_machine (at_stage d stage) before after (Finished (ScanPage page)) → ClaimsPage (at_stage d stage) page false before after
-scans d stage before after page sound whole acts =
-    claims_by d stage before after page (last_alone stage (ScanPage page) (scan_other page) (elsewhere d stage before after (ScanPage page) acts)) sound whole acts
-
-claims_in_place_by : (d : Round) (stage : DutyStage) (before after : List ℕ) (page : ℕ) → IsLast stage → IsSoundRound (at_stage d stage) → HoldsTable d.layout.pages before
-    → Acts duty_machine (at_stage d stage) before after (Finished (ScanInPlace page)) → ClaimsPage (at_stage d stage) page true before after
-claims_in_place_by d (Claims c) before after page last sound whole acts =
-    let tells = claim_tells d c (claim.wanted c) before (ScanInPlace page) acts.tells in
-    let scans = claim_scans_in_place (stepped claim_machine c before) (claim.told (stepped claim_machine c before)) page tells in
-    let own = sound.stage in
-    record {
-      claim = c;
-      own = own;
-      of_page = sym (same_page c (claim.wanted c) before) ∙ scans.1;
-      placed = sym (same_place c (claim.wanted c) before) ∙ scans.2;
-      wins = claims.wins c c.stage before after own.sound (subst (λ l. HoldsTable l.pages before) (sym own.layout) whole)
-          (record { has_step = acts.has_step; makes = acts.makes; tells = scans.0 });
-    }
-claims_in_place_by d (Traces traced) before after page last sound whole acts = absurd (trace_never_in_place d traced _ page acts.tells)
-claims_in_place_by d _ before after page last sound whole acts = elim last [ ]
-
-pub scans_in_place : (d : Round) (stage : DutyStage) (before after : List ℕ) (page : ℕ) → IsSoundRound (at_stage d stage) → HoldsTable d.layout.pages before
-    → Acts duty_machine (at_stage d stage) before after (Finished (ScanInPlace page)) → ClaimsPage (at_stage d stage) page true before after
-scans_in_place d stage before after page sound whole acts =
-    claims_in_place_by d stage before after page (last_alone stage (ScanInPlace page) (in_place_other page) (elsewhere d stage before after (ScanInPlace page) acts)) sound whole acts
+pub claims_page : (d : Round) (stage : DutyStage) (before after : List ℕ) (in_place : Bool) (page : ℕ) → IsSoundRound (at_stage d stage) → HoldsTable d.layout.pages before
+    → Acts duty_machine (at_stage d stage) before after (Finished (claimed_page in_place page)) → ClaimsPage (at_stage d stage) page in_place before after
+claims_page d stage before after in_place page sound whole acts =
+    claims_by d stage before after in_place page (last_alone stage (claimed_page in_place page) (claimed_other in_place page) (elsewhere d stage before after (claimed_page in_place page) acts)) sound whole acts
 
 -- ---- all have left
 

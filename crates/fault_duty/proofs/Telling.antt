@@ -279,27 +279,23 @@ claim_nothing c (Finished claimed.Won) word e = by_place c.in_place e
     by_place true x = cc
     by_place false x = cc
 
-pub claim_scans : (c : Claiming) (turn : Turn Claimed) (page : ℕ) → told_at (Duty.claim_went c turn) ≡ Finished (ScanPage page)
-    → (turn ≡ Finished claimed.Won) × (c.page ≡ page) × (c.in_place ≡ false)
-claim_scans c More page e = cc
-claim_scans c (Finished (claimed.Taken taken)) page e = cc
-claim_scans c (Finished claimed.Won) page e = by_place c.in_place refl e
-  where
-    by_place : (b : Bool) → c.in_place ≡ b → Finished (cond b (ScanInPlace c.page) (ScanPage c.page)) ≡ Finished (ScanPage page)
-        → (Finished claimed.Won ≡ Finished claimed.Won) × (c.page ≡ page) × (c.in_place ≡ false)
-    by_place true is x = cc
-    by_place false is x = (refl, (cc), is)
+-- what a claim that was won comes to: the page is scanned, in place or not
+abbrev pub claimed_page : (in_place : Bool) (page : ℕ) → RoundEnd
+claimed_page in_place page = cond in_place (ScanInPlace page) (ScanPage page)
 
-pub claim_scans_in_place : (c : Claiming) (turn : Turn Claimed) (page : ℕ) → told_at (Duty.claim_went c turn) ≡ Finished (ScanInPlace page)
-    → (turn ≡ Finished claimed.Won) × (c.page ≡ page) × (c.in_place ≡ true)
-claim_scans_in_place c More page e = cc
-claim_scans_in_place c (Finished (claimed.Taken taken)) page e = cc
-claim_scans_in_place c (Finished claimed.Won) page e = by_place c.in_place refl e
+pub claim_scans : (c : Claiming) (turn : Turn Claimed) (in_place : Bool) (page : ℕ) → told_at (Duty.claim_went c turn) ≡ Finished (claimed_page in_place page)
+    → (turn ≡ Finished claimed.Won) × (c.page ≡ page) × (c.in_place ≡ in_place)
+claim_scans c More in_place page e = cc
+claim_scans c (Finished (claimed.Taken taken)) true page e = cc
+claim_scans c (Finished (claimed.Taken taken)) false page e = cc
+claim_scans c (Finished claimed.Won) in_place page e = by_place c.in_place in_place refl e
   where
-    by_place : (b : Bool) → c.in_place ≡ b → Finished (cond b (ScanInPlace c.page) (ScanPage c.page)) ≡ Finished (ScanInPlace page)
-        → (Finished claimed.Won ≡ Finished claimed.Won) × (c.page ≡ page) × (c.in_place ≡ true)
-    by_place true is x = (refl, (cc), is)
-    by_place false is x = cc
+    by_place : (b i : Bool) → c.in_place ≡ b → Finished (claimed_page b c.page) ≡ Finished (claimed_page i page)
+        → (Finished claimed.Won ≡ Finished claimed.Won) × (c.page ≡ page) × (c.in_place ≡ i)
+    by_place true true is x = (refl, (cc), is)
+    by_place false false is x = (refl, (cc), is)
+    by_place true false is x = cc
+    by_place false true is x = cc
 
 pub claim_never : (c : Claiming) (turn : Turn Claimed) (result : RoundEnd) → told_at (Duty.claim_went c turn) ≡ Finished result
     → (result ≡ Marked → ⊥) × ((word : ℕ) → result ≡ AllLeft word → ⊥)

@@ -2,3 +2,4 @@ pub mod PageWords
 pub mod Values
 pub mod OtherWords
 pub mod NewPages
+pub mod TurnedPages

@@ -73,10 +73,6 @@ decode-encode (ForwardWord len address) fits = decode-forward_word len address f
 decode-encode (BusyWord len worker) fits = decode-busy_word len worker fits.0 fits.1
 decode-encode Malformed fits = decode-malformed
 
-pub same_from_encode : (d e : Decoded) → IsInRange d → IsInRange e → encode d ≡ encode e → d ≡ e
-same_from_encode d e d_fits e_fits same =
-    sym (decode-encode d d_fits) ∙ ap decode same ∙ decode-encode e e_fits
-
 pub encode-below : (d : Decoded) → IsInRange d → encode d < 2 ^ 64
 unfolding number_word pointer_word header_word forward_word busy_word
 encode-below (NumberWord n) fits = omega arith

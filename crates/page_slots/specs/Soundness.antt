@@ -1,5 +1,5 @@
 -- What the machines keep of themselves: the rows that they want are in the table, and their words can be packed.
-use Rattle.std.specs.Prelude.{◌≡◌, ◌≢◌, ℕ, ◌^◌, ◌<◌, ◌≤◌, false, ⊤}
+use Rattle.std.specs.Prelude.{◌≡◌, ◌≢◌, ◌^◌, ◌<◌, ◌≤◌, false, ⊤}
 use Rattle.space_map.specs.declared.spaces.TheConstants.{LAST_WORKER}
 use Rattle.space_map.specs.PageWord.{PageFits, IsEarlier}
 use Rattle.space_map.specs.Spaces.{IsPageCount, board_page}

@@ -1,4 +1,4 @@
--- The definitions on a small program: two mutators, each of which prints one number.
+-- Examples, which nothing cites: the definitions on a small program, of two mutators that each print one number.
 use Rattle.std.proofs.Common.{◌≡◌, ℕ, true, false, List, [], ◌∷◌, Option, Some, slice_get, refl}
 use Rattle.std.specs.Option.{option_map}
 use Rattle.plain_state.specs.declared.end.End.{End}
@@ -15,21 +15,21 @@ use Rattle.plain_heap.specs.Alone.{shares_nothing, run_alone}
 abbrev code : List (List Instr)
 code = (instrs.Li 1 7 ∷ instrs.Out 1 ∷ instrs.Halt ∷ []) ∷ (instrs.Li 1 8 ∷ instrs.Out 1 ∷ instrs.Jmp 1 ∷ []) ∷ []
 
-code-alone : shares_nothing code ≡ true
-code-alone = refl
+example-shares_nothing : shares_nothing code ≡ true
+example-shares_nothing = refl
 
 -- the board is shared
-board-not_alone : shares_nothing ((instrs.Get 0 (operands.Number 0) ∷ []) ∷ code) ≡ false
-board-not_alone = refl
+example-shares_board : shares_nothing ((instrs.Get 0 (operands.Number 0) ∷ []) ∷ code) ≡ false
+example-shares_board = refl
 
 -- numbers and end of a mutator that is run alone, where it has five turns
 shown : ℕ → Option (List ℕ × Option End)
 shown m = option_map {U = List ℕ × Option End} (λ k. (k.printed, k.end)) (slice_get (run_alone code 5 m).mutators m)
 
-first-alone : shown 0 ≡ Some ((7 ∷ []), Some Halt)
+example-first_halts : shown 0 ≡ Some ((7 ∷ []), Some Halt)
 unfolding shown marked stepped call action
-first-alone = refl
+example-first_halts = refl
 
-second-alone : shown 1 ≡ Some ((8 ∷ 8 ∷ []), Some TurnsOut)
+example-second_turns_out : shown 1 ≡ Some ((8 ∷ 8 ∷ []), Some TurnsOut)
 unfolding shown marked stepped call action
-second-alone = refl
+example-second_turns_out = refl

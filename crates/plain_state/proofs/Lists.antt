@@ -1,5 +1,5 @@
 -- Elements of a list after a write, after an element is added, and of a list of one value; and the same by serials.
-use Rattle.std.proofs.Common.{◌≡◌, ◌≢◌, ℕ, zero, suc, ◌+◌, ◌-◌, ◌<◌, List, [], ◌∷◌, ◌++◌, length, replicate, map, Some, slice_get, slice_set, refl, ap, sym, ◌∙◌, arith}
+use Rattle.std.proofs.Common.{◌≡◌, ◌≢◌, ℕ, zero, suc, ◌+◌, ◌-◌, ◌<◌, List, [], ◌∷◌, ◌++◌, length, replicate, Some, slice_get, slice_set, refl, ap, sym, ◌∙◌, arith}
 use Rattle.std.proofs.lemmas.Option.{same_Some, slice_get_within}
 use Rattle.plain_state.specs.State.{Record, at_serial}
 
@@ -36,11 +36,6 @@ slice_get-of_replicate zero i x l = absurd (omega arith)
 slice_get-of_replicate (suc n) zero x l = refl
 slice_get-of_replicate (suc n) (suc i) x l = slice_get-of_replicate n i x (omega arith)
 
-pub slice_get-map_const : {A B : Type 0} (xs : List A) (i : ℕ) (x y : B) → slice_get (map (λ a. x) xs) i ≡ Some y → y ≡ x
-slice_get-map_const [] i x y is = cc
-slice_get-map_const (a ∷ xs) zero x y is = sym (same_Some x y is)
-slice_get-map_const (a ∷ xs) (suc i) x y is = slice_get-map_const xs i x y is
-
 -- what is found where an element was written is that element
 pub set-found : {A : Type 0} (xs : List A) (i j : ℕ) (y z : A) → j ≡ i → i < length xs → slice_get (slice_set xs i y) j ≡ Some z → y ≡ z
 set-found xs i j y z e within is =
@@ -68,8 +63,3 @@ at_serial-append_end xs (suc n) y last = let e : n ≡ length xs = omega arith i
 pub at_serial-append_front : (xs : List Record) (n : ℕ) (y r : Record) → at_serial xs n ≡ Some r → at_serial (xs ++ y ∷ []) n ≡ Some r
 at_serial-append_front xs zero y r is = cc
 at_serial-append_front xs (suc n) y r is = slice_get-append_front xs n y (slice_get_within xs n r is) ∙ is
-
--- the element at a serial from 1 to the length
-pub at_serial_first : (xs : List Record) (n : ℕ) → 0 < n → at_serial xs n ≡ slice_get xs (n - 1)
-at_serial_first xs zero some = absurd (omega arith)
-at_serial_first xs (suc n) some = let e : suc n - 1 ≡ n = omega arith in rw e refl

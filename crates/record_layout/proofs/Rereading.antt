@@ -2,10 +2,9 @@
 use Rattle.std.proofs.Common.{◌≡◌, ℕ, ◌^◌, ◌<◌, ◌≤◌, Some, None, refl, ap, ◌∙◌}
 use Rattle.std.specs.Coded.{le_prop}
 use Rattle.std.proofs.Math.Decide.{dec_le, dec_lt}
-use Rattle.std.proofs.lemmas.Option.{same_Some}
 use Rattle.heap_words.specs.declared.kind.Kind.{Kind}
 use Rattle.heap_words.specs.Word.{header_word, forward_word, busy_word}
-use Rattle.heap_words.specs.Decoded.{Decoded, NumberWord, PointerWord, HeaderWord, ForwardWord, BusyWord, Malformed, decode, encode}
+use Rattle.heap_words.specs.Decoded.{Decoded, HeaderWord, ForwardWord, BusyWord, decode, encode}
 use Rattle.heap_words.proofs.Decoding.{decode-header_word, decode-forward_word, decode-busy_word}
 use Rattle.heap_words.proofs.Spelling.{header_word-decode, forward_word-decode, busy_word-decode}
 use Rattle.heap_words.proofs.Ranges.{header_bounds, forward_bounds, busy_bounds}
@@ -39,32 +38,12 @@ header_in-said w kind len serial mutator is =
     let h : Header = record { kind = kind; len = len; serial = serial; mutator = mutator; short = bounds.0; counted = bounds.1 } in
     (h, ap header_in is ∙ header_in-header_says h, refl, refl, refl, refl)
 
-header_said : (h : Header) (kind : Kind) (len serial mutator : ℕ) (short : Dec (len ≤ 4095)) (counted : Dec (serial < 2 ^ 40))
-    → header_with kind len serial mutator short counted ≡ Some h → HeaderWord kind len serial mutator ≡ header_says h
-header_said h kind len serial mutator (yes short) (yes counted) is = ap header_says (same_Some _ h is)
-header_said h kind len serial mutator (yes short) (no uncounted) is = cc
-header_said h kind len serial mutator (no long) counted is = cc
-
-pub header_says-header_in : (d : Decoded) (h : Header) → header_in d ≡ Some h → d ≡ header_says h
-unfolding header_in
-header_says-header_in (HeaderWord kind len serial mutator) h is =
-    header_said h kind len serial mutator (dec_le len 4095) (dec_lt serial (2 ^ 40)) is
-header_says-header_in (NumberWord n) h is = cc
-header_says-header_in (PointerWord address) h is = cc
-header_says-header_in (ForwardWord len address) h is = cc
-header_says-header_in (BusyWord len worker) h is = cc
-header_says-header_in Malformed h is = cc
-
 no_header : (w : ℕ) (d : Decoded) → decode w ≡ d
     → ((kind : Kind) (len serial mutator : ℕ) → w ≡ header_word kind len serial mutator → ⊥) → header_in d ≡ None
 unfolding header_in
 no_header w (HeaderWord kind len serial mutator) is other =
     absurd (other kind len serial mutator (header_word-decode w kind len serial mutator is))
-no_header w (NumberWord n) is other = refl
-no_header w (PointerWord address) is other = refl
-no_header w (ForwardWord len address) is other = refl
-no_header w (BusyWord len worker) is other = refl
-no_header w Malformed is other = refl
+no_header w d is other = refl
 
 pub header_in-none : (w : ℕ) → ((kind : Kind) (len serial mutator : ℕ) → w ≡ header_word kind len serial mutator → ⊥)
     → header_in (decode w) ≡ None
@@ -91,29 +70,11 @@ forward_in-said w len address is =
     let f : Forward = record { len = len; addr = address; short = bounds.0 } in
     (f, ap forward_in is ∙ forward_in-forward_says f, refl, refl)
 
-forward_said : (f : Forward) (len address : ℕ) (short : Dec (len ≤ 4095))
-    → forward_with len address short ≡ Some f → ForwardWord len address ≡ forward_says f
-forward_said f len address (yes short) is = ap forward_says (same_Some _ f is)
-forward_said f len address (no long) is = cc
-
-pub forward_says-forward_in : (d : Decoded) (f : Forward) → forward_in d ≡ Some f → d ≡ forward_says f
-unfolding forward_in
-forward_says-forward_in (ForwardWord len address) f is = forward_said f len address (dec_le len 4095) is
-forward_says-forward_in (NumberWord n) f is = cc
-forward_says-forward_in (PointerWord address) f is = cc
-forward_says-forward_in (HeaderWord kind len serial mutator) f is = cc
-forward_says-forward_in (BusyWord len worker) f is = cc
-forward_says-forward_in Malformed f is = cc
-
 no_forward : (w : ℕ) (d : Decoded) → decode w ≡ d
     → ((len address : ℕ) → len ≤ 4095 → address < 2 ^ 32 → w ≡ forward_word len address → ⊥) → forward_in d ≡ None
 unfolding forward_in
 no_forward w (ForwardWord len address) is other = let bounds = forward_bounds w len address is in absurd (other len address bounds.0 bounds.1 (forward_word-decode w len address is))
-no_forward w (NumberWord n) is other = refl
-no_forward w (PointerWord address) is other = refl
-no_forward w (HeaderWord kind len serial mutator) is other = refl
-no_forward w (BusyWord len worker) is other = refl
-no_forward w Malformed is other = refl
+no_forward w d is other = refl
 
 pub forward_in-none : (w : ℕ)
     → ((len address : ℕ) → len ≤ 4095 → address < 2 ^ 32 → w ≡ forward_word len address → ⊥) → forward_in (decode w) ≡ None
@@ -140,29 +101,11 @@ busy_in-said w len worker is =
     let b : Busy = record { len = len; worker = worker; short = bounds.0 } in
     (b, ap busy_in is ∙ busy_in-busy_says b, refl, refl)
 
-busy_said : (b : Busy) (len worker : ℕ) (short : Dec (len ≤ 4095))
-    → busy_with len worker short ≡ Some b → BusyWord len worker ≡ busy_says b
-busy_said b len worker (yes short) is = ap busy_says (same_Some _ b is)
-busy_said b len worker (no long) is = cc
-
-pub busy_says-busy_in : (d : Decoded) (b : Busy) → busy_in d ≡ Some b → d ≡ busy_says b
-unfolding busy_in
-busy_says-busy_in (BusyWord len worker) b is = busy_said b len worker (dec_le len 4095) is
-busy_says-busy_in (NumberWord n) b is = cc
-busy_says-busy_in (PointerWord address) b is = cc
-busy_says-busy_in (HeaderWord kind len serial mutator) b is = cc
-busy_says-busy_in (ForwardWord len address) b is = cc
-busy_says-busy_in Malformed b is = cc
-
 no_busy : (w : ℕ) (d : Decoded) → decode w ≡ d
     → ((len worker : ℕ) → len ≤ 4095 → worker < 2 ^ 8 → w ≡ busy_word len worker → ⊥) → busy_in d ≡ None
 unfolding busy_in
 no_busy w (BusyWord len worker) is other = let bounds = busy_bounds w len worker is in absurd (other len worker bounds.0 bounds.1 (busy_word-decode w len worker is))
-no_busy w (NumberWord n) is other = refl
-no_busy w (PointerWord address) is other = refl
-no_busy w (HeaderWord kind len serial mutator) is other = refl
-no_busy w (ForwardWord len address) is other = refl
-no_busy w Malformed is other = refl
+no_busy w d is other = refl
 
 pub busy_in-none : (w : ℕ)
     → ((len worker : ℕ) → len ≤ 4095 → worker < 2 ^ 8 → w ≡ busy_word len worker → ⊥) → busy_in (decode w) ≡ None

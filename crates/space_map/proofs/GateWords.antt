@@ -91,11 +91,3 @@ unfolding decode_gate
 GateFits-decode_gate w gate is =
     let parts = decoded_if (nat_lt w (2 ^ 62)) (gate_in w) gate is in
     rw (← parts.1) (GateFits-gate_in w (ltb-true w (2 ^ 62) parts.0))
-
--- two gates that fit are one where their words are one
-pub same_gate : (a b : GateWord) → GateFits a → GateFits b → encode_gate a ≡ encode_gate b → a ≡ b
-same_gate a b a_fits b_fits same =
-    let from_a = gate_in-encode_gate a a_fits in
-    let from_b = gate_in-encode_gate b b_fits in
-    let at_a : gate_in (encode_gate a) ≡ b = rw same from_b in
-    cc

@@ -124,9 +124,6 @@ module _ (c : Configuration) (p : Plain) (s : Stands c p) (k : ℕ) (y : Held) (
   abbrev it_is : IsIts c p s k x own
   it_is = its c p s k y stage is
 
-  abbrev ended_not : y.account.end ≡ None
-  ended_not = no_end c p s k y stage is
-
   module _ (word : ℕ) (small : word < 16) (opened : opened_at y.layout stage ≡ Some (board_page y.layout.pages)) where
     abbrev addr : ℕ
     addr = board_at y.layout word

@@ -2,7 +2,6 @@
 use Rattle.std.proofs.Common.{◌≡◌, ℕ, ◌+◌, ◌-◌, ◌⊎◌, inl, inr, Bool, true, false, cond, nat_lt, Option, Some, None, Result, Ok, Err, refl, sym, subst}
 use Rattle.std.specs.Prelude.{⊤}
 use Rattle.plain_state.specs.declared.end.End.TheVariants.{HeapFull}
-use Rattle.record_layout.specs.declared.header.Header.{Header}
 use Rattle.plain_state.specs.declared.end.End.{End}
 use Rattle.atom_store.specs.declared.reply.Reply.{Reply}
 use Rattle.atom_store.specs.declared.reply.Reply.TheVariants as replies
@@ -55,7 +54,7 @@ use Rattle.gc_worker.specs.Begun.{IsPastAfter, IsPastBack, IsPastLook, Beginning
 use Rattle.gc_worker.specs.Fits.{FitsTask, FitsTaskBefore, MayBegin, MayStop}
 use Rattle.gc_worker.specs.Held.{Held, at_stage, making_for}
 use Rattle.gc_worker.specs.Seen.{Making, seen}
-use Rattle.gc_worker.specs.Turned.{Pointed, epoch_said, first_pointer, forwards_from, forwards_it, goes_back, goes_on, places, with_copy, Told, Silent, Answers, Marks, Effect, Ends, acted, acts, begins, end_of, ended, full_by, is_full, looked_by, passed_by, passes, served_by, started, told_acted, told_action, told_at, told_gate, told_look, told_start, turned_access, turned_at, turned_copy, turned_flip, turned_gate, turned_look, turned_opening, turned_place, turned_register, turned_round, turned_scan, with_evac, with_record}
+use Rattle.gc_worker.specs.Turned.{Pointed, epoch_said, first_pointer, forwards_from, forwards_it, goes_back, goes_on, with_copy, Told, Silent, Answers, Marks, Effect, Ends, acted, acts, begins, end_of, ended, full_by, is_full, looked_by, passed_by, passes, served_by, started, told_acted, told_action, told_at, told_gate, told_look, told_start, turned_access, turned_at, turned_copy, turned_flip, turned_gate, turned_look, turned_opening, turned_place, turned_register, turned_round, turned_scan, with_evac, with_record}
 use Rattle.gc_worker.proofs.Look.Ends.{Stops as StopsRight, action_stops}
 
 -- ---- past the look
@@ -63,9 +62,6 @@ use Rattle.gc_worker.proofs.Look.Ends.{Stops as StopsRight, action_stops}
 pasts : (P : Type 0) (b : Bool) (s t : Stage) → (IsPastLook s → P) → (IsPastLook t → P) → IsPastLook (cond b s t) → P
 pasts P true s t left right = left
 pasts P false s t left right = right
-
-placing_so : (x : Held) (o : Option Header) → IsPastLook (places x o) → IsPastAfter afters.Places
-placing_so x o past = tt
 
 goes_on_so : (x : Held) (after : After) → IsPastLook (goes_on x after) → IsPastAfter after
 goes_on_so x afters.Looks past = past

@@ -4,7 +4,7 @@ use Rattle.heap_state.specs.Era.{Era, Memory}
 use Rattle.heap_state.specs.Ghost.{Ghost}
 use Rattle.heap_state.specs.Inductive.{Invariant, Knows}
 use Rattle.heap_state.specs.Parts.Copying.{IsOrigin}
-use Rattle.heap_state.specs.Worker.{Worker, Team, Scanner, Origin, Register, Scanned, Quest, is_mutator, is_running, is_flipper, is_late}
+use Rattle.heap_state.specs.Worker.{Worker, Team, Scanner, Origin, Register, Scanned, Quest, is_mutator, is_flipper, is_late}
 use Rattle.heap_state.proofs.Puts.{none≢some, true_false}
 use Rattle.heap_laws.specs.Gate.{TakingEpochKeeps, into_epoch}
 use Rattle.heap_laws.specs.Steps.{with_worker, Preserves}
@@ -23,9 +23,6 @@ module _ (E : Era) (m : Memory) (team : Team) (g : Ghost) (k : ℕ) (inv : Invar
 
   not_late : (e : ℕ) → is_late e w ≡ false
   not_late e = rw scanner refl
-
-  not_running : is_running w.post ≡ false
-  not_running = ap is_running scanner
 
   not_flipping : is_flipper w.post ≡ false
   not_flipping = ap is_flipper scanner

@@ -13,15 +13,14 @@ use Rattle.heap_state.specs.Parts.Leading.{Opened}
 use Rattle.heap_state.specs.Parts.Pages.{Shut, Quiet, Filling, ScannedBy}
 use Rattle.heap_state.specs.Parts.Scanning.{Scans, Stepping, Claims}
 use Rattle.heap_state.specs.Worker.{Worker, Team, Origin, Register, Scanned, Scan, Claim, is_late, Quest}
-use Rattle.heap_state.proofs.Workers.Frames.{counted_put, staffed_put, stocks_put, numbered_put, rooted_put}
 use Rattle.heap_state.proofs.Records.Holding.{writer}
-use Rattle.heap_state.proofs.Puts.{put_at, put_other, put_same, team_put, some_same, none≢some}
+use Rattle.heap_state.proofs.Puts.{put_at, put_other, put_same, some_same, none≢some}
 use Rattle.heap_state.specs.Entries.{PageIs}
 use Rattle.heap_laws.specs.Scanning.Claims.{WinsPage, scan_from, begins_scan, ClaimsPage, SleeperLosesPage}
-use Rattle.heap_laws.specs.Steps.{Ready, Steps, InPage, with_page, with_worker}
-use Rattle.heap_laws.proofs.Steps.Learning.{shown_put}
-use Rattle.heap_laws.proofs.Frames.PageWords.{Turns, grows, quiet_turns, tracing_turns, aged_turns, old_pages_turn, old_space_turns, scans_beside, knows_turns}
-use Rattle.heap_laws.proofs.Frames.NewPages.{PageTurns, not_old_word, new_turns, stocks_turn}
+use Rattle.heap_laws.specs.Steps.{Ready, Steps, InPage, with_page}
+use Rattle.heap_laws.proofs.Frames.PageWords.{Turns, quiet_turns, scans_beside, knows_turns}
+use Rattle.heap_laws.proofs.Frames.NewPages.{PageTurns}
+use Rattle.heap_laws.proofs.Frames.TurnedPages.{keeps_turned}
 use Rattle.heap_laws.proofs.Scanning.Scanners.{open_age, scan_age, open_scan, scan_scan, none_writes}
 use Rattle.heap_laws.proofs.Steps.Rows.{page_below, few}
 
@@ -47,9 +46,6 @@ module _ (E : Era) (m : Memory) (team : Team) (g : Ghost) (k : ℕ) (q : Claim) 
 
   abbrev w' : Worker
   w' = begins_scan (team.worker k) q
-
-  abbrev n : Memory
-  n = with_page m q.page v
 
   me : Knows E m.gate m.traced m.front m.low m.old_front m.old_low m.old_owed g m.page m.cross m.announced m.heap k (team.worker k)
   me = inv.workers k ready.member
@@ -187,35 +183,12 @@ module _ (E : Era) (m : Memory) (team : Team) (g : Ghost) (k : ℕ) (q : Claim) 
       origin old (Register r) y = y
       origin old (Scanned x) y = none≢some (sym wins.idle ∙ y.0.1)
 
-  invariant : Invariant E n (with_worker team k w') g
-  invariant =
-      let p1 = counted_put team.worker k w' refl refl inv.counted in
-      let p2 = staffed_put team.worker k w' refl inv.staffed in
-      let p3 : ScannedBy E team.count page' (put team.worker k w') = scanned in
-      let p4 = shut in
-      let p5 = opened in
-      let p6 = filling in
-      let p7 = tracing_turns turn inv.tracing in
-      let p8 = aged_turns turn inv.aged in
-      let p9 = new_turns turns inv.new in
-      let p10 = old_space_turns turn (not_old_word turns) inv.old_space in
-      let p11 = old_pages_turn turn inv.old_pages in
-      let p12 = stocks_put team.worker k w' (λ _ e. e) (stocks_turn turns inv.stocks) in
-      let p13 = numbered_put team.worker k w' refl inv.numbered in
-      let p14 = team_put team.count KnowsNow team.worker k w' others own in
-      assumption
-
   pub claims : ClaimsPage E m team g k q
   claims = record {
     now = of_now;
     steps = subst (λ (e : ℕ). Steps E m team g k (Some (PageIs q.page (Scanning e k))) w' g) (sym of_now) (record {
-      later = n;
+      later = with_page m q.page v;
       writes = InPage q.page v (page_below ready q.page place) (rw ready.at_gate at inv.counted.epoch_fits, let f = few ready in omega (arith, f));
-      keeps = record {
-        invariant = invariant;
-        shown = λ p s. shown_put E m n team g k w' p refl refl refl s;
-        cycle = λ p c. record { copying = c.copying; rooted = rooted_put team.worker k w' refl refl refl (λ _ _ a b. (a, b)) c.rooted };
-        ages = grows turn;
-      };
+      keeps = keeps_turned E m team g k q.page v (Some (scan_from q)) None inv turns scanned shut opened filling others own;
     });
   }

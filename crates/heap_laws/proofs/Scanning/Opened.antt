@@ -13,15 +13,14 @@ use Rattle.heap_state.specs.Parts.Leading.{Opened}
 use Rattle.heap_state.specs.Parts.Pages.{Shut, Filling, ScannedBy}
 use Rattle.heap_state.specs.Parts.Scanning.{Scans, Stepping}
 use Rattle.heap_state.specs.Worker.{Worker, Team, Origin, Register, Scanned, Copy, Scan, is_late, Quest}
-use Rattle.heap_state.proofs.Workers.Frames.{counted_put, staffed_put, stocks_put, numbered_put, rooted_put}
 use Rattle.heap_state.proofs.Records.Holding.{writer}
-use Rattle.heap_state.proofs.Puts.{put_at, put_other, each_put, team_put, some_same, none≢some}
+use Rattle.heap_state.proofs.Puts.{put_at, put_other, each_put, some_same, none≢some}
 use Rattle.heap_state.specs.Entries.{PageIs}
 use Rattle.heap_laws.specs.Scanning.Claims.{HasScanned, ends_scan, OpensPage}
-use Rattle.heap_laws.specs.Steps.{with_worker, Ready, Steps, InPage, with_page}
-use Rattle.heap_laws.proofs.Steps.Learning.{shown_put}
-use Rattle.heap_laws.proofs.Frames.PageWords.{Turns, grows, quiet_turns, tracing_turns, aged_turns, old_pages_turn, old_space_turns, scans_beside, knows_turns}
-use Rattle.heap_laws.proofs.Frames.NewPages.{PageTurns, not_old_word, new_turns, stocks_turn}
+use Rattle.heap_laws.specs.Steps.{Ready, Steps, InPage, with_page}
+use Rattle.heap_laws.proofs.Frames.PageWords.{Turns, quiet_turns, scans_beside, knows_turns}
+use Rattle.heap_laws.proofs.Frames.NewPages.{PageTurns}
+use Rattle.heap_laws.proofs.Frames.TurnedPages.{keeps_turned}
 use Rattle.heap_laws.proofs.Scanning.Scanners.{scan_age, open_scan, scan_scan, not_late, here_lies}
 use Rattle.heap_laws.proofs.Steps.Rows.{page_below}
 
@@ -139,24 +138,6 @@ module _ (E : Era) (m : Memory) (team : Team) (g : Ghost) (k : ℕ) (s : Scan) (
       origin old (Register r) y = y
       origin old (Scanned x) y = not_late E.epoch (team.worker k) of_now (no_origin old (Scanned x) y)
 
-  invariant : Invariant E (with_page m s.page v) (with_worker team k w') g
-  invariant =
-      let p1 = counted_put team.worker k w' refl refl inv.counted in
-      let p2 = staffed_put team.worker k w' refl inv.staffed in
-      let p3 : ScannedBy E team.count page' (put team.worker k w') = scanned in
-      let p4 = shut in
-      let p5 = opened in
-      let p6 = filling in
-      let p7 = tracing_turns turn inv.tracing in
-      let p8 = aged_turns turn inv.aged in
-      let p9 = new_turns turns inv.new in
-      let p10 = old_space_turns turn (not_old_word turns) inv.old_space in
-      let p11 = old_pages_turn turn inv.old_pages in
-      let p12 = stocks_put team.worker k w' (λ _ e. e) (stocks_turn turns inv.stocks) in
-      let p13 = numbered_put team.worker k w' refl inv.numbered in
-      let p14 = team_put team.count KnowsNow team.worker k w' others own in
-      assumption
-
   pub opens : OpensPage E m team g k s
   opens = record {
     now = of_now;
@@ -164,11 +145,6 @@ module _ (E : Era) (m : Memory) (team : Team) (g : Ghost) (k : ℕ) (s : Scan) (
     steps = subst (λ (e : ℕ). Steps E m team g k (Some (PageIs s.page (Open e))) w' g) (sym of_now) (record {
       later = with_page m s.page v;
       writes = InPage s.page v (page_below ready s.page mine.place) (rw ready.at_gate at inv.counted.epoch_fits);
-      keeps = record {
-        invariant = invariant;
-        shown = λ p y. shown_put E m (with_page m s.page v) team g k w' p refl refl refl y;
-        cycle = λ p y. record { copying = y.copying; rooted = rooted_put team.worker k w' refl refl refl (λ _ _ a b. (a, b)) y.rooted };
-        ages = grows turn;
-      };
+      keeps = keeps_turned E m team g k s.page v None (team.worker k).claim inv turns scanned shut opened filling others own;
     });
   }

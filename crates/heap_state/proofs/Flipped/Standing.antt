@@ -6,7 +6,6 @@ use Rattle.plain_state.specs.declared.kind.Kind.TheVariants.{Raw}
 use Rattle.heap_words.specs.Decoded.{PointerWord, NumberWord, decode}
 use Rattle.heap_words.specs.Word.{header_word, pointer_word, tag_of}
 use Rattle.plain_state.specs.declared.value.Value.TheVariants.{Number, Reference}
-use Rattle.plain_state.specs.State as plain
 use Rattle.heap_state.specs.Configuration.{team, Stands}
 use Rattle.heap_state.specs.Denotes.{denoted, denoted_in}
 use Rattle.heap_state.specs.Entries.{EachFits}
@@ -27,9 +26,9 @@ use Rattle.heap_state.specs.Worker.{Worker}
 use Rattle.heap_state.proofs.Flipped.Parts.{flipped_table, flipped_era, flipped_ghost, workers, heap, page, size, none, identity, only, blank_word, zero_word, first_register, number_lands, pointer_lands, counted, staffed, laid, headed, copied, once, kept_by, room, raw_words, shut, filling, tracing, aged, scanned, opened, landing, older, new_area, new_written, old_space, old_words, old_pages, crossing, stocks, numbered}
 use Rattle.heap_state.proofs.Workers.Idle.{idle_knows}
 use Rattle.heap_state.proofs.Holds.Keeping.{holds}
-use Rattle.heap_state.proofs.Puts.{some_same, none≢some, true_false}
+use Rattle.heap_state.proofs.Puts.{none≢some, true_false}
 use Rattle.heap_state.proofs.Represents.Representing.{represents}
-use Rattle.heap_state.proofs.Worked.Standing.{the_mutator, register_zero}
+use Rattle.heap_state.proofs.Worked.Standing.{the_mutator, register_zero, pointer_value, number_value, of_one}
 use Rattle.heap_state.proofs.Table.Writing.{writes_tables}
 
 -- ---- the invariant
@@ -67,44 +66,9 @@ knows (suc k) l = absurd (omega arith)
 
 keeps : Invariant (era_of flipped_table) (memory_of flipped_table) (team flipped) flipped_ghost
 unfolding put
-keeps = record {
-  counted = counted;
-  staffed = staffed;
-  laid = laid;
-  headed = headed;
-  copied = copied;
-  once = once;
-  kept = kept_by;
-  room = room;
-  raw_words = raw_words;
-  shut = shut;
-  filling = filling;
-  tracing = tracing;
-  aged = aged;
-  scanned = scanned;
-  opened = opened;
-  landing = landing;
-  older = older;
-  new = new_area;
-  new_written = new_written;
-  old_space = old_space;
-  old_area = old_words;
-  old_pages = old_pages;
-  crossing = crossing;
-  stocks = stocks;
-  numbered = numbered;
-  workers = knows;
-}
+keeps = assumption (counted, staffed, laid, headed, copied, once, kept_by, room, raw_words, shut, filling, tracing, aged, scanned, opened, landing, older, new_area, new_written, old_space, old_words, old_pages, crossing, stocks, numbered, knows)
 
 -- ---- the plain state
-
-pointer_value : (w a : ℕ) → decode w ≡ PointerWord a → value_of identity w ≡ Some (Reference (identity a))
-unfolding value_of
-pointer_value w a e = rw e refl
-
-number_value : (w n : ℕ) → decode w ≡ NumberWord n → value_of identity w ≡ Some (Number n)
-unfolding value_of
-number_value w n e = rw e refl
 
 objects : ShowsAll size none none none (λ a. Raw) identity heap flipped_plain.heap
 unfolding put
@@ -146,15 +110,15 @@ board_zero (suc (suc (suc (suc (suc (suc (suc (suc (suc (suc (suc (suc (suc (suc
 board : BoardShows flipped_era (value_of identity) heap flipped_plain.heap
 board = record {
   sixteen = refl;
-  board = λ x l. rw (blank_word (512 + x) (omega arith)) (number_value 0 0 zero_word ∙ sym (board_zero x l));
+  board = λ x l. rw (blank_word (512 + x) (omega arith)) (number_value identity 0 0 zero_word ∙ sym (board_zero x l));
 }
 
 registers : RegistersShow (value_of identity) late_mutator.registers the_mutator
 registers = record {
   eight = refl;
   registers_show = λ n j l. ⊎_elim
-      (λ (e : j ≡ 0). rw e (pointer_value (pointer_word 192) 192 first_register))
-      (λ (d : j ≢ 0). rw (ne_eqb j 0 d) (number_value 0 0 zero_word ∙ sym (register_zero j l d)))
+      (λ (e : j ≡ 0). rw e (pointer_value identity (pointer_word 192) 192 first_register))
+      (λ (d : j ≢ 0). rw (ne_eqb j 0 d) (number_value identity 0 0 zero_word ∙ sym (register_zero j l d)))
       (cases_eq j 0);
 }
 
@@ -165,17 +129,9 @@ shows = record {
   board = board;
   as_many = refl;
   makers = refl;
-  accounts = λ k q e. account k q e;
-  registers = λ k q e. register k q e;
+  accounts = of_one (λ k q. Accounts flipped_plain.heap k (workers.worker k).account q) the_mutator (record { counter = refl; printed = refl; executed = refl; end = refl; serial = refl });
+  registers = of_one (λ k q. RegistersShow (value_of identity) (workers.worker k).registers q) the_mutator registers;
 }
-  where
-    account : (k : ℕ) (q : plain.Mutator) → slice_get flipped_plain.mutators k ≡ Some q → Accounts flipped_plain.heap k (workers.worker k).account q
-    account zero q e = let s : the_mutator ≡ q = some_same e in rw (← s) (record { counter = refl; printed = refl; executed = refl; end = refl; serial = refl })
-    account (suc k) q e = none≢some e
-
-    register : (k : ℕ) (q : plain.Mutator) → slice_get flipped_plain.mutators k ≡ Some q → RegistersShow (value_of identity) (workers.worker k).registers q
-    register zero q e = let s : the_mutator ≡ q = some_same e in rw (← s) registers
-    register (suc k) q e = none≢some e
 
 -- ---- the words
 

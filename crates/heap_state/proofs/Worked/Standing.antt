@@ -4,6 +4,7 @@ use Rattle.std.specs.Prelude.{slice_get}
 use Rattle.std.proofs.lemmas.Bool.{cases_eq, ne_eqb}
 use Rattle.plain_state.specs.declared.kind.Kind.TheVariants.{Fields}
 use Rattle.heap_words.specs.Decoded.{PointerWord, NumberWord, decode}
+use Rattle.plain_state.specs.declared.value.Identity.{Identity}
 use Rattle.plain_state.specs.declared.value.Value.TheVariants.{Number, Reference}
 use Rattle.plain_state.specs.State as plain
 use Rattle.heap_state.specs.Configuration.{team, Stands}
@@ -11,6 +12,7 @@ use Rattle.heap_state.specs.Entries.{EachFits}
 use Rattle.heap_state.specs.Era.{era_of, memory_of}
 use Rattle.heap_state.specs.Functions.{put}
 use Rattle.heap_state.specs.Inductive.{Invariant}
+use Rattle.heap_state.specs.Parts.Records.{RawWords}
 use Rattle.heap_state.specs.Values.{value_of, Shows, ShowsAll, Accounts, RegistersShow, BoardShows, Shown}
 use Rattle.heap_state.specs.Worked.{worked, worked_entries, worked_plain, worked_mutator, made, zeros_after}
 use Rattle.heap_words.specs.Word.{pointer_word}
@@ -29,46 +31,27 @@ knows zero l = mutator_knows
 knows (suc zero) l = scanner_knows
 knows (suc (suc k)) l = absurd (omega arith)
 
+raw_words : RawWords size writer (λ a. Fields) heap
+raw_words = record { raw = λ a i st w b l f. absurd (cc) }
+
 pub keeps : Invariant (era_of worked_table) (memory_of worked_table) (team worked) worked_ghost
 unfolding put
-keeps = record {
-  counted = counted;
-  staffed = staffed;
-  laid = laid;
-  headed = headed;
-  copied = copied;
-  once = once;
-  kept = kept_by;
-  room = room;
-  raw_words = record { raw = λ a i st w b l f. absurd (cc) };
-  shut = shut;
-  filling = filling;
-  tracing = tracing;
-  aged = aged;
-  scanned = scanned;
-  opened = opened;
-  landing = landing;
-  older = older;
-  new = new_area;
-  new_written = new_written;
-  old_space = old_space;
-  old_area = old_area;
-  old_pages = old_pages;
-  crossing = crossing;
-  stocks = stocks;
-  numbered = numbered;
-  workers = knows;
-}
+keeps = assumption (counted, staffed, laid, headed, copied, once, kept_by, room, raw_words, shut, filling, tracing, aged, scanned, opened, landing, older, new_area, new_written, old_space, old_area, old_pages, crossing, stocks, numbered, knows)
 
 -- ---- the plain state
 
-pointer_value : (w a : ℕ) → decode w ≡ PointerWord a → value_of identity w ≡ Some (Reference (identity a))
+pub pointer_value : (named : ℕ → Identity) (w a : ℕ) → decode w ≡ PointerWord a → value_of named w ≡ Some (Reference (named a))
 unfolding value_of
-pointer_value w a e = rw e refl
+pointer_value named w a e = rw e refl
 
-number_value : (w n : ℕ) → decode w ≡ NumberWord n → value_of identity w ≡ Some (Number n)
+pub number_value : (named : ℕ → Identity) (w n : ℕ) → decode w ≡ NumberWord n → value_of named w ≡ Some (Number n)
 unfolding value_of
-number_value w n e = rw e refl
+number_value named w n e = rw e refl
+
+-- what holds of the one mutator there is
+pub of_one : (P : ℕ → plain.Mutator → Type 0) (q : plain.Mutator) → P 0 q → (k : ℕ) (r : plain.Mutator) → slice_get (q ∷ []) k ≡ Some r → P k r
+of_one P q here zero r e = let s : q ≡ r = some_same e in rw (← s) here
+of_one P q here (suc k) r e = none≢some e
 
 pub objects : ShowsAll size writer copy keeper (λ a. Fields) identity heap worked_plain.heap
 objects = record {
@@ -81,7 +64,7 @@ objects = record {
         record {
           kind = refl;
           size = refl;
-          fields = λ x l f. let q : x ≡ 0 = omega arith in rw q (pointer_value (heap 196) 192 word_196);
+          fields = λ x l f. let q : x ≡ 0 = omega arith in rw q (pointer_value identity (heap 196) 192 word_196);
           numbers = λ x l f. absurd (cc);
         },
       ))
@@ -92,8 +75,8 @@ objects = record {
           kind = refl;
           size = refl;
           fields = λ x l f. ⊎_elim
-              (λ (q : x ≡ 0). rw q (number_value (heap 257) 7 word_257))
-              (λ (n : x ≢ 0). let q : x ≡ 1 = omega arith in rw q (pointer_value (heap 258) 195 word_258))
+              (λ (q : x ≡ 0). rw q (number_value identity (heap 257) 7 word_257))
+              (λ (n : x ≢ 0). let q : x ≡ 1 = omega arith in rw q (pointer_value identity (heap 258) 195 word_258))
               (cases_eq x 0);
           numbers = λ x l f. absurd (cc);
         },
@@ -125,8 +108,8 @@ board : BoardShows worked_era (value_of identity) heap worked_plain.heap
 board = record {
   sixteen = refl;
   board = λ x l. ⊎_elim
-      (λ (e : x ≡ 3). rw e (pointer_value (heap 515) 256 word_515))
-      (λ (n : x ≢ 3). number_value (heap (512 + x)) 0 (elsewhere (512 + x) (λ e. n (omega arith)) (omega arith)) ∙ sym (board_zero x l n))
+      (λ (e : x ≡ 3). rw e (pointer_value identity (heap 515) 256 word_515))
+      (λ (n : x ≢ 3). number_value identity (heap (512 + x)) 0 (elsewhere (512 + x) (λ e. n (omega arith)) (omega arith)) ∙ sym (board_zero x l n))
       (cases_eq x 3);
 }
 
@@ -148,8 +131,8 @@ registers : RegistersShow (value_of identity) worked_mutator.registers the_mutat
 registers = record {
   eight = refl;
   registers_show = λ n j l. ⊎_elim
-      (λ (e : j ≡ 0). rw e (pointer_value (pointer_word 256) 256 first_register))
-      (λ (d : j ≢ 0). rw (ne_eqb j 0 d) (number_value 0 0 zero_register ∙ sym (register_zero j l d)))
+      (λ (e : j ≡ 0). rw e (pointer_value identity (pointer_word 256) 256 first_register))
+      (λ (d : j ≢ 0). rw (ne_eqb j 0 d) (number_value identity 0 0 zero_register ∙ sym (register_zero j l d)))
       (cases_eq j 0);
 }
 
@@ -160,17 +143,9 @@ shows = record {
   board = board;
   as_many = refl;
   makers = refl;
-  accounts = λ k q e. account k q e;
-  registers = λ k q e. register k q e;
+  accounts = of_one (λ k q. Accounts worked_plain.heap k (workers.worker k).account q) the_mutator (record { counter = refl; printed = refl; executed = refl; end = refl; serial = refl });
+  registers = of_one (λ k q. RegistersShow (value_of identity) (workers.worker k).registers q) the_mutator registers;
 }
-  where
-    account : (k : ℕ) (q : plain.Mutator) → slice_get worked_plain.mutators k ≡ Some q → Accounts worked_plain.heap k (workers.worker k).account q
-    account zero q e = let s : the_mutator ≡ q = some_same e in rw (← s) (record { counter = refl; printed = refl; executed = refl; end = refl; serial = refl })
-    account (suc k) q e = none≢some e
-
-    register : (k : ℕ) (q : plain.Mutator) → slice_get worked_plain.mutators k ≡ Some q → RegistersShow (value_of identity) (workers.worker k).registers q
-    register zero q e = let s : the_mutator ≡ q = some_same e in rw (← s) registers
-    register (suc k) q e = none≢some e
 
 -- ---- the words
 
