@@ -1,5 +1,9 @@
 //! The instructions, as a mutator executes them on its registers: each has its effect or its end, or begins what it does with
 //! records and the board.
+//!
+//! `plain_heap/src/instructions.rt` has another table of them, which puts an action together first. To take that apart again here
+//! took 38 machine instructions more for an instruction on registers (docs/PERFORMANCE.md). Both are proved to do what the one
+//! definition `action` says.
 
 ghost use Rattle.std.specs.Prelude.{◌≡◌, ℕ, ◌^◌, ◌<◌, IsTrue, true, nat_lt};
 ghost use Rattle.mutator_asm.specs.Program.{is_valid};

@@ -1,3 +1,6 @@
+//! The plain machine's values as a worker sees them. A record's address stands for its identity, as that of a record of
+//! mutator 0, whoever made it: so one definition of an action, over values, serves both machines.
+
 ghost use Rattle.std.specs.Prelude.{◌≡◌};
 ghost use Rattle.gc_worker.specs.Seen.{value_seen, word_for};
 ghost use Rattle.gc_worker.specs.Stepped.{FitsValue};
