@@ -21,8 +21,10 @@ fn program(alloc: Global, operands: BenchOperands) -> Result<Program, NoMemory>
     requires { IsDepth operands.depth }
     ensures { IfOk result (λ program. IsText (bench_text operands.depth operands.seed) program.code program.schedule) }
 {
+    // The theorems that the proof takes.
     benchmarks_are_texts();
     never_both();
+
     let text = bench_text(alloc, operands.depth, operands.seed)?;
     match assemble(alloc, &text) {
         Ok(program) => Ok(program),

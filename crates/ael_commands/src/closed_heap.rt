@@ -66,7 +66,7 @@ impl Report for ClosedHeap {
 
     /// A run on threads tells the end of each.
     fn all_ended(&self) -> bool {
-        let _each = &self.outputs.mutators;
+        prove!(self.outputs.mutators.len() <= 16);
         true
     }
 

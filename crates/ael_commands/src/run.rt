@@ -30,7 +30,9 @@ fn closed<R: Threads + Wait + Sync>(
     requires { AreInRange options }
     ensures { IfOk result (HasClosed options program.now.code program.now.schedule) }
 {
+    // The theorem that the proof takes.
     what_stands_is_told();
+
     let Ok(spaces) = Spaces::new(options.pages) else {
         unreachable!("a space may have so many pages")
     };

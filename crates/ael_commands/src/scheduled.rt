@@ -28,10 +28,12 @@ fn step(core: &mut Core, worker: u8) -> Stepped
     ensures ends_are_told { ((m : ℕ) (why : End) → result ≢ Stepped.Ended m why) → all_ended core.new ≡ all_ended core.old }
     ensures workers { workers_of core.new ≡ workers_of core.old }
 {
+    // The theorem that the proof takes.
+    missing_workers_are_idle();
+
     if worker < core.workers() {
         core.step(worker)
     } else {
-        missing_workers_are_idle();
         Stepped::Idle
     }
 }

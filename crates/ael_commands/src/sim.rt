@@ -53,10 +53,12 @@ pub fn sim(alloc: Global, program: &Program, options: SimOptions) -> Result<Answ
     requires { AreInRange options.run }
     ensures { IfOk result (λ answer. IsRun (Scheduled options) program.now.code program.now.schedule answer.output.items answer.status) }
 {
+    // The theorems that the proof takes.
     runs_follow();
     cycles_keep_what_is_live();
     full_heaps_are_filled();
     large_heaps_are_never_full();
+
     let mut core = open(alloc, program, options.run)?;
     let order = run_by_schedule(alloc, &mut core, program.schedule.as_slice(), options)?;
     told(alloc, &core, &order, options)

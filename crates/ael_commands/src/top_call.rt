@@ -74,9 +74,11 @@ fn finish<O: Sink, E: Sink>(answer: &Answer, out: &mut O, err: &mut E) -> u8
     ensures holds { (words : List (List ℕ)) (source : Drawn) → IsAnswerTo (job_of words) source answer.now.output.items answer.now.status
         → Holds (call_with words source (filled O.Sink out.old out.new) (filled E.Sink err.old err.new) result) }
 {
+    // The theorems that the proof takes.
     one_program();
     never_both();
     listing_is_a_text();
     alone_mutators_are_independent();
+
     emit(answer, out, err).code()
 }

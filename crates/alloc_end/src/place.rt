@@ -47,7 +47,7 @@ impl Place {
         requires { IsRun spaces.pages run }
         ensures { result ≡ begun spaces run header epoch }
     {
-        let _pages = spaces.pages();
+        spaces.known();
         let stage = if run.at + size(header) <= run.end {
             PlaceStage::StoresHeader
         } else {
@@ -158,7 +158,7 @@ impl Place {
         ensures state { self.new ≡ at_stage self.old (PlaceStage.StoresZero (record { first = first_claimed self.old fitting; next = first_claimed self.old fitting })) }
         ensures tells { result ≡ told self.new }
     {
-        let _pages = self.spaces.pages();
+        self.spaces.known();
         let start = self.spaces.space_start(self.spaces.to_space(self.epoch));
         let first = start + (fitting.area.low - PAGE_WORDS * pages(self.header));
         self.stage = PlaceStage::StoresZero(NewPages { first, next: first });
@@ -170,7 +170,7 @@ impl Place {
         ensures state { self.new ≡ at_stage self.old (cleared (words_for self.old.header) new) }
         ensures tells { result ≡ told self.new }
     {
-        let _pages = self.spaces.pages();
+        self.spaces.known();
         let NewPages { first, next } = new;
         self.stage = if next + 1 < first + PAGE_WORDS * pages(self.header) {
             PlaceStage::StoresZero(NewPages {
@@ -191,7 +191,7 @@ impl Place {
         ensures state { self.new ≡ opened self.old new }
         ensures tells { result ≡ told self.new }
     {
-        let _pages = self.spaces.pages();
+        self.spaces.known();
         let NewPages { first, next } = new;
         let asked = pages(self.header);
         if next + 1 < self.spaces.page_of(first) + asked {
@@ -214,7 +214,7 @@ impl Place {
         ensures state { self.new ≡ placed self.old }
         ensures tells { result ≡ told self.new }
     {
-        let _pages = self.spaces.pages();
+        self.spaces.known();
         let at = self.run.at;
         let outcome = Allocated::Placed(at);
         self.run.at = at + size(self.header);
@@ -244,7 +244,7 @@ fn claimed(spaces: Spaces, header: Header, fitting: Fitting) -> AreaWord
     ensures area { result ≡ area_after (words_for header) fitting }
     ensures fits { AreaFits result }
 {
-    let _pages = spaces.pages();
+    spaces.known();
     AreaWord {
         front: fitting.area.front,
         low: fitting.area.low - PAGE_WORDS * pages(header),

@@ -42,7 +42,7 @@ fn next_copy(spaces: Spaces, words: &[u64], front: u32, at: u32, kept: &[(u64, u
     requires inside { at ≤ 128 * spaces.pages }
     ensures { result ≡ next_in (front - at) passes_none (reserved_in (pairs_kept kept.now)) (table_of spaces.pages words.now).heap front at }
 {
-    let _pages = spaces.pages();
+    spaces.known();
     let mut next = at;
     while next < front {
         let reserved = reserved_size(kept, next);
@@ -65,7 +65,7 @@ fn next_new(spaces: Spaces, words: &[u64], end: u32, epoch: u32, at: u32) -> Wal
     requires inside { at ≤ 128 * spaces.pages }
     ensures { result ≡ next_in (end - at) (passes_closed (table_of spaces.pages words.now) epoch) nothing_reserved (table_of spaces.pages words.now).heap end at }
 {
-    let _pages = spaces.pages();
+    spaces.known();
     let mut next = at;
     while next < end {
         let word = words[spaces.word_place(next)];

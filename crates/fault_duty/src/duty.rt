@@ -72,7 +72,7 @@ impl Duty {
         requires worker { worker ≤ LAST_WORKER }
         ensures { result ≡ begun spaces caller epoch worker }
     {
-        let _pages = spaces.pages();
+        spaces.known();
         Duty {
             spaces,
             caller,
@@ -136,7 +136,7 @@ impl Duty {
         ensures tells { result ≡ told self.new }
         ensures lowers { IsTrue (advances self.old reply) → left self.new < left self.old }
     {
-        let _pages = self.spaces.pages();
+        self.spaces.known();
         self.go_on(reply);
         self.tell()
     }
@@ -244,7 +244,7 @@ impl Duty {
         ensures in_range { result ≤ 4097 }
     {
         let spaces = self.spaces;
-        let _pages = spaces.pages();
+        spaces.known();
         if page == spaces.board_page() {
             spaces.page_of(spaces.space_start(spaces.to_space(self.epoch)))
         } else {
@@ -257,7 +257,7 @@ impl Duty {
         requires { area.front < 2 ^ 18 }
         ensures { result ≡ round.front_of self.now area }
     {
-        let _pages = self.spaces.pages();
+        self.spaces.known();
         self.spaces.space_start(self.spaces.to_space(self.epoch)) + area.front
     }
 }

@@ -52,7 +52,7 @@ impl Evac {
         requires worker { worker ≤ LAST_WORKER }
         ensures { result ≡ begun spaces addr epoch worker }
     {
-        let _pages = spaces.pages();
+        spaces.known();
         Evac {
             spaces,
             addr,
@@ -276,7 +276,7 @@ impl Evac {
         ensures state { self.new ≡ record self.old { stage = copied r count } }
         ensures told { result ≡ Turn.More }
     {
-        let _pages = self.spaces.pages();
+        self.spaces.known();
         if count < size(r.kept) {
             self.goes_to(EvacStage::LoadsWord(r, count))
         } else {
@@ -292,7 +292,7 @@ impl Evac {
         ensures state { self.new ≡ record self.old { stage = crossed r page } }
         ensures told { result ≡ Turn.More }
     {
-        let _pages = self.spaces.pages();
+        self.spaces.known();
         if PAGE_WORDS * page < r.to + size(r.kept) {
             self.goes_to(EvacStage::StoresCross(r, page))
         } else {
@@ -307,7 +307,7 @@ fn front(spaces: Spaces, epoch: u32, kept: KeptHeader, area: AreaWord) -> u32
     ensures front { result ≡ front_of spaces epoch area }
     ensures in_range { result < 2 ^ 20 }
 {
-    let _pages = spaces.pages();
+    spaces.known();
     spaces.space_start(spaces.to_space(epoch)) + area.front
 }
 

@@ -41,7 +41,7 @@ impl Flip {
         requires { epoch + 1 < 2 ^ 32 }
         ensures { result ≡ begun spaces epoch asked }
     {
-        let _pages = spaces.pages();
+        spaces.known();
         Flip {
             spaces,
             epoch,

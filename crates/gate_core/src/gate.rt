@@ -87,7 +87,7 @@ impl Gate {
     fn begin(spaces: Spaces, passage: Passage) -> Gate
         ensures { result ≡ begun spaces passage }
     {
-        let _pages = spaces.pages();
+        spaces.known();
         Gate {
             spaces,
             passage,

@@ -37,7 +37,7 @@ impl Access {
         ensures in_table { place_in result < table_length self.now.spaces.pages }
     {
         let spaces = self.spaces;
-        let _pages = spaces.pages();
+        spaces.known();
         match self.stage {
             AccessStage::LooksAtRecord(r) => Step::Load(spaces.page_place(spaces.page_of(r.at))),
             AccessStage::LoadsHeader(r) => Step::Load(spaces.word_place(r.at)),
@@ -93,7 +93,7 @@ impl Access {
             }
             AccessStage::LoadsHeader(r) => self.read_header(r, word),
             AccessStage::LooksAtField(f, usage) => {
-                let _pages = spaces.pages();
+                spaces.known();
                 self.look(spaces.page_of(f.at + f.word), word, using_field(f, usage))
             }
             AccessStage::LoadsField(f, into) => {
@@ -186,7 +186,7 @@ impl Access {
         ensures state { self.new ≡ goes_by self.old (loading r.at role into (in_record len r.value)) }
         ensures tells { result ≡ turn_by (loading r.at role into (in_record len r.value)) }
     {
-        let _pages = self.spaces.pages();
+        self.spaces.known();
         if r.value >= u64::from(len) {
             return Turn::Finished(Accessed::Fails(End::OutOfRange));
         }
@@ -201,7 +201,7 @@ impl Access {
         ensures state { self.new ≡ goes_by self.old (storing r.at role r.value (may_store role new (in_record len r.value))) }
         ensures tells { result ≡ turn_by (storing r.at role r.value (may_store role new (in_record len r.value))) }
     {
-        let _pages = self.spaces.pages();
+        self.spaces.known();
         if r.value >= u64::from(len) {
             return Turn::Finished(Accessed::Fails(End::OutOfRange));
         }

@@ -25,7 +25,7 @@ impl State {
         ensures state { self.new ≡ uncounted (turned self.old reply) }
         ensures tells { result ≡ stepped_by self.old.number (told self.old reply) }
     {
-        let _number = self.number;
+        self.known();
         match reply {
             Reply::Value(word) => self.looked(word),
             Reply::Done | Reply::Won | Reply::Lost(_) => Stepped::Moved,
@@ -40,7 +40,7 @@ impl State {
         ensures state { self.new ≡ uncounted (looked_by self.old (decode_gate word)) }
         ensures tells { result ≡ stepped_by self.old.number (told_gate self.old (decode_gate word)) }
     {
-        let _number = self.number;
+        self.known();
         match GateWord::read(word) {
             Some(gate) if gate.request => {
                 self.stage = Stage::Passes(Gate::park(self.spaces), After::Looks);

@@ -1,10 +1,11 @@
 ghost use Rattle.std.specs.Prelude.{◌≡◌};
+ghost use Rattle.gc_worker.specs.Stepped.{uncounted};
 
 use crate::due::Due;
 use crate::stage::Stage;
 use alloc_end::Run;
 use mutator_asm::Instr;
-use plain_state::{End, REGISTERS};
+use plain_state::{End, MOST_PRINTED, REGISTERS};
 use space_map::Spaces;
 use std::marker::Model;
 
@@ -29,6 +30,16 @@ pub(crate) struct State {
     /// The end, where one is due.
     pub stop: End,
     pub stage: Stage,
+}
+
+impl State {
+    /// Tells a proof that what a mutator has executed isn't counted here. It does nothing when the program runs.
+    #[inline(always)]
+    pub fn known(&self)
+        ensures { self.now ≡ uncounted self.now }
+    {
+        prove!(self.number >= self.mutators || self.printed.capacity() >= MOST_PRINTED);
+    }
 }
 
 impl Model for State {

@@ -63,7 +63,7 @@ impl Worker {
         requires few { mutators ≤ 16 }
         ensures { IfOk result (λ worker. worker ≡ fresh_mutator spaces.pages mutators number) }
     {
-        let _pages = spaces.pages();
+        spaces.known();
         let printed = Vec::with_capacity(alloc, MOST_PRINTED)?;
         let state = State::mutator(spaces, number, mutators, printed);
         Ok(Worker { state })
@@ -75,7 +75,7 @@ impl Worker {
         requires few { number ≤ LAST_WORKER }
         ensures { result ≡ fresh_scanner spaces.pages mutators number }
     {
-        let _pages = spaces.pages();
+        spaces.known();
         let state = State::scanner(spaces, number, mutators, Vec::new(alloc));
         Worker { state }
     }

@@ -55,7 +55,7 @@ impl Scan {
         requires { page ≤ board_page spaces.pages }
         ensures { result ≡ begun spaces page epoch in_place }
     {
-        let _pages = spaces.pages();
+        spaces.known();
         let stage = if page == spaces.board_page() {
             ScanStage::LoadsWord(Spot::OnBoard(spaces.first_word(page)))
         } else {
@@ -244,7 +244,7 @@ impl Scan {
         ensures state { self.new ≡ record self.old { stage = by_area self.old.layout self.old.epoch r (decode_area word) } }
         ensures told { result ≡ told (by_area self.old.layout self.old.epoch r (decode_area word)) }
     {
-        let _pages = self.spaces.pages();
+        self.spaces.known();
         let start = self.spaces.space_start(self.spaces.to_space(self.epoch));
         match AreaWord::read(word) {
             Some(area) if start + area.front == r.next => self.ends(Ending {
@@ -275,7 +275,7 @@ impl Scan {
         ensures state { self.new ≡ record self.old { stage = passes self.old.page self.old.in_place (Spot.OnBoard x) } }
         ensures told { result ≡ told (passes self.old.page self.old.in_place (Spot.OnBoard x)) }
     {
-        let _pages = self.spaces.pages();
+        self.spaces.known();
         let end = self.spaces.first_word(self.page) + BOARD_WORDS;
         let cursor = x + 1;
         if cursor < end {
@@ -295,7 +295,7 @@ impl Scan {
         ensures state { self.new ≡ record self.old { stage = enters self.old.page self.old.in_place at kind len } }
         ensures told { result ≡ told (enters self.old.page self.old.in_place at kind len) }
     {
-        let _pages = self.spaces.pages();
+        self.spaces.known();
         let first = self.spaces.first_word(self.page);
         self.goes_on(record_at(at, kind, len), first.max(at + first_field(kind)))
     }
@@ -307,7 +307,7 @@ impl Scan {
         ensures state { self.new ≡ record self.old { stage = goes_on self.old.page self.old.in_place r x } }
         ensures told { result ≡ told (goes_on self.old.page self.old.in_place r x) }
     {
-        let _pages = self.spaces.pages();
+        self.spaces.known();
         let end = self.spaces.first_word(self.page) + PAGE_WORDS;
         let in_fields = x < r.fields_end;
         let cursor = if in_fields { x } else { r.next };

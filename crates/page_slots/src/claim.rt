@@ -54,7 +54,7 @@ impl Claim {
         requires not_later { IsEarlier found epoch }
         ensures { result ≡ begun spaces page epoch worker found in_place }
     {
-        let _pages = spaces.pages();
+        spaces.known();
         let stage = if in_place {
             ClaimStage::Exchanges
         } else if page == spaces.board_page() {
@@ -144,7 +144,7 @@ impl Claim {
         ensures state { self.new ≡ record self.old { stage = looked_at_place self.old.page worker announced } }
         ensures tells { result ≡ told self.new }
     {
-        let _pages = self.spaces.pages();
+        self.spaces.known();
         if announced > 0 && announced <= u64::from(PAGE_WORDS * (self.page + 1)) {
             return self.end(Claimed::Taken(announced));
         }

@@ -38,7 +38,7 @@ impl Open {
         requires { page ≤ board_page spaces.pages }
         ensures { result ≡ begun spaces page epoch }
     {
-        let _pages = spaces.pages();
+        spaces.known();
         Open {
             spaces,
             page,

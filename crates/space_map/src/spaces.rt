@@ -71,6 +71,14 @@ impl Spaces {
         self.pages
     }
 
+    /// Tells a proof that the number of pages is one that a space can have. It does nothing when the program runs.
+    #[inline(always)]
+    pub fn known(self)
+        ensures { IsPageCount self.pages }
+    {
+        prove!(MIN_PAGES <= self.pages && self.pages <= MAX_PAGES);
+    }
+
     pub fn page_of(self, addr: u32) -> u32
         ensures { result ≡ page_of addr }
     {
