@@ -60,7 +60,7 @@ impl Shared {
         ensures bad_pages { IsErrOf result OpenError.BadPages ↔ IsTrue (not (is_size config.now.pages)) }
     {
         let spaces = Spaces::new(config.pages)?;
-        let _pages = spaces.pages();
+        spaces.known();
         let plan = Plan {
             spaces,
             mutators,
@@ -113,7 +113,7 @@ impl Shared {
         ensures left { seat.new.me ≡ (view plan.now (new_hands plan.now (k + 1) (crew plan.now - (k + 1))) [] [] [], []) }
         ensures caller { result ≡ new_seated self.now.table.shared.table_id plan.now k }
     {
-        let _pages = plan.spaces.pages();
+        plan.spaces.known();
         let own = self.table.shared.split_seat::<Deal>(seat);
         Caller { worker, seat: own }
     }

@@ -43,7 +43,7 @@ of_words-requires c =
     let plan : Plan = record { spaces = c.in_ok-spaces.spaces; mutators = c.args.mutators; scanners = c.args.config.now.scanners } in
     let all : crew plan ≤ 24 = (let a = c.requires.mutators.1 in let b = c.requires.scanners in omega (arith, a, b)) in
     subst (λ (words : List ℕ). Kept plan (table.opening {S = ℕ} words [] (first_view plan))) (sym (c.as_slice.ensures.value ∙ c.in_ok-words.ensures))
-    (opens_kept plan (subst IsPageCount c.pages-pages.ensures.pages c.pages-pages.ensures.in_range) c.requires.mutators.1 all)
+    (opens_kept plan c.known.ensures c.requires.mutators.1 all)
 
 pub deal-requires-clause-few : goal.deal-requires-clause-few
 deal-requires-clause-few c = (c.requires.mutators.1, (let a = c.requires.mutators.1 in let b = c.requires.scanners in omega (arith, a, b)))
@@ -68,13 +68,13 @@ returns-clause-scanners c =
     c.in_ok-seats.ensures.scanners ∙ ap (λ (n : ℕ). new_scanners t (opens c.args.mutators c.args.config.now n) c.args.mutators c.args.config.now.scanners) c.in_ok-spaces.ensures.pages
 
 pub returns-in_err-words-clause-bad_pages : goal.returns-in_err-words-clause-bad_pages
-returns-in_err-words-clause-bad_pages c = no_memory _ (subst IsPageCount (c.pages-pages.ensures.pages ∙ c.in_ok-spaces.ensures.pages) c.pages-pages.ensures.in_range) _ c.from_residual-in_err-words.ensures.1
+returns-in_err-words-clause-bad_pages c = no_memory _ (subst IsPageCount c.in_ok-spaces.ensures.pages c.known.ensures) _ c.from_residual-in_err-words.ensures.1
 
 pub returns-in_err-table-clause-bad_pages : goal.returns-in_err-table-clause-bad_pages
-returns-in_err-table-clause-bad_pages c = no_memory _ (subst IsPageCount (c.pages-pages.ensures.pages ∙ c.in_ok-spaces.ensures.pages) c.pages-pages.ensures.in_range) _ c.from_residual-in_err-table.ensures.1
+returns-in_err-table-clause-bad_pages c = no_memory _ (subst IsPageCount c.in_ok-spaces.ensures.pages c.known.ensures) _ c.from_residual-in_err-table.ensures.1
 
 pub returns-clause-bad_pages : goal.returns-clause-bad_pages
-returns-clause-bad_pages c = is_open _ (subst IsPageCount (c.pages-pages.ensures.pages ∙ c.in_ok-spaces.ensures.pages) c.pages-pages.ensures.in_range) _
+returns-clause-bad_pages c = is_open _ (subst IsPageCount c.in_ok-spaces.ensures.pages c.known.ensures) _
 
 pub deal-requires-clause-live : goal.deal-requires-clause-live
 deal-requires-clause-live c = c.in_ok-table.ensures.0 ∙ all_words _ _ (c.as_slice.ensures.value ∙ c.in_ok-words.ensures)

@@ -14,7 +14,7 @@ pub invariant_of-result : goal.invariant_of-result
 invariant_of-result c =
     let s = c.split_seat-own.ensures in
     let plan = c.args.plan.now in
-    let size : IsPageCount plan.spaces.pages = subst IsPageCount c.pages-pages.ensures.pages c.pages-pages.ensures.in_range in
+    let size : IsPageCount plan.spaces.pages = c.known.ensures in
     let few : c.args.k ≤ 23 = (let a = c.requires.below in let b = c.requires.few.1 in omega (arith, a, b)) in
     let some : 0 < plan.spaces.pages = (let a = size.0 in omega (arith, a)) in
     let is = ap (λ (z : Me). z.0) s.4 ∙ gives _ plan c.args.k (crew plan) c.requires.below (ap (λ (z : Me). z.0) c.requires.seat) in (
