@@ -1,3 +1,4 @@
 pub mod Placing
 pub mod Reserving
 pub mod GoingOn
+pub mod RowsFit

@@ -1,12 +1,12 @@
 -- The allocation of a record, step by step: what it wants, what a reply makes of it, what it comes to, and what it has left.
-use Rattle.std.specs.Prelude.{ℕ, ◌+◌, ◌-◌, ◌*◌, ◌/◌, ◌==◌, Bool, true, false, Option, Some, None, is_some, nat_lt, nat_le, if◌then◌else◌}
+use Rattle.std.specs.Prelude.{ℕ, ◌+◌, ◌-◌, ◌*◌, ◌/◌, ◌==◌, Bool, true, false, Option, Some, None, is_some, option_map, nat_lt, nat_le, if◌then◌else◌}
 use Rattle.atom_store.specs.declared.step.Step.{Step}
-use Rattle.atom_store.specs.declared.step.Step.TheVariants.{Load, Store, Exchange}
 use Rattle.atom_store.specs.declared.reply.Reply.{Reply}
 use Rattle.atom_store.specs.declared.reply.Reply.TheVariants.{Value, Done, Won, Lost}
 use Rattle.atom_store.specs.declared.turn.Turn.{Turn}
 use Rattle.atom_store.specs.declared.turn.Turn.TheVariants.{More, Finished}
 use Rattle.atom_store.specs.Machine.{Machine}
+use Rattle.atom_store.specs.StepOn.{StepOn, Load, Store, Exchange, step_at}
 use Rattle.heap_words.specs.Decoded.{encode}
 use Rattle.record_layout.specs.declared.header.Header.{Header}
 use Rattle.record_layout.specs.Layout.{header_says}
@@ -15,7 +15,7 @@ use Rattle.space_map.specs.declared.page_word.PageWord.TheVariants.{Open}
 use Rattle.space_map.specs.AreaWord.{encode_area, decode_area}
 use Rattle.space_map.specs.PageWord.{encode_page}
 use Rattle.space_map.specs.Spaces.{Layout, to_space, space_start, page_of}
-use Rattle.space_map.specs.Table.{Traced, Area, Page, HeapWord, place_of}
+use Rattle.space_map.specs.Table.{Row, Traced, Area, Page, HeapWord, place_of}
 use Rattle.alloc_end.specs.declared.run.Run.{Run}
 use Rattle.alloc_end.specs.declared.fitting.Fitting.{Fitting}
 use Rattle.alloc_end.specs.declared.new_pages.NewPages.{NewPages}
@@ -89,15 +89,18 @@ first_claimed p f = space_start p.layout.pages (to_space p.epoch) + (f.area.low 
 
 -- ---- the next step
 
+-- by the row that it is on
+abbrev pub wants_at : Placing → PlaceStage → Option (StepOn Row)
+wants_at p LoadsTraced = Some (Load Traced)
+wants_at p (LoadsArea traced) = Some (Load (Area (to_space p.epoch)))
+wants_at p (ExchangesArea f) = Some (Exchange (Area (to_space p.epoch)) (encode_area f.area) (encode_area (area_after (words_for p.header) f)))
+wants_at p (StoresZero new) = Some (Store (HeapWord new.next) 0)
+wants_at p (OpensPage new) = Some (Store (Page new.next) (encode_page (Open p.epoch)))
+wants_at p StoresHeader = Some (Store (HeapWord p.run.at) (encode (header_says p.header)))
+wants_at p (Ended result) = None
+
 abbrev pub wanted_at : Placing → PlaceStage → Option Step
-wanted_at p LoadsTraced = Some (Load (place_of p.layout.pages Traced))
-wanted_at p (LoadsArea traced) = Some (Load (place_of p.layout.pages (Area (to_space p.epoch))))
-wanted_at p (ExchangesArea f) =
-    Some (Exchange (place_of p.layout.pages (Area (to_space p.epoch))) (encode_area f.area) (encode_area (area_after (words_for p.header) f)))
-wanted_at p (StoresZero new) = Some (Store (place_of p.layout.pages (HeapWord new.next)) 0)
-wanted_at p (OpensPage new) = Some (Store (place_of p.layout.pages (Page new.next)) (encode_page (Open p.epoch)))
-wanted_at p StoresHeader = Some (Store (place_of p.layout.pages (HeapWord p.run.at)) (encode (header_says p.header)))
-wanted_at p (Ended result) = None
+wanted_at p stage = option_map (step_at (place_of p.layout.pages)) (wants_at p stage)
 
 abbrev pub wanted : Placing → Option Step
 wanted p = wanted_at p p.stage

@@ -7,6 +7,8 @@ use Rattle.atom_store.specs.declared.step.Step.{Step}
 use Rattle.atom_store.specs.declared.step.Step.TheVariants.{Load, Store, Exchange}
 use Rattle.atom_store.specs.declared.reply.Reply.TheVariants.{Won, Lost}
 use Rattle.atom_store.specs.Step.{place_in, words_after, reply_of}
+use Rattle.atom_store.specs.StepOn.{StepOn, touched, step_at}
+use Rattle.atom_store.specs.StepOn as on
 
 -- ---- an exchange, by whether the word is the old value
 
@@ -37,6 +39,11 @@ test-apart : (m n : ℕ) → nat_eq m n ≡ false → m ≢ n
 test-apart m n test same = grind (arith, nat_tests)
 
 -- ---- all steps
+
+pub place_in-step_at : {P : Type 0} (place : P → ℕ) (step : StepOn P) → place_in (step_at place step) ≡ place (touched step)
+place_in-step_at place (on.Load p) = refl
+place_in-step_at place (on.Store p word) = refl
+place_in-step_at place (on.Exchange p old new) = refl
 
 pub length-words_after : (step : Step) (words : List ℕ) → length (words_after step words) ≡ length words
 length-words_after (Load place) words = refl

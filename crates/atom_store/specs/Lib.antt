@@ -1,4 +1,5 @@
 pub mod Step
+pub mod StepOn
 pub mod Machine
 pub mod Runs
 pub mod Acts

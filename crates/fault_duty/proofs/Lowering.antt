@@ -112,12 +112,12 @@ by_front d seen None t = cc
 -- ---- from page to page
 
 -- the space begins at the first word of a page, and lies below the board
-to_start-le : (d : Round) → Duty.to_start d ≤ 64 * d.layout.pages
+pub to_start-le : (d : Round) → Duty.to_start d ≤ 64 * d.layout.pages
 to_start-le d =
     let below : d.layout.pages * (d.epoch % 2) ≤ d.layout.pages * 1 = mul-le-mul_left d.layout.pages (let rest : d.epoch % 2 < 2 = omega arith in omega arith) in
     omega (arith, below)
 
-to_start-to_page : (d : Round) → Duty.to_start d ≡ 64 * Duty.to_page d
+pub to_start-to_page : (d : Round) → Duty.to_start d ≡ 64 * Duty.to_page d
 to_start-to_page d = omega arith
 
 apart_tested : (m n : ℕ) → m ≢ n → nat_eq m n ≡ false

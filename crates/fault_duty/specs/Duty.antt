@@ -1,12 +1,12 @@
 -- A round of the duty, step by step: what it wants, what a reply makes of it, what it comes to, and what it has left.
-use Rattle.std.specs.Prelude.{ℕ, ◌+◌, ◌-◌, ◌*◌, ◌%◌, ◌==◌, ◌&&◌, Bool, true, false, Option, Some, None, is_some, nat_lt, nat_le, if◌then◌else◌}
+use Rattle.std.specs.Prelude.{ℕ, ◌+◌, ◌-◌, ◌*◌, ◌%◌, ◌==◌, ◌&&◌, Bool, true, false, Option, Some, None, is_some, option_map, nat_lt, nat_le, if◌then◌else◌}
 use Rattle.atom_store.specs.declared.step.Step.{Step}
-use Rattle.atom_store.specs.declared.step.Step.TheVariants.{Load, Exchange}
 use Rattle.atom_store.specs.declared.reply.Reply.{Reply}
 use Rattle.atom_store.specs.declared.reply.Reply.TheVariants.{Value, Won, Lost}
 use Rattle.atom_store.specs.declared.turn.Turn.{Turn}
 use Rattle.atom_store.specs.declared.turn.Turn.TheVariants.{More, Finished}
 use Rattle.atom_store.specs.Machine.{Machine}
+use Rattle.atom_store.specs.StepOn.{StepOn, Load, Exchange, step_at}
 use Rattle.space_map.specs.declared.area_word.AreaWord.{AreaWord}
 use Rattle.space_map.specs.declared.gate_word.GateWord.{GateWord}
 use Rattle.space_map.specs.declared.page_word.PageWord.{PageWord}
@@ -15,7 +15,7 @@ use Rattle.space_map.specs.AreaWord.{decode_area}
 use Rattle.space_map.specs.GateWord.{decode_gate}
 use Rattle.space_map.specs.PageWord.{encode_page, decode_page}
 use Rattle.space_map.specs.Spaces.{Layout, to_space, space_start, page_of, board_page, first_word}
-use Rattle.space_map.specs.Table.{Gate, Traced, Area, Page, place_of}
+use Rattle.space_map.specs.Table.{Row, Gate, Traced, Area, Page, place_of}
 use Rattle.page_slots.specs.declared.claimed.Claimed.{Claimed}
 use Rattle.page_slots.specs.declared.claimed.Claimed.TheVariants as claimed
 use Rattle.page_slots.specs.Claim.{Claiming}
@@ -82,21 +82,27 @@ front_of d area = to_start d + area.front
 
 -- ---- the next step
 
+-- by the row that it is on
+abbrev pub wants_at : Round → DutyStage → Option (StepOn Row)
+wants_at d LoadsGate = Some (Load Gate)
+wants_at d (LoadsTraced hindrance) = Some (Load Traced)
+wants_at d (LoadsWanted seen page) = Some (Load (Page page))
+wants_at d (LoadsFrontFor seen wanted) = Some (Load (Area (to_space d.epoch)))
+wants_at d (LoadsFront seen) = Some (Load (Area (to_space d.epoch)))
+wants_at d (LoadsPage choice page) = Some (Load (Page page))
+wants_at d (Claims c) = claim.wants_at c c.stage
+wants_at d (EndGate traced) = Some (Load Gate)
+wants_at d (EndArea traced) = Some (Load (Area (to_space d.epoch)))
+wants_at d (EndPage look page) = Some (Load (Page page))
+wants_at d (EndFilling look) = Some (Load (Page (page_of look.front)))
+wants_at d (EndAreaAgain look filling) = Some (Load (Area (to_space d.epoch)))
+wants_at d (Traces traced) = Some (Exchange Traced traced (d.epoch + 1))
+wants_at d (Ended result) = None
+
+-- a claim has a layout of its own
 abbrev pub wanted_at : Round → DutyStage → Option Step
-wanted_at d LoadsGate = Some (Load (place_of d.layout.pages Gate))
-wanted_at d (LoadsTraced hindrance) = Some (Load (place_of d.layout.pages Traced))
-wanted_at d (LoadsWanted seen page) = Some (Load (place_of d.layout.pages (Page page)))
-wanted_at d (LoadsFrontFor seen wanted) = Some (Load (place_of d.layout.pages (Area (to_space d.epoch))))
-wanted_at d (LoadsFront seen) = Some (Load (place_of d.layout.pages (Area (to_space d.epoch))))
-wanted_at d (LoadsPage choice page) = Some (Load (place_of d.layout.pages (Page page)))
 wanted_at d (Claims c) = claim.wanted c
-wanted_at d (EndGate traced) = Some (Load (place_of d.layout.pages Gate))
-wanted_at d (EndArea traced) = Some (Load (place_of d.layout.pages (Area (to_space d.epoch))))
-wanted_at d (EndPage look page) = Some (Load (place_of d.layout.pages (Page page)))
-wanted_at d (EndFilling look) = Some (Load (place_of d.layout.pages (Page (page_of look.front))))
-wanted_at d (EndAreaAgain look filling) = Some (Load (place_of d.layout.pages (Area (to_space d.epoch))))
-wanted_at d (Traces traced) = Some (Exchange (place_of d.layout.pages Traced) traced (d.epoch + 1))
-wanted_at d (Ended result) = None
+wanted_at d stage = option_map (step_at (place_of d.layout.pages)) (wants_at d stage)
 
 abbrev pub wanted : Round → Option Step
 wanted d = wanted_at d d.stage

@@ -1,12 +1,12 @@
 -- The copy of one old record by one worker: its stages, and the step that each wants.
-use Rattle.std.specs.Prelude.{ℕ, ◌+◌, ◌-◌, ⊤, Option, Some, None}
+use Rattle.std.specs.Prelude.{ℕ, ◌+◌, ◌-◌, ⊤, Option, Some, None, option_map}
 use Rattle.atom_store.specs.declared.step.Step.{Step}
-use Rattle.atom_store.specs.declared.step.Step.TheVariants.{Load, Store, Exchange}
+use Rattle.atom_store.specs.StepOn.{StepOn, Load, Store, Exchange, step_at}
 use Rattle.heap_words.specs.Word.{forward_word, busy_word}
 use Rattle.space_map.specs.declared.area_word.AreaWord.{AreaWord}
 use Rattle.space_map.specs.AreaWord.{encode_area}
 use Rattle.space_map.specs.Spaces.{Layout, to_space, space_start}
-use Rattle.space_map.specs.Table.{Area, Cross, HeapWord, Announce, place_of}
+use Rattle.space_map.specs.Table.{Row, Area, Cross, HeapWord, Announce, place_of}
 use Rattle.forwarding.specs.declared.kept_header.KeptHeader.{KeptHeader}
 use Rattle.forwarding.specs.declared.evac_stage.EvacStage.{EvacStage}
 use Rattle.forwarding.specs.declared.evac_stage.EvacStage.TheVariants.{LoadsHeader, TakesHeader, LoadsArea, Announces, Reserves, StoresHeader, LoadsWord, StoresWord, StoresCross, StoresForward, Clears, Ended}
@@ -40,21 +40,23 @@ front_of l epoch area = space_start l.pages (to_space epoch) + area.front
 abbrev pub area_past : ℕ → AreaWord → AreaWord
 area_past size area = record { front = area.front + size; low = area.low; owed = area.owed - size }
 
--- the next step at a stage
+-- the next step at a stage, by the row that it is on
+abbrev pub wants_at : Layout → (addr epoch worker : ℕ) → EvacStage → Option (StepOn Row)
+wants_at l a e k LoadsHeader = Some (Load (HeapWord a))
+wants_at l a e k (TakesHeader kept) = Some (Exchange (HeapWord a) kept.word (busy_word kept.len k))
+wants_at l a e k (LoadsArea kept) = Some (Load (Area (to_space e)))
+wants_at l a e k (Announces kept area) = Some (Store (Announce k) (front_of l e area + 1))
+wants_at l a e k (Reserves kept area) = Some (Exchange (Area (to_space e)) (encode_area area) (encode_area (area_past (size_of kept) area)))
+wants_at l a e k (StoresHeader r) = Some (Store (HeapWord r.to) r.kept.word)
+wants_at l a e k (LoadsWord r i) = Some (Load (HeapWord (a + i)))
+wants_at l a e k (StoresWord r w) = Some (Store (HeapWord (r.to + w.number)) w.word)
+wants_at l a e k (StoresCross r page) = Some (Store (Cross page) r.to)
+wants_at l a e k (StoresForward r) = Some (Store (HeapWord a) (forward_word r.kept.len r.to))
+wants_at l a e k (Clears to) = Some (Store (Announce k) 0)
+wants_at l a e k (Ended to) = None
+
 abbrev pub wanted_at : Layout → (addr epoch worker : ℕ) → EvacStage → Option Step
-wanted_at l a e k LoadsHeader = Some (Load (place_of l.pages (HeapWord a)))
-wanted_at l a e k (TakesHeader kept) = Some (Exchange (place_of l.pages (HeapWord a)) kept.word (busy_word kept.len k))
-wanted_at l a e k (LoadsArea kept) = Some (Load (place_of l.pages (Area (to_space e))))
-wanted_at l a e k (Announces kept area) = Some (Store (place_of l.pages (Announce k)) (front_of l e area + 1))
-wanted_at l a e k (Reserves kept area) =
-    Some (Exchange (place_of l.pages (Area (to_space e))) (encode_area area) (encode_area (area_past (size_of kept) area)))
-wanted_at l a e k (StoresHeader r) = Some (Store (place_of l.pages (HeapWord r.to)) r.kept.word)
-wanted_at l a e k (LoadsWord r i) = Some (Load (place_of l.pages (HeapWord (a + i))))
-wanted_at l a e k (StoresWord r w) = Some (Store (place_of l.pages (HeapWord (r.to + w.number))) w.word)
-wanted_at l a e k (StoresCross r page) = Some (Store (place_of l.pages (Cross page)) r.to)
-wanted_at l a e k (StoresForward r) = Some (Store (place_of l.pages (HeapWord a)) (forward_word r.kept.len r.to))
-wanted_at l a e k (Clears to) = Some (Store (place_of l.pages (Announce k)) 0)
-wanted_at l a e k (Ended to) = None
+wanted_at l a e k stage = option_map (step_at (place_of l.pages)) (wants_at l a e k stage)
 
 -- the next step, if there is one
 abbrev pub wanted : Evacuation → Option Step

@@ -1,3 +1,4 @@
 pub mod Passing
 pub mod Flipping
 pub mod GoingOn
+pub mod RowsFit

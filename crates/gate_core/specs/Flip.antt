@@ -1,18 +1,18 @@
 -- The flip, step by step: what it wants, what a reply makes of it, what it comes to, and what it has left.
-use Rattle.std.specs.Prelude.{ℕ, ◌+◌, ◌-◌, ◌*◌, ◌==◌, ◌&&◌, Bool, true, false, Option, Some, None, is_some, if◌then◌else◌}
+use Rattle.std.specs.Prelude.{ℕ, ◌+◌, ◌-◌, ◌*◌, ◌==◌, ◌&&◌, Bool, true, false, Option, Some, None, is_some, option_map, if◌then◌else◌}
 use Rattle.atom_store.specs.declared.step.Step.{Step}
-use Rattle.atom_store.specs.declared.step.Step.TheVariants.{Load, Store, Exchange}
 use Rattle.atom_store.specs.declared.reply.Reply.{Reply}
 use Rattle.atom_store.specs.declared.reply.Reply.TheVariants.{Value, Done, Won, Lost}
 use Rattle.atom_store.specs.declared.turn.Turn.{Turn}
 use Rattle.atom_store.specs.declared.turn.Turn.TheVariants.{More, Finished}
 use Rattle.atom_store.specs.Machine.{Machine}
+use Rattle.atom_store.specs.StepOn.{StepOn, Load, Store, Exchange, step_at}
 use Rattle.space_map.specs.declared.area_word.AreaWord.{AreaWord}
 use Rattle.space_map.specs.declared.gate_word.GateWord.{GateWord}
 use Rattle.space_map.specs.AreaWord.{encode_area, decode_area}
 use Rattle.space_map.specs.GateWord.{encode_gate, decode_gate}
 use Rattle.space_map.specs.Spaces.{Layout, to_space}
-use Rattle.space_map.specs.Table.{Gate, Area, place_of}
+use Rattle.space_map.specs.Table.{Row, Gate, Area, place_of}
 use Rattle.gate_core.specs.declared.flipped.Flipped.{Flipped}
 use Rattle.gate_core.specs.declared.flipped.Flipped.TheVariants.{Went, NotYet}
 use Rattle.gate_core.specs.declared.flip_stage.FlipStage.{FlipStage}
@@ -48,14 +48,16 @@ area_reset n used = record { front = 0; low = 64 * n; owed = used }
 
 -- ---- the next step
 
+-- by the row that it is on
+abbrev pub wants_at : Flipping → FlipStage → Option (StepOn Row)
+wants_at f LoadsGate = Some (Load Gate)
+wants_at f (LoadsArea gate) = Some (Load (Area (to_space f.epoch)))
+wants_at f (StoresArea reset) = Some (Store (Area (to_space (f.epoch + 1))) (encode_area (area_reset f.layout.pages reset.used)))
+wants_at f (Exchanges reset) = Some (Exchange Gate (encode_gate reset.gate) (encode_gate (gate_flipped reset.gate)))
+wants_at f (Ended result) = None
+
 abbrev pub wanted_at : Flipping → FlipStage → Option Step
-wanted_at f LoadsGate = Some (Load (place_of f.layout.pages Gate))
-wanted_at f (LoadsArea gate) = Some (Load (place_of f.layout.pages (Area (to_space f.epoch))))
-wanted_at f (StoresArea reset) =
-    Some (Store (place_of f.layout.pages (Area (to_space (f.epoch + 1)))) (encode_area (area_reset f.layout.pages reset.used)))
-wanted_at f (Exchanges reset) =
-    Some (Exchange (place_of f.layout.pages Gate) (encode_gate reset.gate) (encode_gate (gate_flipped reset.gate)))
-wanted_at f (Ended result) = None
+wanted_at f stage = option_map (step_at (place_of f.layout.pages)) (wants_at f stage)
 
 abbrev pub wanted : Flipping → Option Step
 wanted f = wanted_at f f.stage

@@ -1,16 +1,16 @@
 -- A passage of the gate, step by step: what it wants, what a reply makes of it, what it comes to, and what it has left.
-use Rattle.std.specs.Prelude.{ℕ, ◌+◌, ◌-◌, ◌==◌, ◌&&◌, Bool, true, false, not, Option, Some, None, is_some, if◌then◌else◌}
+use Rattle.std.specs.Prelude.{ℕ, ◌+◌, ◌-◌, ◌==◌, ◌&&◌, Bool, true, false, not, Option, Some, None, is_some, option_map, if◌then◌else◌}
 use Rattle.atom_store.specs.declared.step.Step.{Step}
-use Rattle.atom_store.specs.declared.step.Step.TheVariants.{Load, Exchange}
 use Rattle.atom_store.specs.declared.reply.Reply.{Reply}
 use Rattle.atom_store.specs.declared.reply.Reply.TheVariants.{Value, Won, Lost}
 use Rattle.atom_store.specs.declared.turn.Turn.{Turn}
 use Rattle.atom_store.specs.declared.turn.Turn.TheVariants.{More, Finished}
 use Rattle.atom_store.specs.Machine.{Machine}
+use Rattle.atom_store.specs.StepOn.{StepOn, Load, Exchange, step_at}
 use Rattle.space_map.specs.declared.gate_word.GateWord.{GateWord}
 use Rattle.space_map.specs.GateWord.{encode_gate, decode_gate}
 use Rattle.space_map.specs.Spaces.{Layout}
-use Rattle.space_map.specs.Table.{place_of}
+use Rattle.space_map.specs.Table.{Row, place_of}
 use Rattle.space_map.specs.Table as row
 use Rattle.gate_core.specs.declared.passage.Passage.{Passage}
 use Rattle.gate_core.specs.declared.passage.Passage.TheVariants.{Look, Attach, Park, Request, Resume, Forwarded, Leave}
@@ -56,10 +56,14 @@ gate_after Leave gate = record gate { live = gate.live - 1; running = gate.runni
 
 -- ---- the next step
 
+-- by the row that it is on
+abbrev pub wants_at : Passing → GateStage → Option (StepOn Row)
+wants_at p Loads = Some (Load row.Gate)
+wants_at p (Exchanges gate) = Some (Exchange row.Gate (encode_gate gate) (encode_gate (gate_after p.passage gate)))
+wants_at p (Ended result) = None
+
 abbrev pub wanted_at : Passing → GateStage → Option Step
-wanted_at p Loads = Some (Load (place_of p.layout.pages row.Gate))
-wanted_at p (Exchanges gate) = Some (Exchange (place_of p.layout.pages row.Gate) (encode_gate gate) (encode_gate (gate_after p.passage gate)))
-wanted_at p (Ended result) = None
+wanted_at p stage = option_map (step_at (place_of p.layout.pages)) (wants_at p stage)
 
 abbrev pub wanted : Passing → Option Step
 wanted p = wanted_at p p.stage

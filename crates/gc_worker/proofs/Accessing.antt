@@ -6,3 +6,4 @@ pub mod Headers
 pub mod Fields
 pub mod Board
 pub mod Stages
+pub mod RowsFit

@@ -1,4 +1,3 @@
-pub mod Beside
 pub mod Lows
 pub mod SetAside
 pub mod Flips

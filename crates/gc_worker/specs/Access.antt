@@ -3,9 +3,9 @@ use Rattle.std.specs.Prelude.{◌≡◌, ℕ, ◌+◌, ◌*◌, ◌<◌, ◌==�
 use Rattle.atom_store.specs.declared.reply.Reply.{Reply}
 use Rattle.atom_store.specs.declared.reply.Reply.TheVariants as replies
 use Rattle.atom_store.specs.declared.step.Step.{Step}
-use Rattle.atom_store.specs.declared.step.Step.TheVariants.{Load, Store, Exchange}
 use Rattle.atom_store.specs.declared.turn.Turn.{Turn}
 use Rattle.atom_store.specs.declared.turn.Turn.TheVariants.{More, Finished}
+use Rattle.atom_store.specs.StepOn.{StepOn, Load, Store, Exchange, step_at}
 use Rattle.heap_words.specs.declared.kind.Kind.{Kind}
 use Rattle.heap_words.specs.declared.kind.Kind.TheVariants as headers
 use Rattle.heap_words.specs.Decoded.{Decoded, NumberWord, PointerWord, HeaderWord, ForwardWord, BusyWord, Malformed, decode}
@@ -24,7 +24,7 @@ use Rattle.plain_heap.specs.Call.{may_hold}
 use Rattle.space_map.specs.declared.spaces.TheConstants.{PAGE_WORDS}
 use Rattle.space_map.specs.Spaces.{Layout, IsPageCount, board_page, first_word, page_of}
 use Rattle.space_map.specs.PageWord.{decode_page}
-use Rattle.space_map.specs.Table.{Page, HeapWord, place_of}
+use Rattle.space_map.specs.Table.{Row, Page, HeapWord, place_of}
 use Rattle.mmu_model.specs.declared.access.Access as protection
 use Rattle.mmu_model.specs.declared.access.Access.TheVariants.{Allowed, Fault}
 use Rattle.mmu_model.specs.Access.{access_of}
@@ -71,23 +71,25 @@ board_at l word = first_word (board_page l.pages) + word
 
 -- ---- the next step
 
-abbrev pub page_step : Layout → (page : ℕ) → Step
-page_step l page = Load (place_of l.pages (Page page))
-
-abbrev pub word_place : Layout → (addr : ℕ) → ℕ
-word_place l addr = place_of l.pages (HeapWord addr)
+-- by the row that it is on
+abbrev pub wants_at : Layout → AccessStage → StepOn Row
+wants_at l (LooksAtRecord r) = Load (Page (page_of r.at))
+wants_at l (LoadsHeader r) = Load (HeapWord r.at)
+wants_at l (LooksAtField f usage) = Load (Page (page_of (field_at f)))
+wants_at l (LoadsField f into) = Load (HeapWord (field_at f))
+wants_at l (StoresField f new) = Store (HeapWord (field_at f)) new
+wants_at l (LooksAtBoard b) = Load (Page (board_page l.pages))
+wants_at l (LoadsBoard word into) = Load (HeapWord (board_at l word))
+wants_at l (StoresBoard word new) = Store (HeapWord (board_at l word)) new
+wants_at l (LoadsForSwap s) = Load (HeapWord (board_at l s.word))
+wants_at l (SwapsBoard s old) = Exchange (HeapWord (board_at l s.word)) old s.new
 
 abbrev pub wanted_at : Layout → AccessStage → Step
-wanted_at l (LooksAtRecord r) = page_step l (page_of r.at)
-wanted_at l (LoadsHeader r) = Load (word_place l r.at)
-wanted_at l (LooksAtField f usage) = page_step l (page_of (field_at f))
-wanted_at l (LoadsField f into) = Load (word_place l (field_at f))
-wanted_at l (StoresField f new) = Store (word_place l (field_at f)) new
-wanted_at l (LooksAtBoard b) = page_step l (board_page l.pages)
-wanted_at l (LoadsBoard word into) = Load (word_place l (board_at l word))
-wanted_at l (StoresBoard word new) = Store (word_place l (board_at l word)) new
-wanted_at l (LoadsForSwap s) = Load (word_place l (board_at l s.word))
-wanted_at l (SwapsBoard s old) = Exchange (word_place l (board_at l s.word)) old s.new
+wanted_at l stage = step_at (place_of l.pages) (wants_at l stage)
+
+-- the look at a page's word
+abbrev pub page_step : Layout → (page : ℕ) → Step
+page_step l page = step_at (place_of l.pages) (Load (Page page))
 
 abbrev pub wanted : Access → Step
 wanted a = wanted_at a.spaces a.stage

@@ -9,3 +9,4 @@ pub mod Boards
 pub mod WorkedOut
 pub mod WorkedPacked
 pub mod GoingOn
+pub mod RowsFit

@@ -1,10 +1,10 @@
 -- The scan of a page: its stages, and the step that each wants.
-use Rattle.std.specs.Prelude.{ℕ, ◌==◌, Bool, ⊤, Option, Some, None, if◌then◌else◌}
+use Rattle.std.specs.Prelude.{ℕ, ◌==◌, Bool, ⊤, Option, Some, None, option_map, if◌then◌else◌}
 use Rattle.atom_store.specs.declared.step.Step.{Step}
-use Rattle.atom_store.specs.declared.step.Step.TheVariants.{Load, Store}
+use Rattle.atom_store.specs.StepOn.{StepOn, Load, Store, step_at}
 use Rattle.heap_words.specs.Word.{pointer_word}
 use Rattle.space_map.specs.Spaces.{Layout, to_space, first_word, board_page}
-use Rattle.space_map.specs.Table.{Area, Cross, HeapWord, place_of}
+use Rattle.space_map.specs.Table.{Row, Area, Cross, HeapWord, place_of}
 use Rattle.page_scan.specs.declared.scan_stage.ScanStage.{ScanStage}
 use Rattle.page_scan.specs.declared.scan_stage.ScanStage.TheVariants.{LoadsCross, LoadsFirst, LoadsWord, Asks, StoresCopy, LoadsFront, LoadsNext, Ended}
 use Rattle.page_scan.specs.declared.spot.Spot.{Spot}
@@ -49,16 +49,19 @@ abbrev pub address_of : Spot → ℕ
 address_of (OnBoard x) = x
 address_of (InRecord r x) = x
 
--- the next step at a stage
+-- the next step at a stage, by the row that it is on
+abbrev pub wants_at : (page epoch : ℕ) → ScanStage → Option (StepOn Row)
+wants_at p e LoadsCross = Some (Load (Cross p))
+wants_at p e (LoadsFirst at) = Some (Load (HeapWord at))
+wants_at p e (LoadsWord spot) = Some (Load (HeapWord (address_of spot)))
+wants_at p e (Asks asked) = None
+wants_at p e (StoresCopy asked to) = Some (Store (HeapWord (address_of asked.spot)) (pointer_word to))
+wants_at p e (LoadsFront r) = Some (Load (Area (to_space e)))
+wants_at p e (LoadsNext r) = Some (Load (HeapWord r.next))
+wants_at p e (Ended ending) = None
+
 abbrev pub wanted_at : Layout → (page epoch : ℕ) → ScanStage → Option Step
-wanted_at l p e LoadsCross = Some (Load (place_of l.pages (Cross p)))
-wanted_at l p e (LoadsFirst at) = Some (Load (place_of l.pages (HeapWord at)))
-wanted_at l p e (LoadsWord spot) = Some (Load (place_of l.pages (HeapWord (address_of spot))))
-wanted_at l p e (Asks asked) = None
-wanted_at l p e (StoresCopy asked to) = Some (Store (place_of l.pages (HeapWord (address_of asked.spot))) (pointer_word to))
-wanted_at l p e (LoadsFront r) = Some (Load (place_of l.pages (Area (to_space e))))
-wanted_at l p e (LoadsNext r) = Some (Load (place_of l.pages (HeapWord r.next)))
-wanted_at l p e (Ended ending) = None
+wanted_at l p e stage = option_map (step_at (place_of l.pages)) (wants_at p e stage)
 
 -- the next step, if there is one
 abbrev pub wanted : Scanning → Option Step

@@ -1,12 +1,12 @@
 -- The claim of a page, step by step: what it wants, what a reply makes of it, what it comes to, and what it has left.
-use Rattle.std.specs.Prelude.{ℕ, ◌+◌, ◌-◌, ◌==◌, ◌&&◌, Bool, true, false, Option, Some, None, is_some, nat_lt, nat_le, if◌then◌else◌}
+use Rattle.std.specs.Prelude.{ℕ, ◌+◌, ◌-◌, ◌==◌, ◌&&◌, Bool, true, false, Option, Some, None, is_some, option_map, nat_lt, nat_le, if◌then◌else◌}
 use Rattle.atom_store.specs.declared.step.Step.{Step}
-use Rattle.atom_store.specs.declared.step.Step.TheVariants.{Load, Exchange}
 use Rattle.atom_store.specs.declared.reply.Reply.{Reply}
 use Rattle.atom_store.specs.declared.reply.Reply.TheVariants as reply
 use Rattle.atom_store.specs.declared.turn.Turn.{Turn}
 use Rattle.atom_store.specs.declared.turn.Turn.TheVariants.{More, Finished}
 use Rattle.atom_store.specs.Machine.{Machine}
+use Rattle.atom_store.specs.StepOn.{StepOn, Load, Exchange, step_at}
 use Rattle.space_map.specs.declared.gate_word.GateWord.{GateWord}
 use Rattle.space_map.specs.declared.page_word.PageWord.{PageWord}
 use Rattle.space_map.specs.declared.page_word.PageWord.TheVariants.{Scanning}
@@ -14,7 +14,7 @@ use Rattle.space_map.specs.declared.spaces.TheConstants.{LAST_WORKER}
 use Rattle.space_map.specs.GateWord.{decode_gate}
 use Rattle.space_map.specs.PageWord.{encode_page}
 use Rattle.space_map.specs.Spaces.{Layout, board_page, first_word}
-use Rattle.space_map.specs.Table.{Gate, Page, Announce, place_of}
+use Rattle.space_map.specs.Table.{Row, Gate, Page, Announce, place_of}
 use Rattle.page_slots.specs.declared.claimed.Claimed.{Claimed}
 use Rattle.page_slots.specs.declared.claimed.Claimed.TheVariants as claimed
 use Rattle.page_slots.specs.declared.claim_stage.ClaimStage.{ClaimStage}
@@ -51,11 +51,15 @@ begun layout page epoch worker found in_place = record {
 
 -- ---- the next step
 
+-- by the row that it is on
+abbrev pub wants_at : Claiming → ClaimStage → Option (StepOn Row)
+wants_at c (LooksAtPlace k) = Some (Load (Announce k))
+wants_at c LooksAtGate = Some (Load Gate)
+wants_at c Exchanges = Some (Exchange (Page c.page) (encode_page c.found) (encode_page (Scanning c.epoch c.worker)))
+wants_at c (Ended result) = None
+
 abbrev pub wanted_at : Claiming → ClaimStage → Option Step
-wanted_at c (LooksAtPlace k) = Some (Load (place_of c.layout.pages (Announce k)))
-wanted_at c LooksAtGate = Some (Load (place_of c.layout.pages Gate))
-wanted_at c Exchanges = Some (Exchange (place_of c.layout.pages (Page c.page)) (encode_page c.found) (encode_page (Scanning c.epoch c.worker)))
-wanted_at c (Ended result) = None
+wanted_at c stage = option_map (step_at (place_of c.layout.pages)) (wants_at c stage)
 
 abbrev pub wanted : Claiming → Option Step
 wanted c = wanted_at c c.stage

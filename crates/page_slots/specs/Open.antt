@@ -1,16 +1,16 @@
 -- The opening of a page: one store.
-use Rattle.std.specs.Prelude.{ℕ, Bool, true, false, Option, Some, None}
+use Rattle.std.specs.Prelude.{ℕ, Bool, true, false, Option, Some, None, option_map}
 use Rattle.atom_store.specs.declared.step.Step.{Step}
-use Rattle.atom_store.specs.declared.step.Step.TheVariants.{Store}
 use Rattle.atom_store.specs.declared.reply.Reply.{Reply}
 use Rattle.atom_store.specs.declared.reply.Reply.TheVariants.{Done}
 use Rattle.atom_store.specs.declared.turn.Turn.{Turn}
 use Rattle.atom_store.specs.declared.turn.Turn.TheVariants.{More, Finished}
 use Rattle.atom_store.specs.Machine.{Machine}
+use Rattle.atom_store.specs.StepOn.{StepOn, Store, step_at}
 use Rattle.space_map.specs.declared.page_word.PageWord.TheVariants.{Open}
 use Rattle.space_map.specs.PageWord.{encode_page}
 use Rattle.space_map.specs.Spaces.{Layout}
-use Rattle.space_map.specs.Table.{Page, place_of}
+use Rattle.space_map.specs.Table.{Row, Page, place_of}
 use Rattle.page_slots.specs.declared.opened.Opened.{Opened}
 use Rattle.page_slots.specs.declared.open_stage.OpenStage.{OpenStage}
 use Rattle.page_slots.specs.declared.open_stage.OpenStage.TheVariants.{StoresOpen, Ended}
@@ -25,9 +25,13 @@ pub record Opening : Type 0 where
 abbrev pub begun : Layout → (page epoch : ℕ) → Opening
 begun layout page epoch = record { layout = layout; page = page; epoch = epoch; stage = StoresOpen }
 
+-- the next step, by the row that it is on
+abbrev pub wants_at : Opening → OpenStage → Option (StepOn Row)
+wants_at o StoresOpen = Some (Store (Page o.page) (encode_page (Open o.epoch)))
+wants_at o (Ended result) = None
+
 abbrev pub wanted_at : Opening → OpenStage → Option Step
-wanted_at o StoresOpen = Some (Store (place_of o.layout.pages (Page o.page)) (encode_page (Open o.epoch)))
-wanted_at o (Ended result) = None
+wanted_at o stage = option_map (step_at (place_of o.layout.pages)) (wants_at o stage)
 
 -- the next step
 abbrev pub wanted : Opening → Option Step

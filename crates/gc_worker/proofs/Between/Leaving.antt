@@ -1,6 +1,6 @@
 -- What a step may leave of page words and of LOW, by the row that it writes.
-use Rattle.std.proofs.Common.{◌≡◌, ◌≢◌, ℕ, ◌+◌, ◌*◌, ◌<◌, ◌≤◌, ◌==◌, Bool, true, false, cond, List, set, slice_index, Option, Some, refl, sym, ap, subst, ◌∙◌, arith, ⊎_elim}
-use Rattle.std.specs.Prelude.{unwrap_or}
+use Rattle.std.proofs.Common.{◌≡◌, ◌≢◌, ℕ, ◌+◌, ◌*◌, ◌<◌, ◌≤◌, ◌==◌, Bool, true, false, cond, List, set, slice_index, Option, Some, None, refl, sym, ap, subst, ◌∙◌, arith, ⊎_elim}
+use Rattle.std.specs.Prelude.{option_map, unwrap_or}
 use Rattle.std.proofs.lemmas.Bool.{cases_eq, eqb-true}
 use Rattle.std.proofs.lemmas.Option.{same_Some}
 use Rattle.plain_state.specs.State.{Plain}
@@ -9,13 +9,14 @@ use Rattle.atom_store.specs.declared.reply.Reply.TheVariants as replies
 use Rattle.atom_store.specs.declared.step.Step.{Step}
 use Rattle.atom_store.specs.declared.step.Step.TheVariants.{Store, Exchange}
 use Rattle.atom_store.specs.Step.{place_in, words_after, reply_of}
+use Rattle.atom_store.specs.StepOn.{StepOn, Writes, step_at}
 use Rattle.space_map.specs.declared.area_word.AreaWord.{AreaWord}
 use Rattle.space_map.specs.declared.page_word.PageWord.{PageWord}
 use Rattle.space_map.specs.declared.page_word.PageWord.TheVariants.{Unset}
 use Rattle.space_map.specs.AreaWord.{AreaFits, decode_area, encode_area}
 use Rattle.space_map.specs.PageWord.{PageFits, age_of, encode_page}
 use Rattle.space_map.specs.Spaces.{first_word, to_space}
-use Rattle.space_map.specs.Table.{Area, Page, place_of}
+use Rattle.space_map.specs.Table.{Row, Area, Page, place_of}
 use Rattle.space_map.proofs.AreaWords.{decode_area-encode_area}
 use Rattle.space_map.proofs.PageWords.{decode_page-encode_page}
 use Rattle.space_map.proofs.Rows.{place_of-apart}
@@ -25,7 +26,7 @@ use Rattle.heap_state.proofs.Table.Places.{word_in-row, word_in-same, word_in-ot
 use Rattle.gc_worker.specs.Law.{age}
 use Rattle.gc_worker.specs.Turned.{PageWon}
 use Rattle.gc_worker.proofs.Areas.{area_says, area_is, is_space}
-use Rattle.gc_worker.proofs.Between.Written.{Spares, row_stays, page_stays, area_stays}
+use Rattle.gc_worker.proofs.Between.Written.{IsOther, other_area_stays, other_page_stays, row_stays}
 
 -- ---- what a step leaves
 
@@ -69,13 +70,15 @@ module _ (c : Configuration) (p : Plain) (s : Stands c p) where
   nothing_left w = record { page = λ page within. Same refl; low = same_low c.words refl }
 
   -- most steps leave all as it was
-  pub spares : (n : ℕ) → n ≡ c.pages → (o : Option Step) (w : Reply → Option PageWon) → Spares n o → LeavesBy c o w
-  spares n same o w is q asked =
-      let own : Spares c.pages (Some q) = subst (Spares c.pages) asked (subst (λ (m : ℕ). Spares m o) same is) in
-      record {
-        page = λ page within. Same (same_age (words_after q c.words) page (page_stays c.pages c.words q page own));
-        low = same_low (words_after q c.words) (area_stays c.pages c.words q (space_now c) own);
-      }
+  pub spares : (n : ℕ) → n ≡ c.pages → (o : Option (StepOn Row)) (w : Reply → Option PageWon) → Writes IsOther o → LeavesBy c (option_map (step_at (place_of n)) o) w
+  spares n same None w writes = λ q asked. absurd (cc)
+  spares n same (Some on) w writes =
+      let later : List ℕ = words_after (step_at (place_of c.pages) on) c.words in
+      subst (λ (m : ℕ). LeavesBy c (Some (step_at (place_of m) on)) w) (sym same)
+      (this (step_at (place_of c.pages) on) w (record {
+        page = λ page within. Same (same_age later page (other_page_stays c.pages c.words on writes page));
+        low = same_low later (other_area_stays c.pages c.words on writes (space_now c));
+      }))
 
   -- ---- an area is written
 

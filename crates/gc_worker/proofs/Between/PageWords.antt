@@ -4,6 +4,7 @@ use Rattle.plain_state.specs.State.{Plain}
 use Rattle.atom_store.specs.declared.reply.Reply.{Reply}
 use Rattle.atom_store.specs.declared.reply.Reply.TheVariants as replies
 use Rattle.atom_store.specs.declared.step.Step.TheVariants.{Store, Exchange}
+use Rattle.atom_store.specs.StepOn as on
 use Rattle.space_map.specs.declared.page_word.PageWord.TheVariants.{Open, Scanning}
 use Rattle.space_map.specs.PageWord.{age_of, encode_page}
 use Rattle.space_map.specs.AreaWord.{encode_area}
@@ -27,7 +28,9 @@ use Rattle.gate_core.specs.declared.flip_stage.FlipStage.{FlipStage}
 use Rattle.gate_core.specs.declared.flip_stage.FlipStage.TheVariants as flip_stage
 use Rattle.gate_core.specs.Flip as flip
 use Rattle.gate_core.specs.Gate as gate
+use Rattle.gate_core.proofs.RowsFit.{passage_writes}
 use Rattle.page_scan.specs.Scanning as scan
+use Rattle.page_scan.proofs.RowsFit as scan_rows
 use Rattle.page_slots.specs.declared.claim_stage.ClaimStage.{ClaimStage}
 use Rattle.page_slots.specs.declared.claim_stage.ClaimStage.TheVariants as claim_stage
 use Rattle.page_slots.specs.declared.open_stage.OpenStage.{OpenStage}
@@ -43,11 +46,12 @@ use Rattle.gc_worker.specs.Held.{Held, at_stage}
 use Rattle.gc_worker.specs.Knows.{opened_to, scan_of}
 use Rattle.gc_worker.specs.Turned.{PageWon, won, won_at, won_by, won_in}
 use Rattle.gc_worker.specs.Wanted.{wanted, wanted_at}
+use Rattle.gc_worker.proofs.Accessing.RowsFit as access_rows
 use Rattle.gc_worker.proofs.Areas.{is_space}
 use Rattle.gc_worker.proofs.Eras.{board_is}
 use Rattle.gc_worker.proofs.Opening.{of_page}
 use Rattle.gc_worker.proofs.Rounds.Words.{page_age}
-use Rattle.gc_worker.proofs.Between.Written.{apart, gate_spares, scan_spares, access_spares, copy_spares, place_spares, round_spares}
+use Rattle.gc_worker.proofs.Between.Written.{IsOther}
 use Rattle.gc_worker.proofs.Between.Leaving.{Same, New, Wins, Leaves, LeavesBy, nothing_left, this, spares, stores_other, exchanges_area, written, age_now, writes_page, stores_page}
 
 module _ (c : Configuration) (p : Plain) (s : Stands c p) (k : ℕ) (x : Held) where
@@ -69,7 +73,7 @@ module _ (c : Configuration) (p : Plain) (s : Stands c p) (k : ℕ) (x : Held) w
       exchanges_area c p s area (evac.area_past (evac.size_of kept) area) room.fits
       (record { front_fits = omega (arith, room.below_low, room.fits.low_fits); low_fits = room.fits.low_fits; owed_fits = omega (arith, room.fits.owed_fits) })
       (omega arith) (to_space e) (is_space e) l.pages same none
-  copies l a e j same stage fits = spares c p s l.pages same (evac.wanted_at l a e j stage) none (copy_spares l a e j stage tt)
+  copies l a e j same stage fits = spares c p s l.pages same (evac.wants_at l a e j stage) none tt
 
   -- the flipper is of the epoch, and resets the other space
   flips : (f : flip.Flipping) (stage : FlipStage) → Is c k (at_stage x (Flips (record f { stage = stage }))) → LeavesBy c (flip.wanted_at f stage) none
@@ -81,11 +85,7 @@ module _ (c : Configuration) (p : Plain) (s : Stands c p) (k : ℕ) (x : Held) w
       let e : f.epoch ≡ (era c).epoch = is.fits.stage.epoch ∙ now in
       subst (λ (n : ℕ). LeavesBy c (Some (Store (place_of n (Area (to_space (f.epoch + 1)))) (encode_area (flip.area_reset f.layout.pages r.used)))) none) (sym pages)
       (stores_other c p s (to_space (f.epoch + 1)) (encode_area (flip.area_reset f.layout.pages r.used)) none (is_space (f.epoch + 1)) (λ same. omega (arith, same, e)))
-  flips f flip_stage.LoadsGate is = spares c p s c.pages refl (flip.wanted_at f flip_stage.LoadsGate) none tt
-  flips f (flip_stage.LoadsArea g) is = spares c p s c.pages refl (flip.wanted_at f (flip_stage.LoadsArea g)) none tt
-  flips f (flip_stage.Exchanges r) is =
-      spares c p s f.layout.pages (own f.layout is.fits.stage.layout is.fits.pages) (flip.wanted_at f (flip_stage.Exchanges r)) none (apart f.layout.pages Gate tt)
-  flips f (flip_stage.Ended result) is = spares c p s c.pages refl (flip.wanted_at f (flip_stage.Ended result)) none tt
+  flips f stage is = spares c p s f.layout.pages (own f.layout is.fits.stage.layout is.fits.pages) (flip.wants_at f stage) none tt
 
   -- ---- new pages
 
@@ -117,7 +117,7 @@ module _ (c : Configuration) (p : Plain) (s : Stands c p) (k : ℕ) (x : Held) w
       (New (age_now c p s new.next within (Open z.epoch) is.fits.stage.sound.epoch ∙ ap (λ (d : ℕ). d + 1) e)
       (omega (arith, q.lies, q.aligned, fits))
       (omega (arith, q.lies, q.aligned, fits, below)))
-  places z stage is = spares c p s z.layout.pages (own z.layout is.fits.stage.layout is.fits.pages) (place.wanted_at z stage) none (place_spares z stage tt)
+  places z stage is = spares c p s z.layout.pages (own z.layout is.fits.stage.layout is.fits.pages) (place.wants_at z stage) none tt
 
   -- ---- scanned pages
 
@@ -136,7 +136,7 @@ module _ (c : Configuration) (p : Plain) (s : Stands c p) (k : ℕ) (x : Held) w
       let before : age_of ((table c).page o.page) ≡ (era c).epoch + 1 = ap (λ (q : ℕ). age_of ((table c).page q)) (sym at) ∙ ap age_of claimed in
       stores_page c p s o.page within (Open o.epoch) f.sound.epoch o.layout.pages n none
       (Same (age_now c p s o.page within (Open o.epoch) f.sound.epoch ∙ (ap (λ (d : ℕ). d + 1) e ∙ (sym before ∙ page_age c o.page))))
-  opens o z back (open_stage.Ended result) is = spares c p s c.pages refl (open_page.wanted_at o (open_stage.Ended result)) none tt
+  opens o z back stage is = spares c p s o.layout.pages (own o.layout is.fits.stage.0.layout is.fits.pages) (open_page.wants_at o stage) none tt
 
   -- ---- claims
 
@@ -158,32 +158,32 @@ module _ (c : Configuration) (p : Plain) (s : Stands c p) (k : ℕ) (x : Held) w
           writes_page c p s q.page within (Scanning q.epoch q.worker) fits (Some (record { page = q.page; epoch = q.epoch }))
           (Wins q.epoch refl (age_now c p s q.page within (Scanning q.epoch q.worker) fits))
       by_test within fits false = nothing_left c p s None
-  claims d back q (claim_stage.LooksAtPlace j) is = spares c p s c.pages refl (claim.wanted_at q (claim_stage.LooksAtPlace j)) (won_by q (claim_stage.LooksAtPlace j)) tt
-  claims d back q claim_stage.LooksAtGate is = spares c p s c.pages refl (claim.wanted_at q claim_stage.LooksAtGate) (won_by q claim_stage.LooksAtGate) tt
-  claims d back q (claim_stage.Ended result) is = spares c p s c.pages refl (claim.wanted_at q (claim_stage.Ended result)) (won_by q (claim_stage.Ended result)) tt
+  claims d back q stage is =
+      let sound = is.fits.stage.0.sound.stage in
+      spares c p s q.layout.pages (own q.layout (sound.layout ∙ is.fits.stage.0.layout) is.fits.pages) (claim.wants_at q stage) (won_by q stage) tt
 
   rounds : (d : duty.Round) (back : Back) (stage : DutyStage) → Is c k (at_stage x (Serves (record d { stage = stage }) back)) → LeavesBy c (duty.wanted_at d stage) (won_in stage)
   rounds d back (duty_stage.Claims q) is = claims d back q q.stage is
-  rounds d back stage is = spares c p s d.layout.pages (own d.layout is.fits.stage.0.layout is.fits.pages) (duty.wanted_at d stage) (won_in stage) (round_spares d stage tt)
+  rounds d back stage is = spares c p s d.layout.pages (own d.layout is.fits.stage.0.layout is.fits.pages) (duty.wants_at d stage) (won_in stage) tt
 
   -- ---- the whole
 
   by_stage : (stage : Stage) → Kind stage
-  by_stage Looks is = spares c p s c.pages refl (wanted_at x Looks) none tt
-  by_stage (Passes g after) is = spares c p s g.layout.pages (own g.layout is.fits.stage.layout is.fits.pages) (gate.wanted g) none (gate_spares g g.stage)
+  by_stage Looks is = spares c p s x.layout.pages is.fits.pages (Some (on.Load Gate)) none tt
+  by_stage (Passes g after) is = spares c p s g.layout.pages (own g.layout is.fits.stage.layout is.fits.pages) (gate.wants_at g g.stage) none (passage_writes IsOther tt g g.stage)
   by_stage (Flips f) is = flips f f.stage is
   by_stage (Forwards w) is =
       let f = is.fits.stage.copy in
       copies w.evac.layout w.evac.addr w.evac.epoch w.evac.worker (own w.evac.layout f.layout is.fits.pages) w.evac.stage f.sound.fits
-  by_stage (Accesses a) is = spares c p s a.spaces.pages (own a.spaces is.fits.stage.layout is.fits.pages) (Some (access.wanted a)) none (access_spares a.spaces a.stage)
+  by_stage (Accesses a) is = spares c p s a.spaces.pages (own a.spaces is.fits.stage.layout is.fits.pages) (Some (access.wants_at a.spaces a.stage)) none (access_rows.writes IsOther (λ addr. tt) a.spaces a.stage)
   by_stage (Places z) is = places z z.stage is
   by_stage (Serves d back) is = rounds d back d.stage is
-  by_stage (Scans z back) is = spares c p s z.layout.pages (own z.layout is.fits.stage.0.layout is.fits.pages) (scan.wanted z) none (scan_spares z.layout z.page z.epoch z.stage)
+  by_stage (Scans z back) is = spares c p s z.layout.pages (own z.layout is.fits.stage.0.layout is.fits.pages) (scan.wants_at z.page z.epoch z.stage) none (scan_rows.writes IsOther (λ addr. tt) z.page z.epoch z.stage)
   by_stage (Evacuates v z back) is =
       let f = is.fits.stage.0 in
       copies v.layout v.addr v.epoch v.worker (own v.layout f.layout is.fits.pages) v.stage f.sound.fits
   by_stage (Opens o z back) is = opens o z back o.stage is
-  by_stage Gone is = spares c p s c.pages refl None none tt
+  by_stage Gone is = λ q asked. absurd (cc)
 
   pub leaves : Is c k x → LeavesBy c (wanted x) (won x)
   leaves is = by_stage x.stage is

@@ -1,5 +1,6 @@
 -- Within an epoch LOW falls by the words that allocations claim, and by these alone; a flip sets it to the end of the space.
 use Rattle.std.proofs.Common.{◌≡◌, ◌≢◌, ℕ, ◌+◌, ◌*◌, ◌<◌, ◌≤◌, ◌==◌, Bool, true, false, cond, List, length, slice_index, set, Option, Some, None, refl, ap, sym, subst, ◌∙◌, arith, ⊎_elim}
+use Rattle.std.specs.Prelude.{option_map}
 use Rattle.std.proofs.lemmas.Bool.{cases_eq, eqb-true}
 use Rattle.std.proofs.lemmas.Option.{same_Some}
 use Rattle.plain_state.specs.State.{Plain}
@@ -8,20 +9,24 @@ use Rattle.atom_store.specs.declared.reply.Reply.TheVariants as replies
 use Rattle.atom_store.specs.declared.step.Step.{Step}
 use Rattle.atom_store.specs.declared.step.Step.TheVariants.{Store, Exchange}
 use Rattle.atom_store.specs.Step.{words_after, reply_of}
+use Rattle.atom_store.specs.StepOn.{StepOn, Writes, step_at}
+use Rattle.atom_store.specs.StepOn as on
 use Rattle.space_map.specs.declared.area_word.AreaWord.{AreaWord}
 use Rattle.space_map.specs.declared.gate_word.GateWord.{GateWord}
 use Rattle.space_map.specs.declared.spaces.TheConstants.{PAGE_WORDS}
 use Rattle.space_map.specs.AreaWord.{AreaFits, decode_area, encode_area}
 use Rattle.space_map.specs.GateWord.{decode_gate}
 use Rattle.space_map.specs.Spaces.{to_space}
-use Rattle.space_map.specs.Table.{Gate, Area, Page, HeapWord, place_of, table_length}
+use Rattle.space_map.specs.Table.{Row, Gate, Area, place_of, table_length}
 use Rattle.space_map.proofs.AreaWords.{decode_area-encode_area}
 use Rattle.alloc_end.specs.declared.fitting.Fitting.{Fitting}
 use Rattle.alloc_end.specs.declared.place_stage.PlaceStage.{PlaceStage}
-use Rattle.alloc_end.specs.declared.place_stage.PlaceStage.TheVariants.{LoadsTraced, LoadsArea, ExchangesArea, StoresZero, OpensPage, StoresHeader, Ended}
+use Rattle.alloc_end.specs.declared.place_stage.PlaceStage.TheVariants.{ExchangesArea}
 use Rattle.alloc_end.specs.Place.{Placing, words_for, kept_room, area_after}
 use Rattle.alloc_end.specs.Place as place
 use Rattle.alloc_end.specs.Soundness.{HasRoom}
+use Rattle.fault_duty.specs.Duty as duty
+use Rattle.fault_duty.proofs.RowsFit as duty_rows
 use Rattle.forwarding.specs.declared.evac_stage.EvacStage.{EvacStage}
 use Rattle.forwarding.specs.declared.evac_stage.EvacStage.TheVariants.{Reserves}
 use Rattle.forwarding.specs.Evacuation.{Evacuation, area_past, size_of}
@@ -33,12 +38,19 @@ use Rattle.gate_core.specs.declared.flipped.Flipped.TheVariants as flipped
 use Rattle.gate_core.specs.declared.reset.Reset as resets
 use Rattle.gate_core.specs.Flip.{Flipping, area_reset}
 use Rattle.gate_core.specs.Flip as flip
+use Rattle.gate_core.specs.Gate as gate
+use Rattle.gate_core.proofs.RowsFit.{passage_writes}
+use Rattle.page_scan.specs.Scanning as scan
+use Rattle.page_scan.proofs.RowsFit as scan_rows
+use Rattle.page_slots.specs.Open as open_page
+use Rattle.page_slots.proofs.RowsFit.{opening_writes}
 use Rattle.heap_state.specs.Configuration.{Configuration, table, era}
 use Rattle.heap_state.specs.Era.{from_space}
 use Rattle.heap_state.specs.Table.{word_in}
 use Rattle.heap_state.specs.Worker.{Worker}
 use Rattle.heap_state.proofs.Table.Places.{word_in-row, word_in-same, word_in-other}
 use Rattle.gc_worker.specs.Cycles.{claimed, claimed_at, claimed_by, low_said, low_at, low_of, LowGoes, LowFallsByClaims}
+use Rattle.gc_worker.specs.Access as access
 use Rattle.gc_worker.specs.declared.stage.Stage.{Stage}
 use Rattle.gc_worker.specs.declared.stage.Stage.TheVariants.{Looks, Passes, Flips, Forwards, Accesses, Places, Serves, Scans, Evacuates, Opens, Gone}
 use Rattle.gc_worker.specs.Goes.{Is}
@@ -46,9 +58,10 @@ use Rattle.gc_worker.specs.Held.{Held, at_stage}
 use Rattle.gc_worker.specs.Law.{Heap, FlipsWhereTold, WorkersStand, read, held_at, epoch_of}
 use Rattle.gc_worker.specs.Turned.{Told, Silent, Answers, Marks, epoch_in, told, told_at, told_flip}
 use Rattle.gc_worker.specs.Wanted.{wanted, wanted_at}
+use Rattle.gc_worker.proofs.Accessing.RowsFit as access_rows
 use Rattle.gc_worker.proofs.Areas.{area_says, is_space}
 use Rattle.gc_worker.proofs.Between.Claims.{NoMark, flips_at}
-use Rattle.gc_worker.proofs.Cycles.Beside.{IsQuiet, area_stays, accesses_quietly, beside, copies_quietly, opens_quietly, passes_quietly, scans_quietly, serves_quietly}
+use Rattle.gc_worker.proofs.Between.Written.{IsNoArea, area_stays}
 use Rattle.gc_worker.proofs.Eras.{old_span_is}
 use Rattle.gc_worker.proofs.Gate.Words.{gate_says}
 use Rattle.gc_worker.proofs.Members.{member}
@@ -95,6 +108,13 @@ module _ (n : ℕ) (words : List ℕ) (whole : table_length n ≤ length words) 
     pub low_stays : low_at n (words_after (Exchange place_here (encode_area old) (encode_area new)) words) at ≡ low_at n words at
     low_stays = by_test (slice_index words place_here == encode_area old) refl
 
+-- LOW stays at a step that writes no area
+beside : (n : ℕ) (words : List ℕ) (space m : ℕ) (o : Option (StepOn Row)) (q : Step) → Writes IsNoArea o → option_map (step_at (place_of m)) o ≡ Some q → low_at n (words_after q words) space ≡ low_at n words space
+beside n words space m None q writes asked = absurd (cc)
+beside n words space m (Some on) q writes asked =
+    subst (λ (z : Step). low_at n (words_after z words) space ≡ low_at n words space) (same_Some (step_at (place_of m) on) q asked)
+    (ap (λ (w : ℕ). low_said (decode_area w)) (area_stays n m words on space writes))
+
 -- ---- the step of a worker
 
 module _ (h : Heap) (p o : Plain) (k : ℕ) (x : Held) (st : WorkersStand h p o) where
@@ -126,9 +146,8 @@ module _ (h : Heap) (p o : Plain) (k : ℕ) (x : Held) (st : WorkersStand h p o)
   stays : (stage : Stage) (q : Step) → claimed_at stage (reply_of q words) ≡ 0 → low_at n (words_after q words) here ≡ low_at n words here → Lows stage q
   stays stage q none same = omega (arith, none, same)
 
-  quiet : (stage : Stage) (q : Step) → claimed_at stage (reply_of q words) ≡ 0 → IsQuiet (wanted_at x stage) → wanted_at x stage ≡ Some q → Lows stage q
-  quiet stage q none writes asked =
-      stays stage q none (ap (λ (w : ℕ). low_said (decode_area w)) (area_stays n words here small_here q (subst IsQuiet asked writes)))
+  quiet : (stage : Stage) (q : Step) (m : ℕ) (o : Option (StepOn Row)) → claimed_at stage (reply_of q words) ≡ 0 → Writes IsNoArea o → option_map (step_at (place_of m)) o ≡ Some q → Lows stage q
+  quiet stage q m o none writes asked = stays stage q none (beside n words here m o q writes asked)
 
   -- ---- a claim for a record
 
@@ -194,8 +213,7 @@ module _ (h : Heap) (p o : Plain) (k : ℕ) (x : Held) (st : WorkersStand h p o)
       let moves : ℕ → Step = λ m. Exchange (place_of m (Area (to_space v.epoch))) (encode_area area) (encode_area new) in
       subst (λ (r : Step). low_at n (words_after r words) here ≡ low_at n words here) (same_Some (moves n) q (ap (λ (m : ℕ). Some (moves m)) (sym pages) ∙ asked))
       (low_stays n words whole (to_space v.epoch) (is_space v.epoch) area new fits.1.fits (past_fits v.layout.pages (size_of kept) area fits.1) refl here small_here)
-  copies v stage q pages fits asked =
-      ap (λ (w : ℕ). low_said (decode_area w)) (area_stays n words here small_here q (subst IsQuiet asked (copies_quietly v.layout v.addr v.epoch v.worker stage tt)))
+  copies v stage q pages fits asked = beside n words here v.layout.pages (evac.wants_at v.layout v.addr v.epoch v.worker stage) q tt asked
 
   -- ---- the other space before a flip
 
@@ -216,39 +234,31 @@ module _ (h : Heap) (p o : Plain) (k : ℕ) (x : Held) (st : WorkersStand h p o)
 
   flips : (f : Flipping) (stage : FlipStage) (q : Step) → Is c k (at_stage x (Flips (record f { stage = stage }))) → flip.wanted_at f stage ≡ Some q
       → low_at n (words_after q words) here ≡ low_at n words here
-  flips f flip_stage.LoadsGate q is asked = subst (λ (r : Step). low_at n (words_after r words) here ≡ low_at n words here) (same_Some _ q asked) refl
-  flips f (flip_stage.LoadsArea gate) q is asked = subst (λ (r : Step). low_at n (words_after r words) here ≡ low_at n words here) (same_Some _ q asked) refl
   flips f (flip_stage.StoresArea r) q is asked = subst (λ (r : Step). low_at n (words_after r words) here ≡ low_at n words here) (same_Some _ q asked) (resets_other f r is)
-  flips f (flip_stage.Exchanges r) q is asked =
-      ap (λ (w : ℕ). low_said (decode_area w)) (area_stays n words here small_here q (subst IsQuiet asked (beside f.layout.pages Gate tt)))
-  flips f (flip_stage.Ended result) q is asked = absurd (let e = asked in cc)
+  flips f stage q is asked = beside n words here f.layout.pages (flip.wants_at f stage) q tt asked
 
   -- ---- each stage
 
   places : (z : Placing) (stage : PlaceStage) (q : Step) → Is c k (at_stage x (Places (record z { stage = stage }))) → place.wanted_at z stage ≡ Some q → Lows (Places (record z { stage = stage })) q
   places z (ExchangesArea f) q is asked = subst (Lows (Places (record z { stage = ExchangesArea f }))) (same_Some _ q asked) (claims_low z f is)
-  places z LoadsTraced q is asked = quiet (Places (record z { stage = LoadsTraced })) q refl tt asked
-  places z (LoadsArea traced) q is asked = quiet (Places (record z { stage = LoadsArea traced })) q refl tt asked
-  places z (StoresZero new) q is asked = quiet (Places (record z { stage = StoresZero new })) q refl (beside z.layout.pages (HeapWord new.next) tt) asked
-  places z (OpensPage new) q is asked = quiet (Places (record z { stage = OpensPage new })) q refl (beside z.layout.pages (Page new.next) tt) asked
-  places z StoresHeader q is asked = quiet (Places (record z { stage = StoresHeader })) q refl (beside z.layout.pages (HeapWord z.run.at) tt) asked
-  places z (Ended result) q is asked = absurd (let e = asked in cc)
+  places z stage q is asked = quiet (Places (record z { stage = stage })) q z.layout.pages (place.wants_at z stage) refl tt asked
 
   by_stage : (stage : Stage) (q : Step) → Is c k (at_stage x stage) → wanted_at x stage ≡ Some q → Lows stage q
-  by_stage Looks q is asked = quiet Looks q refl tt asked
-  by_stage (Passes g after) q is asked = quiet (Passes g after) q refl (passes_quietly g g.stage) asked
+  by_stage Looks q is asked = quiet Looks q x.layout.pages (Some (on.Load Gate)) refl tt asked
+  by_stage (Passes g after) q is asked = quiet (Passes g after) q g.layout.pages (gate.wants_at g g.stage) refl (passage_writes IsNoArea tt g g.stage) asked
   by_stage (Flips f) q is asked = stays (Flips f) q refl (flips f f.stage q is asked)
   by_stage (Forwards w) q is asked =
       let copy = is.fits.stage.copy in
       stays (Forwards w) q refl (copies w.evac w.evac.stage q (ap (λ l. l.pages) copy.layout ∙ is.fits.pages) copy.sound.fits asked)
-  by_stage (Accesses a) q is asked = quiet (Accesses a) q refl (accesses_quietly a.spaces a.stage) asked
+  by_stage (Accesses a) q is asked = quiet (Accesses a) q a.spaces.pages (Some (access.wants_at a.spaces a.stage)) refl (access_rows.writes IsNoArea (λ addr. tt) a.spaces a.stage) asked
   by_stage (Places z) q is asked = places z z.stage q is asked
-  by_stage (Serves d back) q is asked = quiet (Serves d back) q refl (serves_quietly d d.stage) asked
-  by_stage (Scans s back) q is asked = quiet (Scans s back) q refl (scans_quietly s.layout s.page s.epoch s.stage) asked
+  by_stage (Serves d back) q is asked =
+      quiet (Serves d back) q d.layout.pages (duty.wants_at d d.stage) refl (duty_rows.writes IsNoArea tt (λ page. tt) d d.stage) (sym (duty_rows.by_rows d d.stage is.fits.stage.0.sound.stage) ∙ asked)
+  by_stage (Scans s back) q is asked = quiet (Scans s back) q s.layout.pages (scan.wants_at s.page s.epoch s.stage) refl (scan_rows.writes IsNoArea (λ addr. tt) s.page s.epoch s.stage) asked
   by_stage (Evacuates v s back) q is asked =
       let copy = is.fits.stage.0 in
       stays (Evacuates v s back) q refl (copies v v.stage q (ap (λ l. l.pages) copy.layout ∙ is.fits.pages) copy.sound.fits asked)
-  by_stage (Opens s z back) q is asked = quiet (Opens s z back) q refl (opens_quietly s s.stage) asked
+  by_stage (Opens s z back) q is asked = quiet (Opens s z back) q s.layout.pages (open_page.wants_at s s.stage) refl (opening_writes IsNoArea (λ page. tt) s s.stage) asked
   by_stage Gone q is asked = absurd (let e = asked in cc)
 
   -- ---- a flip
@@ -329,8 +339,7 @@ module _ (h : Heap) (p o : Plain) (k : ℕ) (x : Held) (q : Step) (st : WorkersS
       let own : x ≡ at_stage x (Flips (record f { stage = flip_stage.Exchanges r })) = ap (at_stage x) (staged ∙ ap (λ (s : FlipStage). Flips (record f { stage = s })) flips) in
       let whole = other_is_whole h p o k x st f r (subst (Is (read h) k) own there) in
       let space : to_space (epoch_of h.pages later) ≡ from_space (era (read h)).epoch = ap to_space (next ∙ ap (λ (e : ℕ). e + 1) (sym was ∙ sym (of_now h p o k x st))) in
-      let writes : IsQuiet (wanted x) = subst (λ (y : Held). IsQuiet (wanted y)) (sym own) (beside f.layout.pages Gate tt) in
-      let stay = ap (λ (w : ℕ). low_said (decode_area w)) (area_stays h.pages h.words (from_space (era (read h)).epoch) (is_space ((era (read h)).epoch + 1)) q (subst IsQuiet asked writes)) in
+      let stay = beside h.pages h.words (from_space (era (read h)).epoch) f.layout.pages (flip.wants_at f (flip_stage.Exchanges r)) q tt (sym (ap wanted own) ∙ asked) in
       ap (low_at h.pages later) space ∙ (stay ∙ whole)
 
   by_told : (t : Told) → told x reply ≡ t → FlipsWhereTold h.pages h.words later x t → LowGoes h.pages h.words later (claimed x reply) t
