@@ -102,6 +102,9 @@ module _ (passes : ℕ → Bool) (reserved heap : ℕ → ℕ) (end : ℕ) where
   pub next_in-end : (at : ℕ) → end ≤ at → next_in (end - at) passes reserved heap end at ≡ next.Ended
   next_in-end at behind = next_end (end - at) at behind
 
+  pub walk-end : (at : ℕ) → end ≤ at → walk (end - at) passes reserved heap end at ≡ []
+  walk-end at behind = walk_end passes reserved heap end (end - at) at behind
+
   -- ---- what comes next is the first of the list
 
   -- the first record of the walk in so many turns, behind which it goes on

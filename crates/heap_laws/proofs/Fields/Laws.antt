@@ -1,6 +1,6 @@
 -- A mutator's store and its going on are one step.
 use Rattle.std.proofs.lemmas.Bool.{cases_lt}
-use Rattle.std.proofs.Common.{◌≡◌, ℕ, ◌+◌, ◌-◌, ◌<◌, ◌≤◌, ◌*◌, ◌⊎◌, inl, inr, true, Some, None, refl, sym, ◌∙◌, arith}
+use Rattle.std.proofs.Common.{◌≡◌, ℕ, ◌+◌, ◌-◌, ◌<◌, ◌≤◌, ◌*◌, ◌⊎◌, inl, inr, true, Some, refl, sym, ◌∙◌, arith}
 use Rattle.plain_state.specs.Layout.{word_of}
 use Rattle.plain_state.specs.State as plain
 use Rattle.plain_state.specs.declared.end.End.TheVariants.{HeapFull}
@@ -110,10 +110,29 @@ mutators_store_on_board E m team g p k next q x v y ready runs s l opens holds g
 
 pub mutators_end : MutatorsEnd
 mutators_end E m team g p k q why ready runs s is =
+    let known = ready.invariant.workers k ready.member in
     let a = s.accounts k q is in
     let r = s.registers k q is in
-    let goes : GoesOn E m g (team.worker k) (with_end (team.worker k) why) =
-    goes_on_so E m team g k (record (team.worker k).account { end = Some why }) (team.worker k).registers None None ready refl (λ f e. none≢some e) (λ x e. none≢some e) (λ n. none≢some (sym n)) in
+    let goes : GoesOn E m g (team.worker k) (with_end (team.worker k) why) = record {
+      post = refl;
+      epoch = refl;
+      done = refl;
+      serial = refl;
+      quest = refl;
+      copy = refl;
+      scan = refl;
+      gate_step = refl;
+      stock = λ t e. e;
+      round = λ t e. e;
+      claim = λ t e. e;
+      look = λ t e. e;
+      last_look = λ t e. e;
+      traced_seen = λ e. (known.seen_traced e).1;
+      reset = λ t e. e;
+      access = λ f e. none≢some e;
+      opened = λ x e. none≢some e;
+      registers = λ n. none≢some (sym n);
+    } in
     mutators_step E m team g p k (with_end (team.worker k) why) (record q { end = Some why }) ready runs s goes
     (record {
       account = record { counter = a.counter; printed = a.printed; executed = a.executed; end = refl; serial = a.serial };

@@ -6,6 +6,7 @@ use Rattle.plain_state.specs.declared.kind.Kind.TheVariants.{Raw}
 use Rattle.heap_words.specs.Decoded.{PointerWord, NumberWord, decode}
 use Rattle.heap_words.specs.Word.{header_word, pointer_word, tag_of}
 use Rattle.plain_state.specs.declared.value.Value.TheVariants.{Number, Reference}
+use Rattle.plain_state.specs.State as plain
 use Rattle.heap_state.specs.Configuration.{team, Stands}
 use Rattle.heap_state.specs.Denotes.{denoted, denoted_in}
 use Rattle.heap_state.specs.Entries.{EachFits}
@@ -26,7 +27,7 @@ use Rattle.heap_state.specs.Worker.{Worker}
 use Rattle.heap_state.proofs.Flipped.Parts.{flipped_table, flipped_era, flipped_ghost, workers, heap, page, size, none, identity, only, blank_word, zero_word, first_register, number_lands, pointer_lands, counted, staffed, laid, headed, copied, once, kept_by, room, raw_words, shut, filling, tracing, aged, scanned, opened, landing, older, new_area, new_written, old_space, old_words, old_pages, crossing, stocks, numbered}
 use Rattle.heap_state.proofs.Workers.Idle.{idle_knows}
 use Rattle.heap_state.proofs.Holds.Keeping.{holds}
-use Rattle.heap_state.proofs.Puts.{none≢some, true_false}
+use Rattle.heap_state.proofs.Puts.{some_same, none≢some, true_false}
 use Rattle.heap_state.proofs.Represents.Representing.{represents}
 use Rattle.heap_state.proofs.Worked.Standing.{the_mutator, register_zero, pointer_value, number_value, of_one}
 use Rattle.heap_state.proofs.Table.Writing.{writes_tables}

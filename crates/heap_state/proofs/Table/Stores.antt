@@ -3,6 +3,7 @@ use Rattle.std.proofs.Common.{◌≡◌, ℕ, ◌==◌, true, false, cond, refl,
 use Rattle.std.proofs.Math.Path.{fun_ext}
 use Rattle.std.proofs.lemmas.Bool.{cases_Bool}
 use Rattle.space_map.specs.AreaWord.{area_in, encode_area}
+use Rattle.space_map.specs.GateWord.{encode_gate}
 use Rattle.space_map.specs.PageWord.{encode_page}
 use Rattle.space_map.specs.Table.{Row, Area, Page, IsRow}
 use Rattle.space_map.proofs.AreaWords.{area_in-encode_area, encode_area-lt}
