@@ -11,27 +11,31 @@ ghost use Rattle.ael_threads.specs.Seats.{Absorbs, Acts, Heads, IsLive, IsMine, 
 use crate::shared::{Both, Learn, Shared};
 use crate::view::View;
 use atomic_table::Seat;
+use crossbeam_utils::CachePadded;
 use gc_worker::{Stepped, Worker};
 use mutator_asm::Instr;
 use plain_state::End;
 use std::marker::{Brand, Model};
 
 /// A worker with a seat. Contracts see which table it is of, what its code holds, and what its seat knows.
+///
+/// Each step writes the worker, so it has cache lines of its own: threads whose workers lie side by side don't slow each other down.
 #[derive(Drop)]
 pub(crate) struct Caller {
-    pub worker: Worker,
+    pub worker: CachePadded<Worker>,
     pub seat: Seat<u8, View>,
 }
 
 impl Model for Caller {
     ghost use Rattle.std.specs.Prelude.{◌≡◌, []};
+    ghost use Rattle.crossbeam_utils.specs.Padded.{padded_value};
     ghost use Rattle.ael_threads.specs.Seats.{Heads, IsLive, IsMine, Seated, ShowsSeen};
 
     ghost Value = { Seated };
 
-    ghost view = { λ c. record { table = c.seat.table_id; worker = c.worker; knows = c.seat.me.0 } };
+    ghost view = { λ c. record { table = c.seat.table_id; worker = padded_value c.worker; knows = c.seat.me.0 } };
 
-    ghost invariant = { λ c. (c.seat.me.1 ≡ []) × Heads c.seat.me.0.plan c.worker c.seat.me.0.hands × IsLive c.seat.table_id c.seat.me.0 × IsMine c.seat.me.0 × ShowsSeen c.worker c.seat.me.0 };
+    ghost invariant = { λ c. (c.seat.me.1 ≡ []) × Heads c.seat.me.0.plan (padded_value c.worker) c.seat.me.0.hands × IsLive c.seat.table_id c.seat.me.0 × IsMine c.seat.me.0 × ShowsSeen (padded_value c.worker) c.seat.me.0 };
 }
 
 impl Caller {
@@ -61,11 +65,12 @@ impl Caller {
         ensures table { self.new.table ≡ self.old.table }
         ensures act { Acts self.old result self.new }
     {
-        let Some(step) = self.worker.want() else {
+        let worker: &mut Worker = &mut self.worker;
+        let Some(step) = worker.want() else {
             return Stepped::Idle;
         };
-        let reply = h.step::<Brand>(&self.worker, &mut self.seat, step);
-        self.worker.take(reply)
+        let reply = h.step::<Brand>(worker, &mut self.seat, step);
+        worker.take(reply)
     }
 
     /// Takes in another caller, with its calls.

@@ -17,6 +17,7 @@ use crate::scanner::Scanner;
 use crate::shared::{Deal, Shared};
 use crate::view::{Plan, View};
 use atomic_table::{Seat, Table};
+use crossbeam_utils::CachePadded;
 use gc_worker::{Config, OpenError, Worker};
 use mmu_model::unprotect;
 use space_map::{AreaWord, PAGE_WORDS, Spaces};
@@ -115,6 +116,9 @@ impl Shared {
     {
         plan.spaces.known();
         let own = self.table.shared.split_seat::<Deal>(seat);
-        Caller { worker, seat: own }
+        Caller {
+            worker: CachePadded::new(worker),
+            seat: own,
+        }
     }
 }

@@ -1,4 +1,6 @@
 use Rattle.std.proofs.Common.{◌<◌, ◌≤◌, arith, refl, sym, ◌∙◌, ap, subst}
+use Rattle.crossbeam_utils.specs.Padded.{padded_value}
+use Rattle.gc_worker.specs.Held.{Held}
 use Rattle.space_map.specs.Spaces.{IsPageCount}
 use Rattle.ael_threads.specs.declared.view.View.{View}
 use Rattle.ael_threads.specs.Rule.{crew}
@@ -14,18 +16,30 @@ pub invariant_of-result : goal.invariant_of-result
 invariant_of-result c =
     let s = c.split_seat-own.ensures in
     let plan = c.args.plan.now in
+    let worker : Held = padded_value c.new.result in
+    let fresh = c.new.ensures ∙ c.requires.worker in
     let size : IsPageCount plan.spaces.pages = c.known.ensures in
     let few : c.args.k ≤ 23 = (let a = c.requires.below in let b = c.requires.few.1 in omega (arith, a, b)) in
     let some : 0 < plan.spaces.pages = (let a = size.0 in omega (arith, a)) in
     let is = ap (λ (z : Me). z.0) s.4 ∙ gives _ plan c.args.k (crew plan) c.requires.below (ap (λ (z : Me). z.0) c.requires.seat) in (
       ap (λ (z : Me). z.1) s.4,
-      fresh_heads plan c.args.k c.args.worker c.split_seat-own.result.me.0 size few c.requires.worker is,
+      fresh_heads plan c.args.k worker c.split_seat-own.result.me.0 size few fresh is,
       still_live _ _ (new_seated c.args.self.now.table.shared.table_id plan 0).knows c.split_seat-own.result.me.0 (s.3 ∙ c.requires.table) (ap (λ (z : View). z.plan) is) (some, c.requires.live),
       subst IsMine (sym is) refl,
-      fresh_shows plan c.args.k c.args.worker c.split_seat-own.result.me.0 size c.requires.few.0 c.requires.few.1 c.requires.below c.requires.worker is,
+      fresh_shows plan c.args.k worker c.split_seat-own.result.me.0 size c.requires.few.0 c.requires.few.1 c.requires.below fresh is,
     )
 
 pub returns-clause-left : goal.returns-clause-left
 returns-clause-left c =
     let plan = c.args.plan.now in
     c.split_seat-own.ensures.2 ∙ (λ i. (leaves _ plan c.args.k (crew plan) c.requires.below (ap (λ (z : Me). z.0) c.requires.seat) i, ap (λ (z : Me). z.1) c.requires.seat i))
+
+pub returns-clause-caller : goal.returns-clause-caller
+returns-clause-caller c =
+    let s = c.split_seat-own.ensures in
+    let plan = c.args.plan.now in
+    let is = ap (λ (z : Me). z.0) s.4 ∙ gives _ plan c.args.k (crew plan) c.requires.below (ap (λ (z : Me). z.0) c.requires.seat) in (λ i. record {
+      table = (s.3 ∙ c.requires.table) i;
+      worker = (c.new.ensures ∙ c.requires.worker) i;
+      knows = is i;
+    })
