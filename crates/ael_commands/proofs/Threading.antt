@@ -22,7 +22,7 @@ use Rattle.ael_threads.specs.declared.outputs.Outputs.{Outputs}
 use Rattle.ael_threads.specs.declared.outputs.Printed.{Printed}
 use Rattle.ael_threads.specs.Opened.{plan_of}
 use Rattle.ael_threads.specs.Outputs.{Runs, as_kept, printed_by}
-use Rattle.ael_threads.specs.Programs.{order_of}
+use Rattle.gc_worker.specs.History.Order.{order_of}
 use Rattle.ael_threads.specs.Rule.{heap_of}
 use Rattle.ael_commands.specs.declared.options.RunOptions.{RunOptions}
 use Rattle.ael_commands.specs.declared.status.Status.{Status}

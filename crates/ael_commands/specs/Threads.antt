@@ -5,7 +5,7 @@ use Rattle.gc_core.specs.Run.{Ran}
 use Rattle.ael_threads.specs.declared.outputs.Outputs.{Outputs}
 use Rattle.ael_threads.specs.Opened.{plan_of}
 use Rattle.ael_threads.specs.Outputs.{Runs}
-use Rattle.ael_threads.specs.Programs.{order_of}
+use Rattle.gc_worker.specs.History.Order.{order_of}
 use Rattle.ael_threads.specs.Rule.{heap_of}
 use Rattle.ael_commands.specs.declared.options.RunOptions.{RunOptions}
 use Rattle.ael_commands.specs.Simulation.{config}

@@ -16,7 +16,8 @@ use Rattle.gc_worker.specs.declared.stepped.Stepped.TheVariants as stepped
 use Rattle.gc_worker.specs.Fits.{Fits, FitsEnd, FitsTask, FitsTaskBefore, IsEndBefore}
 use Rattle.gc_worker.specs.Held.{Held}
 use Rattle.gc_worker.specs.Stepped.{stepped_by, uncounted}
-use Rattle.gc_worker.specs.Turned.{Effect, Ends, Told, Silent, Answers, Marks, told, turned}
+use Rattle.gc_worker.specs.declared.did.Did.TheVariants.{Done, Trap}
+use Rattle.gc_worker.specs.Turned.{Told, Silent, Answers, Marks, told, turned}
 use Rattle.gc_worker.specs.Wanted.{wanted}
 use Rattle.gc_worker.proofs.Between.GoingOn.{workers_go_on}
 use Rattle.ael_threads.specs.declared.view.Hand.{Hand}
@@ -24,7 +25,7 @@ use Rattle.ael_threads.specs.declared.view.Plan.{Plan}
 use Rattle.ael_threads.specs.Histories.{first_plain}
 use Rattle.ael_threads.specs.Readers.{IsThere}
 use Rattle.ael_threads.specs.Seats.{Acts, ActsBy, Heads, Moves, Seated, first_number, plain_seen}
-use Rattle.ael_threads.proofs.Growing.{as_many}
+use Rattle.gc_worker.proofs.History.Extensions.{as_many}
 
 pub heads_fit : (plan : Plan) (x : Held) (hs : List Hand) → Heads plan x hs → Fits plan.spaces.pages plan.mutators (first_number hs) x
 heads_fit plan x [] h = absurd h
@@ -74,8 +75,8 @@ no_task plan x hs end heads is = by_stage x.stage (subst (λ (o : Option End). F
 -- who makes a step is not idle
 not_idle : (k : ℕ) (t : Told) → stepped.Idle ≡ stepped_by k t → ⊥
 not_idle k Silent e = cc
-not_idle k (Answers task Effect) e = cc
-not_idle k (Answers task (Ends end)) e = cc
+not_idle k (Answers task Done) e = cc
+not_idle k (Answers task (Trap end)) e = cc
 not_idle k (Marks asked) e = cc
 
 by_stepped : (a : Seated) (r : Reply) (s : Stepped) (b : Seated) → ActsBy a r s b → Acts a s b

@@ -15,7 +15,7 @@ use Rattle.gc_worker.specs.Wanted.{wanted}
 use Rattle.ael_threads.specs.declared.view.Hand.{Hand}
 use Rattle.ael_threads.specs.declared.view.Plan.{Plan}
 use Rattle.ael_threads.specs.declared.view.View.{View}
-use Rattle.ael_threads.specs.Histories.{calls_of}
+use Rattle.gc_worker.specs.History.Legal.{calls_of}
 use Rattle.ael_threads.specs.Rule.{Kept, view}
 use Rattle.ael_threads.specs.Seats.{Follows, Heads, IsMine, Me, Moves, Plays, ShowsSeen, first_number, first_own, reply_to}
 use Rattle.ael_threads.proofs.Turning.{Came, TableState, moves}

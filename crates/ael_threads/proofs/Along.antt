@@ -13,24 +13,25 @@ use Rattle.gc_worker.specs.Full.{FindsNoRoom}
 use Rattle.gc_worker.specs.Law.{WorkersStand}
 use Rattle.gc_worker.specs.Marks.{task_of}
 use Rattle.gc_worker.specs.Stepped.{uncounted}
-use Rattle.gc_worker.specs.Turned.{Effect, Ends}
 use Rattle.gc_worker.specs.declared.stage.Stage.TheVariants.{Gone}
 use Rattle.gc_worker.specs.declared.stepped.Stepped.{Stepped}
 use Rattle.gc_worker.specs.declared.task.Task.{Task}
 use Rattle.gc_worker.specs.declared.task.Task.TheVariants.{Calls, Stops}
-use Rattle.ael_threads.specs.declared.view.Call.{Call}
-use Rattle.ael_threads.specs.declared.view.Did.{Did}
-use Rattle.ael_threads.specs.declared.view.Did.TheVariants.{Done, Trap}
-use Rattle.ael_threads.specs.declared.view.Entry.{Entry}
+use Rattle.gc_worker.specs.declared.call.Call.{Call}
+use Rattle.gc_worker.specs.declared.did.Did.{Did}
+use Rattle.gc_worker.specs.declared.did.Did.TheVariants.{Done, Trap}
+use Rattle.gc_worker.specs.declared.entry.Entry.{Entry}
 use Rattle.ael_threads.specs.declared.view.Plan.{Plan}
 use Rattle.ael_threads.specs.Calls.{Called, IsQuiet, KnowsWorker, call_by}
-use Rattle.ael_threads.specs.Histories.{HasOwn, IsLegal, after_all, call, calls_of, did_of, extra, first_plain, hand, last_flip, outcome_of}
+use Rattle.gc_worker.specs.History.Legal.{IsLegal, after_all, call, calls_of, extra, last_flip}
+use Rattle.ael_threads.specs.Histories.{HasOwn, first_plain, hand}
 use Rattle.ael_threads.specs.Programs.{HasExecuted, count_after, fetched_at}
 use Rattle.ael_threads.specs.Rule.{StandsAs, heap_of}
 use Rattle.ael_threads.specs.Running.{Executed, Executing, FoundFull, FullByEnd, HasRun, IsScanning, Work}
 use Rattle.ael_threads.specs.Seats.{Acts, IsMine, IsShown, Seated, ShowsSeen, first_number, first_own, plain_seen, seen_after}
 use Rattle.ael_threads.proofs.Calling.{quiet_first, quiet_more}
-use Rattle.ael_threads.proofs.MoreCalls.{fetches_shown, legal_last}
+use Rattle.gc_worker.proofs.History.Extensions.{legal_last}
+use Rattle.ael_threads.proofs.MoreCalls.{fetches_shown}
 use Rattle.ael_threads.proofs.Programs.{executed_more, executed_rests}
 
 -- an end that stands in an instruction's place is what the call comes to
@@ -40,10 +41,10 @@ stops a b end did c = by_did did h.mutator h.may
     before : Plain
     before = after_all (first_plain a.knows.plan) (a.knows.seen ++ c.history.between)
 
-    h : ComesTo before (first_number a.knows.hands) (Stops end) (outcome_of (did_of (outcome_of did)))
+    h : ComesTo before (first_number a.knows.hands) (Stops end) did
     h = legal_last (first_plain a.knows.plan) (a.knows.seen ++ c.history.between) (call_by a (Stops end) did) (subst (IsLegal (first_plain a.knows.plan)) c.history.is c.history.legal)
 
-    by_did : (did : Did) (q : Mutator) → MayCome (first_number a.knows.hands) before.heap q (Stops end) (outcome_of (did_of (outcome_of did))) → did ≡ Trap end
+    by_did : (did : Did) (q : Mutator) → MayCome (first_number a.knows.hands) before.heap q (Stops end) did → did ≡ Trap end
     by_did Done q may = absurd may
     by_did (Trap why) q may = ap Trap may
 
@@ -92,8 +93,8 @@ module _ (w : Work) (m count : ℕ) (a : Seated) (h : Executing w m count a) whe
     legal_after : IsLegal (first_plain w.plan) b.knows.seen
     legal_after = subst (λ (plan : Plan). IsLegal (first_plain plan) b.knows.seen) h.plan c.history.legal
 
-    hands_after : b.knows.hands ≡ hand m b.worker (h.own ++ call m task (outcome_of did) ∷ []) ∷ []
-    hands_after = c.hands ∙ (λ i. hand (number_is i) b.worker (first_own (h.hands i) ++ call (number_is i) task (outcome_of did) ∷ []) ∷ drop 1 (h.hands i))
+    hands_after : b.knows.hands ≡ hand m b.worker (h.own ++ call m task did ∷ []) ∷ []
+    hands_after = c.hands ∙ (λ i. hand (number_is i) b.worker (first_own (h.hands i) ++ call (number_is i) task did ∷ []) ∷ drop 1 (h.hands i))
 
     mine_after : IsMine b.knows
     mine_after = let own = (subst (HasOwn b.knows.seen) hands_after c.history.own).0 in (λ i. calls_of (first_number (hands_after i)) b.knows.seen) ∙ (own ∙ sym (ap first_own hands_after))
@@ -106,7 +107,7 @@ module _ (w : Work) (m count : ℕ) (a : Seated) (h : Executing w m count a) whe
   executing_more b task same own c = record {
     table = same ∙ h.table;
     plan = c.plan ∙ h.plan;
-    own = h.own ++ call m task Effect ∷ [];
+    own = h.own ++ call m task Done ∷ [];
     hands = hands_after b task Done c;
     mine = mine_after b task Done c;
     task = c.rests;
@@ -149,7 +150,7 @@ module _ (w : Work) (m count : ℕ) (a : Seated) (h : Executing w m count a) whe
   executing_ends b task end same own c = record {
     table = same ∙ h.table;
     plan = c.plan ∙ h.plan;
-    own = h.own ++ call m task (Ends end) ∷ [];
+    own = h.own ++ call m task (Trap end) ∷ [];
     hands = hands_after b task (Trap end) c;
     mine = mine_after b task (Trap end) c;
     task = c.rests;

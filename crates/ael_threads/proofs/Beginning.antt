@@ -14,11 +14,10 @@ use Rattle.std.specs.Prelude.{if◌then◌else◌}
 use Rattle.ael_threads.specs.declared.view.Hand.{Hand}
 use Rattle.ael_threads.specs.declared.view.Plan.{Plan}
 use Rattle.ael_threads.specs.declared.view.View.{View}
-use Rattle.ael_threads.specs.Cycles.{opened}
-use Rattle.ael_threads.specs.Histories.{Each, IsOnce, first_held, hand, new_hands, number}
+use Rattle.ael_threads.specs.Histories.{Each, IsOnce, first_held, first_plain, hand, new_hands, number}
 use Rattle.ael_threads.specs.Rule.{FitsView, Has, Kept, StandsAs, crew, first_view}
 use Rattle.ael_threads.proofs.Elements.{prefix_self}
-use Rattle.ael_threads.proofs.Unclaimed.{opening_tallied}
+use Rattle.gc_worker.proofs.History.Opening.{opening_tallied}
 
 abbrev pub first_words : Plan → List ℕ
 first_words plan = written plan.spaces.pages (opening_entries plan.spaces.pages)
@@ -72,7 +71,7 @@ opens_kept plan size few all = record {
   winner = λ c. 0;
   legal = tt;
   stands = heaps_open plan.spaces.pages plan.mutators plan.scanners size few all;
-  tallied = opening_tallied plan.spaces.pages plan.mutators plan.scanners (opened plan) size few all refl refl;
+  tallied = opening_tallied plan.spaces.pages plan.mutators plan.scanners size few all (first_plain plan);
   seats = λ id v at. one id v at;
 }
   where

@@ -5,9 +5,9 @@ use Rattle.atom_store.specs.declared.reply.Reply.{Reply}
 use Rattle.std.specs.Option.{is_some}
 use Rattle.gc_worker.specs.declared.stage.Stage.{Stage}
 use Rattle.ael_threads.proofs.Flipping.{answers_in_epoch}
-use Rattle.ael_threads.proofs.Growing.{legal_last}
+use Rattle.gc_worker.proofs.History.Extensions.{legal_last}
 use Rattle.ael_threads.proofs.Showing.{none_of}
-use Rattle.ael_threads.proofs.Tallying.{entries_last}
+use Rattle.gc_worker.proofs.History.Tallies.{entries_last}
 use Rattle.plain_state.specs.declared.end.End.{End}
 use Rattle.heap_state.specs.Worker.{Account}
 use Rattle.mutator_asm.specs.declared.instr.Instr.TheVariants.{Halt}
@@ -22,19 +22,20 @@ use Rattle.gc_worker.specs.Between.{AreAlike, IsNoAnswer, Lands, with_task, Rest
 use Rattle.gc_worker.specs.Full.{FullWhereTold}
 use Rattle.gc_worker.specs.Held.{Held}
 use Rattle.gc_worker.specs.Stepped.{stepped_by, uncounted}
-use Rattle.gc_worker.specs.Turned.{Effect, Ends, Told, Silent, Answers, Marks, told, turned, PageWon, won}
-use Rattle.ael_threads.specs.declared.view.Call.{Call}
+use Rattle.gc_worker.specs.Turned.{Told, Silent, Answers, Marks, told, turned, PageWon, won}
+use Rattle.gc_worker.specs.declared.call.Call.{Call}
 use Rattle.ael_threads.specs.declared.view.Claim.{Claim}
-use Rattle.ael_threads.specs.declared.view.Did.{Did}
-use Rattle.ael_threads.specs.declared.view.Did.TheVariants.{Done, Trap}
-use Rattle.ael_threads.specs.declared.view.Entry.{Entry}
-use Rattle.ael_threads.specs.declared.view.Entry.TheVariants.{Made}
+use Rattle.gc_worker.specs.declared.did.Did.{Did}
+use Rattle.gc_worker.specs.declared.did.Did.TheVariants.{Done, Trap}
+use Rattle.gc_worker.specs.declared.entry.Entry.{Entry}
+use Rattle.gc_worker.specs.declared.entry.Entry.TheVariants.{Made}
 use Rattle.ael_threads.specs.declared.view.Hand.{Hand}
 use Rattle.ael_threads.specs.declared.view.Plan.{Plan}
 use Rattle.ael_threads.specs.declared.view.View.{View}
 use Rattle.ael_threads.specs.Calls.{Called, Departs, end_of, IsDone, IsQuiet, KnowsWorker, Rests, Waits, WinsMore, call_by}
-use Rattle.ael_threads.specs.Cycles.{EachEntry, EntryIs, IsFilledBy, Tasks, opened, tally, tasks_of}
-use Rattle.ael_threads.specs.Histories.{IsLegal, after_all, call, did_of, hand, outcome_of, own_after, first_plain, last_flip}
+use Rattle.gc_worker.specs.History.Tally.{EachEntry, EntryIs, IsFilledBy, Tasks, tally, tasks_held}
+use Rattle.ael_threads.specs.Histories.{opened, hand, first_plain}
+use Rattle.gc_worker.specs.History.Legal.{IsLegal, after_all, call, own_after, last_flip}
 use Rattle.ael_threads.specs.Seats.{Acts, ActsBy, Extends, IsEffect, Seated, Sees, ShowsSeen, first_number, first_own, plain_seen, seen_after, LiveWhereTold, claim_of, with_claim}
 
 -- ---- pages won
@@ -102,8 +103,8 @@ IsNeither s = ((m : ℕ) → s ≡ stepped.Effect m → ⊥) × ((m : ℕ) (end 
 
 no_answer : (k : ℕ) (t : Told) (s : Stepped) → s ≡ stepped_by k t → IsNeither s → IsNoAnswer t
 no_answer k Silent s is n = tt
-no_answer k (Answers task Effect) s is n = absurd (n.0 k is)
-no_answer k (Answers task (Ends end)) s is n = absurd (n.1 k end is)
+no_answer k (Answers task Done) s is n = absurd (n.0 k is)
+no_answer k (Answers task (Trap end)) s is n = absurd (n.1 k end is)
 no_answer k (Marks asked) s is n = tt
 
 waits_by : (a b c : Seated) (task : Task) (r : Reply) (s : Stepped) → Waits a task b → ActsBy b r s c → IsNeither s → Waits a task c
@@ -122,48 +123,36 @@ waits_more a b c task (stepped.Ended m end) w h no_effect no_end = absurd (no_en
 
 -- ---- the step that answers
 
-ends_by : (n mutators m : ℕ) (was z : Held) (did : Did) → RestsAfter was z (outcome_of did) → Fits n mutators m z → z.account.end ≡ end_of did
+ends_by : (n mutators m : ℕ) (was z : Held) (did : Did) → RestsAfter was z did → Fits n mutators m z → z.account.end ≡ end_of did
 ends_by n mutators m was z Done looks f = none_of z.account.end (subst (λ (stage : Stage). FitsEnd stage (is_some z.account.end)) looks f.end)
 ends_by n mutators m was z (Trap end) after f = ap (λ (a : Account). a.end) after.0
 
-done_is : (did : Did) (x : Held) (task : Task) → IsDone did → IsEffect (Answers task (outcome_of did))
+done_is : (did : Did) (x : Held) (task : Task) → IsDone did → IsEffect (Answers task did)
 done_is Done x task h = tt
 done_is (Trap end) x task h = absurd h
 
 -- the last call of a history comes to what it may at that point
 comes_last : (a : Seated) (task : Task) (did : Did) (hands : List Hand) (later : List Entry) (h : Extends a.knows.plan hands a.knows.seen (call_by a task did) later)
-    → ComesTo (after_all (first_plain a.knows.plan) (a.knows.seen ++ h.between)) (first_number a.knows.hands) task (outcome_of did)
-comes_last a task did hands later h = by_did did (legal_last (first_plain a.knows.plan) (a.knows.seen ++ h.between) (call_by a task did) (subst (IsLegal (first_plain a.knows.plan)) h.is h.legal))
-  where
-    by_did : (d : Did) → ComesTo (after_all (first_plain a.knows.plan) (a.knows.seen ++ h.between)) (first_number a.knows.hands) task (outcome_of (did_of (outcome_of d)))
-        → ComesTo (after_all (first_plain a.knows.plan) (a.knows.seen ++ h.between)) (first_number a.knows.hands) task (outcome_of d)
-    by_did Done c = c
-    by_did (Trap end) c = c
+    → ComesTo (after_all (first_plain a.knows.plan) (a.knows.seen ++ h.between)) (first_number a.knows.hands) task did
+comes_last a task did hands later h = legal_last (first_plain a.knows.plan) (a.knows.seen ++ h.between) (call_by a task did) (subst (IsLegal (first_plain a.knows.plan)) h.is h.legal)
 
 -- and where it tells the heap to be full it is filled
 filled_last : (a : Seated) (task : Task) (did : Did) (tasks : Tasks) (before : List Entry)
     → EachEntry (EntryIs a.knows.plan.spaces.pages tasks) (opened a.knows.plan) (before ++ Made (call_by a task did) ∷ [])
     → IsFilledBy a.knows.plan.spaces.pages tasks (tally (opened a.knows.plan) before) (first_number a.knows.hands) task did []
-filled_last a task did tasks before h = by_did did (entries_last (EntryIs a.knows.plan.spaces.pages tasks) (opened a.knows.plan) before (Made (call_by a task did)) h)
-  where
-    IsFor : Did → Type 0
-    IsFor d = IsFilledBy a.knows.plan.spaces.pages tasks (tally (opened a.knows.plan) before) (first_number a.knows.hands) task d []
-
-    by_did : (d : Did) → IsFor (did_of (outcome_of d)) → IsFor d
-    by_did Done f = f
-    by_did (Trap end) f = f
+filled_last a task did tasks before h = entries_last (EntryIs a.knows.plan.spaces.pages tasks) (opened a.knows.plan) before (Made (call_by a task did)) h
 
 lands_uncounted : (n : ℕ) (words : List ℕ) (z : Held) → Lands n words z → Lands n words (uncounted z)
 lands_uncounted n words z l = record { in_space = l.in_space; header = l.header }
 
-calls : (a b c : Seated) (task : Task) (r : Reply) (s : Stepped) (did : Did) → Waits a task b → ActsBy b r s c → (other : Task) → told b.worker r ≡ Answers other (outcome_of did) → Called a task did c
+calls : (a b c : Seated) (task : Task) (r : Reply) (s : Stepped) (did : Did) → Waits a task b → ActsBy b r s c → (other : Task) → told b.worker r ≡ Answers other did → Called a task did c
 calls a b c task r s did w h other is =
     let m = first_number b.knows.hands in
     let k = h.knows in
-    let answer = h.goes_on.answers other (outcome_of did) is in
+    let answer = h.goes_on.answers other did is in
     let same : other ≡ task = same_Some other task (sym answer.asked ∙ w.asks) in
-    let answers : told b.worker r ≡ Answers task (outcome_of did) = is ∙ (λ j. Answers (same j) (outcome_of did)) in
-    let call_is : call m other (outcome_of did) ≡ call_by a task did = (λ i. call (w.rests.number i) (same i) (outcome_of did)) in
+    let answers : told b.worker r ≡ Answers task did = is ∙ (λ j. Answers (same j) did) in
+    let call_is : call m other did ≡ call_by a task did = (λ i. call (w.rests.number i) (same i) did) in
     let pages : b.knows.plan.spaces.pages ≡ a.knows.plan.spaces.pages = ap (λ (p : Plan). p.spaces.pages) w.rests.plan in
     let history : Extends a.knows.plan c.knows.hands a.knows.seen (call_by a task did) c.knows.seen =
     subst (λ (z : Plan × (List Entry × Call)). Extends z.0 c.knows.hands z.1.0 z.1.1 c.knows.seen) (λ i. (w.rests.plan i, (w.rests.seen i, call_is i)))
@@ -183,12 +172,12 @@ calls a b c task r s did w h other is =
       stepped = s;
       acts = h;
       answers = answers;
-      epoch = ap (λ (x : Held). x.epoch) h.worker ∙ answers_in_epoch b.worker r other (outcome_of did) is;
+      epoch = ap (λ (x : Held). x.epoch) h.worker ∙ answers_in_epoch b.worker r other did is;
       comes = comes_last a task did c.knows.hands c.knows.seen history;
       full = subst (λ (z : ℕ × Told). FullWhereTold z.0 k.before b.worker z.1) (λ i. (pages i, is i)) k.full;
       live = subst (λ (z : Plan × Told). LiveWhereTold (last_flip (first_plain z.0) c.knows.seen) z.1) (λ i. (w.rests.plan i, answers i)) k.live;
-      filled = filled_last a task did (tasks_of k.stands.workers) (a.knows.seen ++ history.between)
-          (subst (λ (z : Plan × List Entry). EachEntry (EntryIs z.0.spaces.pages (tasks_of k.stands.workers)) (opened z.0) z.1) (λ i. (w.rests.plan i, ends i)) k.stands.tallied.entries);
+      filled = filled_last a task did (tasks_held k.stands.workers) (a.knows.seen ++ history.between)
+          (subst (λ (z : Plan × List Entry). EachEntry (EntryIs z.0.spaces.pages (tasks_held k.stands.workers)) (opened z.0) z.1) (λ i. (w.rests.plan i, ends i)) k.stands.tallied.entries);
       lands = λ yes. subst (λ (z : ℕ × Held). Lands z.0 k.after z.1) (λ i. (pages i, sym h.worker i))
           (lands_uncounted b.knows.plan.spaces.pages k.after (turned b.worker r) (k.lands (subst IsEffect (sym is) (done_is did b.worker other yes))));
       alike = λ yes q its. subst (λ (x : Held). AreAlike x.registers q) (sym h.worker)
@@ -197,14 +186,14 @@ calls a b c task r s did w h other is =
 
 by_effect : (a b c : Seated) (task : Task) (r : Reply) (m : ℕ) → Waits a task b → ActsBy b r (stepped.Effect m) c → (t : Told) → told b.worker r ≡ t → stepped.Effect m ≡ stepped_by b.worker.number t → Called a task Done c
 by_effect a b c task r m w h Silent is e = absurd (cc)
-by_effect a b c task r m w h (Answers other Effect) is e = calls a b c task r (stepped.Effect m) Done w h other is
-by_effect a b c task r m w h (Answers other (Ends end)) is e = absurd (cc)
+by_effect a b c task r m w h (Answers other Done) is e = calls a b c task r (stepped.Effect m) Done w h other is
+by_effect a b c task r m w h (Answers other (Trap end)) is e = absurd (cc)
 by_effect a b c task r m w h (Marks asked) is e = absurd (cc)
 
 by_end : (a b c : Seated) (task : Task) (r : Reply) (m : ℕ) (end : End) → Waits a task b → ActsBy b r (stepped.Ended m end) c → (t : Told) → told b.worker r ≡ t → stepped.Ended m end ≡ stepped_by b.worker.number t → Called a task (Trap end) c
 by_end a b c task r m end w h Silent is e = absurd (cc)
-by_end a b c task r m end w h (Answers other Effect) is e = absurd (cc)
-by_end a b c task r m end w h (Answers other (Ends why)) is e = let same : why ≡ end = cc in calls a b c task r (stepped.Ended m end) (Trap end) w h other (is ∙ ap (λ (z : End). Answers other (Ends z)) same)
+by_end a b c task r m end w h (Answers other Done) is e = absurd (cc)
+by_end a b c task r m end w h (Answers other (Trap why)) is e = let same : why ≡ end = cc in calls a b c task r (stepped.Ended m end) (Trap end) w h other (is ∙ ap (λ (z : End). Answers other (Trap z)) same)
 by_end a b c task r m end w h (Marks asked) is e = absurd (cc)
 
 pub executed : (a b c : Seated) (task : Task) (m : ℕ) → Waits a task b → Acts b (stepped.Effect m) c → Called a task Done c

@@ -1,5 +1,5 @@
 -- Facts of each element of a list, beginnings of lists, and lists made of others one by one.
-use Rattle.std.proofs.Common.{◌≡◌, ℕ, ◌+◌, ◌<◌, ◌≤◌, List, [], ◌∷◌, ◌++◌, map, take, get_or, length, subst, refl, sym, ◌∙◌, ap, append_assoc, append-nil, length-append, arith}
+use Rattle.std.proofs.Common.{◌≡◌, ℕ, ◌+◌, ◌<◌, ◌≤◌, List, [], ◌∷◌, ◌++◌, map, take, get_or, length, subst, sym, ◌∙◌, ap, append_assoc, append-nil, arith}
 use Rattle.std.proofs.lemmas.List.{map_more, take_all}
 use mathlib.Core.List.{IsPrefix}
 use Rattle.ael_threads.specs.Histories.{Each}
@@ -41,10 +41,6 @@ module _ {A : Type 0} where
 
   pub prefix_trans : (xs ys zs : List A) → IsPrefix xs ys → IsPrefix ys zs → IsPrefix xs zs
   prefix_trans xs ys zs h k = (h.0 ++ k.0, sym (append_assoc xs h.0 k.0) ∙ (ap (λ z. z ++ k.0) h.1 ∙ k.1))
-
-  pub no_more : (xs ys : List A) → xs ++ ys ≡ xs → ys ≡ []
-  no_more xs [] e = refl
-  no_more xs (y ∷ ys) e = absurd (let a = length-append xs (y ∷ ys) in let b = ap length e in omega (arith, a, b))
 
 -- there is room for one more
 pub has_room : (count i all room : ℕ) → count ≡ i → i < all → all ≤ room → count < room

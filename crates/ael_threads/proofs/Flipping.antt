@@ -35,7 +35,8 @@ use Rattle.gc_worker.specs.Held.{Held, asked_by, at_stage, making_for}
 use Rattle.gc_worker.specs.Law.{FlipsWhereTold}
 use Rattle.gc_worker.specs.declared.allocating.Making.{Making}
 use Rattle.gc_worker.specs.Seen.{seen}
-use Rattle.gc_worker.specs.Turned.{Outcome, Told, Silent, Answers, Marks, acted, acts, begins, end_of, ended, full_by, is_full, looked_by, passes, started, told, told_access, told_acted, told_action, told_at, told_effect, told_end, told_flip, told_full, told_gate, told_look, told_place, told_start, turned, turned_access, turned_at, turned_flip, turned_look, turned_place, with_record}
+use Rattle.gc_worker.specs.declared.did.Did.{Did}
+use Rattle.gc_worker.specs.Turned.{Told, Silent, Answers, Marks, acted, acts, begins, end_of, ended, full_by, is_full, looked_by, passes, started, told, told_access, told_acted, told_action, told_at, told_effect, told_end, told_flip, told_full, told_gate, told_look, told_place, told_start, turned, turned_access, turned_at, turned_flip, turned_look, turned_place, with_record}
 use Rattle.gc_worker.proofs.Between.Claims.{flips_at}
 use Rattle.gc_worker.proofs.Counting.{counted_fit}
 
@@ -155,5 +156,5 @@ module _ (x : Held) where
   by_stage (Opens o s back) reply = tt
   by_stage Gone reply = tt
 
-  pub answers_in_epoch : (reply : Reply) (task : Task) (outcome : Outcome) → told x reply ≡ Answers task outcome → (turned x reply).epoch ≡ x.epoch
+  pub answers_in_epoch : (reply : Reply) (task : Task) (outcome : Did) → told x reply ≡ Answers task outcome → (turned x reply).epoch ≡ x.epoch
   answers_in_epoch reply task outcome e = subst (Stays x (turned x reply)) e (by_stage x.stage reply)

@@ -8,8 +8,9 @@ use Rattle.gc_worker.proofs.Between.Copied.{copied_was_live}
 use Rattle.ael_threads.specs.declared.view.Claim.{Claim}
 use Rattle.ael_threads.specs.declared.view.Hand.{Hand}
 use Rattle.ael_threads.specs.declared.view.Plan.{Plan}
-use Rattle.ael_threads.specs.Cycles.{opened, tally}
-use Rattle.ael_threads.specs.Histories.{Each, IsOnce, after_all, first_plain, last_flip, number}
+use Rattle.ael_threads.specs.Histories.{opened, Each, IsOnce, first_plain, number}
+use Rattle.gc_worker.specs.History.Tally.{tally}
+use Rattle.gc_worker.specs.History.Legal.{after_all, last_flip}
 use Rattle.ael_threads.specs.Rule.{Has, Kept, heap_of}
 use Rattle.ael_threads.specs.Seats.{Absorbs, Closes, Gathers, Seated, Stays}
 use Rattle.ael_threads.proofs.Elements.{each_at, each_map, prefix_self, prefix_trans}
@@ -45,8 +46,6 @@ closes plan id t all one words xs g end =
       copied = copied_was_live (heap_of plan words b.workers) (after_all (first_plain plan) b.log) (last_flip (first_plain plan) b.log) stands;
       epoch = subst (λ (z : List ℕ). epoch_of plan.spaces.pages z ≡ (tally (opened plan) b.log).flips) end.2 b.tallied.counts.epoch;
       entries = b.tallied.entries;
-      asked = b.tallied.asked;
-      flips = b.tallied.flips;
       seen = each_map (λ (c : Seated). IsPrefix c.knows.seen one.knows.seen) (λ (c : Seated). IsPrefix c.knows.seen b.log) (λ c h. prefix_trans c.knows.seen one.knows.seen b.log h f.seen) all g.seen;
       hands = subst (Each (Stays b.workers b.log)) g.hands (each_map (Has b.workers b.log b.owner id) (Stays b.workers b.log) (λ h k. record { state = k.state; calls = k.calls }) one.knows.hands f.hands);
       apart = subst (λ (hands : List Hand). IsOnce (map number hands)) g.hands f.apart;

@@ -8,12 +8,13 @@ use Rattle.atomic_table.specs.Table as table
 use Rattle.gc_worker.specs.Held.{Held}
 use Rattle.gc_worker.specs.Law.{WorkersStand}
 use Rattle.ael_threads.specs.declared.view.Claim.{Claim}
-use Rattle.ael_threads.specs.declared.view.Entry.{Entry}
+use Rattle.gc_worker.specs.declared.entry.Entry.{Entry}
 use Rattle.ael_threads.specs.declared.view.Hand.{Hand}
 use Rattle.ael_threads.specs.declared.view.Plan.{Plan}
 use Rattle.ael_threads.specs.declared.view.View.{View}
-use Rattle.ael_threads.specs.Cycles.{IsTallied, opened}
-use Rattle.ael_threads.specs.Histories.{Each, IsLegal, IsOnce, after_all, calls_of, first_plain, last_flip, number}
+use Rattle.gc_worker.specs.History.Tally.{IsTallied}
+use Rattle.ael_threads.specs.Histories.{opened, Each, IsOnce, first_plain, number}
+use Rattle.gc_worker.specs.History.Legal.{IsLegal, after_all, calls_of, last_flip}
 use Rattle.ael_threads.specs.Rule.{FitsView, Has, Kept, Won, heap_of, spent_view, view}
 use Rattle.ael_threads.specs.Seats.{Absorbs, Learned, Learns, Me, both_of}
 use Rattle.ael_threads.proofs.Places.{at_set, set_else}

@@ -1,5 +1,5 @@
 -- What one more call of a mutator does to what its thread knows of the history that it has seen.
-use Rattle.std.proofs.Common.{◌≡◌, ℕ, ◌+◌, ◌<◌, ◌≤◌, Bool, cond, List, [], ◌∷◌, ◌++◌, length, Option, Some, None, Result, Ok, Err, slice_get, slice_set, refl, sym, ◌∙◌, ap, subst, arith, append-nil, eq-eqb, ne_eqb}
+use Rattle.std.proofs.Common.{◌≡◌, ℕ, ◌+◌, ◌<◌, ◌≤◌, Bool, cond, List, [], ◌∷◌, ◌++◌, length, Option, Some, None, Result, Ok, Err, slice_get, slice_set, refl, sym, ◌∙◌, ap, subst, arith, append-nil, eq-eqb}
 use Rattle.std.specs.Prelude.{IfOk, IsOk}
 use Rattle.std.specs.Option.{option_map}
 use Rattle.std.proofs.lemmas.List.{append_cancel_right, get_or-replicate, length-replicate}
@@ -28,60 +28,20 @@ use Rattle.gc_worker.specs.declared.task.Task.TheVariants.{Calls, Stops}
 use Rattle.gc_worker.specs.Answer.{ComesTo, MayCome, after_answer, after_outcome}
 use Rattle.gc_worker.specs.Held.{Held}
 use Rattle.gc_worker.specs.Marks.{task_of}
-use Rattle.gc_worker.specs.Turned.{Outcome, Effect, Ends}
 use Rattle.gc_worker.proofs.Outcomes.{call-counted}
-use Rattle.ael_threads.specs.declared.view.Call.{Call}
-use Rattle.ael_threads.specs.declared.view.Did.{Did}
-use Rattle.ael_threads.specs.declared.view.Did.TheVariants.{Done, Trap}
-use Rattle.ael_threads.specs.declared.view.Entry.{Entry}
-use Rattle.ael_threads.specs.declared.view.Entry.TheVariants.{Made, Exchanged}
+use Rattle.gc_worker.specs.declared.call.Call.{Call}
+use Rattle.gc_worker.specs.declared.did.Did.{Did}
+use Rattle.gc_worker.specs.declared.did.Did.TheVariants.{Done, Trap}
+use Rattle.gc_worker.specs.declared.entry.Entry.{Entry}
+use Rattle.gc_worker.specs.declared.entry.Entry.TheVariants.{Made, Exchanged}
 use Rattle.ael_threads.specs.declared.view.Hand.{Hand}
 use Rattle.ael_threads.specs.declared.view.Plan.{Plan}
-use Rattle.ael_threads.specs.Histories.{IsLegal, after_all, after_call, calls_of, outcome_of}
-use Rattle.ael_threads.specs.Programs.{AreFetched, AreShort, Counts, Executes, IsShort, count_after, fetched_at}
+use Rattle.gc_worker.specs.History.Legal.{IsLegal, after_all, after_call, calls_of}
+use Rattle.gc_worker.specs.History.Order.{AreFetched, AreShort, IsShort}
+use Rattle.ael_threads.specs.Programs.{Counts, Executes, count_after, fetched_at}
 use Rattle.ael_threads.specs.Seats.{Extends, IsShown}
-use Rattle.ael_threads.proofs.Elements.{no_more}
-use Rattle.ael_threads.proofs.Growing.{Agrees, after_append, as_many, calls_append, none_first, seen_keeps}
-
--- ---- a history in two parts
-
-module _ (code : List (List Instr)) (turns m : ℕ) where
-  fetched_append : (p : Plain) (xs ys : List Entry) → AreFetched code turns m p xs → AreFetched code turns m (after_all p xs) ys → AreFetched code turns m p (xs ++ ys)
-  fetched_append p [] ys h k = k
-  fetched_append p (Made c ∷ es) ys h k = (h.0, fetched_append (after_call p c) es ys h.1 k)
-  fetched_append p (Exchanged asked ∷ es) ys h k = fetched_append p es ys h k
-
-  -- where mutator m has no call
-  pub fetched_none : (p : Plain) (log : List Entry) → calls_of m log ≡ [] → AreFetched code turns m p log
-  fetched_none p [] none = tt
-  fetched_none p (Made c ∷ es) none = let h = none_first m c es none in ((λ by. absurd (h.0 (sym by))), fetched_none (after_call p c) es h.1)
-  fetched_none p (Exchanged asked ∷ es) none = fetched_none p es none
-
-module _ (m : ℕ) where
-  short_append : (xs ys : List Entry) → AreShort m xs → AreShort m ys → AreShort m (xs ++ ys)
-  short_append [] ys h k = k
-  short_append (Made c ∷ es) ys h k = (h.0, short_append es ys h.1 k)
-  short_append (Exchanged asked ∷ es) ys h k = short_append es ys h k
-
-  pub short_none : (log : List Entry) → calls_of m log ≡ [] → AreShort m log
-  short_none [] none = tt
-  short_none (Made c ∷ es) none = let h = none_first m c es none in ((λ by. absurd (h.0 (sym by))), short_none es h.1)
-  short_none (Exchanged asked ∷ es) none = short_none es none
-
-pub legal_last : (p : Plain) (xs : List Entry) (c : Call) → IsLegal p (xs ++ Made c ∷ []) → ComesTo (after_all p xs) c.by c.task (outcome_of c.did)
-legal_last p [] c h = h.0
-legal_last p (Made d ∷ es) c h = legal_last (after_call p d) es c h.1
-legal_last p (Exchanged asked ∷ es) c h = legal_last p es c h
-
--- a call is of a mutator that there is
-pub none_past : (p : Plain) (log : List Entry) (m : ℕ) → IsLegal p log → length p.mutators ≤ m → calls_of m log ≡ []
-none_past p [] m legal past = refl
-none_past p (Made c ∷ es) m legal past =
-    let h : ComesTo p c.by c.task (outcome_of c.did) = legal.0 in
-    let within = slice_get_within p.mutators c.by h.mutator h.is in
-    let many = as_many p (Made c ∷ []) in
-    rw (ne_eqb c.by m (λ e. omega (arith, within, past, e))) (none_past (after_call p c) es m legal.1 (omega (arith, many, past)))
-none_past p (Exchanged asked ∷ es) m legal past = none_past p es m legal past
+use Rattle.gc_worker.proofs.History.Orders.{fetched_append, fetched_none, short_append, short_none}
+use Rattle.gc_worker.proofs.History.Extensions.{legal_last, no_more, Agrees, after_append, calls_append, seen_keeps}
 
 -- ---- how many records there are lists of
 
@@ -111,32 +71,32 @@ module _ (m : ℕ) (heap : Heap) (k : Mutator) where
   unfolding call
   call-makers i = if_ok-bind (λ (a : After). AsMany a.heap) (action k i) (performed m heap k) performed-makers
 
-makers_outcome : (p : Plain) (m : ℕ) (q : Mutator) (task : Task) (outcome : Outcome) → length (after_outcome p m q task outcome).heap.records ≡ length p.heap.records
-makers_outcome p m q (Calls instr) Effect = by_call (call m p.heap q instr) (call-makers m p.heap q instr)
+makers_outcome : (p : Plain) (m : ℕ) (q : Mutator) (task : Task) (outcome : Did) → length (after_outcome p m q task outcome).heap.records ≡ length p.heap.records
+makers_outcome p m q (Calls instr) Done = by_call (call m p.heap q instr) (call-makers m p.heap q instr)
   where
     by_call : (r : Result After End) → IfOk r (λ a. length a.heap.records ≡ length p.heap.records) → length (settled p m q r).heap.records ≡ length p.heap.records
     by_call (Ok a) same = same
     by_call (Err why) same = refl
-makers_outcome p m q (Stops end) Effect = refl
-makers_outcome p m q (Calls instr) (Ends why) = refl
-makers_outcome p m q (Stops end) (Ends why) = refl
+makers_outcome p m q (Stops end) Done = refl
+makers_outcome p m q (Calls instr) (Trap why) = refl
+makers_outcome p m q (Stops end) (Trap why) = refl
 
-makers_answer : (p : Plain) (m : ℕ) (task : Task) (outcome : Outcome) (o : Option Mutator) → length (after_answer p m task outcome o).heap.records ≡ length p.heap.records
+makers_answer : (p : Plain) (m : ℕ) (task : Task) (outcome : Did) (o : Option Mutator) → length (after_answer p m task outcome o).heap.records ≡ length p.heap.records
 makers_answer p m task outcome (Some q) = makers_outcome p m q task outcome
 makers_answer p m task outcome None = refl
 
 -- no call adds or takes away such a list
 pub makers : (p : Plain) (log : List Entry) → length (after_all p log).heap.records ≡ length p.heap.records
 makers p [] = refl
-makers p (Made c ∷ es) = makers (after_call p c) es ∙ makers_answer p c.by c.task (outcome_of c.did) (slice_get p.mutators c.by)
-makers p (Exchanged asked ∷ es) = makers p es
+makers p (Made c ∷ es) = makers (after_call p c) es ∙ makers_answer p c.by c.task c.did (slice_get p.mutators c.by)
+makers p (Exchanged by asked ∷ es) = makers p es
 
 -- ---- what came since is none of its calls
 
 -- the whole history has no more calls of mutator m than this beginning
 module _ (m : ℕ) (seen log : List Entry) (begins : IsPrefix seen log) (same : calls_of m log ≡ calls_of m seen) where
   rest_none : calls_of m begins.0 ≡ []
-  rest_none = no_more (calls_of m seen) (calls_of m begins.0) (sym (calls_append m seen begins.0) ∙ (ap (calls_of m) begins.1 ∙ same))
+  rest_none = no_more seen begins.0 m (sym (calls_append m seen begins.0) ∙ (ap (calls_of m) begins.1 ∙ same))
 
   pub fetched_all : (code : List (List Instr)) (turns : ℕ) (p : Plain) → AreFetched code turns m p seen → AreFetched code turns m p log
   fetched_all code turns p h = subst (AreFetched code turns m p) begins.1 (fetched_append code turns m p seen begins.0 h (fetched_none code turns m (after_all p seen) begins.0 rest_none))
@@ -173,8 +133,8 @@ counts_first n m below = record {
 }
 
 -- a call that is executed counts, and an end doesn't
-counts_outcome : (p : Plain) (m count : ℕ) (q : Mutator) (task : Task) (did : Did) → slice_get p.mutators m ≡ Some q → MayCome m p.heap q task (outcome_of did) → Counts p m count
-    → Counts (after_outcome p m q task (outcome_of did)) m (count_after did count)
+counts_outcome : (p : Plain) (m count : ℕ) (q : Mutator) (task : Task) (did : Did) → slice_get p.mutators m ≡ Some q → MayCome m p.heap q task did → Counts p m count
+    → Counts (after_outcome p m q task did) m (count_after did count)
 counts_outcome p m count q task did is may h = by_task task did may
   where
     within : m < length p.mutators
@@ -200,7 +160,7 @@ counts_outcome p m count q task did is may h = by_task task did may
         }
     by_call (Err why) went counted same ok = absurd (cc)
 
-    by_task : (task : Task) (did : Did) → MayCome m p.heap q task (outcome_of did) → Counts (after_outcome p m q task (outcome_of did)) m (count_after did count)
+    by_task : (task : Task) (did : Did) → MayCome m p.heap q task did → Counts (after_outcome p m q task did) m (count_after did count)
     by_task (Calls instr) Done may = by_call (call m p.heap q instr) (call-went m p.heap q instr) (call-counted m p.heap q h.kept instr) (call-makers m p.heap q instr) may
     by_task (Calls instr) (Trap why) may = by_end why
     by_task (Stops end) Done may = absurd may
@@ -223,7 +183,7 @@ one_more plan hands seen later c own h was now =
     let all : calls_of c.by front ++ c ∷ [] ≡ own ++ c ∷ [] =
     sym (ap (λ (z : List Call). calls_of c.by front ++ z) (own_last c)) ∙ (sym (calls_append c.by front (Made c ∷ [])) ∙ (sym (ap (calls_of c.by) h.is) ∙ now)) in
     let some : calls_of c.by seen ++ calls_of c.by h.between ≡ calls_of c.by seen = sym (calls_append c.by seen h.between) ∙ (append_cancel_right (calls_of c.by front) own (c ∷ []) all ∙ sym was) in
-    record { between = h.between; is = h.is; others = no_more (calls_of c.by seen) (calls_of c.by h.between) some }
+    record { between = h.between; is = h.is; others = no_more seen h.between c.by some }
 
 module _ (seen later : List Entry) (c : Call) (h : OneMore seen c later) where
   abbrev front : List Entry
@@ -247,12 +207,12 @@ module _ (seen later : List Entry) (c : Call) (h : OneMore seen c later) where
   after_is : (p : Plain) → after_all p later ≡ after_call (after_all p front) c
   after_is p = ap (after_all p) h.is ∙ after_append p front (Made c ∷ [])
 
-  comes_to : (p : Plain) → IsLegal p later → ComesTo (after_all p front) c.by c.task (outcome_of c.did)
+  comes_to : (p : Plain) → IsLegal p later → ComesTo (after_all p front) c.by c.task c.did
   comes_to p legal = legal_last p front c (subst (IsLegal p) h.is legal)
 
   -- the plain state after it, of the mutator that made it
-  after_task : (p : Plain) (legal : IsLegal p later) → after_all p later ≡ after_outcome (after_all p front) c.by (comes_to p legal).mutator c.task (outcome_of c.did)
-  after_task p legal = after_is p ∙ ap (after_answer (after_all p front) c.by c.task (outcome_of c.did)) (comes_to p legal).is
+  after_task : (p : Plain) (legal : IsLegal p later) → after_all p later ≡ after_outcome (after_all p front) c.by (comes_to p legal).mutator c.task c.did
+  after_task p legal = after_is p ∙ ap (after_answer (after_all p front) c.by c.task c.did) (comes_to p legal).is
 
   -- a call that is executed is one more
   pub counted_more : (p : Plain) (count : ℕ) → IsLegal p later → Counts (after_all p seen) c.by count → Counts (after_all p later) c.by (count_after c.did count)
@@ -264,16 +224,16 @@ module _ (seen later : List Entry) (c : Call) (h : OneMore seen c later) where
   pub ends_more : (p : Plain) (end : End) → IsLegal p later → c.did ≡ Trap end → end_of (after_all p later) c.by ≡ Some (Some end)
   ends_more p end legal trap =
       let t = comes_to p legal in
-      let same : after_all p later ≡ after_outcome (after_all p front) c.by t.mutator c.task (Ends end) = after_task p legal ∙ ap (λ (did : Did). after_outcome (after_all p front) c.by t.mutator c.task (outcome_of did)) trap in
+      let same : after_all p later ≡ after_outcome (after_all p front) c.by t.mutator c.task (Trap end) = after_task p legal ∙ ap (λ (did : Did). after_outcome (after_all p front) c.by t.mutator c.task did) trap in
       ap (λ (z : Plain). end_of z c.by) same ∙ by_task c.task
     where
-      t : ComesTo (after_all p front) c.by c.task (outcome_of c.did)
+      t : ComesTo (after_all p front) c.by c.task c.did
       t = comes_to p legal
 
       within : c.by < length (after_all p front).mutators
       within = slice_get_within (after_all p front).mutators c.by t.mutator t.is
 
-      by_task : (task : Task) → end_of (after_outcome (after_all p front) c.by t.mutator task (Ends end)) c.by ≡ Some (Some end)
+      by_task : (task : Task) → end_of (after_outcome (after_all p front) c.by t.mutator task (Trap end)) c.by ≡ Some (Some end)
       by_task (Calls instr) = ap (option_map (λ (q : Mutator). q.end)) (slice_get-set_same (after_all p front).mutators c.by (record t.mutator { end = Some end }) within)
       by_task (Stops why) = ap (option_map (λ (q : Mutator). q.end)) (slice_get-set_same (after_all p front).mutators c.by (record t.mutator { end = Some end }) within)
 

@@ -16,26 +16,24 @@ use Rattle.gc_worker.specs.Fits.{MayBegin}
 use Rattle.gc_worker.specs.Full.{FullByOutcome}
 use Rattle.gc_worker.specs.Held.{Held}
 use Rattle.gc_worker.specs.Marks.{task_of}
-use Rattle.ael_threads.specs.declared.view.Call.{Call}
-use Rattle.ael_threads.specs.declared.view.Did.{Did}
-use Rattle.ael_threads.specs.declared.view.Did.TheVariants.{Done, Trap}
-use Rattle.ael_threads.specs.declared.view.Entry.{Entry}
+use Rattle.gc_worker.specs.declared.call.Call.{Call}
+use Rattle.gc_worker.specs.declared.did.Did.{Did}
+use Rattle.gc_worker.specs.declared.did.Did.TheVariants.{Done, Trap}
+use Rattle.gc_worker.specs.declared.entry.Entry.{Entry}
 use Rattle.ael_threads.specs.declared.view.Plan.{Plan}
 use Rattle.ael_threads.specs.Calls.{Called, Rests, call_by}
-use Rattle.ael_threads.specs.Histories.{HasOwn, after_all, calls_of, did_of, first_plain, outcome_of}
-use Rattle.ael_threads.specs.Programs.{Executes, HasExecuted, IsShort, count_after}
+use Rattle.gc_worker.specs.History.Legal.{after_all, calls_of}
+use Rattle.ael_threads.specs.Histories.{HasOwn, first_plain}
+use Rattle.gc_worker.specs.History.Order.{IsShort}
+use Rattle.ael_threads.specs.Programs.{Executes, HasExecuted, count_after}
 use Rattle.ael_threads.specs.Readers.{IsThere}
 use Rattle.ael_threads.specs.Seats.{IsMine, IsShown, Seated, ShowsSeen, first_number, first_own, new_seated, plain_seen}
 use Rattle.ael_threads.proofs.MoreCalls.{OneMore, ends_more, executes_all, executes_first, executes_more, one_more}
-use Rattle.ael_threads.proofs.Growing.{seen_keeps}
+use Rattle.gc_worker.proofs.History.Extensions.{seen_keeps}
 use Rattle.ael_threads.proofs.Showing.{mutator_at}
 
-did_same : (did : Did) → did_of (outcome_of did) ≡ did
-did_same Done = refl
-did_same (Trap end) = refl
-
 -- a heap that is told to be full has too few words
-short_by : (n : ℕ) (words : List ℕ) (x : Held) (did : Did) → FullByOutcome n words x (outcome_of did) → IsShort (did_of (outcome_of did))
+short_by : (n : ℕ) (words : List ℕ) (x : Held) (did : Did) → FullByOutcome n words x did → IsShort did
 short_by n words x Done h = tt
 short_by n words x (Trap (HeapFull asked room live)) h = h.short
 short_by n words x (Trap Halt) h = tt
@@ -109,7 +107,7 @@ executed_more code turns count a b task did mine was h own =
     let now : Executes code turns (first_plain a.knows.plan) m (count_after c.did count) b.knows.seen =
     executes_more code turns (first_plain a.knows.plan) a.knows.seen b.knows.seen c count (called_more a b task did mine h) h.history.legal was own
     (short_by a.knows.plan.spaces.pages h.acts.knows.before h.last.worker did h.full) in
-    seen_as code turns (count_after did count) a b m h.plan (ap first_number h.hands) (subst (λ (d : Did). Executes code turns (first_plain a.knows.plan) m (count_after d count) b.knows.seen) (did_same did) now)
+    seen_as code turns (count_after did count) a b m h.plan (ap first_number h.hands) now
 
 -- a call that ends it is its end
 pub ended_more : (a b : Seated) (task : Task) (end : End) → IsMine a.knows → Called a task (Trap end) b → end_of (plain_seen b.knows) (first_number b.knows.hands) ≡ Some (Some end)

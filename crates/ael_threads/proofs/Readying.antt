@@ -9,7 +9,7 @@ use Rattle.plain_state.specs.State.{Mutator}
 use Rattle.space_map.specs.Spaces.{IsPageCount}
 use Rattle.space_map.specs.Table.{table_length}
 use Rattle.gc_worker.specs.declared.task.Task.{Task}
-use Rattle.gc_worker.specs.Between.{IsAsPlain, IsIdle, fresh_mutator, fresh_scanner, opening, with_task}
+use Rattle.gc_worker.specs.Between.{Begins, IsAsPlain, IsIdle, fresh_mutator, fresh_scanner, opening, with_task}
 use Rattle.gc_worker.specs.Counted.{counted}
 use Rattle.gc_worker.specs.Fits.{Fits, MayBegin}
 use Rattle.gc_worker.specs.Held.{Held}
@@ -20,15 +20,16 @@ use Rattle.gc_worker.proofs.Between.Beginning.{tasks_may_begin}
 use Rattle.gc_worker.proofs.Between.Opening.{heaps_open, mutator_fits, scanner_fits}
 use Rattle.gc_worker.proofs.Between.Standing.{what_stands_is_so}
 use Rattle.gc_worker.proofs.Counting.{beginning, counted_fit}
-use Rattle.ael_threads.specs.declared.view.Entry.{Entry}
+use Rattle.gc_worker.specs.declared.entry.Entry.{Entry}
 use Rattle.ael_threads.specs.declared.view.Hand.{Hand}
 use Rattle.ael_threads.specs.declared.view.Plan.{Plan}
 use Rattle.ael_threads.specs.declared.view.View.{View}
-use Rattle.ael_threads.specs.Histories.{HasOwn, after_all, calls_of, first_held, first_plain, hand}
+use Rattle.gc_worker.specs.History.Legal.{after_all, calls_of}
+use Rattle.ael_threads.specs.Histories.{HasOwn, first_held, first_plain, hand}
 use Rattle.ael_threads.specs.Rule.{crew, view}
-use Rattle.ael_threads.specs.Seats.{Begins, Follows, Heads, IsLive, IsMine, IsShown, Learned, Moves, Seated, ShowsSeen, both_of, first_number, first_own}
+use Rattle.ael_threads.specs.Seats.{Follows, Heads, IsLive, IsMine, IsShown, Learned, Moves, Seated, ShowsSeen, both_of, first_number, first_own}
 use Rattle.ael_threads.proofs.Places.{get_of}
-use Rattle.ael_threads.proofs.Growing.{seen_keeps}
+use Rattle.gc_worker.proofs.History.Extensions.{seen_keeps}
 use Rattle.ael_threads.proofs.Beginning.{uncounted_first, worker_at}
 use Rattle.ael_threads.proofs.Showing.{shown_by}
 

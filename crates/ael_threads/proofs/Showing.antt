@@ -21,7 +21,8 @@ use Rattle.gc_worker.specs.Knows.{post_in}
 use Rattle.gc_worker.specs.Law.{Heap, WorkersStand}
 use Rattle.gc_worker.proofs.Between.Copied.{full_tells_live}
 use Rattle.gc_worker.specs.Stepped.{uncounted}
-use Rattle.gc_worker.specs.Turned.{Effect, Ends, Told, Silent, Answers, Marks}
+use Rattle.gc_worker.specs.declared.did.Did.TheVariants.{Done, Trap}
+use Rattle.gc_worker.specs.Turned.{Told, Silent, Answers, Marks}
 use Rattle.ael_threads.specs.Seats.{IsEffect, IsShown, LiveByEnd, LiveWhereTold}
 
 pub shown_by : (h : Heap) (p : Plain) (m count : ℕ) (z : Held) (q : Mutator) → IsAsPlain h p m (counted count z) q → Shows z.registers q → IsShown p.heap m (uncounted z) q
@@ -35,10 +36,10 @@ shown_by h p m count z q a shows = record {
 
 -- ---- after an effect
 
-pub effect_is : (t : Told) → IsEffect t → (task : Task) × (t ≡ Answers task Effect)
+pub effect_is : (t : Told) → IsEffect t → (task : Task) × (t ≡ Answers task Done)
 effect_is Silent h = absurd h
-effect_is (Answers task Effect) h = (task, refl)
-effect_is (Answers task (Ends end)) h = absurd h
+effect_is (Answers task Done) h = (task, refl)
+effect_is (Answers task (Trap end)) h = absurd h
 effect_is (Marks asked) h = absurd h
 
 pub none_of : (o : Option End) → is_some o ≡ false → o ≡ None
@@ -90,8 +91,8 @@ full_end n words count x OutputFull h = tt
 
 pub full_by : (n : ℕ) (words : List ℕ) (count : ℕ) (x : Held) (t : Told) → FullWhereTold n words (counted count x) t → FullWhereTold n words x t
 full_by n words count x Silent h = tt
-full_by n words count x (Answers task Effect) h = tt
-full_by n words count x (Answers task (Ends end)) h = full_end n words count x end h
+full_by n words count x (Answers task Done) h = tt
+full_by n words count x (Answers task (Trap end)) h = full_end n words count x end h
 full_by n words count x (Marks asked) h = tt
 
 -- ---- an end
@@ -101,11 +102,11 @@ module _ (p : Plain) (m : ℕ) (q : Mutator) (why : End) (its : slice_get p.muta
   with_end = record q { end = Some why }
 
   -- who answers by an end keeps its registers
-  ended_is : (task : Task) → slice_get (after_told p m (Answers task (Ends why))).mutators m ≡ Some with_end
-  ended_is (Calls instr) = ap (λ (o : Option Mutator). slice_get (after_answer p m (Calls instr) (Ends why) o).mutators m) its ∙ slice_get-set_same p.mutators m with_end (slice_get_within p.mutators m q its)
-  ended_is (Stops end) = ap (λ (o : Option Mutator). slice_get (after_answer p m (Stops end) (Ends why) o).mutators m) its ∙ slice_get-set_same p.mutators m with_end (slice_get_within p.mutators m q its)
+  ended_is : (task : Task) → slice_get (after_told p m (Answers task (Trap why))).mutators m ≡ Some with_end
+  ended_is (Calls instr) = ap (λ (o : Option Mutator). slice_get (after_answer p m (Calls instr) (Trap why) o).mutators m) its ∙ slice_get-set_same p.mutators m with_end (slice_get_within p.mutators m q its)
+  ended_is (Stops end) = ap (λ (o : Option Mutator). slice_get (after_answer p m (Stops end) (Trap why) o).mutators m) its ∙ slice_get-set_same p.mutators m with_end (slice_get_within p.mutators m q its)
 
-pub ends_with : (p : Plain) (m : ℕ) (q : Mutator) (task : Task) (why : End) (w : Mutator) (registers : List ℕ) → slice_get p.mutators m ≡ Some q → slice_get (after_told p m (Answers task (Ends why))).mutators m ≡ Some w
+pub ends_with : (p : Plain) (m : ℕ) (q : Mutator) (task : Task) (why : End) (w : Mutator) (registers : List ℕ) → slice_get p.mutators m ≡ Some q → slice_get (after_told p m (Answers task (Trap why))).mutators m ≡ Some w
     → Shows registers q → Shows registers w
 ends_with p m q task why w registers its was s =
     let new : Mutator = record q { end = Some why } in
@@ -129,6 +130,6 @@ module _ (h : Heap) (p o : Plain) (stands : WorkersStand h p o) (x : Held) where
 
   pub live_by : (t : Told) → FullWhereTold h.pages h.words x t → LiveWhereTold o t
   live_by Silent f = tt
-  live_by (Answers task Effect) f = tt
-  live_by (Answers task (Ends end)) f = live_end end f
+  live_by (Answers task Done) f = tt
+  live_by (Answers task (Trap end)) f = live_end end f
   live_by (Marks asked) f = tt

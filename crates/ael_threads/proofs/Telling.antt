@@ -1,5 +1,5 @@
 -- What is told of a program that was run is so.
-use Rattle.std.proofs.Common.{◌≡◌, ℕ, zero, suc, ◌+◌, ◌<◌, List, [], ◌∷◌, ◌++◌, map, take, length, Option, Some, get_or, slice_get, refl, sym, ◌∙◌, ap, subst, arith}
+use Rattle.std.proofs.Common.{◌≡◌, ℕ, zero, suc, ◌+◌, ◌<◌, List, [], ◌∷◌, ◌++◌, map, take, length, Option, Some, get_or, slice_get, refl, sym, ◌∙◌, ap, subst, arith, false}
 use Rattle.std.specs.Prelude.{IsSome}
 use Rattle.std.proofs.lemmas.List.{length-append, length-map, take_all}
 use Rattle.std.proofs.lemmas.Simd.{map-map}
@@ -34,10 +34,11 @@ use Rattle.gc_worker.specs.Stepped.{header_kept, place_kept, uncounted}
 use Rattle.gc_worker.proofs.Between.Standing.{what_stands_is_so}
 use Rattle.gc_worker.proofs.Outcomes.{opens_so}
 use Rattle.ael_threads.specs.declared.outputs.Outputs.{Outputs}
-use Rattle.ael_threads.specs.declared.view.Entry.{Entry}
+use Rattle.gc_worker.specs.declared.entry.Entry.{Entry}
 use Rattle.ael_threads.specs.declared.view.Hand.{Hand}
 use Rattle.ael_threads.specs.declared.view.Plan.{Plan}
-use Rattle.ael_threads.specs.Histories.{Each, IsLegal, after_all, calls_of, first_plain, hand, last_flip}
+use Rattle.gc_worker.specs.History.Legal.{IsLegal, after_all, calls_of, last_flip}
+use Rattle.ael_threads.specs.Histories.{Each, first_plain, hand}
 use Rattle.ael_threads.specs.Opened.{plan_of}
 use Rattle.ael_threads.specs.Outputs.{IsTold, Runs, Tells, TellsRegisters, as_kept, kept_by, registers_by, seen_by}
 use Rattle.ael_threads.specs.Programs.{Executes}
@@ -46,7 +47,7 @@ use Rattle.ael_threads.specs.Rule.{StandsAs, heap_of}
 use Rattle.ael_threads.specs.Running.{EachFrom, FullByEnd, FullIn, HasRun, HaveRun, HaveScanned, Work}
 use Rattle.ael_threads.specs.Seats.{Closes, Seated, Stays, all_hands, first_number, first_own}
 use Rattle.ael_threads.proofs.Elements.{each_apart, each_both}
-use Rattle.ael_threads.proofs.Ordering.{IsProgramOrder, orders_program}
+use Rattle.gc_worker.proofs.History.Orders.{IsProgramOrder, orders_program}
 use Rattle.ael_threads.proofs.Places.{get_of}
 use Rattle.ael_threads.proofs.Programs.{executed_all, shown_all}
 
@@ -244,7 +245,7 @@ module _ (code : List (List Instr)) (config : Config) (t : TableId) (ms : List S
         )
 
     order : IsProgramOrder code config.turns (length code) c.log
-    order = orders_program code config.turns (length code) c.log refl c.legal executes
+    order = orders_program code config.turns (length code) c.log refl c.legal (λ m below. (executes m below).1.fetched) (λ m below. (executes m below).1.short)
 
     -- ---- ends
 
@@ -307,8 +308,6 @@ module _ (code : List (List Instr)) (config : Config) (t : TableId) (ms : List S
           left = workers_left;
           shows = λ m q is. shown_at m q told regs (ap (λ (z : Plain). slice_get (after_all z c.log).mutators m) from ∙ is);
           entries = c.entries;
-          asked = c.asked;
-          flips = c.flips;
           tells = subst (λ (z : List ℕ). Tells (heap_of plan_here z c.workers) told) (sym same) tells;
           full = λ m q end is e. full_at m q end (ap (λ (z : Plain). slice_get (after_all z c.log).mutators m) from ∙ is) e;
         }

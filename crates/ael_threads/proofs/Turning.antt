@@ -13,14 +13,15 @@ use Rattle.plain_state.specs.State.{Mutator, Plain}
 use Rattle.gc_worker.specs.declared.stage.Stage.TheVariants.{Looks}
 use Rattle.gc_worker.specs.declared.task.Task.{Task}
 use Rattle.gc_worker.specs.Answer.{ComesTo, IsAnswered, after_told}
-use Rattle.gc_worker.specs.Between.{AreAlike, GoesOn, IsAsPlain, Lands, Readies, Shows}
+use Rattle.gc_worker.specs.Between.{Begins, AreAlike, GoesOn, IsAsPlain, Lands, Readies, Shows}
 use Rattle.gc_worker.specs.Counted.{CountsApart, counted, count_after}
 use Rattle.gc_worker.specs.Fits.{Fits}
 use Rattle.gc_worker.specs.Full.{FullWhereTold}
 use Rattle.gc_worker.specs.Held.{Held}
 use Rattle.gc_worker.specs.Law.{FlipsWhereTold, Heap, StepKeeps, WorkersStand, at_flip, held_at, nobody}
 use Rattle.gc_worker.specs.Stepped.{uncounted}
-use Rattle.gc_worker.specs.Turned.{Effect, Ends, Told, Silent, Answers, Marks, told, turned, won}
+use Rattle.gc_worker.specs.declared.did.Did.TheVariants.{Done, Trap}
+use Rattle.gc_worker.specs.Turned.{Told, Silent, Answers, Marks, told, turned, won}
 use Rattle.gc_worker.specs.Wanted.{wanted}
 use Rattle.gc_worker.proofs.Between.GoingOn.{workers_go_on}
 use Rattle.gc_worker.proofs.Between.Others.{answers_leave_the_others}
@@ -28,25 +29,26 @@ use Rattle.gc_worker.proofs.Between.Readying.{readying_stands}
 use Rattle.gc_worker.proofs.Between.Standing.{what_stands_is_so}
 use Rattle.gc_worker.proofs.Counting.{counted_fit, counts_are_apart}
 use Rattle.gc_worker.proofs.Whole.{steps_keep}
-use Rattle.ael_threads.specs.declared.view.Call.{Call}
+use Rattle.gc_worker.specs.declared.call.Call.{Call}
 use Rattle.ael_threads.specs.declared.view.Claim.{Claim}
-use Rattle.ael_threads.specs.declared.view.Entry.{Entry}
-use Rattle.ael_threads.specs.declared.view.Entry.TheVariants.{Made, Exchanged}
+use Rattle.gc_worker.specs.declared.entry.Entry.{Entry}
+use Rattle.gc_worker.specs.declared.entry.Entry.TheVariants.{Made, Exchanged}
 use Rattle.ael_threads.specs.declared.view.Hand.{Hand}
 use Rattle.ael_threads.specs.declared.view.Plan.{Plan}
 use Rattle.ael_threads.specs.declared.view.View.{View}
-use Rattle.ael_threads.specs.Cycles.{IsTallied, opened}
-use Rattle.ael_threads.specs.Histories.{HasOwn, IsLegal, after_all, call, calls_of, extra, first_plain, hand, last_flip, own_after}
+use Rattle.gc_worker.specs.History.Tally.{IsTallied}
+use Rattle.ael_threads.specs.Histories.{opened, HasOwn, first_plain, hand}
+use Rattle.gc_worker.specs.History.Legal.{IsLegal, after_all, call, calls_of, extra, last_flip, own_after}
 use Rattle.ael_threads.specs.Rule.{FitsView, Has, Kept, crew, heap_of, view}
-use Rattle.ael_threads.specs.Seats.{Begins, Follows, IsEffect, IsShown, Moves, Sees, ShowsSeen, StandWith, plain_seen, seen_after, with_claim, LiveByEnd, LiveWhereTold}
+use Rattle.ael_threads.specs.Seats.{Follows, IsEffect, IsShown, Moves, Sees, ShowsSeen, StandWith, plain_seen, seen_after, with_claim, LiveByEnd, LiveWhereTold}
 use Rattle.ael_threads.proofs.Places.{at_inside, get_of, set_else, set_here}
 use Rattle.ael_threads.proofs.Elements.{each_map, prefix_more, prefix_self}
-use Rattle.ael_threads.proofs.Filling.{step_tallied}
+use Rattle.gc_worker.proofs.History.Steps.{step_tallied}
 use Rattle.ael_threads.proofs.Flipping.{flips_by}
-use Rattle.ael_threads.proofs.Growing.{Agrees, after_more, calls_more, flip_more, legal_more, seen_keeps}
+use Rattle.gc_worker.proofs.History.Extensions.{Agrees, after_more, calls_more, flip_more, legal_more, seen_keeps}
 use Rattle.ael_threads.proofs.Showing.{alike_by, effect_is, ends_with, full_by, lands_by, live_by, mutator_at, no_end, shown_by}
-use Rattle.ael_threads.proofs.Tallying.{tally_flip, tally_now}
-use Rattle.ael_threads.proofs.Tasking.{task_tallied}
+use Rattle.gc_worker.proofs.History.Tallies.{tally_flip, tally_now}
+use Rattle.gc_worker.proofs.History.Tasks.{task_tallied}
 use Rattle.ael_threads.proofs.Views.{all_fit, my_fit}
 use Rattle.ael_threads.proofs.Winning.{Keeps, won_after}
 
@@ -62,7 +64,7 @@ Came plan id v m x r s later = (w : View) × Kept plan (record { words = later; 
 seen_fits : (seen log : List Entry) (m : ℕ) (t : Told) → IsPrefix seen log → IsPrefix (seen_after seen (log ++ extra m t) t) (log ++ extra m t)
 seen_fits seen log m Silent h = prefix_more seen log [] h
 seen_fits seen log m (Answers task outcome) h = prefix_self (log ++ Made (call m task outcome) ∷ [])
-seen_fits seen log m (Marks asked) h = prefix_more seen log (Exchanged asked ∷ []) h
+seen_fits seen log m (Marks asked) h = prefix_more seen log (Exchanged m asked ∷ []) h
 
 sees : (v w : View) (log : List Entry) (m : ℕ) (t : Told) → IsPrefix v.seen log → w.seen ≡ seen_after v.seen (log ++ extra m t) t
     → IsLegal (first_plain v.plan) (log ++ extra m t) → HasOwn (log ++ extra m t) w.hands → Sees v m t w
@@ -84,8 +86,8 @@ mine_after seen log m own (Marks asked) was is = was
 -- an answer is no flip
 live_seen : (p : Plain) (seen log : List Entry) (m : ℕ) (t : Told) → LiveWhereTold (last_flip p log) t → LiveWhereTold (last_flip p (seen_after seen (log ++ extra m t) t)) t
 live_seen p seen log m Silent h = tt
-live_seen p seen log m (Answers task Effect) h = tt
-live_seen p seen log m (Answers task (Ends end)) h = subst (λ (o : Plain). LiveByEnd o end) (sym (flip_more p p log m (Answers task (Ends end)))) h
+live_seen p seen log m (Answers task Done) h = tt
+live_seen p seen log m (Answers task (Trap end)) h = subst (λ (o : Plain). LiveByEnd o end) (sym (flip_more p p log m (Answers task (Trap end)))) h
 live_seen p seen log m (Marks asked) h = tt
 
 -- whatever it has counted, it was given a task or not
@@ -198,20 +200,20 @@ module _ (plan : Plan) (id : ℕ) (was : Hand) (x : Held) (others : List Hand) (
 
   tallied' : IsTallied heap' (opened plan) log'
   tallied' = subst (λ (u : Told). IsTallied heap' (opened plan) (b.log ++ extra m u)) tells
-      (step_tallied (heap_of plan s.words workers1) p o m y q readied inside1 (get_or-set_same b.workers m y nobody inside) (apart.wants ∙ want) (opened plan) b.log readied_tallied
-      (tally_now (opened plan) b.log) (tally_flip (opened plan) b.log))
+      (step_tallied (heap_of plan s.words workers1) m y q inside1 (get_or-set_same b.workers m y nobody inside) (apart.wants ∙ want) (opened plan) b.log readied_tallied
+      (subst (λ (w : Plain × Plain). WorkersStand (heap_of plan s.words workers1) w.0 w.1) (λ i. (sym (tally_now (opened plan) b.log) i, sym (tally_flip (opened plan) b.log) i)) readied))
 
   as_plain : (w : Mutator) → slice_get p'.mutators m ≡ Some w → IsAsPlain heap' p' m (counted count' z) w
   as_plain w its = subst (λ (h : Held). IsAsPlain heap' p' m h w) (get_or-set_same workers1 m (turned y r) nobody inside1 ∙ becomes)
       ((what_stands_is_so heap' p' (last_flip (first_plain plan) log') stands').mutators m w its)
 
-  looks : (task : Task) → t ≡ Answers task Effect → z.stage ≡ Looks
-  looks task is = ((workers_go_on n plan.mutators m x r follows.fits).answers task Effect is).after
+  looks : (task : Task) → t ≡ Answers task Done → z.stage ≡ Looks
+  looks task is = ((workers_go_on n plan.mutators m x r follows.fits).answers task Done is).after
 
   -- the plain mutator of who answers
-  its_mutator : (task : Task) → t ≡ Answers task Effect → (w : Mutator) × (slice_get p'.mutators m ≡ Some w)
+  its_mutator : (task : Task) → t ≡ Answers task Done → (w : Mutator) × (slice_get p'.mutators m ≡ Some w)
   its_mutator task is =
-      let comes : ComesTo p m task Effect = subst (IsAnswered p m) is answered in
+      let comes : ComesTo p m task Done = subst (IsAnswered p m) is answered in
       let here = slice_get_within p.mutators m comes.mutator comes.is in
       let same : length p'.mutators ≡ length p.mutators = ap (λ (w : Plain). length w.mutators) (after_more (first_plain plan) b.log m t) ∙ (answers_leave_the_others p m t).as_many in
       mutator_at p'.mutators m (omega (arith, here, same))
@@ -241,11 +243,11 @@ module _ (plan : Plan) (id : ℕ) (was : Hand) (x : Held) (others : List Hand) (
   shows_ended : (w : Mutator) (end : End) (u : Told) → t ≡ u → slice_get (after_told p m u).mutators m ≡ Some w → slice_get p'.mutators m ≡ Some w → w.end ≡ Some end → Shows z.registers w
   shows_ended w end Silent is was_its its e = stays_ended w end was_its e
   shows_ended w end (Marks asked) is was_its its e = stays_ended w end was_its e
-  shows_ended w end (Answers task Effect) is was_its its e = (as_plain w its).shows (no_end heap' p' n plan.mutators m count' z w (as_plain w its) fits_z (looks task is))
-  shows_ended w end (Answers task (Ends why)) is was_its its e =
-      let comes : ComesTo p m task (Ends why) = subst (IsAnswered p m) is answered in
+  shows_ended w end (Answers task Done) is was_its its e = (as_plain w its).shows (no_end heap' p' n plan.mutators m count' z w (as_plain w its) fits_z (looks task is))
+  shows_ended w end (Answers task (Trap why)) is was_its its e =
+      let comes : ComesTo p m task (Trap why) = subst (IsAnswered p m) is answered in
       let s = showed_at comes.mutator comes.is in
-      let same = (goes.answers task (Ends why) is).after.1 in
+      let same = (goes.answers task (Trap why) is).after.1 in
       ends_with p m comes.mutator task why w z.registers comes.is was_its (subst (λ (registers : List ℕ). Shows registers comes.mutator) (sym same) s.registers)
 
   shows_registers : (w : Mutator) → slice_get p'.mutators m ≡ Some w → Shows z.registers w

@@ -6,16 +6,17 @@ use lib.ListN.{get_elem?}
 use Rattle.gc_worker.specs.Held.{Held}
 use Rattle.gc_worker.specs.Turned.{PageWon, Told}
 use Rattle.ael_threads.specs.declared.view.Claim.{Claim}
-use Rattle.ael_threads.specs.declared.view.Entry.{Entry}
+use Rattle.gc_worker.specs.declared.entry.Entry.{Entry}
 use Rattle.ael_threads.specs.declared.view.Hand.{Hand}
 use Rattle.ael_threads.specs.declared.view.Plan.{Plan}
 use Rattle.ael_threads.specs.declared.view.View.{View}
-use Rattle.ael_threads.specs.Histories.{Each, extra, number}
+use Rattle.gc_worker.specs.History.Legal.{extra}
+use Rattle.ael_threads.specs.Histories.{Each, number}
 use Rattle.ael_threads.specs.Rule.{FitsView, Has, view}
 use Rattle.ael_threads.specs.Seats.{with_claim}
 use Rattle.ael_threads.proofs.Places.{at_set}
 use Rattle.ael_threads.proofs.Elements.{each_both, each_map, each_of_map, prefix_more}
-use Rattle.ael_threads.proofs.Growing.{calls_other}
+use Rattle.gc_worker.proofs.History.Extensions.{calls_other}
 use Rattle.ael_threads.proofs.Winning.{Keeps, claims_kept, claims_more, once_more, won_after}
 
 -- worker m of the seat id makes the step: the words, the workers and the history before and after, and the page won

@@ -8,12 +8,13 @@ use Rattle.plain_heap.specs.Order.{fresh}
 use Rattle.heap_laws.specs.Opening.{opening_plain}
 use Rattle.gc_worker.specs.declared.task.Task.{Task}
 use Rattle.gc_worker.specs.declared.task.Task.TheVariants.{Calls, Stops}
-use Rattle.ael_threads.specs.declared.view.Call.{Call}
-use Rattle.ael_threads.specs.declared.view.Did.{Did}
-use Rattle.ael_threads.specs.declared.view.Did.TheVariants.{Done, Trap}
-use Rattle.ael_threads.specs.declared.view.Entry.{Entry}
-use Rattle.ael_threads.specs.declared.view.Entry.TheVariants.{Made}
-use Rattle.ael_threads.specs.Histories.{Each, IsLegal, after_all, after_call, calls_of}
+use Rattle.gc_worker.specs.declared.call.Call.{Call}
+use Rattle.gc_worker.specs.declared.did.Did.{Did}
+use Rattle.gc_worker.specs.declared.did.Did.TheVariants.{Done, Trap}
+use Rattle.gc_worker.specs.declared.entry.Entry.{Entry}
+use Rattle.gc_worker.specs.declared.entry.Entry.TheVariants.{Made}
+use Rattle.gc_worker.specs.History.Legal.{IsLegal, after_all, after_call, calls_of}
+use Rattle.ael_threads.specs.Histories.{Each}
 
 -- ---- calls
 

@@ -12,17 +12,18 @@ use Rattle.gc_worker.specs.Answer.{ComesTo}
 use Rattle.gc_worker.specs.Between.{AreAlike, Lands}
 use Rattle.gc_worker.specs.Full.{FullByOutcome}
 use Rattle.gc_worker.specs.Turned.{Answers, told}
-use Rattle.ael_threads.specs.declared.view.Call.{Call}
+use Rattle.gc_worker.specs.declared.call.Call.{Call}
 use Rattle.ael_threads.specs.declared.view.Claim.{Claim}
-use Rattle.ael_threads.specs.declared.view.Did.{Did}
-use Rattle.ael_threads.specs.declared.view.Did.TheVariants.{Done, Trap}
-use Rattle.ael_threads.specs.Cycles.{IsFilledBy, opened, tally, tasks_of}
-use Rattle.ael_threads.specs.Histories.{after_all, call, first_plain, hand, last_flip, outcome_of}
+use Rattle.gc_worker.specs.declared.did.Did.{Did}
+use Rattle.gc_worker.specs.declared.did.Did.TheVariants.{Done, Trap}
+use Rattle.gc_worker.specs.History.Tally.{IsFilledBy, tally, tasks_held}
+use Rattle.ael_threads.specs.Histories.{opened, first_plain, hand}
+use Rattle.gc_worker.specs.History.Legal.{after_all, call, last_flip}
 use Rattle.ael_threads.specs.Seats.{ActsBy, Extends, IsShown, LiveWhereTold, Seated, ShowsSeen, first_number, first_own, plain_seen}
 
 -- a caller's call that came to this
 abbrev pub call_by : Seated → Task → Did → Call
-call_by a task did = call (first_number a.knows.hands) task (outcome_of did)
+call_by a task did = call (first_number a.knows.hands) task did
 
 -- these pages were won since
 abbrev pub WinsMore : Seated → Seated → Type 0
@@ -72,12 +73,12 @@ pub record Called (a : Seated) (task : Task) (did : Did) (b : Seated) : Type 0 w
   pub reply : Reply
   pub stepped : Stepped
   pub acts : ActsBy last reply stepped b
-  pub answers : told last.worker reply ≡ Answers task (outcome_of did)
+  pub answers : told last.worker reply ≡ Answers task did
   pub epoch : b.worker.epoch ≡ last.worker.epoch
-  pub comes : ComesTo (after_all (first_plain a.knows.plan) (a.knows.seen ++ history.between)) (first_number a.knows.hands) task (outcome_of did)
-  pub full : FullByOutcome a.knows.plan.spaces.pages acts.knows.before last.worker (outcome_of did)
-  pub live : LiveWhereTold (last_flip (first_plain a.knows.plan) b.knows.seen) (Answers task (outcome_of did))
-  pub filled : IsFilledBy a.knows.plan.spaces.pages (tasks_of acts.knows.stands.workers) (tally (opened a.knows.plan) (a.knows.seen ++ history.between)) (first_number a.knows.hands) task did []
+  pub comes : ComesTo (after_all (first_plain a.knows.plan) (a.knows.seen ++ history.between)) (first_number a.knows.hands) task did
+  pub full : FullByOutcome a.knows.plan.spaces.pages acts.knows.before last.worker did
+  pub live : LiveWhereTold (last_flip (first_plain a.knows.plan) b.knows.seen) (Answers task did)
+  pub filled : IsFilledBy a.knows.plan.spaces.pages (tasks_held acts.knows.stands.workers) (tally (opened a.knows.plan) (a.knows.seen ++ history.between)) (first_number a.knows.hands) task did []
   pub lands : IsDone did → Lands a.knows.plan.spaces.pages acts.knows.after b.worker
   pub alike : IsDone did → (q : Mutator) → slice_get (plain_seen b.knows).mutators (first_number a.knows.hands) ≡ Some q → AreAlike b.worker.registers q
 

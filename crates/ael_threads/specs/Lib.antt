@@ -1,5 +1,4 @@
 pub mod Histories
-pub mod Cycles
 pub mod Rule
 pub mod Seats
 pub mod Readers

@@ -1,5 +1,5 @@
 -- What a run tells of itself at its end.
-use Rattle.std.specs.Prelude.{◌≡◌, ℕ, Bool, false, List, ◌++◌, Some, IsSome, length, map, slice_get}
+use Rattle.std.specs.Prelude.{◌≡◌, ℕ, ◌-◌, ◌^◌, ◌<◌, false, List, ◌++◌, Some, IsSome, length, map, slice_get}
 use Rattle.plain_state.specs.declared.end.End.{End}
 use Rattle.plain_state.specs.State.{Mutator}
 use Rattle.mutator_asm.specs.declared.instr.Instr.{Instr}
@@ -21,16 +21,17 @@ use Rattle.gc_worker.specs.Law.{Heap, WorkersStand, epoch_of, read}
 use Rattle.gc_worker.specs.Marks.{EachActs}
 use Rattle.gc_worker.specs.Readers.{cycles_in, kept_in, live_in, live_said, registers_in, seen_in}
 use Rattle.gc_worker.specs.Stepped.{header_kept, place_kept}
-use Rattle.ael_threads.specs.declared.view.Entry.{Entry}
+use Rattle.gc_worker.specs.declared.entry.Entry.{Entry}
 use Rattle.ael_threads.specs.declared.view.Plan.{Plan}
 use Rattle.ael_threads.specs.declared.outputs.Outputs.{Outputs}
 use Rattle.ael_threads.specs.declared.outputs.Printed.{Printed}
 use Rattle.ael_threads.specs.declared.outputs.RunError.{RunError}
 use Rattle.ael_threads.specs.declared.outputs.RunError.TheVariants as runs
-use Rattle.ael_threads.specs.Cycles.{AreAskedFor, EachEntry, EntryIs, opened, tasks_of, tally}
-use Rattle.ael_threads.specs.Histories.{Each, IsLegal, after_all, last_flip}
+use Rattle.gc_worker.specs.History.Tally.{EachEntry, EntryIs, tasks_held, tally}
+use Rattle.ael_threads.specs.Histories.{opened, Each}
+use Rattle.gc_worker.specs.History.Legal.{IsLegal, after_all, last_flip}
 use Rattle.ael_threads.specs.Opened.{plan_of}
-use Rattle.ael_threads.specs.Programs.{order_of}
+use Rattle.gc_worker.specs.History.Order.{order_of}
 use Rattle.ael_threads.specs.Readers.{Scanning, seated}
 use Rattle.ael_threads.specs.Rule.{crew, heap_of}
 use Rattle.ael_threads.specs.Running.{FullIn}
@@ -103,9 +104,7 @@ pub record Runs (code : List (List Instr)) (config : Config) (told : Outputs) : 
   pub epoch : told.cycles ≡ (tally (opened (plan_of (length code) config)) log).flips
   pub left : Each (λ (x : Held). x.stage ≡ Gone) workers
   pub shows : (m : ℕ) (q : Mutator) → slice_get (after_all (opening code) log).mutators m ≡ Some q → TellsRegisters told m q
-  pub entries : EachEntry (EntryIs config.pages (tasks_of workers)) (opened (plan_of (length code) config)) log
-  pub asked : ℕ → Bool
-  pub flips : AreAskedFor (tasks_of workers) (λ j. false) asked (opened (plan_of (length code) config)) log
+  pub entries : EachEntry (EntryIs config.pages (tasks_held workers)) (opened (plan_of (length code) config)) log
   pub all_words : length told.words ≡ table_length config.pages
   pub tells : Tells (heap_of (plan_of (length code) config) told.words workers) told
   pub full : (m : ℕ) (q : Mutator) (end : End) → slice_get (after_all (opening code) log).mutators m ≡ Some q → q.end ≡ Some end → FullIn (plan_of (length code) config) m log end

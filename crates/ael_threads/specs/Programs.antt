@@ -1,60 +1,18 @@
--- Histories in which mutators execute a program, and the orders of such.
-use Rattle.std.specs.Prelude.{◌≡◌, ⊤, ℕ, ◌+◌, ◌*◌, ◌<◌, ◌≤◌, nat_le, List, [], ◌∷◌, length, map, Some, Result, Err, slice_get, if◌then◌else◌}
+-- Histories in which mutators execute a program.
+use Rattle.std.specs.Prelude.{◌≡◌, ℕ, ◌+◌, ◌<◌, ◌≤◌, nat_le, List, length, Some, Result, Err, slice_get, if◌then◌else◌}
 use Rattle.std.specs.Option.{ok_or}
 use Rattle.plain_state.specs.declared.end.End.{End}
-use Rattle.plain_state.specs.declared.end.End.TheVariants.{HeapFull, JumpOut, TurnsOut}
-use Rattle.plain_state.specs.declared.sizes.TheConstants.{PAGE_WORDS}
+use Rattle.plain_state.specs.declared.end.End.TheVariants.{JumpOut, TurnsOut}
 use Rattle.plain_state.specs.State.{Mutator, Plain, serial_of}
 use Rattle.mutator_asm.specs.declared.instr.Instr.{Instr}
 use Rattle.mutator_asm.specs.Program.{instr_at}
-use Rattle.plain_heap.specs.declared.mark.Mark.{Mark}
-use Rattle.plain_heap.specs.declared.mark.Mark.TheVariants.{Step, Flip}
-use Rattle.plain_heap.specs.Step.{fetch}
-use Rattle.gc_worker.specs.Marks.{end_mark, task_of}
-use Rattle.ael_threads.specs.declared.view.Did.{Did}
-use Rattle.ael_threads.specs.declared.view.Did.TheVariants.{Done, Trap}
-use Rattle.ael_threads.specs.declared.view.Entry.{Entry}
-use Rattle.ael_threads.specs.declared.view.Entry.TheVariants.{Made, Exchanged}
-use Rattle.ael_threads.specs.Histories.{after_all, after_call, first_plain}
+use Rattle.gc_worker.specs.declared.did.Did.{Did}
+use Rattle.gc_worker.specs.declared.did.Did.TheVariants.{Done, Trap}
+use Rattle.gc_worker.specs.declared.entry.Entry.{Entry}
+use Rattle.gc_worker.specs.History.Legal.{after_all}
+use Rattle.gc_worker.specs.History.Order.{AreFetched, AreShort}
+use Rattle.ael_threads.specs.Histories.{first_plain}
 use Rattle.ael_threads.specs.Seats.{Seated, first_number}
-
--- ---- the order of a history
-
-abbrev pub mark_by : ℕ → Did → Mark
-mark_by m Done = Step m
-mark_by m (Trap end) = end_mark m end
-
-abbrev pub mark_of : Entry → Mark
-mark_of (Made c) = mark_by c.by c.did
-mark_of (Exchanged asked) = Flip asked
-
--- the order in which the plain machine executes what a history has
-abbrev pub order_of : List Entry → List Mark
-order_of log = map mark_of log
-
--- ---- the calls of a program
-
--- each call of mutator m is of what it fetches there
-abbrev pub AreFetched : List (List Instr) → (turns m : ℕ) → Plain → List Entry → Type 0
-AreFetched code turns m p [] = ⊤
-AreFetched code turns m p (Made c ∷ es) =
-    (c.by ≡ m → (q : Mutator) → slice_get p.mutators m ≡ Some q → c.task ≡ task_of (fetch code turns m q)) × AreFetched code turns m (after_call p c) es
-AreFetched code turns m p (Exchanged asked ∷ es) = AreFetched code turns m p es
-
--- where the heap is told to be full there are fewer words than are asked for
-abbrev pub IsShortEnd : End → Type 0
-IsShortEnd (HeapFull asked room live) = room < PAGE_WORDS * asked
-IsShortEnd end = ⊤
-
-abbrev pub IsShort : Did → Type 0
-IsShort Done = ⊤
-IsShort (Trap end) = IsShortEnd end
-
--- so it is in each call of mutator m
-abbrev pub AreShort : (m : ℕ) → List Entry → Type 0
-AreShort m [] = ⊤
-AreShort m (Made c ∷ es) = (c.by ≡ m → IsShort c.did) × AreShort m es
-AreShort m (Exchanged asked ∷ es) = AreShort m es
 
 -- ---- what a mutator's thread keeps
 

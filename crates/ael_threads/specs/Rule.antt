@@ -9,12 +9,13 @@ use Rattle.gc_worker.specs.Law.{Heap, IsOut, WorkersStand}
 use Rattle.gc_worker.specs.Stepped.{uncounted}
 use Rattle.gc_worker.specs.Turned.{PageWon}
 use Rattle.ael_threads.specs.declared.view.Claim.{Claim}
-use Rattle.ael_threads.specs.declared.view.Entry.{Entry}
+use Rattle.gc_worker.specs.declared.entry.Entry.{Entry}
 use Rattle.ael_threads.specs.declared.view.Hand.{Hand}
 use Rattle.ael_threads.specs.declared.view.Plan.{Plan}
 use Rattle.ael_threads.specs.declared.view.View.{View}
-use Rattle.ael_threads.specs.Cycles.{IsTallied, opened}
-use Rattle.ael_threads.specs.Histories.{Each, IsOnce, IsLegal, after_all, calls_of, first_plain, last_flip, new_hands, number}
+use Rattle.gc_worker.specs.History.Tally.{IsTallied}
+use Rattle.ael_threads.specs.Histories.{opened, Each, IsOnce, first_plain, new_hands, number}
+use Rattle.gc_worker.specs.History.Legal.{IsLegal, after_all, calls_of, last_flip}
 
 -- ---- views
 

@@ -11,13 +11,14 @@ use Rattle.gc_worker.specs.Full.{FindsNoRoom}
 use Rattle.gc_worker.specs.Held.{Held}
 use Rattle.gc_worker.specs.Law.{WorkersStand}
 use Rattle.gc_worker.specs.Stepped.{uncounted}
-use Rattle.gc_worker.specs.Turned.{Ends}
+use Rattle.gc_worker.specs.declared.did.Did.TheVariants.{Trap}
 use Rattle.gc_worker.specs.declared.task.Task.{Task}
-use Rattle.ael_threads.specs.declared.view.Call.{Call}
-use Rattle.ael_threads.specs.declared.view.Entry.{Entry}
-use Rattle.ael_threads.specs.declared.view.Entry.TheVariants.{Made}
+use Rattle.gc_worker.specs.declared.call.Call.{Call}
+use Rattle.gc_worker.specs.declared.entry.Entry.{Entry}
+use Rattle.gc_worker.specs.declared.entry.Entry.TheVariants.{Made}
 use Rattle.ael_threads.specs.declared.view.Plan.{Plan}
-use Rattle.ael_threads.specs.Histories.{IsLegal, after_all, call, first_plain, hand, last_flip}
+use Rattle.gc_worker.specs.History.Legal.{IsLegal, after_all, call, last_flip}
+use Rattle.ael_threads.specs.Histories.{first_plain, hand}
 use Rattle.ael_threads.specs.Programs.{HasExecuted}
 use Rattle.ael_threads.specs.Readers.{Scanning}
 use Rattle.ael_threads.specs.Rule.{StandsAs, heap_of}
@@ -30,7 +31,7 @@ use Rattle.ael_threads.specs.Seats.{IsMine, Seated, ShowsSeen}
 pub record FoundFull (plan : Plan) (m : ℕ) (log : List Entry) (asked room live : ℕ) : Type 0 where
   pub before : List Entry
   pub task : Task
-  pub is : log ≡ before ++ Made (call m task (Ends (HeapFull asked room live))) ∷ []
+  pub is : log ≡ before ++ Made (call m task (Trap (HeapFull asked room live))) ∷ []
   pub words : List ℕ
   pub workers : List Held
   pub held : Held

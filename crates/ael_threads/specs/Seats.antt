@@ -1,5 +1,5 @@
 -- What a seat is told by a step, and by what it takes in.
-use Rattle.std.specs.Prelude.{◌≡◌, ◌≢◌, ℕ, zero, suc, ◌+◌, ◌==◌, ◌<◌, ◌⊎◌, ⊤, Bool, false, Option, Some, None, List, [], ◌∷◌, ◌++◌, map, take, drop, slice_get, length, if◌then◌else◌}
+use Rattle.std.specs.Prelude.{◌≡◌, ◌≢◌, ℕ, zero, suc, ◌+◌, ◌==◌, ◌<◌, ⊤, Option, Some, None, List, [], ◌∷◌, ◌++◌, map, take, drop, slice_get, length, if◌then◌else◌}
 use mathlib.Core.List.{IsPrefix}
 use lib.ListN.{get_elem?}
 use Rattle.atomic_table.specs.Table as table
@@ -15,8 +15,7 @@ use Rattle.plain_state.specs.State as plain
 use Rattle.gc_worker.specs.declared.stage.Stage.TheVariants.{Gone}
 use Rattle.gc_worker.specs.declared.stepped.Stepped.{Stepped}
 use Rattle.gc_worker.specs.declared.stepped.Stepped.TheVariants.{Idle}
-use Rattle.gc_worker.specs.declared.task.Task.{Task}
-use Rattle.gc_worker.specs.Between.{AreAlike, GoesOn, Lands, Readies, Shows, with_task}
+use Rattle.gc_worker.specs.Between.{Begins, AreAlike, GoesOn, Lands, Readies, Shows}
 use Rattle.gc_worker.specs.Counted.{counted}
 use Rattle.gc_worker.specs.Fits.{Fits, Takes}
 use Rattle.gc_worker.specs.Full.{FullWhereTold}
@@ -28,17 +27,19 @@ use Rattle.gc_worker.specs.Copied.{IsTraced}
 use Rattle.gc_worker.specs.Law.{FlipsWhereTold, WorkersStand, read, epoch_of}
 use Rattle.heap_state.specs.Copies.{CopiedIsLive}
 use Rattle.gc_worker.specs.Stepped.{stepped_by, uncounted}
-use Rattle.gc_worker.specs.Turned.{Effect, Ends, PageWon, Told, Silent, Answers, Marks, told, turned, won}
+use Rattle.gc_worker.specs.declared.did.Did.TheVariants.{Done, Trap}
+use Rattle.gc_worker.specs.Turned.{PageWon, Told, Silent, Answers, Marks, told, turned, won}
 use Rattle.gc_worker.specs.Wanted.{wanted}
-use Rattle.ael_threads.specs.declared.view.Call.{Call}
+use Rattle.gc_worker.specs.declared.call.Call.{Call}
 use Rattle.ael_threads.specs.declared.view.Claim.{Claim}
-use Rattle.ael_threads.specs.declared.view.Entry.{Entry}
-use Rattle.ael_threads.specs.declared.view.Entry.TheVariants.{Made}
+use Rattle.gc_worker.specs.declared.entry.Entry.{Entry}
+use Rattle.gc_worker.specs.declared.entry.Entry.TheVariants.{Made}
 use Rattle.ael_threads.specs.declared.view.Hand.{Hand}
 use Rattle.ael_threads.specs.declared.view.Plan.{Plan}
 use Rattle.ael_threads.specs.declared.view.View.{View}
-use Rattle.ael_threads.specs.Cycles.{AreAskedFor, EachEntry, EntryIs, IsTallied, opened, tasks_of, tally}
-use Rattle.ael_threads.specs.Histories.{Each, IsOnce, HasOwn, IsLegal, after_all, call, calls_of, extra, first_held, first_plain, hand, last_flip, number, own_after}
+use Rattle.gc_worker.specs.History.Tally.{EachEntry, EntryIs, IsTallied, tasks_held, tally}
+use Rattle.ael_threads.specs.Histories.{opened, Each, IsOnce, HasOwn, first_held, first_plain, hand, number}
+use Rattle.gc_worker.specs.History.Legal.{IsLegal, after_all, call, calls_of, extra, last_flip, own_after}
 use Rattle.ael_threads.specs.Rule.{StandsAs, crew, heap_of, view}
 
 -- ---- a step by the word that it finds
@@ -114,14 +115,14 @@ LiveByEnd o end = ⊤
 
 abbrev pub LiveWhereTold : Plain → Told → Type 0
 LiveWhereTold o Silent = ⊤
-LiveWhereTold o (Answers task Effect) = ⊤
-LiveWhereTold o (Answers task (Ends end)) = LiveByEnd o end
+LiveWhereTold o (Answers task Done) = ⊤
+LiveWhereTold o (Answers task (Trap end)) = LiveByEnd o end
 LiveWhereTold o (Marks asked) = ⊤
 
 abbrev pub IsEffect : Told → Type 0
 IsEffect Silent = ⊥
-IsEffect (Answers task Effect) = ⊤
-IsEffect (Answers task (Ends end)) = ⊥
+IsEffect (Answers task Done) = ⊤
+IsEffect (Answers task (Trap end)) = ⊥
 IsEffect (Marks asked) = ⊥
 
 -- With these words, and with worker m, which holds x but for its count, all workers stand for the plain state after a legal history
@@ -182,10 +183,6 @@ pub record Seated : Type 0 where
   pub table : TableId
   pub worker : Held
   pub knows : View
-
--- it is as it was, or was given a task where it had none
-abbrev pub Begins : (was now : Held) → Type 0
-Begins was now = (now ≡ was) ⊎ ((task : Task) × (was.task ≡ None) × (now ≡ with_task was task))
 
 -- Since its last step the worker may have been given a task; whatever it has counted, to the proofs of the heap it is as it was then.
 pub record Follows (plan : Plan) (m : ℕ) (was now : Held) : Type 0 where
@@ -301,9 +298,7 @@ pub record Closes (plan : Plan) (all : List Seated) (words : List ℕ) : Type 0 
   pub stands : WorkersStand (heap_of plan words workers) (after_all (first_plain plan) log) (last_flip (first_plain plan) log)
   pub copied : IsTraced (heap_of plan words workers) → CopiedIsLive (read (heap_of plan words workers)) (last_flip (first_plain plan) log)
   pub epoch : epoch_of plan.spaces.pages words ≡ (tally (opened plan) log).flips
-  pub entries : EachEntry (EntryIs plan.spaces.pages (tasks_of workers)) (opened plan) log
-  pub asked : ℕ → Bool
-  pub flips : AreAskedFor (tasks_of workers) (λ j. false) asked (opened plan) log
+  pub entries : EachEntry (EntryIs plan.spaces.pages (tasks_held workers)) (opened plan) log
   pub seen : Each (λ (s : Seated). IsPrefix s.knows.seen log) all
   pub hands : Each (Stays workers log) (all_hands all)
   pub apart : IsOnce (map number (all_hands all))

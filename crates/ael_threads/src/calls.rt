@@ -11,9 +11,8 @@ ghost use Rattle.ael_threads.specs.Seats.{Seated};
 
 use crate::mutator::Mutator;
 use crate::shared::Shared;
-use crate::view::Did;
 use crossbeam_utils::Backoff;
-use gc_worker::Stepped;
+use gc_worker::{Did, Stepped};
 use mutator_asm::Instr;
 use std::sync::Wait;
 

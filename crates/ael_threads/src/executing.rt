@@ -11,8 +11,7 @@ use crate::mutator::Mutator;
 use crate::pace::Pace;
 use crate::scanner::Scanner;
 use crate::shared::Shared;
-use crate::view::Did;
-use gc_worker::Stepped;
+use gc_worker::{Did, Stepped};
 use plain_state::End;
 use std::sync::Wait;
 

@@ -19,6 +19,7 @@ mod shared;
 mod view;
 mod words;
 
+pub use gc_worker::{Call, Did, Entry};
 pub use laws::lone_calls_come_to_the_same;
 pub use mutator::{Mutator, Reg};
 pub use opening::Seats;
@@ -27,5 +28,5 @@ pub use pace::{NoPace, Pace};
 pub use running::run;
 pub use scanner::Scanner;
 pub use shared::{Rule, Shared};
-pub use view::{Call, Claim, Did, Entry, Hand, Plan, View};
+pub use view::{Claim, Hand, Plan, View};
 pub use words::Words;

@@ -18,7 +18,8 @@ use Rattle.gc_worker.specs.Claims.{CopiedPagesAreBelowLow, FlipsAreOfTraced, IsC
 use Rattle.gc_worker.specs.Copied.{IsTraced}
 use Rattle.gc_worker.specs.Held.{Held}
 use Rattle.gc_worker.specs.Law.{Heap, WorkersStand, nobody}
-use Rattle.gc_worker.specs.Turned.{Effect, Ends, PageWon, Told, Silent, Answers, Marks, told}
+use Rattle.gc_worker.specs.declared.did.Did.TheVariants.{Done, Trap}
+use Rattle.gc_worker.specs.Turned.{PageWon, Told, Silent, Answers, Marks, told}
 use Rattle.gc_worker.specs.Wanted.{wanted}
 use Rattle.gc_worker.specs.declared.stepped.Stepped.TheVariants as tells
 use Rattle.gc_worker.specs.Marks.{mark_of}
@@ -138,8 +139,8 @@ module _ (opens : PagesAreOpenedByClaims) (readies : ReadyingStands) (tasks : Ta
 -- a step that is told as a flip is one to the plain machine
 marks_by : (h : Heap) (w asked : ℕ) (x : Held) (q : Step) (t : Told) → told x (reply_of q h.words) ≡ t → (event_by h w x (Some q)).told ≡ tells.Flipped asked → t ≡ Marks asked
 marks_by h w asked x q Silent is e = let f = rw is at e in absurd (cc)
-marks_by h w asked x q (Answers task Effect) is e = let f = rw is at e in absurd (cc)
-marks_by h w asked x q (Answers task (Ends why)) is e = let f = rw is at e in absurd (cc)
+marks_by h w asked x q (Answers task Done) is e = let f = rw is at e in absurd (cc)
+marks_by h w asked x q (Answers task (Trap why)) is e = let f = rw is at e in absurd (cc)
 marks_by h w asked x q (Marks other) is e = let f = rw is at e in let same : other ≡ asked = cc in ap Marks same
 
 module _ (flips : FlipsAreOfTraced) (readies : ReadyingStands) (tasks : TasksMayBegin) (s : CoreState) (w asked : ℕ) (p o : Plain) (steady : IsSteady s) (stands : WorkersStand s.heap p o) where

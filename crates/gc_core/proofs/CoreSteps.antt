@@ -21,7 +21,8 @@ use Rattle.heap_state.specs.Worker.{Account}
 use Rattle.gc_worker.specs.Law.{StepKeeps, held_at, nobody}
 use Rattle.gc_worker.specs.Made.{AllowsStep, MayMake, made, made_by}
 use Rattle.gc_worker.specs.Stepped.{IsSound, awaits, stepped_by}
-use Rattle.gc_worker.specs.Turned.{Told, Silent, Answers, Marks, Effect, Ends, told, turned}
+use Rattle.gc_worker.specs.declared.did.Did.TheVariants.{Done, Trap}
+use Rattle.gc_worker.specs.Turned.{Told, Silent, Answers, Marks, told, turned}
 use Rattle.gc_worker.specs.Wanted.{wanted, wanted_at}
 use Rattle.gc_worker.proofs.Between.Beginning.{tasks_may_begin}
 use Rattle.gc_worker.proofs.Between.GoingOn.{workers_go_on}
@@ -51,9 +52,9 @@ has_turns code turns m x instr is = by_turns (nat_le turns x.account.executed) r
     by_turns true e = absurd (let stops : Calls instr ≡ Stops TurnsOut = is ∙ ap (λ (b : Bool). task_of (if b then Err TurnsOut else ok_or (instr_at code m x.account.counter) JumpOut)) e in cc)
 
 -- an effect answers a task
-effect_of : (k m : ℕ) (t : Told) → stepped_by k t ≡ tells.Effect m → (task : Task) × (t ≡ Answers task Effect)
-effect_of k m (Answers task Effect) is = (task, refl)
-effect_of k m (Answers task (Ends end)) is = absurd (cc)
+effect_of : (k m : ℕ) (t : Told) → stepped_by k t ≡ tells.Effect m → (task : Task) × (t ≡ Answers task Done)
+effect_of k m (Answers task Done) is = (task, refl)
+effect_of k m (Answers task (Trap end)) is = absurd (cc)
 effect_of k m Silent is = absurd (cc)
 effect_of k m (Marks asked) is = absurd (cc)
 
@@ -97,17 +98,17 @@ module _ (s : CoreState) (w : ℕ) (lawful : IsLawful s) (below : w < length s.h
     pub room : (m : ℕ) → stepped_by y.number (told y reply) ≡ tells.Effect m → y.account.executed < 4294967295
     room m is =
         let effect = effect_of y.number m (told y reply) is in
-        let comes : ComesTo lawful.plain w effect.0 Effect = subst (IsAnswered lawful.plain w) effect.1 (rw r.words at keeps.answered) in
+        let comes : ComesTo lawful.plain w effect.0 Done = subst (IsAnswered lawful.plain w) effect.1 (rw r.words at keeps.answered) in
         let so = what_stands_is_so r.heap lawful.plain lawful.flip r.stands in
         let few : w < s.heap.mutators = (let l = slice_get_within lawful.plain.mutators w comes.mutator comes.is in let n = so.as_many in let k = r.mutators in omega (arith, l, n, k)) in
-        let answer = (workers_go_on s.heap.pages s.heap.mutators w y reply fits).answers effect.0 Effect effect.1 in
+        let answer = (workers_go_on s.heap.pages s.heap.mutators w y reply fits).answers effect.0 Done effect.1 in
         let turns = by_task comes.mutator effect.0 comes.may (ready_task s w lawful.steady few effect.0 answer.asked) in
         let same = ready_account s w in
         let left : y.account.executed < s.turns = subst (λ (a : Account). a.executed < s.turns) (sym same) turns in
         let most = lawful.steady.turns_fit in
         omega (arith, left, most)
       where
-        by_task : (q : Mutator) (task : Task) → MayCome w lawful.plain.heap q task Effect → task ≡ next_task s.code s.turns w x → x.account.executed < s.turns
+        by_task : (q : Mutator) (task : Task) → MayCome w lawful.plain.heap q task Done → task ≡ next_task s.code s.turns w x → x.account.executed < s.turns
         by_task q (Calls instr) may is = has_turns s.code s.turns w x instr is
         by_task q (Stops end) may is = absurd may
 

@@ -15,7 +15,8 @@ use Rattle.gc_worker.specs.Held.{Held}
 use Rattle.gc_worker.specs.Counted.{CountsApart, counted, count_after}
 use Rattle.gc_worker.specs.Stepped.{IsSound, awaits, awaits_at, stepped_by, uncounted}
 use Rattle.gc_worker.specs.declared.stepped.Stepped.TheVariants as steps
-use Rattle.gc_worker.specs.Turned.{Told, Silent, Answers, Marks, Effect, Ends, told, turned}
+use Rattle.gc_worker.specs.declared.did.Did.TheVariants.{Done, Trap}
+use Rattle.gc_worker.specs.Turned.{Told, Silent, Answers, Marks, told, turned}
 use Rattle.atom_store.specs.declared.reply.Reply.{Reply}
 use Rattle.atom_store.specs.declared.step.Step.{Step}
 use Rattle.atom_store.specs.Step.{reply_of}
@@ -78,15 +79,15 @@ module _ (count : ℕ) (x : Held) (sound : IsSound (counted count x)) where
 
 -- an effect is counted
 counts_effect : (k m count : ℕ) (t : Told) → stepped_by k t ≡ steps.Effect m → count + 1 ≡ count_after count t
-counts_effect k m count (Answers task Effect) is = refl
-counts_effect k m count (Answers task (Ends end)) is = absurd (cc)
+counts_effect k m count (Answers task Done) is = refl
+counts_effect k m count (Answers task (Trap end)) is = absurd (cc)
 counts_effect k m count Silent is = absurd (cc)
 counts_effect k m count (Marks asked) is = absurd (cc)
 
 -- and nothing else is
 counts_no_other : (k count : ℕ) (t : Told) → ((m : ℕ) → stepped_by k t ≡ steps.Effect m → ⊥) → count ≡ count_after count t
-counts_no_other k count (Answers task Effect) other = absurd (other k refl)
-counts_no_other k count (Answers task (Ends end)) other = refl
+counts_no_other k count (Answers task Done) other = absurd (other k refl)
+counts_no_other k count (Answers task (Trap end)) other = refl
 counts_no_other k count Silent other = refl
 counts_no_other k count (Marks asked) other = refl
 

@@ -23,7 +23,9 @@ use Rattle.gc_worker.specs.Fits.{Fits, IsOnSide}
 use Rattle.gc_worker.specs.Full.{FullByEnd, FullWhereTold}
 use Rattle.gc_worker.specs.Held.{Held}
 use Rattle.gc_worker.specs.Law.{Heap, nobody, held_at, read, moved, WorkersStand, StepKeeps, StepsKeep, FlipsWhereTold, epoch_of, at_flip}
-use Rattle.gc_worker.specs.Turned.{Outcome, Effect, Ends, Told, Silent, Answers, Marks, turned, told}
+use Rattle.gc_worker.specs.declared.did.Did.{Did}
+use Rattle.gc_worker.specs.declared.did.Did.TheVariants.{Done, Trap}
+use Rattle.gc_worker.specs.Turned.{Told, Silent, Answers, Marks, turned, told}
 use Rattle.gc_worker.specs.Wanted.{wanted}
 use Rattle.gc_worker.specs.declared.stepped.Stepped.{Stepped}
 use Rattle.gc_worker.specs.declared.stepped.Stepped.TheVariants as tells
@@ -51,10 +53,10 @@ module _ (s : CoreState) (w : ℕ) (story : Story) (steady : IsSteady s) (stands
 -- ---- the story
 
 -- an answer is no flip
-answer_story : (s : CoreState) (story : Story) (w : ℕ) (task : Task) (outcome : Outcome)
+answer_story : (s : CoreState) (story : Story) (w : ℕ) (task : Task) (outcome : Did)
     → story_by s story (stepped_by w (Answers task outcome)) ≡ record { flip = story.flip; now = plain_after s story.now (stepped_by w (Answers task outcome)) }
-answer_story s story w task Effect = refl
-answer_story s story w task (Ends why) = by_sort (sort w why)
+answer_story s story w task Done = refl
+answer_story s story w task (Trap why) = by_sort (sort w why)
   where
     by_sort : Sort w why → story_by s story (tells.Ended w why) ≡ record { flip = story.flip; now = plain_after s story.now (tells.Ended w why) }
     by_sort (IsStep e c) = rw e refl
@@ -148,7 +150,7 @@ module _ (law : StepsKeep) (goes : WorkersGoOn) (wants : WorkersWant) (so : What
     -- ---- an answer
 
     -- the task is the next one of the plain mutator
-    own_task : (task : Task) (outcome : Outcome) (k : Mutator) → t ≡ Answers task outcome → slice_get p.mutators w ≡ Some k → task ≡ task_of (fetch s.code s.turns w k)
+    own_task : (task : Task) (outcome : Did) (k : Mutator) → t ≡ Answers task outcome → slice_get p.mutators w ≡ Some k → task ≡ task_of (fetch s.code s.turns w k)
     own_task task outcome k e is =
         let a = account_before k is in
         ready_task s w steady (few k is) task (goes_on.answers task outcome e).asked ∙ rw (a.counter, a.executed) refl
@@ -157,7 +159,7 @@ module _ (law : StepsKeep) (goes : WorkersGoOn) (wants : WorkersWant) (so : What
     abbrev Stands : Told → Type 0
     Stands t = ((story_by s story (stepped_by w t)).now ≡ after_told p w t) × ((story_by s story (stepped_by w t)).flip ≡ at_flip p story.flip t)
 
-    answers_stand : (task : Task) (outcome : Outcome) (k : Mutator) → slice_get p.mutators w ≡ Some k → k.end ≡ None → task ≡ task_of (fetch s.code s.turns w k) → MayCome w p.heap k task outcome
+    answers_stand : (task : Task) (outcome : Did) (k : Mutator) → slice_get p.mutators w ≡ Some k → k.end ≡ None → task ≡ task_of (fetch s.code s.turns w k) → MayCome w p.heap k task outcome
         → Stands (Answers task outcome)
     answers_stand task outcome k is none own may =
         let may' : MayCome w p.heap k (task_of (fetch s.code s.turns w k)) outcome = rw own at may in
@@ -175,7 +177,7 @@ module _ (law : StepsKeep) (goes : WorkersGoOn) (wants : WorkersWant) (so : What
     epoch_same : epoch_of r.heap.pages (words_after q r.heap.words) ≡ epoch_of r.heap.pages r.heap.words → epoch_in after ≡ epoch_in s.heap
     epoch_same e = e ∙ (λ i. epoch_of (r.pages i) (r.words i))
 
-    module _ (task : Task) (outcome : Outcome) (e : t ≡ Answers task outcome) (answered : ComesTo p w task outcome) where
+    module _ (task : Task) (outcome : Did) (e : t ≡ Answers task outcome) (answered : ComesTo p w task outcome) where
       abbrev k : Mutator
       k = answered.mutator
 
@@ -188,25 +190,25 @@ module _ (law : StepsKeep) (goes : WorkersGoOn) (wants : WorkersWant) (so : What
       was : end_of p w ≡ Some None
       was = was_running s.code s.turns p w k (has_code k answered.is) answered.is answered.no_end
 
-    full_asks : (k : Mutator) → slice_get p.mutators w ≡ Some k → k.end ≡ None → (why : End) → MayCome w p.heap k (task_of (fetch s.code s.turns w k)) (Ends why)
+    full_asks : (k : Mutator) → slice_get p.mutators w ≡ Some k → k.end ≡ None → (why : End) → MayCome w p.heap k (task_of (fetch s.code s.turns w k)) (Trap why)
         → (asked room live : ℕ) → why ≡ ends.HeapFull asked room live → asked_by s.code s.turns p w ≡ Some asked
     full_asks k is none why may asked room live f =
-        asks_then s.code s.turns p w k (has_code k is) is none asked room live (subst (λ (e : End). MayCome w p.heap k (task_of (fetch s.code s.turns w k)) (Ends e)) f may)
+        asks_then s.code s.turns p w k (has_code k is) is none asked room live (subst (λ (e : End). MayCome w p.heap k (task_of (fetch s.code s.turns w k)) (Trap e)) f may)
 
     told_by : (u : Told) → t ≡ u → IsAnswered p w u → FullWhereTold r.heap.pages r.heap.words y u → FlipsWhereTold r.heap.pages r.heap.words (words_after q r.heap.words) y u
         → IsTold s w p after (stepped_by w u)
     told_by Silent e answered full flips = epoch_same flips
     told_by (Marks asked) e answered full flips =
         (flips.asked_is, flips.next ∙ ap (λ n. n + 1) (sym flips.epoch ∙ (λ i. epoch_of (r.pages i) (r.words i))))
-    told_by (Answers task Effect) e answered full flips =
+    told_by (Answers task Done) e answered full flips =
         let k = answered.mutator in
-        (refl, was task Effect e answered, end_then s.code s.turns p w k (has_code k answered.is) answered.is answered.no_end Effect (may task Effect e answered), epoch_same flips)
-    told_by (Answers task (Ends why)) e answered full flips =
+        (refl, was task Done e answered, end_then s.code s.turns p w k (has_code k answered.is) answered.is answered.no_end Done (may task Done e answered), epoch_same flips)
+    told_by (Answers task (Trap why)) e answered full flips =
         let k = answered.mutator in
-        let comes_to = may task (Ends why) e answered in (
+        let comes_to = may task (Trap why) e answered in (
           refl,
-          was task (Ends why) e answered,
-          end_then s.code s.turns p w k (has_code k answered.is) answered.is answered.no_end (Ends why) comes_to,
+          was task (Trap why) e answered,
+          end_then s.code s.turns p w k (has_code k answered.is) answered.is answered.no_end (Trap why) comes_to,
           for_want s p w why
               (full_asks k answered.is answered.no_end why comes_to)
               (rw (r.pages, r.words) at full),
@@ -249,7 +251,7 @@ module _ (law : StepsKeep) (goes : WorkersGoOn) (wants : WorkersWant) (so : What
         }
 
     -- and where something is
-    answered_task : w < s.heap.mutators → (task : Task) (outcome : Outcome) → t ≡ Answers task outcome → ComesTo p w task outcome → IsOnTask later w
+    answered_task : w < s.heap.mutators → (task : Task) (outcome : Did) → t ≡ Answers task outcome → ComesTo p w task outcome → IsOnTask later w
     answered_task l task outcome e answered =
         let k = answered.mutator in
         let own_is = own task outcome e answered in

@@ -25,7 +25,9 @@ use Rattle.gc_worker.specs.Full.{FindsNoRoom, FullWhereTold}
 use Rattle.gc_worker.specs.Held.{Held}
 use Rattle.gc_worker.specs.Knows.{post_in}
 use Rattle.gc_worker.specs.Law.{Heap, StepsKeep, StepKeeps, WorkersStand, FlipsWhereTold, held_at, moved, nobody}
-use Rattle.gc_worker.specs.Turned.{Outcome, Effect, Ends, Told, Silent, Answers, Marks, epoch_in as epoch_read, turned, told}
+use Rattle.gc_worker.specs.declared.did.Did.{Did}
+use Rattle.gc_worker.specs.declared.did.Did.TheVariants.{Done, Trap}
+use Rattle.gc_worker.specs.Turned.{Told, Silent, Answers, Marks, epoch_in as epoch_read, turned, told}
 use Rattle.gc_worker.specs.Wanted.{wanted}
 use Rattle.heap_state.specs.Worker.{Account, is_running}
 use Rattle.gc_worker.specs.Marks.{end_mark, mark_of}
@@ -175,29 +177,29 @@ module _ (law : StepsKeep) (goes : WorkersGoOn) (so : WhatStandsIsSo) (begun : B
   no_flip : (t : Told) → told y reply ≡ t → FlipsWhereTold s.heap.pages s.heap.words (words_after q s.heap.words) y t
   no_flip t e = subst (FlipsWhereTold s.heap.pages s.heap.words (words_after q s.heap.words) y) e flips
 
-  answer : (task : Task) (outcome : Outcome) → told y reply ≡ Answers task outcome → IsAnswerOf y z task outcome
+  answer : (task : Task) (outcome : Did) → told y reply ≡ Answers task outcome → IsAnswerOf y z task outcome
   answer task outcome e = (goes r.heap.pages r.heap.mutators w y reply fits).answers task outcome e
 
   -- the mutator that answers
-  came : (task : Task) (outcome : Outcome) → told y reply ≡ Answers task outcome → ComesTo story.now w task outcome
+  came : (task : Task) (outcome : Did) → told y reply ≡ Answers task outcome → ComesTo story.now w task outcome
   came task outcome e = subst (IsAnswered story.now w) e answered
 
-  module _ (task : Task) (why : End) (e : told y reply ≡ Answers task (Ends why)) where
+  module _ (task : Task) (why : End) (e : told y reply ≡ Answers task (Trap why)) where
     not_ended : z.account.end ≡ None → ⊥
-    not_ended none = let a : None ≡ Some why = sym none ∙ ap (λ (a : Account). a.end) (answer task (Ends why) e).after.0 in cc
+    not_ended none = let a : None ≡ Some why = sym none ∙ ap (λ (a : Account). a.end) (answer task (Trap why) e).after.0 in cc
 
     stepped : end_mark w why ≡ marks.Step w → Leaves since s after (Some (end_mark w why))
     stepped is = subst (λ (mark : Mark). Leaves since s after (Some mark)) (sym is) (record {
       may = tt;
-      flips = sym (no_flip (Answers task (Ends why)) e);
-      are = stays (since_by since (marks.Step w)) (no_flip (Answers task (Ends why)) e) (λ m other. since_other since w m other) (λ few none past early. absurd (not_ended none));
+      flips = sym (no_flip (Answers task (Trap why)) e);
+      are = stays (since_by since (marks.Step w)) (no_flip (Answers task (Trap why)) e) (λ m other. since_other since w m other) (λ few none past early. absurd (not_ended none));
     })
 
-  ends_full : (task : Task) (asked room live : ℕ) → told y reply ≡ Answers task (Ends (ends.HeapFull asked room live)) → Leaves since s after (Some (marks.Full w asked room live))
+  ends_full : (task : Task) (asked room live : ℕ) → told y reply ≡ Answers task (Trap (ends.HeapFull asked room live)) → Leaves since s after (Some (marks.Full w asked room live))
   ends_full task asked room live e = record {
     may = may;
-    flips = sym (no_flip (Answers task (Ends (ends.HeapFull asked room live))) e);
-    are = stays since (no_flip (Answers task (Ends (ends.HeapFull asked room live))) e) (λ m other. refl) (λ few none past early. absurd (not_ended task (ends.HeapFull asked room live) e none));
+    flips = sym (no_flip (Answers task (Trap (ends.HeapFull asked room live))) e);
+    are = stays since (no_flip (Answers task (Trap (ends.HeapFull asked room live))) e) (λ m other. refl) (λ few none past early. absurd (not_ended task (ends.HeapFull asked room live) e none));
   }
     where
       found : FindsNoRoom s.heap.pages s.heap.words y asked room live
@@ -208,7 +210,7 @@ module _ (law : StepsKeep) (goes : WorkersGoOn) (so : WhatStandsIsSo) (begun : B
 
       may : (since w ≡ true) ⊎ (epoch_in s.heap ≡ 2 ^ 32 - 1)
       may =
-          let comes = came task (Ends (ends.HeapFull asked room live)) e in
+          let comes = came task (Trap (ends.HeapFull asked room live)) e in
           let few : w < s.heap.mutators = (let l = slice_get_within story.now.mutators w comes.mutator comes.is in let n = is_so.as_many in let m = r.mutators in omega (arith, l, n, m)) in
           let plain = is_so.mutators w comes.mutator comes.is in
           let none : y.account.end ≡ None = (rw r.holds at plain.account.end) ∙ comes.no_end in
@@ -223,18 +225,18 @@ module _ (law : StepsKeep) (goes : WorkersGoOn) (so : WhatStandsIsSo) (begun : B
   leaves_by (Marks asked) e =
       let f = no_flip (Marks asked) e in
       record { may = tt; flips = ap (λ (n : ℕ). n + 1) f.epoch ∙ sym f.next; are = λ m few none past early. refl }
-  leaves_by (Answers task Effect) e = record {
+  leaves_by (Answers task Done) e = record {
     may = tt;
-    flips = sym (no_flip (Answers task Effect) e);
-    are = stays (since_by since (marks.Step w)) (no_flip (Answers task Effect) e) (λ m other. since_other since w m other)
-        (λ few none past early. absurd (subst IsPastLook (answer task Effect e).after past));
+    flips = sym (no_flip (Answers task Done) e);
+    are = stays (since_by since (marks.Step w)) (no_flip (Answers task Done) e) (λ m other. since_other since w m other)
+        (λ few none past early. absurd (subst IsPastLook (answer task Done e).after past));
   }
-  leaves_by (Answers task (Ends why)) e = by_sort (sort w why)
+  leaves_by (Answers task (Trap why)) e = by_sort (sort w why)
     where
       by_sort : Sort w why → Leaves since s after (Some (end_mark w why))
       by_sort (IsStep is calls) = stepped task why e is
       by_sort (IsFull asked room live is) =
-          subst (λ (end : End). Leaves since s after (Some (end_mark w end))) (sym is) (ends_full task asked room live (e ∙ ap (λ (end : End). Answers task (Ends end)) is))
+          subst (λ (end : End). Leaves since s after (Some (end_mark w end))) (sym is) (ends_full task asked room live (e ∙ ap (λ (end : End). Answers task (Trap end)) is))
 
   leaves : Leaves since s (event_of s w).after (mark_of (event_of s w).told)
   unfolding event_of

@@ -23,7 +23,8 @@ use Rattle.gc_worker.specs.Full.{FullByOutcome}
 use Rattle.gc_worker.specs.Goes.{Is, Goes, Wins}
 use Rattle.gc_worker.specs.Held.{Held}
 use Rattle.gc_worker.specs.Knows.{knows, post_in}
-use Rattle.gc_worker.specs.Turned.{Outcome, Answers, PageWon, turned, told, won}
+use Rattle.gc_worker.specs.declared.did.Did.{Did}
+use Rattle.gc_worker.specs.Turned.{Answers, PageWon, turned, told, won}
 use Rattle.gc_worker.proofs.Steps.{prepared}
 use Rattle.heap_state.proofs.Table.Stores.{entry_has_row}
 
@@ -37,7 +38,7 @@ module _ (c : Configuration) (p : Plain) (s : Stands c p) (k : ℕ) (x : Held) w
   row_fits_to e w h q below l = entry_has_row c.pages e (plain_steps_are_lifted c p q s (Some e) k w h below l).fits
 
   -- a step that answers the task, after which the worker is this
-  pub answers : (e : Option Entry) (reply : Reply) (y : Held) (h : Ghost) (q : Mutator) (task : Task) (outcome : Outcome) → turned x reply ≡ y → told x reply ≡ Answers task outcome
+  pub answers : (e : Option Entry) (reply : Reply) (y : Held) (h : Ghost) (q : Mutator) (task : Task) (outcome : Did) → turned x reply ≡ y → told x reply ≡ Answers task outcome
       → won x reply ≡ None → k < length c.workers → slice_get p.mutators k ≡ Some q → q.end ≡ None → MayCome k p.heap q task outcome
       → LawTo e (knows y) h (after_outcome p k q task outcome) → FullByOutcome c.pages c.words x outcome → Takes x reply → Fits c.pages c.mutators k y → Goes c p s k e x reply
   answers e reply y h q task outcome same answer none below at no_end may l full takes fits =

@@ -29,7 +29,8 @@ use Rattle.gc_worker.specs.Goes.{Is, Goes}
 use Rattle.gc_worker.specs.Held.{Held}
 use Rattle.gc_worker.specs.Knows.{knows, post_in}
 use Rattle.gc_worker.specs.Seen.{IsValueWord}
-use Rattle.gc_worker.specs.Turned.{Effect, Ends, turned, told, won, told_effect, told_end, next_of, loads, went_on, ended}
+use Rattle.gc_worker.specs.declared.did.Did.TheVariants.{Done, Trap}
+use Rattle.gc_worker.specs.Turned.{turned, told, won, told_effect, told_end, next_of, loads, went_on, ended}
 use Rattle.gc_worker.proofs.Answering.{LawTo, IsIts, answers, may_hold, going, next_as}
 use Rattle.gc_worker.proofs.Settling.{values_set, settled_fits}
 use Rattle.gc_worker.proofs.Steps.{prepared}
@@ -96,7 +97,7 @@ module _ (c : Configuration) (p : Plain) (s : Stands c p) (k : ℕ) (x : Held) (
         → call k p.heap q instr ≡ Ok after → LawTo c p s k x e (knows z) s.ghost (record { heap = after.heap; mutators = slice_set p.mutators k after.mutator })
         → Takes x reply → Fits c.pages c.mutators k z → Goes c p s k e x reply
     effect e reply z instr after task same tells none calls law takes fits =
-        answers c p s k x e reply z s.ghost q (Calls instr) Effect same (tells ∙ ap told_effect task) none is.below its.is its.no_end
+        answers c p s k x e reply z s.ghost q (Calls instr) Done same (tells ∙ ap told_effect task) none is.below its.is its.no_end
         (subst (λ (r : Result plain.After End). IsOk r) (sym calls) refl)
         (subst (λ (r : Result plain.After End). LawTo c p s k x e (knows z) s.ghost (settled p k q r)) (sym calls) law) tt takes fits
 
@@ -106,7 +107,7 @@ module _ (c : Configuration) (p : Plain) (s : Stands c p) (k : ℕ) (x : Held) (
         let law : LawTo c p s k x None (stores.with_end (knows x) why) s.ghost (with_mutator p k (record q { end = Some why })) =
         subst (λ (w : Worker). LawTo c p s k x None (stores.with_end w why) s.ghost (with_mutator p k (record q { end = Some why }))) is.as_known
         (mutators_end (era c) (memory c) (team c) s.ghost p k q why (prepared c p s k x is) (ap (λ (w : Worker). is_running w.post) is.as_known ∙ running) s.shown its.is) in
-        answers c p s k x None reply (ended x why) s.ghost q (Calls instr) (Ends why) same (tells ∙ ap (λ task. told_end task why) task) none is.below its.is its.no_end may
+        answers c p s k x None reply (ended x why) s.ghost q (Calls instr) (Trap why) same (tells ∙ ap (λ task. told_end task why) task) none is.below its.is its.no_end may
         (subst (λ (w : Worker). LawTo c p s k x None w s.ghost (with_mutator p k (record q { end = Some why }))) (sym known) law) full takes fits
 
   -- ---- its soundness

@@ -18,7 +18,8 @@ use Rattle.gc_worker.specs.Fits.{Fits}
 use Rattle.gc_worker.specs.Full.{FindsNoRoom}
 use Rattle.gc_worker.specs.FullTold.{FullIsTold, TellsFull, found_traced}
 use Rattle.gc_worker.specs.Held.{Held, at_stage, asked_by, pages_asked}
-use Rattle.gc_worker.specs.Turned.{Silent, Ends, Answers, is_full, end_of, told_end, told_place}
+use Rattle.gc_worker.specs.declared.did.Did.TheVariants.{Trap}
+use Rattle.gc_worker.specs.Turned.{Silent, Answers, is_full, end_of, told_end, told_place}
 
 module _ (n mutators k : ℕ) (words : List ℕ) (x : Held) (z : Placing) (room live : ℕ) (f : Fits n mutators k (at_stage x (found_traced z))) (finds : FindsNoRoom n words x (asked_by x) room live) where
   abbrev word : ℕ
@@ -60,7 +61,7 @@ module _ (n mutators k : ℕ) (words : List ℕ) (x : Held) (z : Placing) (room 
         ap (λ (stage : PlaceStage). told_place (at_stage x (found_traced z)) (place.told (placing stage))) reads
         ∙ (ap (λ (b : Bool). cond b (told_end x.task (end_of (shortage true z.header area))) Silent) full
         ∙ (ap (λ (t : Option Task). told_end t (end_of (shortage true z.header area))) f.task.0.executes.task_is
-        ∙ ap (λ end. Answers (Calls f.task.0.executes.instr) (Ends end)) numbers));
+        ∙ ap (λ end. Answers (Calls f.task.0.executes.instr) (Trap end)) numbers));
   }
 
 pub full_is_told : FullIsTold

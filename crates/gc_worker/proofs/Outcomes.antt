@@ -27,7 +27,9 @@ use Rattle.plain_heap.proofs.Outcomes.{if_ok-bind}
 use Rattle.heap_laws.specs.Opening.{opening_plain}
 use Rattle.plain_heap.specs.Order as order
 use Rattle.gc_worker.specs.Answer.{MayEnd, MayCome, after_outcome}
-use Rattle.gc_worker.specs.Turned.{Outcome, Effect, Ends, Answers}
+use Rattle.gc_worker.specs.declared.did.Did.{Did}
+use Rattle.gc_worker.specs.declared.did.Did.TheVariants.{Done, Trap}
+use Rattle.gc_worker.specs.Turned.{Answers}
 use Rattle.gc_worker.specs.Stepped.{stepped_by}
 use Rattle.gc_worker.specs.Marks.{end_mark, mark_of, task_of}
 
@@ -132,10 +134,10 @@ module _ (code : List (List Instr)) (turns : ℕ) (p : Plain) (m : ℕ) (q : Mut
   executes-err why e = rw e refl
 
   -- the plain state after what it comes to
-  abbrev Then : Outcome → Plain
+  abbrev Then : Did → Plain
   Then outcome = state_after code turns p (option_to_list (mark_of (stepped_by m (Answers (task_of (fetch code turns m q)) outcome))))
 
-  by_end : (instr : Instr) (why : End) → fetch code turns m q ≡ Ok instr → MayEnd m p.heap q instr why → Sort m why → Then (Ends why) ≡ ended p m q why
+  by_end : (instr : Instr) (why : End) → fetch code turns m q ≡ Ok instr → MayEnd m p.heap q instr why → Sort m why → Then (Trap why) ≡ ended p m q why
   by_end instr why e may (IsStep s c) = rw (s, does_step, executes-ok instr e, c p.heap q instr may) refl
   by_end instr why e may (IsFull asked room live y) =
       rw y (fills asked room live (asks instr asked e (rw y at may)))
@@ -149,44 +151,44 @@ module _ (code : List (List Instr)) (turns : ℕ) (p : Plain) (m : ℕ) (q : Mut
       by_turns false None y = cc
       by_turns false (Some instr) y = cc
 
-  by_stop : (why : End) → fetch code turns m q ≡ Err why → Sort m why → Then (Ends why) ≡ ended p m q why
+  by_stop : (why : End) → fetch code turns m q ≡ Err why → Sort m why → Then (Trap why) ≡ ended p m q why
   by_stop why e (IsStep s c) = rw (s, does_step, executes-err why e) refl
   by_stop why e (IsFull asked room live y) = absurd (no_full asked room live (rw y at e))
 
-  comes_by : (f : Result Instr End) → fetch code turns m q ≡ f → (outcome : Outcome) → MayCome m p.heap q (task_of f) outcome → Then outcome ≡ after_outcome p m q (task_of f) outcome
-  comes_by (Ok instr) e Effect may = does_step ∙ ap (settled p m q) (executes-ok instr e)
-  comes_by (Ok instr) e (Ends why) may = by_end instr why e may (sort m why)
-  comes_by (Err why) e Effect may = absurd may
-  comes_by (Err why) e (Ends other) may = rw may (by_stop why e (sort m why))
+  comes_by : (f : Result Instr End) → fetch code turns m q ≡ f → (outcome : Did) → MayCome m p.heap q (task_of f) outcome → Then outcome ≡ after_outcome p m q (task_of f) outcome
+  comes_by (Ok instr) e Done may = does_step ∙ ap (settled p m q) (executes-ok instr e)
+  comes_by (Ok instr) e (Trap why) may = by_end instr why e may (sort m why)
+  comes_by (Err why) e Done may = absurd may
+  comes_by (Err why) e (Trap other) may = rw may (by_stop why e (sort m why))
 
   -- what its task comes to is what the mark of it does
-  pub comes : (outcome : Outcome) → MayCome m p.heap q (task_of (fetch code turns m q)) outcome → Then outcome ≡ after_outcome p m q (task_of (fetch code turns m q)) outcome
+  pub comes : (outcome : Did) → MayCome m p.heap q (task_of (fetch code turns m q)) outcome → Then outcome ≡ after_outcome p m q (task_of (fetch code turns m q)) outcome
   comes = comes_by (fetch code turns m q) refl
 
   -- ---- the mutator then
 
-  abbrev end_in : Outcome → Option End
-  end_in Effect = None
-  end_in (Ends why) = Some why
+  abbrev end_in : Did → Option End
+  end_in Done = None
+  end_in (Trap why) = Some why
 
-  end_by : (f : Result Instr End) (outcome : Outcome) → MayCome m p.heap q (task_of f) outcome → end_of (after_outcome p m q (task_of f) outcome) m ≡ Some (end_in outcome)
-  end_by (Ok instr) Effect may = by_call (call m p.heap q instr) (call-went m p.heap q instr) may
+  end_by : (f : Result Instr End) (outcome : Did) → MayCome m p.heap q (task_of f) outcome → end_of (after_outcome p m q (task_of f) outcome) m ≡ Some (end_in outcome)
+  end_by (Ok instr) Done may = by_call (call m p.heap q instr) (call-went m p.heap q instr) may
     where
       by_call : (r : Result After End) → IfOk r (λ a. Went q a.mutator) → IsOk r → end_of (settled p m q r) m ≡ Some None
       by_call (Ok a) went ok = end_after a.heap a.mutator ∙ ap Some (went.going ∙ running)
       by_call (Err why) went ok = absurd (cc)
-  end_by (Ok instr) (Ends why) may = end_after p.heap (record q { end = Some why })
-  end_by (Err why) Effect may = absurd may
-  end_by (Err why) (Ends other) may = end_after p.heap (record q { end = Some other })
+  end_by (Ok instr) (Trap why) may = end_after p.heap (record q { end = Some why })
+  end_by (Err why) Done may = absurd may
+  end_by (Err why) (Trap other) may = end_after p.heap (record q { end = Some other })
 
-  pub end_then : (outcome : Outcome) → MayCome m p.heap q (task_of (fetch code turns m q)) outcome → end_of (Then outcome) m ≡ Some (end_in outcome)
+  pub end_then : (outcome : Did) → MayCome m p.heap q (task_of (fetch code turns m q)) outcome → end_of (Then outcome) m ≡ Some (end_in outcome)
   end_then outcome may = ap (λ s. end_of s m) (comes outcome may) ∙ end_by (fetch code turns m q) outcome may
 
   -- where it ends for want of room its next step asks for so much
-  pub asks_then : (asked room live : ℕ) → MayCome m p.heap q (task_of (fetch code turns m q)) (Ends (ends.HeapFull asked room live)) → asked_by code turns p m ≡ Some asked
+  pub asks_then : (asked room live : ℕ) → MayCome m p.heap q (task_of (fetch code turns m q)) (Trap (ends.HeapFull asked room live)) → asked_by code turns p m ≡ Some asked
   asks_then asked room live may = by_task (fetch code turns m q) refl may
     where
-      by_task : (f : Result Instr End) → fetch code turns m q ≡ f → MayCome m p.heap q (task_of f) (Ends (ends.HeapFull asked room live)) → asked_by code turns p m ≡ Some asked
+      by_task : (f : Result Instr End) → fetch code turns m q ≡ f → MayCome m p.heap q (task_of f) (Trap (ends.HeapFull asked room live)) → asked_by code turns p m ≡ Some asked
       by_task (Ok instr) e y = asks instr asked e y
       by_task (Err why) e y = absurd (no_full asked room live (rw (sym y) at e))
 
@@ -213,17 +215,17 @@ module _ (code : List (List Instr)) (turns : ℕ) (p : Plain) (m : ℕ) (q : Mut
   ends_counted : (why : End) → serial_of p.heap m ≤ q.executed → q.executed ≤ turns → IsCounted p.heap (slice_set p.mutators m (record q { end = Some why }))
   ends_counted why c b = record { mutator = record q { end = Some why }; found = slice_get-set_same p.mutators m (record q { end = Some why }) within; counted = c; bounded = b }
 
-  counted_by : (f : Result Instr End) → fetch code turns m q ≡ f → (outcome : Outcome) → MayCome m p.heap q (task_of f) outcome → m < length p.heap.records → serial_of p.heap m ≤ q.executed → q.executed ≤ turns
+  counted_by : (f : Result Instr End) → fetch code turns m q ≡ f → (outcome : Did) → MayCome m p.heap q (task_of f) outcome → m < length p.heap.records → serial_of p.heap m ≤ q.executed → q.executed ≤ turns
       → IsCounted (after_outcome p m q (task_of f) outcome).heap (after_outcome p m q (task_of f) outcome).mutators
-  counted_by (Ok instr) e Effect may made c b = by_call (call m p.heap q instr) (call-went m p.heap q instr) (call-counted m p.heap q made instr)
+  counted_by (Ok instr) e Done may made c b = by_call (call m p.heap q instr) (call-went m p.heap q instr) (call-counted m p.heap q made instr)
     where
       by_call : (r : Result After End) → IfOk r (λ a. Went q a.mutator) → IfOk r (λ a. serial_of a.heap m ≤ serial_of p.heap m + 1) → IsCounted (settled p m q r).heap (settled p m q r).mutators
       by_call (Ok a) went y = let x = went.executed in let l = turns_left instr e in record { mutator = a.mutator; found = slice_get-set_same p.mutators m a.mutator within; counted = omega (arith, x, y, c); bounded = omega (arith, x, l) }
       by_call (Err why) went y = ends_counted why c b
-  counted_by (Ok instr) e (Ends why) may made c b = ends_counted why c b
-  counted_by (Err why) e Effect may made c b = absurd may
-  counted_by (Err why) e (Ends other) may made c b = ends_counted other c b
+  counted_by (Ok instr) e (Trap why) may made c b = ends_counted why c b
+  counted_by (Err why) e Done may made c b = absurd may
+  counted_by (Err why) e (Trap other) may made c b = ends_counted other c b
 
-  pub counted_then : (outcome : Outcome) → MayCome m p.heap q (task_of (fetch code turns m q)) outcome → m < length p.heap.records → serial_of p.heap m ≤ q.executed → q.executed ≤ turns
+  pub counted_then : (outcome : Did) → MayCome m p.heap q (task_of (fetch code turns m q)) outcome → m < length p.heap.records → serial_of p.heap m ≤ q.executed → q.executed ≤ turns
       → IsCounted (after_outcome p m q (task_of (fetch code turns m q)) outcome).heap (after_outcome p m q (task_of (fetch code turns m q)) outcome).mutators
   counted_then outcome may made c b = counted_by (fetch code turns m q) refl outcome may made c b

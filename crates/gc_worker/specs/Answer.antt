@@ -9,7 +9,9 @@ use Rattle.plain_heap.specs.Step.{settled, ended, new_record, pages_of}
 use Rattle.mutator_asm.specs.declared.instr.Instr.{Instr}
 use Rattle.gc_worker.specs.declared.task.Task.{Task}
 use Rattle.gc_worker.specs.declared.task.Task.TheVariants.{Calls, Stops}
-use Rattle.gc_worker.specs.Turned.{Outcome, Effect, Ends, Told, Silent, Answers, Marks}
+use Rattle.gc_worker.specs.declared.did.Did.{Did}
+use Rattle.gc_worker.specs.declared.did.Did.TheVariants.{Done, Trap}
+use Rattle.gc_worker.specs.Turned.{Told, Silent, Answers, Marks}
 
 -- ---- what it may be
 
@@ -19,14 +21,14 @@ MayEnd k heap q instr (HeapFull asked room live) = option_map pages_of (new_reco
 MayEnd k heap q instr end = call k heap q instr ≡ Err end
 
 -- a call of mutator k, which is q, may come to this
-abbrev pub MayCome : (k : ℕ) → Heap → Mutator → Task → Outcome → Type 0
-MayCome k heap q (Calls instr) Effect = IsOk (call k heap q instr)
-MayCome k heap q (Calls instr) (Ends end) = MayEnd k heap q instr end
-MayCome k heap q (Stops end) Effect = ⊥
-MayCome k heap q (Stops end) (Ends other) = other ≡ end
+abbrev pub MayCome : (k : ℕ) → Heap → Mutator → Task → Did → Type 0
+MayCome k heap q (Calls instr) Done = IsOk (call k heap q instr)
+MayCome k heap q (Calls instr) (Trap end) = MayEnd k heap q instr end
+MayCome k heap q (Stops end) Done = ⊥
+MayCome k heap q (Stops end) (Trap other) = other ≡ end
 
 -- mutator k has no end, and its task may come to this
-pub record ComesTo (p : Plain) (k : ℕ) (task : Task) (outcome : Outcome) : Type 0 where
+pub record ComesTo (p : Plain) (k : ℕ) (task : Task) (outcome : Did) : Type 0 where
   pub mutator : Mutator
   pub is : slice_get p.mutators k ≡ Some mutator
   pub no_end : mutator.end ≡ None
@@ -39,12 +41,12 @@ IsAnswered p k (Marks asked) = ⊤
 
 -- ---- the plain state after it
 
-abbrev pub after_outcome : Plain → (k : ℕ) → Mutator → Task → Outcome → Plain
-after_outcome p k q (Calls instr) Effect = settled p k q (call k p.heap q instr)
-after_outcome p k q (Stops end) Effect = p
-after_outcome p k q task (Ends end) = ended p k q end
+abbrev pub after_outcome : Plain → (k : ℕ) → Mutator → Task → Did → Plain
+after_outcome p k q (Calls instr) Done = settled p k q (call k p.heap q instr)
+after_outcome p k q (Stops end) Done = p
+after_outcome p k q task (Trap end) = ended p k q end
 
-abbrev pub after_answer : Plain → (k : ℕ) → Task → Outcome → Option Mutator → Plain
+abbrev pub after_answer : Plain → (k : ℕ) → Task → Did → Option Mutator → Plain
 after_answer p k task outcome (Some q) = after_outcome p k q task outcome
 after_answer p k task outcome None = p
 

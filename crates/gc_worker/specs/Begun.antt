@@ -11,7 +11,8 @@ use Rattle.gc_worker.specs.declared.stage.Stage.TheVariants.{Looks, Passes, Flip
 use Rattle.gc_worker.specs.declared.task.Task.{Task}
 use Rattle.gc_worker.specs.Fits.{Fits}
 use Rattle.gc_worker.specs.Held.{Held}
-use Rattle.gc_worker.specs.Turned.{Ends, Answers, turned, told}
+use Rattle.gc_worker.specs.declared.did.Did.TheVariants.{Trap}
+use Rattle.gc_worker.specs.Turned.{Answers, turned, told}
 
 abbrev pub IsPastAfter : After → Type 0
 IsPastAfter afters.Looks = ⊥
@@ -46,4 +47,4 @@ BeginningsAreKept = (n mutators k : ℕ) (x : Held) (reply : Reply) → Fits n m
 -- a look never finds the heap full
 abbrev pub FullIsFoundLater : Type 0
 FullIsFoundLater = (n mutators k : ℕ) (x : Held) (reply : Reply) (task : Task) (asked room live : ℕ) → Fits n mutators k x
-    → told x reply ≡ Answers task (Ends (HeapFull asked room live)) → IsPastLook x.stage
+    → told x reply ≡ Answers task (Trap (HeapFull asked room live)) → IsPastLook x.stage

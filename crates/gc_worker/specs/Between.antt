@@ -1,5 +1,5 @@
 -- What is so between any two steps, how a heap begins, and what a worker may become without a step.
-use Rattle.std.specs.Prelude.{◌≡◌, ◌≢◌, ℕ, ◌+◌, ◌<◌, ◌≤◌, ◌↔◌, ⊤, List, [], length, true, Some, None, nat_lt, replicate, slice_get, slice_index, slice_set, if◌then◌else◌, zero, suc, ◌∷◌}
+use Rattle.std.specs.Prelude.{◌≡◌, ◌≢◌, ℕ, ◌+◌, ◌<◌, ◌≤◌, ◌↔◌, ◌⊎◌, ⊤, List, [], length, true, Some, None, nat_lt, replicate, slice_get, slice_index, slice_set, if◌then◌else◌, zero, suc, ◌∷◌}
 use Rattle.heap_words.specs.declared.kind.Kind.{Kind}
 use Rattle.heap_words.specs.Decoded.{NumberWord, PointerWord, HeaderWord, decode}
 use Rattle.plain_state.specs.declared.end.End.{End}
@@ -28,7 +28,9 @@ use Rattle.gc_worker.specs.Fits.{Fits, MayBegin}
 use Rattle.gc_worker.specs.Held.{Held}
 use Rattle.gc_worker.specs.Knows.{knows, post_in}
 use Rattle.gc_worker.specs.Law.{Heap, read, held_at, WorkersStand, epoch_of}
-use Rattle.gc_worker.specs.Turned.{Told, Silent, Answers, Marks, Outcome, Effect, Ends, passes, turned, told}
+use Rattle.gc_worker.specs.declared.did.Did.{Did}
+use Rattle.gc_worker.specs.declared.did.Did.TheVariants.{Done, Trap}
+use Rattle.gc_worker.specs.Turned.{Told, Silent, Answers, Marks, passes, turned, told}
 use Rattle.gc_worker.specs.Wanted.{wanted}
 
 -- ---- how it begins
@@ -98,6 +100,10 @@ pub record IsIdle (x : Held) : Type 0 where
 abbrev pub with_task : Held → Task → Held
 with_task x task = record x { task = Some task }
 
+-- it is as it was, or was given a task where it had none
+abbrev pub Begins : (was now : Held) → Type 0
+Begins was now = (now ≡ was) ⊎ ((task : Task) × (was.task ≡ None) × (now ≡ with_task was task))
+
 -- such a one may be given a task
 abbrev pub TasksMayBegin : Type 0
 TasksMayBegin = (n mutators k : ℕ) (x : Held) (task : Task) → Fits n mutators k x → IsIdle x → MayBegin x.account x.registers (Some task)
@@ -111,12 +117,12 @@ IsNoAnswer (Answers task outcome) = ⊥
 IsNoAnswer (Marks asked) = ⊤
 
 -- after its effect a mutator looks at the gate again; with an end its registers stay
-abbrev pub RestsAfter : (was now : Held) → Outcome → Type 0
-RestsAfter was now Effect = now.stage ≡ Looks
-RestsAfter was now (Ends end) = (now.account ≡ record was.account { end = Some end }) × (now.registers ≡ was.registers)
+abbrev pub RestsAfter : (was now : Held) → Did → Type 0
+RestsAfter was now Done = now.stage ≡ Looks
+RestsAfter was now (Trap end) = (now.account ≡ record was.account { end = Some end }) × (now.registers ≡ was.registers)
 
 -- the task is answered: it was the one begun, and now there is none
-pub record IsAnswerOf (was now : Held) (task : Task) (outcome : Outcome) : Type 0 where
+pub record IsAnswerOf (was now : Held) (task : Task) (outcome : Did) : Type 0 where
   pub asked : was.task ≡ Some task
   pub rests : now.task ≡ None
   pub after : RestsAfter was now outcome
@@ -124,7 +130,7 @@ pub record IsAnswerOf (was now : Held) (task : Task) (outcome : Outcome) : Type 
 -- A step answers no other task than the one begun; it keeps that one until it answers it, and then there is none. A mutator with an end
 -- keeps its account and registers. The worker's number, layout and number of mutators never change.
 pub record GoesOn (x : Held) (reply : Reply) : Type 0 where
-  pub answers : (task : Task) (outcome : Outcome) → told x reply ≡ Answers task outcome → IsAnswerOf x (turned x reply) task outcome
+  pub answers : (task : Task) (outcome : Did) → told x reply ≡ Answers task outcome → IsAnswerOf x (turned x reply) task outcome
   pub kept : IsNoAnswer (told x reply) → (turned x reply).task ≡ x.task
   pub ended : (end : End) → x.account.end ≡ Some end → ((turned x reply).account ≡ x.account) × ((turned x reply).registers ≡ x.registers)
   pub number : (turned x reply).number ≡ x.number

@@ -3,7 +3,8 @@ use Rattle.std.specs.Prelude.{◌≡◌, ℕ, ◌+◌, ◌↔◌}
 use Rattle.atom_store.specs.declared.reply.Reply.{Reply}
 use Rattle.gc_worker.specs.Fits.{Fits}
 use Rattle.gc_worker.specs.Held.{Held}
-use Rattle.gc_worker.specs.Turned.{Told, Silent, Answers, Marks, Effect, Ends, turned, told}
+use Rattle.gc_worker.specs.declared.did.Did.TheVariants.{Done, Trap}
+use Rattle.gc_worker.specs.Turned.{Told, Silent, Answers, Marks, turned, told}
 use Rattle.gc_worker.specs.Wanted.{wanted}
 
 -- the worker with this count
@@ -12,8 +13,8 @@ counted count x = record x { account = record x.account { executed = count } }
 
 -- the count after a step: each effect is one instruction more
 abbrev pub count_after : ℕ → Told → ℕ
-count_after count (Answers task Effect) = count + 1
-count_after count (Answers task (Ends end)) = count
+count_after count (Answers task Done) = count + 1
+count_after count (Answers task (Trap end)) = count
 count_after count Silent = count
 count_after count (Marks asked) = count
 

@@ -28,7 +28,8 @@ use Rattle.gc_worker.specs.Between.{IsNoAnswer}
 use Rattle.gc_worker.specs.Fits.{Fits}
 use Rattle.gc_worker.specs.Held.{Held, asked_by}
 use Rattle.gc_worker.specs.Law.{Heap, WorkersStand, held_at, epoch_of}
-use Rattle.gc_worker.specs.Turned.{Told, Silent, Answers, Marks, Effect, Ends, turned, told}
+use Rattle.gc_worker.specs.declared.did.Did.TheVariants.{Done, Trap}
+use Rattle.gc_worker.specs.Turned.{Told, Silent, Answers, Marks, turned, told}
 use Rattle.gc_worker.specs.Wanted.{wanted}
 
 -- ---- claims of pages for records
@@ -86,8 +87,8 @@ set_aside x = set_aside_at x.stage
 -- What is claimed is set aside, until the record stands for which it was claimed; who ends has nothing set aside.
 abbrev pub SetsAside : (was : Held) → (claims : ℕ) → (now : Held) → Told → Type 0
 SetsAside was claims now Silent = claims + set_aside was ≤ set_aside now
-SetsAside was claims now (Answers task Effect) = claims ≡ 0
-SetsAside was claims now (Answers task (Ends end)) = claims + set_aside was ≡ 0
+SetsAside was claims now (Answers task Done) = claims ≡ 0
+SetsAside was claims now (Answers task (Trap end)) = claims + set_aside was ≡ 0
 SetsAside was claims now (Marks asked) = ⊤
 
 abbrev pub ClaimsAreSetAside : Type 0

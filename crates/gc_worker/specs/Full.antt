@@ -11,7 +11,9 @@ use Rattle.space_map.specs.Spaces.{to_space}
 use Rattle.space_map.specs.Table.{Gate, Traced, Area}
 use Rattle.heap_state.specs.Table.{word_in}
 use Rattle.gc_worker.specs.Held.{Held}
-use Rattle.gc_worker.specs.Turned.{Outcome, Effect, Ends, Told, Silent, Answers, Marks}
+use Rattle.gc_worker.specs.declared.did.Did.{Did}
+use Rattle.gc_worker.specs.declared.did.Did.TheVariants.{Done, Trap}
+use Rattle.gc_worker.specs.Turned.{Told, Silent, Answers, Marks}
 
 -- In its epoch, which is the gate's and is traced, the words between FRONT and LOW are too few for the pages that it asks for, and those
 -- below FRONT are the copied ones; and no flip can help: one came since it began its instruction, or the epoch is the last.
@@ -31,9 +33,9 @@ abbrev pub FullByEnd : (n : ℕ) → List ℕ → Held → End → Type 0
 FullByEnd n words x (HeapFull asked room live) = FindsNoRoom n words x asked room live
 FullByEnd n words x end = ⊤
 
-abbrev pub FullByOutcome : (n : ℕ) → List ℕ → Held → Outcome → Type 0
-FullByOutcome n words x Effect = ⊤
-FullByOutcome n words x (Ends end) = FullByEnd n words x end
+abbrev pub FullByOutcome : (n : ℕ) → List ℕ → Held → Did → Type 0
+FullByOutcome n words x Done = ⊤
+FullByOutcome n words x (Trap end) = FullByEnd n words x end
 
 -- where a step tells that the heap is full it is
 abbrev pub FullWhereTold : (n : ℕ) → List ℕ → Held → Told → Type 0

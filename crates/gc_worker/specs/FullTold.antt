@@ -13,7 +13,8 @@ use Rattle.gc_worker.specs.declared.task.Task.{Task}
 use Rattle.gc_worker.specs.Fits.{Fits}
 use Rattle.gc_worker.specs.Full.{FindsNoRoom}
 use Rattle.gc_worker.specs.Held.{Held, at_stage, asked_by}
-use Rattle.gc_worker.specs.Turned.{Ends, Answers, told}
+use Rattle.gc_worker.specs.declared.did.Did.TheVariants.{Trap}
+use Rattle.gc_worker.specs.Turned.{Answers, told}
 
 -- an allocation that found its epoch traced, and reads the area next
 abbrev pub found_traced : Placing → Stage
@@ -23,7 +24,7 @@ found_traced z = Places (record z { stage = LoadsArea true })
 pub record TellsFull (words : List ℕ) (n : ℕ) (x : Held) (z : Placing) (room live : ℕ) : Type 0 where
   pub task : Task
   pub is : x.task ≡ Some task
-  pub tells : told (at_stage x (found_traced z)) (Value (word_in n words (Area (to_space x.epoch)))) ≡ Answers task (Ends (HeapFull (asked_by x) room live))
+  pub tells : told (at_stage x (found_traced z)) (Value (word_in n words (Area (to_space x.epoch)))) ≡ Answers task (Trap (HeapFull (asked_by x) room live))
 
 -- a mutator that found its epoch traced tells that the heap is full where it finds no room for the pages that its task asks for
 abbrev pub FullIsTold : Type 0

@@ -22,3 +22,4 @@ pub mod Counted
 pub mod Made
 pub mod Marks
 pub mod Readers
+pub mod History

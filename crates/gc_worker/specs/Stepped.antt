@@ -8,6 +8,7 @@ use Rattle.plain_state.specs.State.{Mutator}
 use Rattle.mutator_asm.specs.declared.instr.Instr.{Instr}
 use Rattle.gc_worker.specs.declared.stage.Stage.{Stage}
 use Rattle.gc_worker.specs.declared.stage.Stage.TheVariants.{Looks, Passes, Flips, Forwards, Accesses, Places, Serves, Scans, Evacuates, Opens, Gone}
+use Rattle.gc_worker.specs.declared.did.Did.TheVariants.{Done, Trap}
 use Rattle.gc_worker.specs.declared.due.Due.{Due}
 use Rattle.gc_worker.specs.declared.due.Due.TheVariants as due
 use Rattle.gc_worker.specs.declared.stepped.Stepped.{Stepped}
@@ -56,8 +57,8 @@ HasRoom number mutators capacity = nat_lt number mutators ≡ true → MOST_PRIN
 -- what is told of a step of worker k
 abbrev pub stepped_by : (k : ℕ) → turned.Told → Stepped
 stepped_by k turned.Silent = Moved
-stepped_by k (turned.Answers task turned.Effect) = Effect k
-stepped_by k (turned.Answers task (turned.Ends end)) = Ended k end
+stepped_by k (turned.Answers task Done) = Effect k
+stepped_by k (turned.Answers task (Trap end)) = Ended k end
 stepped_by k (turned.Marks asked) = Flipped asked
 
 -- ---- what is seen

@@ -53,6 +53,8 @@ use Rattle.gc_worker.specs.declared.access.Access.{Access}
 use Rattle.gc_worker.specs.declared.access_stage.AccessStage.{AccessStage}
 use Rattle.gc_worker.specs.declared.accessed.Accessed.{Accessed}
 use Rattle.gc_worker.specs.declared.accessed.Accessed.TheVariants.{Faults, Brings, Stored, Fails}
+use Rattle.gc_worker.specs.declared.did.Did.{Did}
+use Rattle.gc_worker.specs.declared.did.Did.TheVariants.{Done, Trap}
 use Rattle.gc_worker.specs.declared.task.Task.TheVariants.{Calls, Stops}
 use Rattle.gc_worker.specs.Access as access
 use Rattle.gc_worker.specs.Held.{Held, at_stage, making_for, header_for, asked_by, run_of}
@@ -357,15 +359,10 @@ turned x reply = turned_at x x.stage reply
 
 -- ---- what the step is to the plain machine
 
--- what an instruction comes to
-pub data Outcome : Type 0 where
-  Effect : Outcome
-  Ends : End → Outcome
-
--- nothing; the task comes to this; or a flip, for which so many pages were asked
+-- nothing; this came of the task; or a flip, for which so many pages were asked
 pub data Told : Type 0 where
   Silent : Told
-  Answers : Task → Outcome → Told
+  Answers : Task → Did → Told
   Marks : (asked : ℕ) → Told
 
 abbrev pub told_flip : Turn Flipped → Told
@@ -374,7 +371,7 @@ told_flip (Finished (flipped.NotYet word)) = Silent
 told_flip More = Silent
 
 abbrev pub told_end : Option Task → End → Told
-told_end (Some task) end = Answers task (Ends end)
+told_end (Some task) end = Answers task (Trap end)
 told_end None end = Silent
 
 abbrev pub told_full : Held → Shortage → (traced : Bool) → Told
@@ -383,7 +380,7 @@ told_full x s true = if is_full x then told_end x.task (end_of s) else Silent
 
 -- the task is done
 abbrev pub told_effect : Option Task → Told
-told_effect (Some task) = Answers task Effect
+told_effect (Some task) = Answers task Done
 told_effect None = Silent
 
 abbrev pub told_place : Held → Turn Allocated → Told
@@ -400,20 +397,20 @@ told_access task More = Silent
 
 -- an action that the registers alone decide is the effect
 abbrev pub told_action : Task → Action → Told
-told_action task (Sets d v) = Answers task Effect
-told_action task (Jumps target) = Answers task Effect
-told_action task (Links d target) = Answers task Effect
-told_action task (Prints n) = Answers task Effect
+told_action task (Sets d v) = Answers task Done
+told_action task (Jumps target) = Answers task Done
+told_action task (Links d target) = Answers task Done
+told_action task (Prints n) = Answers task Done
 told_action task act = Silent
 
 abbrev pub told_acted : Task → Result Action End → Told
 told_acted task (Ok act) = told_action task act
-told_acted task (Err why) = Answers task (Ends why)
+told_acted task (Err why) = Answers task (Trap why)
 
 abbrev pub told_start : Held → Option Task → Told
 told_start x None = Silent
 told_start x (Some (Calls instr)) = told_acted (Calls instr) (action (seen x.account x.registers) instr)
-told_start x (Some (Stops end)) = Answers (Stops end) (Ends end)
+told_start x (Some (Stops end)) = Answers (Stops end) (Trap end)
 
 abbrev pub told_gate : Held → Option GateWord → Told
 told_gate x (Some gate) = if gate.request then Silent else told_start x x.task

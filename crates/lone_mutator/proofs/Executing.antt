@@ -15,7 +15,8 @@ use Rattle.gc_worker.specs.declared.task.Task.TheVariants.{Calls, Stops}
 use Rattle.gc_worker.specs.Answer.{ComesTo, after_answer, after_told}
 use Rattle.gc_worker.specs.Between.{IsSo}
 use Rattle.gc_worker.specs.Law.{Heap, held_at}
-use Rattle.gc_worker.specs.Turned.{Answers, Effect}
+use Rattle.gc_worker.specs.declared.did.Did.TheVariants.{Done}
+use Rattle.gc_worker.specs.Turned.{Answers}
 
 -- its plain mutator, with the same account
 pub record IsAs (h : Heap) (p : Plain) (q : Mutator) : Type 0 where
@@ -68,8 +69,8 @@ module _ (h later : Heap) (p : Plain) (so : IsSo h p) (alone : h.mutators ≡ 1)
       }
   by_call q is running (Err why) went ok so_later = absurd (cc)
 
-  pub executes_one : (task : Task) → ComesTo p 0 task Effect → IsSo later (after_told p 0 (Answers task Effect)) → ExecutesOne
+  pub executes_one : (task : Task) → ComesTo p 0 task Done → IsSo later (after_told p 0 (Answers task Done)) → ExecutesOne
   executes_one (Calls instr) comes so_later =
-      let after = ap (after_answer p 0 (Calls instr) Effect) comes.is in
+      let after = ap (after_answer p 0 (Calls instr) Done) comes.is in
       by_call comes.mutator comes.is comes.no_end (call 0 p.heap comes.mutator instr) (call-went 0 p.heap comes.mutator instr) comes.may (subst (IsSo later) after so_later)
   executes_one (Stops end) comes so_later = absurd comes.may

@@ -18,7 +18,8 @@ use Rattle.gc_worker.specs.Fits.{Fits, IsGoneBy}
 use Rattle.gc_worker.specs.Held.{Held}
 use Rattle.gc_worker.specs.Law.{Heap, WorkersStand, held_at, moved, nobody}
 use Rattle.gc_worker.specs.Stepped.{awaits, awaits_at}
-use Rattle.gc_worker.specs.Turned.{Told, Silent, Answers, Marks, Effect, Ends, told, turned}
+use Rattle.gc_worker.specs.declared.did.Did.TheVariants.{Done, Trap}
+use Rattle.gc_worker.specs.Turned.{Told, Silent, Answers, Marks, told, turned}
 use Rattle.gc_worker.specs.Wanted.{wanted}
 use Rattle.gc_worker.proofs.Between.Beginning.{tasks_may_begin}
 use Rattle.gc_worker.proofs.Between.Readying.{readying_stands}
@@ -147,8 +148,8 @@ module _ (s : CoreState) (l : IsLawful s) (r : IsReady s l.plain l.flip) where
 
     went_by : (t : Told) → AfterStep r.heap h t → Went s h
     went_by Silent after = silent after
-    went_by (Answers task Effect) after = GoesOn after.0 (rw (after.2, was) (let less = rw r.pages at after.1 in omega (arith, less)))
-    went_by (Answers task (Ends end)) after = Stops (ap is_some after)
+    went_by (Answers task Done) after = GoesOn after.0 (rw (after.2, was) (let less = rw r.pages at after.1 in omega (arith, less)))
+    went_by (Answers task (Trap end)) after = Stops (ap is_some after)
     went_by (Marks asked) after = silent after
 
   went_of : (o : Option Step) → wanted (ready s 0) ≡ o → Went s (event_of s 0).after

@@ -23,7 +23,8 @@ use Rattle.gc_worker.specs.Held.{Held, at_stage}
 use Rattle.gc_worker.specs.Knows.{knows}
 use Rattle.gc_worker.specs.Law.{Heap, StepKeeps, WorkersStand, at_flip, held_at, moved, nobody, read}
 use Rattle.gc_worker.specs.Stepped.{awaits_at}
-use Rattle.gc_worker.specs.Turned.{Told, Silent, Answers, Marks, Effect, Ends, turned, told}
+use Rattle.gc_worker.specs.declared.did.Did.TheVariants.{Done, Trap}
+use Rattle.gc_worker.specs.Turned.{Told, Silent, Answers, Marks, turned, told}
 use Rattle.gc_worker.specs.Wanted.{wanted}
 use Rattle.gc_worker.proofs.Between.GoingOn.{workers_go_on}
 use Rattle.gc_worker.proofs.Between.Standing.{what_stands_is_so}
@@ -156,14 +157,14 @@ module _ (h : Heap) (p o : Plain) (x : Held) (q : Step) (st : WorkersStand h p o
     stands = subst (StageStands (table (read later)) y) (sym looks) tt;
   }
 
-  effect : (task : Task) → told x r ≡ Answers task Effect → NobodyElseAnnounces (table (read later)).announced false
+  effect : (task : Task) → told x r ≡ Answers task Done → NobodyElseAnnounces (table (read later)).announced false
       → IsLone later × (potential later < most_steps h.pages) × ((held_at later 0).account.executed ≡ (held_at h 0).account.executed + 1)
   effect task is quiet =
       let answered = subst (IsAnswered p 0) is keeps.answered in
       let stands = subst (λ (t : Told). WorkersStand later (after_told p 0 t) (at_flip p o t)) is keeps.stands in
-      let one = executes_one h later p so lone.alone lone.alone task answered (what_stands_is_so later (after_told p 0 (Answers task Effect)) o stands) in
-      let looks = (goes.answers task Effect is).after in
-      let cost = look_costs (after_told p 0 (Answers task Effect)) o stands in (
+      let one = executes_one h later p so lone.alone lone.alone task answered (what_stands_is_so later (after_told p 0 (Answers task Done)) o stands) in
+      let looks = (goes.answers task Done is).after in
+      let cost = look_costs (after_told p 0 (Answers task Done)) o stands in (
         is_lone one.no_end (at_look looks quiet),
         (let after = ap (potential_in h.pages (table (read later))) held in let stage = ap (potential_at h.pages (table (read later)) y) looks in omega (arith, after, stage, cost)),
         one.one_more,
@@ -174,9 +175,9 @@ module _ (h : Heap) (p o : Plain) (x : Held) (q : Step) (st : WorkersStand h p o
   after_by : (t : Told) → told x r ≡ t → LowersWhereTold h.pages (table (read h)) (table (read later)) x y t → WorkersStand later (after_told p 0 t) (at_flip p o t) → AfterStep h later t
   after_by Silent is l stands = lowers o stands l
   after_by (Marks n) is l stands = lowers p stands l
-  after_by (Answers task Effect) is quiet stands = effect task is quiet
-  after_by (Answers task (Ends end)) is l stands =
-      ap (λ (z : Held). z.account.end) held ∙ ap (λ (z : Account). z.end) (goes.answers task (Ends end) is).after.0
+  after_by (Answers task Done) is quiet stands = effect task is quiet
+  after_by (Answers task (Trap end)) is l stands =
+      ap (λ (z : Held). z.account.end) held ∙ ap (λ (z : Account). z.end) (goes.answers task (Trap end) is).after.0
 
   pub steps_lower : AfterStep h later (told x r)
   steps_lower = after_by (told x r) refl owes keeps.stands

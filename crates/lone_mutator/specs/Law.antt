@@ -12,7 +12,8 @@ use Rattle.gc_worker.specs.Goes.{Is}
 use Rattle.gc_worker.specs.Held.{Held}
 use Rattle.gc_worker.specs.Law.{Heap, WorkersStand, held_at, moved}
 use Rattle.gc_worker.specs.Stepped.{awaits}
-use Rattle.gc_worker.specs.Turned.{Told, Silent, Answers, Marks, Effect, Ends, turned, told}
+use Rattle.gc_worker.specs.declared.did.Did.TheVariants.{Done, Trap}
+use Rattle.gc_worker.specs.Turned.{Told, Silent, Answers, Marks, turned, told}
 use Rattle.gc_worker.specs.Wanted.{wanted}
 use Rattle.lone_mutator.specs.Bound.{most_steps}
 use Rattle.lone_mutator.specs.Lone.{IsLone, Remembers, NobodyElseAnnounces, potential}
@@ -28,8 +29,8 @@ pub record Lowers (n : ℕ) (before after : Table) (x y : Held) : Type 0 where
 -- An effect leaves it at a look, where nobody announces a place; after an end nothing is asked.
 abbrev pub LowersWhereTold : ℕ → (before after : Table) → (x y : Held) → Told → Type 0
 LowersWhereTold n before after x y Silent = Lowers n before after x y
-LowersWhereTold n before after x y (Answers task Effect) = NobodyElseAnnounces after.announced false
-LowersWhereTold n before after x y (Answers task (Ends end)) = ⊤
+LowersWhereTold n before after x y (Answers task Done) = NobodyElseAnnounces after.announced false
+LowersWhereTold n before after x y (Answers task (Trap end)) = ⊤
 LowersWhereTold n before after x y (Marks asked) = Lowers n before after x y
 
 -- worker x is the only one of a configuration, a mutator without an end, and what it remembers is so
@@ -51,8 +52,8 @@ StepsLower c x = (q : Step) → wanted x ≡ Some q
 -- than the most steps of an instruction, and has executed one more. Else it has an end.
 abbrev pub AfterStep : (h later : Heap) → Told → Type 0
 AfterStep h later Silent = IsLone later × (potential later < potential h) × ((held_at later 0).account.executed ≡ (held_at h 0).account.executed)
-AfterStep h later (Answers task Effect) = IsLone later × (potential later < most_steps h.pages) × ((held_at later 0).account.executed ≡ (held_at h 0).account.executed + 1)
-AfterStep h later (Answers task (Ends end)) = (held_at later 0).account.end ≡ Some end
+AfterStep h later (Answers task Done) = IsLone later × (potential later < most_steps h.pages) × ((held_at later 0).account.executed ≡ (held_at h 0).account.executed + 1)
+AfterStep h later (Answers task (Trap end)) = (held_at later 0).account.end ≡ Some end
 AfterStep h later (Marks asked) = IsLone later × (potential later < potential h) × ((held_at later 0).account.executed ≡ (held_at h 0).account.executed)
 
 -- each step of a lone mutator that has a task where it looks at the gate

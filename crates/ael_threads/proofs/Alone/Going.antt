@@ -11,22 +11,24 @@ use Rattle.plain_heap.proofs.Alike.{Alike, Same}
 use Rattle.gc_worker.specs.declared.task.Task.{Task}
 use Rattle.gc_worker.specs.declared.task.Task.TheVariants.{Calls, Stops}
 use Rattle.gc_worker.specs.Answer.{ComesTo, MayCome, MayEnd, after_answer, after_outcome}
-use Rattle.gc_worker.specs.Turned.{Outcome, Effect, Ends}
-use Rattle.ael_threads.specs.declared.view.Call.{Call}
-use Rattle.ael_threads.specs.declared.view.Entry.{Entry}
-use Rattle.ael_threads.specs.declared.view.Entry.TheVariants.{Made, Exchanged}
+use Rattle.gc_worker.specs.declared.did.Did.{Did}
+use Rattle.gc_worker.specs.declared.did.Did.TheVariants.{Done, Trap}
+use Rattle.gc_worker.specs.declared.call.Call.{Call}
+use Rattle.gc_worker.specs.declared.entry.Entry.{Entry}
+use Rattle.gc_worker.specs.declared.entry.Entry.TheVariants.{Made, Exchanged}
 use Rattle.ael_threads.specs.Alone.{LeavesBoard, alone, task_leaves_board}
-use Rattle.ael_threads.specs.Histories.{Each, IsLegal, after_all, after_call, calls_of, outcome_of}
+use Rattle.gc_worker.specs.History.Legal.{IsLegal, after_all, after_call, calls_of}
+use Rattle.ael_threads.specs.Histories.{Each}
 use Rattle.ael_threads.proofs.Alone.Matching.{Matches, answers-alike, is_there, other-calls, other-ends, own-calls, own-ends}
 
 -- ---- a call of another
 
 module _ (m j : ℕ) (other : j ≢ m) (p u : Plain) (same : Matches m p u) (k : Mutator) (is : slice_get p.mutators j ≡ Some k) where
-  other_comes : (task : Task) (outcome : Outcome) → Matches m (after_outcome p j k task outcome) u
-  other_comes (Calls instr) Effect = other-calls m j other p u same k is instr
-  other_comes (Calls instr) (Ends end) = other-ends m j other p u same k is end
-  other_comes (Stops end) Effect = same
-  other_comes (Stops end) (Ends why) = other-ends m j other p u same k is why
+  other_comes : (task : Task) (outcome : Did) → Matches m (after_outcome p j k task outcome) u
+  other_comes (Calls instr) Done = other-calls m j other p u same k is instr
+  other_comes (Calls instr) (Trap end) = other-ends m j other p u same k is end
+  other_comes (Stops end) Done = same
+  other_comes (Stops end) (Trap why) = other-ends m j other p u same k is why
 
 -- ---- a call of mutator m
 
@@ -48,20 +50,20 @@ may_end_too m heap there k instr (HeapFull asked room live) too may = may
 may_end_too m heap there k instr _ too may = too may
 
 module _ (m : ℕ) (p u : Plain) (same : Matches m p u) (k : Mutator) (is : slice_get p.mutators m ≡ Some k) where
-  own_comes : (task : Task) (outcome : Outcome) → task_leaves_board task ≡ true → Matches m (after_outcome p m k task outcome) (after_outcome u m k task outcome)
-  own_comes (Calls instr) Effect leaves = own-calls m p u same k is instr leaves
-  own_comes (Calls instr) (Ends end) leaves = own-ends m p u same k is end
-  own_comes (Stops end) Effect leaves = same
-  own_comes (Stops end) (Ends why) leaves = own-ends m p u same k is why
+  own_comes : (task : Task) (outcome : Did) → task_leaves_board task ≡ true → Matches m (after_outcome p m k task outcome) (after_outcome u m k task outcome)
+  own_comes (Calls instr) Done leaves = own-calls m p u same k is instr leaves
+  own_comes (Calls instr) (Trap end) leaves = own-ends m p u same k is end
+  own_comes (Stops end) Done leaves = same
+  own_comes (Stops end) (Trap why) leaves = own-ends m p u same k is why
 
-  may_come_too : (task : Task) (outcome : Outcome) → task_leaves_board task ≡ true → MayCome m p.heap k task outcome → MayCome m u.heap k task outcome
-  may_come_too (Calls instr) Effect leaves may =
+  may_come_too : (task : Task) (outcome : Did) → task_leaves_board task ≡ true → MayCome m p.heap k task outcome → MayCome m u.heap k task outcome
+  may_come_too (Calls instr) Done leaves may =
       executed_too (Alike m p.heap u.heap) (call m p.heap k instr) (call m u.heap k instr) (answers-alike m p u same k is instr leaves) may
-  may_come_too (Calls instr) (Ends end) leaves may =
+  may_come_too (Calls instr) (Trap end) leaves may =
       may_end_too m p.heap u.heap k instr end
       (ended_too (Alike m p.heap u.heap) (call m p.heap k instr) (call m u.heap k instr) end (answers-alike m p u same k is instr leaves)) may
-  may_come_too (Stops end) Effect leaves may = may
-  may_come_too (Stops end) (Ends other) leaves may = may
+  may_come_too (Stops end) Done leaves may = may
+  may_come_too (Stops end) (Trap other) leaves may = may
 
 -- ---- an entry
 
@@ -69,8 +71,8 @@ pub apart : true ≡ false → ⊥
 apart e = cc
 
 -- the plain state after a call of a mutator that is there
-pub after_is : (p : Plain) (c : Call) (m : ℕ) (k : Mutator) → c.by ≡ m → slice_get p.mutators m ≡ Some k → after_call p c ≡ after_outcome p m k c.task (outcome_of c.did)
-after_is p c m k e is = ap (λ (j : ℕ). after_call p (record { by = j; task = c.task; did = c.did })) e ∙ ap (after_answer p m c.task (outcome_of c.did)) is
+pub after_is : (p : Plain) (c : Call) (m : ℕ) (k : Mutator) → c.by ≡ m → slice_get p.mutators m ≡ Some k → after_call p c ≡ after_outcome p m k c.task c.did
+after_is p c m k e is = ap (λ (j : ℕ). after_call p (record { by = j; task = c.task; did = c.did })) e ∙ ap (after_answer p m c.task c.did) is
 
 -- What a history has of mutator m comes to the same from the state u on as the history from the state p on.
 pub record Goes (m : ℕ) (p u : Plain) (log : List Entry) (own : List Call) : Type 0 where
@@ -81,12 +83,12 @@ pub record Goes (m : ℕ) (p u : Plain) (log : List Entry) (own : List Call) : T
 abbrev pub Rest : ℕ → List Entry → Type 0
 Rest m es = (p u : Plain) → Matches m p u → IsLegal p es → Each LeavesBoard (calls_of m es) → Goes m p u es (calls_of m es)
 
-module _ (m : ℕ) (p u : Plain) (c : Call) (es : List Entry) (same : Matches m p u) (comes : ComesTo p c.by c.task (outcome_of c.did)) (legal : IsLegal (after_call p c) es) (rest : Rest m es) where
+module _ (m : ℕ) (p u : Plain) (c : Call) (es : List Entry) (same : Matches m p u) (comes : ComesTo p c.by c.task c.did) (legal : IsLegal (after_call p c) es) (rest : Rest m es) where
   by_other : c.by ≢ m → Each LeavesBoard (calls_of m es) → Goes m p u (Made c ∷ es) (calls_of m es)
   by_other other leaves =
       let k = comes.mutator in
       let next : Matches m (after_call p c) u = subst (λ (s : Plain). Matches m s u) (sym (after_is p c c.by k refl comes.is))
-      (other_comes m c.by other p u same k comes.is c.task (outcome_of c.did)) in
+      (other_comes m c.by other p u same k comes.is c.task c.did) in
       let goes = rest (after_call p c) u next legal leaves in
       record { legal = goes.legal; same = goes.same }
 
@@ -95,12 +97,12 @@ module _ (m : ℕ) (p u : Plain) (c : Call) (es : List Entry) (same : Matches m 
       let k = comes.mutator in
       let is : slice_get p.mutators m ≡ Some k = ap (λ (j : ℕ). slice_get p.mutators j) (sym e) ∙ comes.is in
       let there : slice_get u.mutators m ≡ Some k = is_there m p u same k is in
-      let may : MayCome m p.heap k c.task (outcome_of c.did) = subst (λ (j : ℕ). MayCome j p.heap k c.task (outcome_of c.did)) e comes.may in
-      let may_there : MayCome m u.heap k c.task (outcome_of c.did) = may_come_too m p u same k is c.task (outcome_of c.did) leaves may in
-      let comes_there : ComesTo u m c.task (outcome_of c.did) = record { mutator = k; is = there; no_end = comes.no_end; may = may_there } in
-      let next : Matches m (after_call p c) (after_call u c) = rw (after_is p c m k e is, after_is u c m k e there) (own_comes m p u same k is c.task (outcome_of c.did) leaves) in
+      let may : MayCome m p.heap k c.task c.did = subst (λ (j : ℕ). MayCome j p.heap k c.task c.did) e comes.may in
+      let may_there : MayCome m u.heap k c.task c.did = may_come_too m p u same k is c.task c.did leaves may in
+      let comes_there : ComesTo u m c.task c.did = record { mutator = k; is = there; no_end = comes.no_end; may = may_there } in
+      let next : Matches m (after_call p c) (after_call u c) = rw (after_is p c m k e is, after_is u c m k e there) (own_comes m p u same k is c.task c.did leaves) in
       let goes = rest (after_call p c) (after_call u c) next legal others in
-      record { legal = (subst (λ (j : ℕ). ComesTo u j c.task (outcome_of c.did)) (sym e) comes_there, goes.legal); same = goes.same }
+      record { legal = (subst (λ (j : ℕ). ComesTo u j c.task c.did) (sym e) comes_there, goes.legal); same = goes.same }
 
   of_call : (b : Bool) → ((b ≡ true) × (c.by ≡ m)) ⊎ ((b ≡ false) × (c.by ≢ m)) → Each LeavesBoard (cond b (c ∷ calls_of m es) (calls_of m es))
       → Goes m p u (Made c ∷ es) (cond b (c ∷ calls_of m es) (calls_of m es))
@@ -115,6 +117,6 @@ is_by m c (inr other) = inr (ne_eqb c.by m other, other)
 
 pub goes_alone : (m : ℕ) (es : List Entry) → Rest m es
 goes_alone m [] p u same legal leaves = record { legal = tt; same = same }
-goes_alone m (Exchanged asked ∷ es) p u same legal leaves = let goes = goes_alone m es p u same legal leaves in record { legal = goes.legal; same = goes.same }
+goes_alone m (Exchanged by asked ∷ es) p u same legal leaves = let goes = goes_alone m es p u same legal leaves in record { legal = goes.legal; same = goes.same }
 goes_alone m (Made c ∷ es) p u same legal leaves =
     of_call m p u c es same legal.0 legal.1 (goes_alone m es) (c.by == m) (is_by m c (cases_eq c.by m)) leaves

@@ -14,14 +14,14 @@ use Rattle.plain_heap.specs.Order.{fresh}
 use Rattle.gc_worker.specs.declared.task.Task.{Task}
 use Rattle.gc_worker.specs.declared.task.Task.TheVariants.{Calls, Stops}
 use Rattle.gc_worker.specs.Answer.{ComesTo, MayCome, MayEnd, after_outcome}
-use Rattle.gc_worker.specs.Turned.{Ends}
-use Rattle.ael_threads.specs.declared.view.Call.{Call}
-use Rattle.ael_threads.specs.declared.view.Did.{Did}
-use Rattle.ael_threads.specs.declared.view.Did.TheVariants.{Done, Trap}
-use Rattle.ael_threads.specs.declared.view.Entry.{Entry}
-use Rattle.ael_threads.specs.declared.view.Entry.TheVariants.{Made, Exchanged}
+use Rattle.gc_worker.specs.declared.call.Call.{Call}
+use Rattle.gc_worker.specs.declared.did.Did.{Did}
+use Rattle.gc_worker.specs.declared.did.Did.TheVariants.{Done, Trap}
+use Rattle.gc_worker.specs.declared.entry.Entry.{Entry}
+use Rattle.gc_worker.specs.declared.entry.Entry.TheVariants.{Made, Exchanged}
 use Rattle.ael_threads.specs.Alone.{EndIsLast, alone, before_full, did_by, is_full_did, replied, replies_alone, replies_of, reply_by, tasks_of}
-use Rattle.ael_threads.specs.Histories.{Each, IsLegal, after_call, calls_of, outcome_of}
+use Rattle.gc_worker.specs.History.Legal.{IsLegal, after_call, calls_of}
+use Rattle.ael_threads.specs.Histories.{Each}
 use Rattle.ael_threads.proofs.Alone.Going.{after_is, apart, is_by}
 
 -- calls of mutator m alone
@@ -35,7 +35,7 @@ kept_by m c cs false is rest = rest
 
 pub calls_by : (m : ℕ) (log : List Entry) → AllBy m (calls_of m log)
 calls_by m [] = tt
-calls_by m (Exchanged asked ∷ es) = calls_by m es
+calls_by m (Exchanged by asked ∷ es) = calls_by m es
 calls_by m (Made c ∷ es) = kept_by m c (calls_of m es) (c.by == m) (is_by m c (cases_eq c.by m)) (calls_by m es)
 
 -- ---- their replies
@@ -49,18 +49,18 @@ own_end : (m : ℕ) (heap : Heap) (k : Mutator) (instr : Instr) (end : End) → 
 own_end m heap k instr (HeapFull asked room live) few may = cc
 own_end m heap k instr _ few may = may
 
-reply_is : (m : ℕ) (heap : Heap) (k : Mutator) (task : Task) (did : Did) → is_full_did did ≡ false → MayCome m heap k task (outcome_of did) → reply_by m heap k task ≡ did
+reply_is : (m : ℕ) (heap : Heap) (k : Mutator) (task : Task) (did : Did) → is_full_did did ≡ false → MayCome m heap k task did → reply_by m heap k task ≡ did
 reply_is m heap k (Calls instr) Done few may = done_is (call m heap k instr) may
 reply_is m heap k (Calls instr) (Trap end) few may = ap did_by (own_end m heap k instr end few may)
 reply_is m heap k (Stops end) Done few may = absurd may
 reply_is m heap k (Stops end) (Trap other) few may = ap Trap (sym may)
 
-module _ (m : ℕ) (u : Plain) (c : Call) (by : c.by ≡ m) (comes : ComesTo u c.by c.task (outcome_of c.did)) where
+module _ (m : ℕ) (u : Plain) (c : Call) (by : c.by ≡ m) (comes : ComesTo u c.by c.task c.did) where
   its : slice_get u.mutators m ≡ Some comes.mutator
   its = ap (λ (j : ℕ). slice_get u.mutators j) (sym by) ∙ comes.is
 
-  its_may : MayCome m u.heap comes.mutator c.task (outcome_of c.did)
-  its_may = subst (λ (j : ℕ). MayCome j u.heap comes.mutator c.task (outcome_of c.did)) by comes.may
+  its_may : MayCome m u.heap comes.mutator c.task c.did
+  its_may = subst (λ (j : ℕ). MayCome j u.heap comes.mutator c.task c.did) by comes.may
 
   -- the reply is that of the plain machine, if that isn't that the heap is full
   replied_is : is_full_did c.did ≡ false → replied u m c.task ≡ c
@@ -78,11 +78,11 @@ module _ (m : ℕ) (u : Plain) (c : Call) (by : c.by ≡ m) (comes : ComesTo u c
   -- after it the mutator has the end that it got
   end_is : (end : End) → c.did ≡ Trap end → slice_get (after_call u c).mutators m ≡ Some (record comes.mutator { end = Some end })
   end_is end e =
-      let after : after_call u c ≡ after_outcome u m comes.mutator c.task (Ends end) =
-      after_is u c m comes.mutator by its ∙ ap (λ (d : Did). after_outcome u m comes.mutator c.task (outcome_of d)) e in
+      let after : after_call u c ≡ after_outcome u m comes.mutator c.task (Trap end) =
+      after_is u c m comes.mutator by its ∙ ap (λ (d : Did). after_outcome u m comes.mutator c.task d) e in
       ap (λ (s : Plain). slice_get s.mutators m) after ∙ by_task c.task
     where
-      by_task : (task : Task) → slice_get (after_outcome u m comes.mutator task (Ends end)).mutators m ≡ Some (record comes.mutator { end = Some end })
+      by_task : (task : Task) → slice_get (after_outcome u m comes.mutator task (Trap end)).mutators m ≡ Some (record comes.mutator { end = Some end })
       by_task (Calls instr) = slice_get-set_same u.mutators m (record comes.mutator { end = Some end }) (slice_get_within u.mutators m comes.mutator its)
       by_task (Stops why) = slice_get-set_same u.mutators m (record comes.mutator { end = Some end }) (slice_get_within u.mutators m comes.mutator its)
 

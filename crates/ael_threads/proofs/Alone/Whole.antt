@@ -6,7 +6,7 @@ use Rattle.plain_state.specs.declared.value.Value.TheVariants.{Number}
 use Rattle.plain_heap.proofs.Owning.{IsOf}
 use Rattle.heap_laws.specs.Opening.{opening_mutator, opening_plain}
 use Rattle.ael_threads.specs.Alone.{LoneCallsComeToTheSame}
-use Rattle.ael_threads.specs.Histories.{calls_of}
+use Rattle.gc_worker.specs.History.Legal.{calls_of}
 use Rattle.ael_threads.proofs.Alone.Matching.{Matches, begins}
 use Rattle.ael_threads.proofs.Alone.Sparing.{IsElse}
 use Rattle.ael_threads.proofs.Alone.Going.{goes_alone}

@@ -26,7 +26,8 @@ use Rattle.gc_worker.specs.Cycles.{LowFallsByClaims, LowGoes, claimed, low_of, l
 use Rattle.gc_worker.specs.Full.{FindsNoRoom}
 use Rattle.gc_worker.specs.Held.{Held}
 use Rattle.gc_worker.specs.Law.{Heap, WorkersStand, epoch_of, nobody, read}
-use Rattle.gc_worker.specs.Turned.{Effect, Ends, Told, Silent, Answers, Marks, epoch_in, told}
+use Rattle.gc_worker.specs.declared.did.Did.TheVariants.{Done, Trap}
+use Rattle.gc_worker.specs.Turned.{Told, Silent, Answers, Marks, epoch_in, told}
 use Rattle.gc_worker.specs.Wanted.{wanted}
 use Rattle.gc_worker.specs.declared.config.Config.{Config}
 use Rattle.gc_worker.proofs.Areas.{area_says, is_space}
@@ -53,8 +54,8 @@ module _ (n : ℕ) (s : CoreState) (w claims : ℕ) (fills : Fills n s claims) w
   -- a flip empties the space, and nothing else but a claim changes LOW
   by_told : (t : Told) (later : List ℕ) (more : ℕ) → LowGoes s.heap.pages s.heap.words later more t → low_of s.heap.pages later + claims_after claims more (stepped_by w t) ≡ PAGE_WORDS * n
   by_told Silent later more goes = let l = fills.low in omega (arith, goes, l)
-  by_told (Answers task Effect) later more goes = let l = fills.low in omega (arith, goes, l)
-  by_told (Answers task (Ends why)) later more goes = let l = fills.low in omega (arith, goes, l)
+  by_told (Answers task Done) later more goes = let l = fills.low in omega (arith, goes, l)
+  by_told (Answers task (Trap why)) later more goes = let l = fills.low in omega (arith, goes, l)
   by_told (Marks asked) later more goes = let p = fills.pages in omega (arith, goes, p)
 
   step_fills : (law : LowFallsByClaims) (p o : Plain) (r : Ready s w p o) (q : Step) → wanted (ready s w) ≡ Some q → Fills n (core_after s w) (claims_next s w claims)

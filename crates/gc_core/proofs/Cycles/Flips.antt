@@ -20,7 +20,8 @@ use Rattle.gc_worker.specs.Cycles.{CallsGoOn, FlipsAreFirst, FlipsStayFirst, IsF
 use Rattle.gc_worker.specs.Fits.{Fits, FitsEnd, IsOnSide}
 use Rattle.gc_worker.specs.Held.{Held}
 use Rattle.gc_worker.specs.Law.{Heap, StepKeeps, StepsKeep, FlipsWhereTold, WorkersStand, held_at, moved, nobody}
-use Rattle.gc_worker.specs.Turned.{Effect, Ends, Told, Silent, Answers, Marks, told, turned}
+use Rattle.gc_worker.specs.declared.did.Did.TheVariants.{Done, Trap}
+use Rattle.gc_worker.specs.Turned.{Told, Silent, Answers, Marks, told, turned}
 use Rattle.gc_worker.specs.Wanted.{wanted}
 use Rattle.gc_worker.specs.declared.stepped.Stepped.{Stepped}
 use Rattle.gc_worker.specs.declared.stepped.Stepped.TheVariants as tells
@@ -273,8 +274,8 @@ module _ (law : StepsKeep) (goes : WorkersGoOn) (so : WhatStandsIsSo) (begun : B
 
   by_told : (t : Told) → told y reply ≡ t → So (stepped_by w t)
   by_told Silent e = silent e
-  by_told (Answers task Effect) e = answered (w == m) refl
-  by_told (Answers task (Ends why)) e = answered (w == m) refl
+  by_told (Answers task Done) e = answered (w == m) refl
+  by_told (Answers task (Trap why)) e = answered (w == m) refl
   by_told (Marks pages) e = flipped pages e (w == m) refl
 
   step_flips : FlipsSo m (core_after s w) (flips_next m s w flips)

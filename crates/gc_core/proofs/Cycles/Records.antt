@@ -21,7 +21,8 @@ use Rattle.gc_worker.specs.Cycles.{ClaimsAreSetAside, IsForRecord, Makes, SetAsi
 use Rattle.gc_worker.specs.Held.{Held}
 use Rattle.gc_worker.specs.Law.{Heap, WorkersStand, held_at, moved, nobody}
 use Rattle.gc_worker.specs.Seen.{seen}
-use Rattle.gc_worker.specs.Turned.{Effect, Ends, Told, Silent, Answers, Marks, told, turned}
+use Rattle.gc_worker.specs.declared.did.Did.TheVariants.{Done, Trap}
+use Rattle.gc_worker.specs.Turned.{Told, Silent, Answers, Marks, told, turned}
 use Rattle.gc_worker.specs.Wanted.{wanted}
 use Rattle.gc_worker.specs.declared.stepped.Stepped.{Stepped}
 use Rattle.gc_worker.specs.declared.stepped.Stepped.TheVariants as tells
@@ -131,8 +132,8 @@ module _ (s : CoreState) (w : ℕ) (story : Story) (claims made : ℕ) (covers :
 
     by_told : (y z : Held) → set_aside y ≡ was → set_aside z ≡ now → (t : Told) → SetsAside y more z t → Then (stepped_by w t)
     by_told y z y_is z_is Silent sets = omega (arith, covers, changes, sets, y_is, z_is)
-    by_told y z y_is z_is (Answers task Effect) sets = omega (arith, covers, changes, sets, aside, same)
-    by_told y z y_is z_is (Answers task (Ends why)) sets = at_end why (omega (arith, sets, y_is)) (sort w why)
+    by_told y z y_is z_is (Answers task Done) sets = omega (arith, covers, changes, sets, aside, same)
+    by_told y z y_is z_is (Answers task (Trap why)) sets = at_end why (omega (arith, sets, y_is)) (sort w why)
     by_told y z y_is z_is (Marks asked) sets = omega arith
 
 -- what a worker had set aside it has as it makes its step
@@ -188,8 +189,8 @@ module _ (sets : ClaimsAreSetAside) (so : WhatStandsIsSo) (records : SetAsideIsF
     -- who ends has nothing set aside
     none_by : (y z : Held) (more : ℕ) (t : Told) → SetsAside y more z t → stepped_by w t ≡ tells.Ended m why → set_aside y ≡ 0
     none_by y z more Silent law is = absurd (let e = is in cc)
-    none_by y z more (Answers task Effect) law is = absurd (let e = is in cc)
-    none_by y z more (Answers task (Ends other)) law is = omega (arith, law)
+    none_by y z more (Answers task Done) law is = absurd (let e = is in cc)
+    none_by y z more (Answers task (Trap other)) law is = omega (arith, law)
     none_by y z more (Marks asked) law is = absurd (let e = is in cc)
 
     at_want : w < length s.heap.workers → (o : Option Step) → wanted (ready s w) ≡ o → set_aside (held_at s.heap w) ≡ 0

@@ -54,7 +54,8 @@ use Rattle.gc_worker.specs.Begun.{IsPastAfter, IsPastBack, IsPastLook, Beginning
 use Rattle.gc_worker.specs.Fits.{FitsTask, FitsTaskBefore, MayBegin, MayStop}
 use Rattle.gc_worker.specs.Held.{Held, at_stage, making_for}
 use Rattle.gc_worker.specs.Seen.{Making, seen}
-use Rattle.gc_worker.specs.Turned.{Pointed, epoch_said, first_pointer, forwards_from, forwards_it, goes_back, goes_on, with_copy, Told, Silent, Answers, Marks, Effect, Ends, acted, acts, begins, end_of, ended, full_by, is_full, looked_by, passed_by, passes, served_by, started, told_acted, told_action, told_at, told_gate, told_look, told_start, turned_access, turned_at, turned_copy, turned_flip, turned_gate, turned_look, turned_opening, turned_place, turned_register, turned_round, turned_scan, with_evac, with_record}
+use Rattle.gc_worker.specs.declared.did.Did.TheVariants.{Done, Trap}
+use Rattle.gc_worker.specs.Turned.{Pointed, epoch_said, first_pointer, forwards_from, forwards_it, goes_back, goes_on, with_copy, Told, Silent, Answers, Marks, acted, acts, begins, end_of, ended, full_by, is_full, looked_by, passed_by, passes, served_by, started, told_acted, told_action, told_at, told_gate, told_look, told_start, turned_access, turned_at, turned_copy, turned_flip, turned_gate, turned_look, turned_opening, turned_place, turned_register, turned_round, turned_scan, with_evac, with_record}
 use Rattle.gc_worker.proofs.Look.Ends.{Stops as StopsRight, action_stops}
 
 -- ---- past the look
@@ -237,8 +238,8 @@ beginnings_are_kept n mutators k x reply fits past = by_stage x x.stage refl fit
 
 abbrev NotFull : Told → Type 0
 NotFull Silent = ⊤
-NotFull (Answers task Effect) = ⊤
-NotFull (Answers task (Ends end)) = MayStop end
+NotFull (Answers task Done) = ⊤
+NotFull (Answers task (Trap end)) = MayStop end
 NotFull (Marks asked) = ⊤
 
 action_not_full : (task : Task) (act : Action) → NotFull (told_action task act)
@@ -272,7 +273,7 @@ module _ (x : Held) (fits : MayBegin x.account x.registers x.task) where
   look_not_full replies.Won = tt
   look_not_full (replies.Lost word) = tt
 
-full_by_stage : (x : Held) (reply : Reply) (task : Task) (asked room live : ℕ) (stage : Stage) → FitsTask x stage → told_at x stage reply ≡ Answers task (Ends (HeapFull asked room live)) → IsPastLook stage
+full_by_stage : (x : Held) (reply : Reply) (task : Task) (asked room live : ℕ) (stage : Stage) → FitsTask x stage → told_at x stage reply ≡ Answers task (Trap (HeapFull asked room live)) → IsPastLook stage
 full_by_stage x reply task asked room live Looks fits e = subst NotFull e (look_not_full x fits reply)
 full_by_stage x reply task asked room live (Flips f) fits e = tt
 full_by_stage x reply task asked room live (Accesses a) fits e = tt

@@ -51,7 +51,8 @@ use Rattle.gc_worker.specs.Between.{IsAnswerOf, IsNoAnswer, WorkersGoOn}
 use Rattle.gc_worker.specs.Fits.{FitsEnd, FitsTask, IsEndBefore, IsMaking}
 use Rattle.gc_worker.specs.Held.{Held, at_stage, making_for}
 use Rattle.gc_worker.specs.Seen.{Making, seen}
-use Rattle.gc_worker.specs.Turned.{Told, Silent, Answers, Marks, Effect, Ends, acted, acts, begins, end_of, ended, full_by, is_full, looked_by, passed_by, passes, served_by, started, told, told_acted, told_action, told_at, told_access, told_effect, told_end, told_flip, told_full, told_gate, told_look, told_place, told_start, turned, turned_access, turned_at, turned_copy, turned_flip, turned_gate, turned_look, turned_opening, turned_place, turned_register, turned_round, turned_scan, with_evac, with_record}
+use Rattle.gc_worker.specs.declared.did.Did.TheVariants.{Done, Trap}
+use Rattle.gc_worker.specs.Turned.{Told, Silent, Answers, Marks, acted, acts, begins, end_of, ended, full_by, is_full, looked_by, passed_by, passes, served_by, started, told, told_acted, told_action, told_at, told_access, told_effect, told_end, told_flip, told_full, told_gate, told_look, told_place, told_start, turned, turned_access, turned_at, turned_copy, turned_flip, turned_gate, turned_look, turned_opening, turned_place, turned_register, turned_round, turned_scan, with_evac, with_record}
 use Rattle.gc_worker.proofs.NewRecords.{made_is}
 
 -- ---- what becomes of the task
@@ -77,18 +78,18 @@ module _ (x : Held) where
   turns y t same comes = record { comes = comes; number = same.0; layout = same.1; mutators = same.2 }
 
   effect_by : (y : Held) → Same y → y.task ≡ None → y.stage ≡ Looks → (task : Option Task) → x.task ≡ task → Turns x y (told_effect task)
-  effect_by y same rests looks (Some task) asked = turns y (Answers task Effect) same (record { asked = asked; rests = rests; after = looks })
+  effect_by y same rests looks (Some task) asked = turns y (Answers task Done) same (record { asked = asked; rests = rests; after = looks })
   effect_by y same rests looks None none = turns y Silent same (rests ∙ sym none)
 
   end_by : (why : End) (task : Option Task) → x.task ≡ task → Turns x (ended x why) (told_end task why)
-  end_by why (Some task) asked = turns (ended x why) (Answers task (Ends why)) (refl, refl, refl) (record { asked = asked; rests = refl; after = (refl, refl) })
+  end_by why (Some task) asked = turns (ended x why) (Answers task (Trap why)) (refl, refl, refl) (record { asked = asked; rests = refl; after = (refl, refl) })
   end_by why None none = turns (ended x why) Silent (refl, refl, refl) (sym none)
 
   -- ---- a look
 
   module _ (task : Task) (asked : x.task ≡ Some task) where
-    at_once : (y : Held) → Same y → y.task ≡ None → y.stage ≡ Looks → Turns x y (Answers task Effect)
-    at_once y same rests looks = turns y (Answers task Effect) same (record { asked = asked; rests = rests; after = looks })
+    at_once : (y : Held) → Same y → y.task ≡ None → y.stage ≡ Looks → Turns x y (Answers task Done)
+    at_once y same rests looks = turns y (Answers task Done) same (record { asked = asked; rests = rests; after = looks })
 
     by_action : (act : Action) → Turns x (acts (begins x) act) (told_action task act)
     by_action (Sets d v) = at_once (acts (begins x) (Sets d v)) (refl, refl, refl) refl refl
@@ -103,8 +104,8 @@ module _ (x : Held) where
     by_action (Puts n v) = turns (acts (begins x) (Puts n v)) Silent (refl, refl, refl) refl
     by_action (Swaps d n v) = turns (acts (begins x) (Swaps d n v)) Silent (refl, refl, refl) refl
 
-    stops_at : (why : End) → Turns x (ended (begins x) why) (Answers task (Ends why))
-    stops_at why = turns (ended (begins x) why) (Answers task (Ends why)) (refl, refl, refl) (record { asked = asked; rests = refl; after = (refl, refl) })
+    stops_at : (why : End) → Turns x (ended (begins x) why) (Answers task (Trap why))
+    stops_at why = turns (ended (begins x) why) (Answers task (Trap why)) (refl, refl, refl) (record { asked = asked; rests = refl; after = (refl, refl) })
 
     by_result : (r : Result Action End) → Turns x (acted (begins x) r) (told_acted task r)
     by_result (Ok act) = by_action act

@@ -13,7 +13,9 @@ use Rattle.gc_worker.specs.declared.task.Task.{Task}
 use Rattle.gc_worker.specs.declared.task.Task.TheVariants.{Calls, Stops}
 use Rattle.gc_worker.specs.Answer.{after_answer, after_outcome}
 use Rattle.gc_worker.specs.Between.{AnswersLeaveTheOthers, LeavesTheOthers}
-use Rattle.gc_worker.specs.Turned.{Silent, Answers, Marks, Outcome, Effect, Ends}
+use Rattle.gc_worker.specs.declared.did.Did.{Did}
+use Rattle.gc_worker.specs.declared.did.Did.TheVariants.{Done, Trap}
+use Rattle.gc_worker.specs.Turned.{Silent, Answers, Marks}
 
 module _ (p : Plain) (k : ℕ) where
   as_it_was : LeavesTheOthers p p k
@@ -45,12 +47,12 @@ module _ (p : Plain) (k : ℕ) where
   by_call : (q : Mutator) (instr : Instr) → LeavesTheOthers p (settled p k q (call k p.heap q instr)) k
   by_call q instr = record { as_many = call-count p k q instr; mutator = λ j d. call-others p k j q instr d; serial = λ j d. serial q instr j d }
 
-  by_outcome : (q : Mutator) (task : Task) (outcome : Outcome) → LeavesTheOthers p (after_outcome p k q task outcome) k
-  by_outcome q (Calls instr) Effect = by_call q instr
-  by_outcome q (Stops end) Effect = as_it_was
-  by_outcome q task (Ends end) = with_end q end
+  by_outcome : (q : Mutator) (task : Task) (outcome : Did) → LeavesTheOthers p (after_outcome p k q task outcome) k
+  by_outcome q (Calls instr) Done = by_call q instr
+  by_outcome q (Stops end) Done = as_it_was
+  by_outcome q task (Trap end) = with_end q end
 
-  by_answer : (task : Task) (outcome : Outcome) (mutator : Option Mutator) → LeavesTheOthers p (after_answer p k task outcome mutator) k
+  by_answer : (task : Task) (outcome : Did) (mutator : Option Mutator) → LeavesTheOthers p (after_answer p k task outcome mutator) k
   by_answer task outcome (Some q) = by_outcome q task outcome
   by_answer task outcome None = as_it_was
 

@@ -24,7 +24,8 @@ use Rattle.gc_worker.specs.Fits.{Fits, FitsStage, FitsTask, IsMaking}
 use Rattle.gc_worker.specs.Goes.{Is}
 use Rattle.gc_worker.specs.Held.{Held, at_stage, asked_by, header_for, pages_asked}
 use Rattle.gc_worker.specs.Law.{Heap, WorkersStand, read}
-use Rattle.gc_worker.specs.Turned.{Told, Silent, Answers, Marks, Effect, Ends, told, told_effect, told_place, turned, turned_place}
+use Rattle.gc_worker.specs.declared.did.Did.TheVariants.{Done, Trap}
+use Rattle.gc_worker.specs.Turned.{Told, Silent, Answers, Marks, told, told_effect, told_place, turned, turned_place}
 use Rattle.gc_worker.proofs.Answering.{its_mutator}
 use Rattle.gc_worker.proofs.Gate.Resuming.{end_none}
 use Rattle.gc_worker.proofs.NewRecords.{asked_is, plain_pages}
@@ -36,8 +37,8 @@ use Rattle.gc_worker.proofs.Place.Acts.{makes_alike}
 -- nothing is claimed, and nothing was set aside
 nothing : (x y : Held) (claims : ℕ) → claims ≡ 0 → set_aside x ≡ 0 → (t : Told) → SetsAside x claims y t
 nothing x y claims none empty Silent = omega (arith, none, empty)
-nothing x y claims none empty (Answers task Effect) = none
-nothing x y claims none empty (Answers task (Ends end)) = omega (arith, none, empty)
+nothing x y claims none empty (Answers task Done) = none
+nothing x y claims none empty (Answers task (Trap end)) = omega (arith, none, empty)
 nothing x y claims none empty (Marks asked) = tt
 
 -- the pages that the record needs

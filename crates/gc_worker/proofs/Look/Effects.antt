@@ -29,7 +29,8 @@ use Rattle.gc_worker.specs.Goes.{Is, Goes}
 use Rattle.gc_worker.specs.Held.{Held, at_stage}
 use Rattle.gc_worker.specs.Knows.{knows}
 use Rattle.gc_worker.specs.Seen.{word_for}
-use Rattle.gc_worker.specs.Turned.{Effect, Answers, begins, acts, turned, told, told_effect}
+use Rattle.gc_worker.specs.declared.did.Did.TheVariants.{Done}
+use Rattle.gc_worker.specs.Turned.{Answers, begins, acts, turned, told, told_effect}
 use Rattle.gc_worker.specs.Turned as turn
 use Rattle.gc_worker.proofs.Alike.{plain_value, plain_action, plain_outcome}
 use Rattle.gc_worker.proofs.Answering.{LawTo, IsIts, may_hold, going, next_as}
@@ -45,7 +46,7 @@ module _ (c : Configuration) (p : Plain) (s : Stands c p) (k : ℕ) (y : Held) w
   x = at_stage y Looks
 
   module _ (is : Is c k x) (unended : x.account.end ≡ None) (q : Mutator) (its : IsIts c p s k x q) (instr : Instr) (task : x.task ≡ Some (Calls instr)) (valid : IsTrue (is_valid instr)) (reply : Reply)
-      (tells : told x reply ≡ Answers (Calls instr) Effect) where
+      (tells : told x reply ≡ Answers (Calls instr) Done) where
     -- what the plain machine's call does
     called : (act : Action) → action (sight c p s k x is refl unended) instr ≡ Ok act → call k p.heap q instr ≡ performed k p.heap q (plain_action s.ghost.identity act)
     unfolding call

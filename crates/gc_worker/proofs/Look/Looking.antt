@@ -32,7 +32,8 @@ use Rattle.gc_worker.specs.Goes.{Is, Goes, StepsSo}
 use Rattle.gc_worker.specs.Held.{Held, at_stage}
 use Rattle.gc_worker.specs.Knows.{knows}
 use Rattle.gc_worker.specs.Seen.{seen}
-use Rattle.gc_worker.specs.Turned.{Told, Silent, Answers, Ends, begins, passes, ended, acted, started, looked_by, turned, told, told_acted, told_start, told_gate}
+use Rattle.gc_worker.specs.declared.did.Did.TheVariants.{Trap}
+use Rattle.gc_worker.specs.Turned.{Told, Silent, Answers, begins, passes, ended, acted, started, looked_by, turned, told, told_acted, told_start, told_gate}
 use Rattle.gc_worker.proofs.Alike.{plain_outcome}
 use Rattle.gc_worker.proofs.Answering.{LawTo, IsIts, answers, its_mutator}
 use Rattle.gc_worker.proofs.Fitting.{before_passage}
@@ -55,7 +56,7 @@ may_end : (k : ℕ) (heap : Heap) (q : Mutator) (instr : Instr) (end : End) → 
 may_end k heap q instr (HeapFull asked room live) may calls = absurd may
 may_end k heap q instr end may calls = calls
 
-after_end : (p : Plain) (k : ℕ) (q : Mutator) (task : Task) (end : End) → after_outcome p k q task (Ends end) ≡ plain_ended p k q end
+after_end : (p : Plain) (k : ℕ) (q : Mutator) (task : Task) (end : End) → after_outcome p k q task (Trap end) ≡ plain_ended p k q end
 after_end p k q (Calls instr) end = refl
 after_end p k q (Stops stop) end = refl
 
@@ -93,9 +94,9 @@ module _ (c : Configuration) (p : Plain) (s : Stands c p) (k : ℕ) (y : Held) w
     stays : Comes x Silent → Goes c p s k None x reply
     stays so = becomes c p s k x None reply x s.ghost so.turns is.below (nothing c p s k x is (knows x) refl) so.tells refl tt is.fits
 
-    ends : (task : Task) (end : End) → MayStop end → MayCome k p.heap q task (Ends end) → Comes (ended (begins x) end) (Answers task (Ends end)) → Goes c p s k None x reply
+    ends : (task : Task) (end : End) → MayStop end → MayCome k p.heap q task (Trap end) → Comes (ended (begins x) end) (Answers task (Trap end)) → Goes c p s k None x reply
     ends task end may comes so =
-        answers c p s k x None reply (ended (begins x) end) s.ghost q task (Ends end) so.turns so.tells refl is.below mutator.1.is mutator.1.no_end comes
+        answers c p s k x None reply (ended (begins x) end) s.ghost q task (Trap end) so.turns so.tells refl is.below mutator.1.is mutator.1.no_end comes
         (subst (λ (r : Plain). LawTo c p s k x None (knows (ended (begins x) end)) s.ghost r) (sym (after_end p k q task end)) law)
         (full_by c.pages c.words x end may) tt (ended_fits c.pages c.mutators k (begins x) (begun_fits c.pages c.mutators k y is.fits) is.fits.side end)
       where

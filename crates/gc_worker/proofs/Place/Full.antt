@@ -36,7 +36,8 @@ use Rattle.gc_worker.specs.Full.{FindsNoRoom}
 use Rattle.gc_worker.specs.Goes.{Is, Goes}
 use Rattle.gc_worker.specs.Held.{Held, at_stage}
 use Rattle.gc_worker.specs.Knows.{knows}
-use Rattle.gc_worker.specs.Turned.{Silent, Ends, Answers, is_full, passes, ended, end_of, told_end, turned_place, told_place}
+use Rattle.gc_worker.specs.declared.did.Did.TheVariants.{Trap}
+use Rattle.gc_worker.specs.Turned.{Silent, Answers, is_full, passes, ended, end_of, told_end, turned_place, told_place}
 use Rattle.gc_worker.specs.Turned as turning
 use Rattle.gc_worker.proofs.Answering.{LawTo, IsIts, answers}
 use Rattle.gc_worker.proofs.Areas.{area_now, area_says, is_space}
@@ -83,7 +84,7 @@ module _ (c : Configuration) (p : Plain) (s : Stands c p) (k : ℕ) (y : Held) (
         ap (λ (stage : PlaceStage). turned_place x (placing c p s k y run header stage) (told (placing c p s k y run header stage))) reads
         ∙ ap (λ (b : Bool). cond b after (at_stage x (passes x Request afters.Places))) full
 
-    answer : turning.told x (Value (area_now c space)) ≡ Answers (Calls instr) (Ends end)
+    answer : turning.told x (Value (area_now c space)) ≡ Answers (Calls instr) (Trap end)
     answer =
         ap (λ (stage : PlaceStage). told_place x (told (placing c p s k y run header stage))) reads
         ∙ (ap (λ (b : Bool). cond b (told_end y.task end) Silent) full ∙ ap (λ (t : Option Task). told_end t end) making.executes.task_is)
@@ -102,10 +103,10 @@ module _ (c : Configuration) (p : Plain) (s : Stands c p) (k : ℕ) (y : Held) (
           mutators_find_no_room (era c) (memory c) (team c) s.ghost p k asked q area (prepared c p s k x is) (rw is.as_known refl) s.shown its.is is_now (rw is.as_known refl)
           (λ room. omega (arith, l, order, room))
 
-      law : LawTo c p s k x None (knows after) s.ghost (after_outcome p k q (Calls instr) (Ends end))
+      law : LawTo c p s k x None (knows after) s.ghost (after_outcome p k q (Calls instr) (Trap end))
       law =
-          plain_steps_forget (era c) (memory c) (team c) s.ghost k None (with_end (knows x) end) (knows after) s.ghost (after_outcome p k q (Calls instr) (Ends end))
-          (subst (λ (w : Worker). LawTo c p s k x None (with_end w end) s.ghost (after_outcome p k q (Calls instr) (Ends end))) is.as_known finds.ends)
+          plain_steps_forget (era c) (memory c) (team c) s.ghost k None (with_end (knows x) end) (knows after) s.ghost (after_outcome p k q (Calls instr) (Trap end))
+          (subst (λ (w : Worker). LawTo c p s k x None (with_end w end) s.ghost (after_outcome p k q (Calls instr) (Trap end))) is.as_known finds.ends)
           (traced_is_forgotten (with_end (knows x) end) refl refl)
 
       no_flip : (y.begun < y.epoch) ⊎ (y.epoch ≡ 2 ^ 32 - 1)
@@ -132,7 +133,7 @@ module _ (c : Configuration) (p : Plain) (s : Stands c p) (k : ℕ) (y : Held) (
 
       pub finds_no_room : Goes c p s k None x (Value (area_now c space))
       finds_no_room =
-          answers c p s k x None (Value (area_now c space)) after s.ghost q (Calls instr) (Ends end) comes answer refl is.below its.is its.no_end
+          answers c p s k x None (Value (area_now c space)) after s.ghost q (Calls instr) (Trap end) comes answer refl is.below its.is its.no_end
           (plain_pages y making q acts) law no_room
           (record { pages = is.fits.stage.sound.pages; run = is.fits.stage.sound.run; epoch = is.fits.stage.sound.epoch; stage = subst (FitsPlaceStage y.layout.pages asked run header) (sym reads) tt })
           (ended_fits c.pages c.mutators k x is.fits is.fits.side end)

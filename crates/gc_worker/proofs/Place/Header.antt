@@ -15,7 +15,7 @@ use Rattle.plain_heap.specs.Action.{◌>>=◌, action, next_of}
 use Rattle.plain_heap.specs.Call.{After, call, performed, went_on, allocated as plain_allocated}
 use Rattle.plain_heap.specs.Step.{settled}
 use Rattle.atom_store.specs.declared.step.Step.TheVariants.{Store}
-use Rattle.atom_store.specs.declared.reply.Reply.TheVariants.{Done}
+use Rattle.atom_store.specs.declared.reply.Reply.TheVariants as replies
 use Rattle.record_layout.specs.declared.header.Header.{Header}
 use Rattle.record_layout.specs.Layout.{header_says}
 use Rattle.space_map.specs.Table.{HeapWord, place_of}
@@ -39,7 +39,8 @@ use Rattle.gc_worker.specs.Goes.{Is, Goes, StepsSo}
 use Rattle.gc_worker.specs.Held.{Held}
 use Rattle.gc_worker.specs.Knows.{knows, stock_of}
 use Rattle.gc_worker.specs.Seen.{Making, IsValueAs, seen}
-use Rattle.gc_worker.specs.Turned.{Effect, Answers, turned, told, told_effect}
+use Rattle.gc_worker.specs.declared.did.Did.TheVariants.{Done}
+use Rattle.gc_worker.specs.Turned.{Answers, turned, told, told_effect}
 use Rattle.gc_worker.specs.Turned as turning
 use Rattle.gc_worker.proofs.Answering.{LawTo, IsIts, answers, its_mutator, row_fits_to}
 use Rattle.gc_worker.proofs.Effecting.{moved, moved_goes, moved_as}
@@ -83,10 +84,10 @@ module _ (c : Configuration) (p : Plain) (s : Stands c p) (k : ℕ) (y : Held) (
   abbrev after : Held
   after = settled_as x (record account { serial = y.account.serial + 1 }) (slice_set y.registers m.into (pointer_word run.at)) (Some next_run)
 
-  comes : turned x Done ≡ after
+  comes : turned x replies.Done ≡ after
   comes = ap (turning.with_record x next_run run.at) (made_is y making)
 
-  answer : told x Done ≡ Answers (Calls instr) Effect
+  answer : told x replies.Done ≡ Answers (Calls instr) Done
   answer = ap told_effect making.executes.task_is
 
   small : m.into < 8
@@ -164,22 +165,22 @@ module _ (c : Configuration) (p : Plain) (s : Stands c p) (k : ℕ) (y : Held) (
       calls : call k p.heap q instr ≡ Ok (plain_allocated k p.heap q m.kind m.into m.len)
       calls = called k p q instr (Makes m.kind m.into m.len) acts
 
-      law : LawTo c p s k x (Some entry) (knows after) ghost_after (after_outcome p k q (Calls instr) Effect)
+      law : LawTo c p s k x (Some entry) (knows after) ghost_after (after_outcome p k q (Calls instr) Done)
       law =
           let placed = mutators_place (era c) (memory c) (team c) s.ghost p k next (went_on q) stock m.kind (m.len + 1) word m.into (pointer_word run.at) (zeros m.kind m.len)
           (prepared c p s k x is) s.shown places shows small points (moved_goes c p s k x is refl unended q its) (moved_as c p s k x is refl unended q its) in
           subst (λ (o : Result After End). LawTo c p s k x (Some entry) (knows after) ghost_after (settled p k q o)) (sym calls)
           (subst (λ (w : Worker). LawTo c p s k x (Some entry) w ghost_after (settled p k q (Ok (plain_allocated k p.heap q m.kind m.into m.len)))) known placed)
 
-      goes : Goes c p s k (Some entry) x Done
+      goes : Goes c p s k (Some entry) x replies.Done
       goes =
-          answers c p s k x (Some entry) Done after ghost_after q (Calls instr) Effect comes answer refl is.below its.is its.no_end
+          answers c p s k x (Some entry) replies.Done after ghost_after q (Calls instr) Done comes answer refl is.below its.is its.no_end
           (subst (λ (o : Result After End). IsOk o) (sym calls) refl) law tt takes fits
 
       stores_for : StepsSo c p s k x
       stores_for =
           wants c p s k x (Store (place_of c.pages (HeapWord run.at)) word) (ap (λ n. Some (Store (place_of n (HeapWord run.at)) word)) is.fits.pages)
-          (stores c p s k x entry (row_fits_to c p s k x entry (knows after) ghost_after (after_outcome p k q (Calls instr) Effect) is.below law) goes)
+          (stores c p s k x entry (row_fits_to c p s k x entry (knows after) ghost_after (after_outcome p k q (Calls instr) Done) is.below law) goes)
 
     pub stores_header : StepsSo c p s k x
     stores_header =

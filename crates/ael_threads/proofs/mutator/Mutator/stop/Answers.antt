@@ -1,6 +1,6 @@
 use Rattle.std.proofs.Common.{subst}
 use Rattle.gc_worker.specs.declared.task.Task.TheVariants.{Stops}
-use Rattle.ael_threads.specs.declared.view.Did.{Did}
+use Rattle.gc_worker.specs.declared.did.Did.{Did}
 use Rattle.ael_threads.specs.Calls.{Called}
 use Rattle.ael_threads.proofs.Along.{stops}
 use Rattle.ael_threads.proofs.Calling.{waits_first}

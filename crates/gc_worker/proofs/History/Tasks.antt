@@ -1,5 +1,5 @@
 -- A worker that is given a task leaves what is counted.
-use Rattle.std.proofs.Common.{◌≡◌, ◌≢◌, ℕ, ◌<◌, ◌≤◌, inl, inr, List, [], length, true, false, Some, None, refl, sym, ap, subst, ◌∙◌, arith, ⊎_elim, append-nil, get_or-set_same, get_or-set_other, length-set}
+use Rattle.std.proofs.Common.{◌≡◌, ◌≢◌, ℕ, ◌<◌, ◌≤◌, inl, inr, List, [], length, true, Some, None, refl, sym, ap, subst, ◌∙◌, arith, ⊎_elim, append-nil, get_or-set_same, get_or-set_other, length-set}
 use Rattle.std.proofs.lemmas.Bool.{cases_eq}
 use Rattle.heap_state.specs.Functions.{sum_below}
 use Rattle.heap_state.proofs.Puts.{sum_below-same}
@@ -9,15 +9,14 @@ use Rattle.gc_worker.specs.declared.stage.Stage.{Stage}
 use Rattle.gc_worker.specs.declared.stage.Stage.TheVariants.{Looks, Passes, Flips, Forwards, Accesses, Places, Serves, Scans, Evacuates, Opens, Gone}
 use Rattle.gc_worker.specs.declared.task.Task.{Task}
 use Rattle.gc_worker.specs.Begun.{IsPastLook}
-use Rattle.gc_worker.specs.Between.{with_task, with_worker}
+use Rattle.gc_worker.specs.Between.{Begins, with_task, with_worker}
 use Rattle.gc_worker.specs.Cycles.{IsFirst, IsFirstAt, IsFirstBy, IsInCall, set_aside, set_aside_at}
 use Rattle.gc_worker.specs.Held.{Held}
 use Rattle.gc_worker.specs.Law.{Heap, held_at, nobody}
 use Rattle.heap_state.specs.Worker.{Account}
-use Rattle.ael_threads.specs.declared.view.Entry.{Entry}
-use Rattle.ael_threads.specs.Cycles.{AreAskedFor, EachEntry, EntryIs, IsTallied, Tally, aside_in, tally, tasks_of}
-use Rattle.ael_threads.specs.Seats.{Begins}
-use Rattle.ael_threads.proofs.Tallying.{entries_on, flips_on}
+use Rattle.gc_worker.specs.declared.entry.Entry.{Entry}
+use Rattle.gc_worker.specs.History.Tally.{EachEntry, EntryIs, IsTallied, Tally, aside_in, tally, tasks_held}
+use Rattle.gc_worker.proofs.History.Tallies.{entries_on}
 
 -- all but the task is as it was, and a task stays
 record IsBut (was now : Held) : Type 0 where
@@ -95,7 +94,7 @@ module _ (h : Heap) (k : ℕ) (now : Held) (below : k < length h.workers) (begin
       let same = all_but m in
       subst (λ (begun : ℕ). begun ≤ t.flips) (sym same.begun) (b.counts.begun m few (ap (λ (a : Account). a.end) (sym same.account) ∙ none) (subst IsPastLook same.stage past))
 
-  call : (m : ℕ) → b.asked m ≡ true → IsInCall (held_at after m).stage × ((held_at after m).begun < t.flips)
+  call : (m : ℕ) → t.asked m ≡ true → IsInCall (held_at after m).stage × ((held_at after m).begun < t.flips)
   call m has =
       let same = all_but m in
       let was = b.counts.call m has in
@@ -103,11 +102,8 @@ module _ (h : Heap) (k : ℕ) (now : Held) (below : k < length h.workers) (begin
 
   pub task_tallied : IsTallied after first log
   task_tallied = record {
-    entries = subst (EachEntry (EntryIs h.pages (tasks_of after.workers)) first) (append-nil log)
-        (entries_on (tasks_of h.workers) (tasks_of after.workers) [] (λ j task is. (all_but j).task task is) h.pages first log b.entries tt);
-    asked = b.asked;
-    flips = subst (AreAskedFor (tasks_of after.workers) (λ j. false) b.asked first) (append-nil log)
-        (flips_on (tasks_of h.workers) (tasks_of after.workers) [] (λ j task is. (all_but j).task task is) first (λ j. false) b.asked b.asked log b.flips refl);
+    entries = subst (EachEntry (EntryIs h.pages (tasks_held after.workers)) first) (append-nil log)
+        (entries_on (tasks_held h.workers) (tasks_held after.workers) [] (λ j task is. (all_but j).task task is) h.pages first log b.entries tt);
     counts = record {
       claims = b.counts.claims;
       low = b.counts.low;

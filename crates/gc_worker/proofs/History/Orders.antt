@@ -1,6 +1,6 @@
 -- The order of a history in which mutators execute a program: the plain machine that is run by it comes to what the history comes to,
 -- each of its marks acts, and its flips are those of the history.
-use Rattle.std.proofs.Common.{◌≡◌, ℕ, ◌<◌, ◌≤◌, List, [], ◌∷◌, length, Some, None, slice_get, refl, sym, ◌∙◌, ap, subst, arith, ⊎_elim}
+use Rattle.std.proofs.Common.{◌≡◌, ℕ, ◌<◌, ◌≤◌, List, [], ◌∷◌, ◌++◌, length, Some, None, slice_get, refl, sym, ◌∙◌, ap, subst, arith, ⊎_elim}
 use Rattle.std.proofs.lemmas.Bool.{cases_lt}
 use Rattle.std.proofs.lemmas.List.{length-replicate}
 use Rattle.std.proofs.lemmas.Option.{slice_get_within}
@@ -12,17 +12,42 @@ use Rattle.heap_laws.specs.Opening.{opening_mutator, opening_plain}
 use Rattle.gc_worker.specs.declared.task.Task.{Task}
 use Rattle.gc_worker.specs.Answer.{ComesTo, MayCome}
 use Rattle.gc_worker.specs.Marks.{Acts, EachActs, task_of}
-use Rattle.gc_worker.specs.Turned.{Effect, Ends}
 use Rattle.gc_worker.proofs.Outcomes.{Sort, IsFull, IsStep, sort, comes, asks_then, opens_so, was_running}
-use Rattle.ael_threads.specs.declared.view.Call.{Call}
-use Rattle.ael_threads.specs.declared.view.Did.{Did}
-use Rattle.ael_threads.specs.declared.view.Did.TheVariants.{Done, Trap}
-use Rattle.ael_threads.specs.declared.view.Entry.{Entry}
-use Rattle.ael_threads.specs.declared.view.Entry.TheVariants.{Made, Exchanged}
-use Rattle.ael_threads.specs.Histories.{IsLegal, after_all, after_call, flip_from, last_flip, outcome_of}
-use Rattle.ael_threads.specs.Programs.{AreFetched, AreShort, Executes, IsShort, mark_by, order_of}
-use Rattle.ael_threads.proofs.MoreCalls.{fetched_none, none_past, short_none}
-use Rattle.ael_threads.proofs.Growing.{as_many}
+use Rattle.gc_worker.specs.declared.call.Call.{Call}
+use Rattle.gc_worker.specs.declared.did.Did.{Did}
+use Rattle.gc_worker.specs.declared.did.Did.TheVariants.{Done, Trap}
+use Rattle.gc_worker.specs.declared.entry.Entry.{Entry}
+use Rattle.gc_worker.specs.declared.entry.Entry.TheVariants.{Made, Exchanged}
+use Rattle.gc_worker.specs.History.Legal.{IsLegal, after_all, after_call, calls_of, flip_from, last_flip}
+use Rattle.gc_worker.specs.History.Order.{AreFetched, AreShort, IsShort, mark_by, order_of}
+use Rattle.gc_worker.proofs.History.Extensions.{as_many, none_first, none_past}
+
+-- ---- a history in two parts
+
+module _ (code : List (List Instr)) (turns m : ℕ) where
+  pub fetched_append : (p : Plain) (xs ys : List Entry) → AreFetched code turns m p xs → AreFetched code turns m (after_all p xs) ys → AreFetched code turns m p (xs ++ ys)
+  fetched_append p [] ys h k = k
+  fetched_append p (Made c ∷ es) ys h k = (h.0, fetched_append (after_call p c) es ys h.1 k)
+  fetched_append p (Exchanged by asked ∷ es) ys h k = fetched_append p es ys h k
+
+  -- where mutator m has no call
+  pub fetched_none : (p : Plain) (log : List Entry) → calls_of m log ≡ [] → AreFetched code turns m p log
+  fetched_none p [] none = tt
+  fetched_none p (Made c ∷ es) none = let h = none_first m c es none in ((λ by. absurd (h.0 (sym by))), fetched_none (after_call p c) es h.1)
+  fetched_none p (Exchanged by asked ∷ es) none = fetched_none p es none
+
+module _ (m : ℕ) where
+  pub short_append : (xs ys : List Entry) → AreShort m xs → AreShort m ys → AreShort m (xs ++ ys)
+  short_append [] ys h k = k
+  short_append (Made c ∷ es) ys h k = (h.0, short_append es ys h.1 k)
+  short_append (Exchanged by asked ∷ es) ys h k = short_append es ys h k
+
+  pub short_none : (log : List Entry) → calls_of m log ≡ [] → AreShort m log
+  short_none [] none = tt
+  short_none (Made c ∷ es) none = let h = none_first m c es none in ((λ by. absurd (h.0 (sym by))), short_none es h.1)
+  short_none (Exchanged by asked ∷ es) none = short_none es none
+
+-- ---- its order
 
 -- What the order of a history does to the plain machine, from this state and that of the last flip.
 pub record IsOrder (code : List (List Instr)) (turns : ℕ) (p o : Plain) (log : List Entry) : Type 0 where
@@ -42,12 +67,12 @@ module _ (code : List (List Instr)) (turns : ℕ) where
   -- of mutator m, which is q, and has the task that it fetches
   module _ (p : Plain) (m : ℕ) (q : Mutator) (has : m < length code) (is : slice_get p.mutators m ≡ Some q) (running : q.end ≡ None) (task : Task) (own : task ≡ task_of (fetch code turns m q)) where
     -- its mark does what it does
-    marks_so : (did : Did) → MayCome m p.heap q task (outcome_of did) → marked code turns p (mark_by m did) ≡ after_call p (record { by = m; task = task; did = did })
-    marks_so Done may = comes code turns p m q has is running Effect (rw own at may) ∙ rw (is, own) refl
-    marks_so (Trap why) may = comes code turns p m q has is running (Ends why) (rw own at may) ∙ rw is refl
+    marks_so : (did : Did) → MayCome m p.heap q task did → marked code turns p (mark_by m did) ≡ after_call p (record { by = m; task = task; did = did })
+    marks_so Done may = comes code turns p m q has is running Done (rw own at may) ∙ rw (is, own) refl
+    marks_so (Trap why) may = comes code turns p m q has is running (Trap why) (rw own at may) ∙ rw is refl
 
     -- and acts
-    mark_acts : (did : Did) → MayCome m p.heap q task (outcome_of did) → IsShort did → Acts code turns p (mark_by m did)
+    mark_acts : (did : Did) → MayCome m p.heap q task did → IsShort did → Acts code turns p (mark_by m did)
     mark_acts Done may short = was_running code turns p m q has is running
     mark_acts (Trap why) may short = by_sort (sort m why)
       where
@@ -64,6 +89,15 @@ module _ (code : List (List Instr)) (turns : ℕ) where
       by_sort (IsStep s c) = rw s refl
       by_sort (IsFull asked room live e) = rw e refl
 
+  -- what a call does to the story its mark does
+  pub call_turns : (p o : Plain) (c : Call) → ComesTo p c.by c.task c.did → length p.mutators ≡ length code
+      → ((q : Mutator) → slice_get p.mutators c.by ≡ Some q → c.task ≡ task_of (fetch code turns c.by q))
+      → turned code turns (record { flip = o; now = p }) (mark_by c.by c.did) ≡ record { flip = o; now = after_call p c }
+  call_turns p o c h sections own =
+      let within = slice_get_within p.mutators c.by h.mutator h.is in
+      let same = marks_so p c.by h.mutator (omega (arith, within, sections)) h.is h.no_end c.task (own h.mutator h.is) c.did h.may in
+      no_flip p o c.by c.did ∙ (λ i. record { flip = o; now = same i })
+
   -- ---- a history
 
   -- one call more at its beginning
@@ -79,7 +113,7 @@ module _ (code : List (List Instr)) (turns : ℕ) where
   unfolding marked
   orders_act p o [] legal sections fetched short = record { state = refl; acts = tt; flip = refl }
   orders_act p o (Made c ∷ es) legal sections fetched short =
-      let h : ComesTo p c.by c.task (outcome_of c.did) = legal.0 in
+      let h : ComesTo p c.by c.task c.did = legal.0 in
       let within = slice_get_within p.mutators c.by h.mutator h.is in
       let has : c.by < length code = omega (arith, within, sections) in
       let own : c.task ≡ task_of (fetch code turns c.by h.mutator) = (fetched c.by).0 refl h.mutator h.is in
@@ -87,7 +121,7 @@ module _ (code : List (List Instr)) (turns : ℕ) where
       (marks_so p c.by h.mutator has h.is h.no_end c.task own c.did h.may)
       (mark_acts p c.by h.mutator has h.is h.no_end c.task own c.did h.may ((short c.by).0 refl))
       (orders_act (after_call p c) o es legal.1 (as_many p (Made c ∷ []) ∙ sections) (λ m. (fetched m).1) (λ m. (short m).1))
-  orders_act p o (Exchanged asked ∷ es) legal sections fetched short =
+  orders_act p o (Exchanged by asked ∷ es) legal sections fetched short =
       let rest = orders_act p p es legal sections fetched short in
       record { state = rest.state; acts = (tt, rest.acts); flip = rest.flip }
 
@@ -104,14 +138,14 @@ module _ (code : List (List Instr)) (turns : ℕ) where
 
   -- each mutator that there is executes its section
   pub orders_program : (mutators : ℕ) (log : List Entry) → mutators ≡ length code → IsLegal (opening_plain mutators) log
-      → ((m : ℕ) → m < mutators → (count : ℕ) × Executes code turns (opening_plain mutators) m count log) → IsProgramOrder code turns mutators log
-  orders_program mutators log sections legal each =
+      → ((m : ℕ) → m < mutators → AreFetched code turns m (opening_plain mutators) log) → ((m : ℕ) → m < mutators → AreShort m log) → IsProgramOrder code turns mutators log
+  orders_program mutators log sections legal fetched short =
       let p : Plain = opening_plain mutators in
       let many : length p.mutators ≡ mutators = length-replicate mutators opening_mutator in
       let opens : p ≡ opening code = ap opening_plain sections ∙ opens_so code in
       let h = orders_act p p log legal (many ∙ sections)
-      (fetched_each p log legal (λ m l. (each m (omega (arith, l, many))).1.fetched))
-      (short_each p log legal (λ m l. (each m (omega (arith, l, many))).1.short)) in
+      (fetched_each p log legal (λ m l. fetched m (omega (arith, l, many))))
+      (short_each p log legal (λ m l. short m (omega (arith, l, many)))) in
       record {
         plain = ap (λ (z : Plain). state_after code turns z (order_of log)) (sym opens) ∙ h.state;
         acts = subst (λ (z : Plain). EachActs code turns z (order_of log)) opens h.acts;

@@ -1,20 +1,23 @@
--- What is counted along a history that grows, and what each of its entries then is.
-use Rattle.std.proofs.Common.{◌≡◌, ℕ, zero, suc, ◌<◌, ◌≤◌, ◌==◌, Bool, true, false, cond, List, [], ◌∷◌, ◌++◌, length, Option, Some, None, slice_get, refl, sym, ap, subst, ◌∙◌, arith}
+-- What is counted along a history that goes on, and what each of its entries then is.
+use Rattle.std.proofs.Common.{◌≡◌, ℕ, ◌≤◌, ◌==◌, Bool, true, false, cond, List, [], ◌∷◌, ◌++◌, length, Option, Some, None, slice_get, refl, sym, ap, ◌∙◌, arith}
 use Rattle.std.specs.Option.{option_and_then, option_map}
 use Rattle.plain_state.specs.declared.end.End.{End}
 use Rattle.plain_state.specs.declared.end.End.TheVariants as ends
 use Rattle.plain_state.specs.State.{Mutator, Plain}
 use Rattle.mutator_asm.specs.declared.instr.Instr.{Instr}
 use Rattle.plain_heap.specs.Step.{new_record, pages_of}
-use Rattle.heap_state.specs.Functions.{sum_below}
 use Rattle.gc_worker.specs.declared.task.Task.{Task}
 use Rattle.gc_worker.specs.declared.task.Task.TheVariants.{Calls}
-use Rattle.ael_threads.specs.declared.view.Did.{Did}
-use Rattle.ael_threads.specs.declared.view.Did.TheVariants.{Done, Trap}
-use Rattle.ael_threads.specs.declared.view.Entry.{Entry}
-use Rattle.ael_threads.specs.declared.view.Entry.TheVariants.{Made, Exchanged}
-use Rattle.ael_threads.specs.Cycles.{AreAskedFor, EachEntry, EntryIs, IsFilled, IsFilledBy, IsFilledByEnd, Tally, Tasks, after_entry, asked_by, asked_if, being_made, next_task, pages_by, tally}
-use Rattle.ael_threads.specs.Histories.{after_all, flip_from}
+use Rattle.gc_worker.specs.declared.did.Did.{Did}
+use Rattle.gc_worker.specs.declared.did.Did.TheVariants.{Done, Trap}
+use Rattle.gc_worker.specs.declared.entry.Entry.{Entry}
+use Rattle.gc_worker.specs.declared.entry.Entry.TheVariants.{Made, Exchanged}
+use Rattle.gc_worker.proofs.History.Sums.{sum_below-most}
+use Rattle.gc_worker.specs.History.Tally.{EachEntry, EntryIs, IsFilled, IsFilledBy, IsFilledByEnd, Tally, Tasks, after_entry, asked_by_task, asked_if, made_next, next_task, pages_by_task, tally}
+use Rattle.gc_worker.specs.Answer.{after_told}
+use Rattle.gc_worker.specs.History.Legal.{after_all, extra, flip_from}
+use Rattle.gc_worker.specs.Law.{at_flip}
+use Rattle.gc_worker.specs.Turned.{Told, Silent, Answers, Marks}
 
 -- ---- two histories, one after the other
 
@@ -25,12 +28,22 @@ tally_append t (e ∷ es) ys = tally_append (after_entry t e) es ys
 pub tally_now : (t : Tally) (es : List Entry) → (tally t es).now ≡ after_all t.now es
 tally_now t [] = refl
 tally_now t (Made c ∷ es) = tally_now (after_entry t (Made c)) es
-tally_now t (Exchanged asked ∷ es) = tally_now (after_entry t (Exchanged asked)) es
+tally_now t (Exchanged by asked ∷ es) = tally_now (after_entry t (Exchanged by asked)) es
 
 pub tally_flip : (t : Tally) (es : List Entry) → (tally t es).flip ≡ flip_from t.now t.flip es
 tally_flip t [] = refl
 tally_flip t (Made c ∷ es) = tally_flip (after_entry t (Made c)) es
-tally_flip t (Exchanged asked ∷ es) = tally_flip (after_entry t (Exchanged asked)) es
+tally_flip t (Exchanged by asked ∷ es) = tally_flip (after_entry t (Exchanged by asked)) es
+
+pub tally_more-now : (t : Tally) (m : ℕ) (u : Told) → (tally t (extra m u)).now ≡ after_told t.now m u
+tally_more-now t m Silent = refl
+tally_more-now t m (Answers task did) = refl
+tally_more-now t m (Marks asked) = refl
+
+pub tally_more-flip : (t : Tally) (m : ℕ) (u : Told) → (tally t (extra m u)).flip ≡ at_flip t.now t.flip u
+tally_more-flip t m Silent = refl
+tally_more-flip t m (Answers task did) = refl
+tally_more-flip t m (Marks asked) = refl
 
 module _ (P Q : Tally → Entry → List Entry → Type 0) (more : List Entry) (on : (t : Tally) (e : Entry) (es : List Entry) → P t e es → Q t e (es ++ more)) where
   each_append : (t : Tally) (xs : List Entry) → EachEntry P t xs → EachEntry Q (tally t xs) more → EachEntry Q t (xs ++ more)
@@ -43,7 +56,7 @@ entries_last P t (x ∷ xs) e h = entries_last P (after_entry t x) xs e h.1
 
 -- ---- what a task asks for
 
-asks_none : (p : Plain) (j : ℕ) → asked_by p j None ≡ None
+asks_none : (p : Plain) (j : ℕ) → asked_by_task p j None ≡ None
 asks_none p j = by_mutator (slice_get p.mutators j)
   where
     by_end : (q : Mutator) (end : Option End) → asked_if end q None ≡ None
@@ -56,28 +69,18 @@ asks_none p j = by_mutator (slice_get p.mutators j)
 
 module _ (p : Plain) (j : ℕ) where
   -- who asks for pages has a task
-  pub asks_some : (o : Option Task) (pages : ℕ) → asked_by p j o ≡ Some pages → (task : Task) × (o ≡ Some task)
+  pub asks_some : (o : Option Task) (pages : ℕ) → asked_by_task p j o ≡ Some pages → (task : Task) × (o ≡ Some task)
   asks_some None pages e = absurd (let none = asks_none p j in let f = sym none ∙ e in cc)
   asks_some (Some task) pages e = (task, refl)
 
-  pub no_pages : pages_by p j None ≡ 0
+  pub no_pages : pages_by_task p j None ≡ 0
   no_pages = let none = asks_none p j in rw none refl
 
 -- the pages of the record that an instruction makes
 pub asks_as : (p : Plain) (j : ℕ) (q : Mutator) (instr : Instr) (pages : ℕ) → slice_get p.mutators j ≡ Some q → q.end ≡ None → option_map pages_of (new_record q instr) ≡ Some pages
-    → asked_by p j (Some (Calls instr)) ≡ Some pages
+    → asked_by_task p j (Some (Calls instr)) ≡ Some pages
 asks_as p j q instr pages is none e =
     ap (λ (o : Option Mutator). option_and_then (λ (m : Mutator). asked_if m.end m (Some (Calls instr))) o) is ∙ (ap (λ (end : Option End). asked_if end q (Some (Calls instr))) none ∙ e)
-
--- ---- sums
-
-pub sum_below-most : (n : ℕ) (f g : ℕ → ℕ) → ((k : ℕ) → k < n → f k ≤ g k) → sum_below n f ≤ sum_below n g
-unfolding sum_below
-sum_below-most zero f g most = omega arith
-sum_below-most (suc n) f g most =
-    let rest = sum_below-most n f g (λ k below. most k (omega (arith, below))) in
-    let here = most n (omega arith) in
-    omega (arith, rest, here)
 
 -- ---- a history that grows, while workers go on
 
@@ -90,23 +93,23 @@ module _ (tasks later : Tasks) (more : List Entry) (goes_on : (j : ℕ) (task : 
   next_on : (j : ℕ) (task : Task) (es : List Entry) → next_task j es (tasks j) ≡ Some task → next_task j (es ++ more) (later j) ≡ Some task
   next_on j task [] e = goes_on j task e
   next_on j task (Made c ∷ es) e = next_if (c.by == j) (Some c.task) (next_task j es (tasks j)) (next_task j (es ++ more) (later j)) task (next_on j task es) e
-  next_on j task (Exchanged asked ∷ es) e = next_on j task es e
+  next_on j task (Exchanged by asked ∷ es) e = next_on j task es e
 
-  asks_on : (p : Plain) (j asked : ℕ) (es : List Entry) → asked_by p j (next_task j es (tasks j)) ≡ Some asked → asked_by p j (next_task j (es ++ more) (later j)) ≡ Some asked
+  asks_on : (p : Plain) (j asked : ℕ) (es : List Entry) → asked_by_task p j (next_task j es (tasks j)) ≡ Some asked → asked_by_task p j (next_task j (es ++ more) (later j)) ≡ Some asked
   asks_on p j asked es e =
       let some = asks_some p j (next_task j es (tasks j)) asked e in
-      ap (asked_by p j) (next_on j some.0 es some.1) ∙ (sym (ap (asked_by p j) some.1) ∙ e)
+      ap (asked_by_task p j) (next_on j some.0 es some.1) ∙ (sym (ap (asked_by_task p j) some.1) ∙ e)
 
-  pages_on : (p : Plain) (j : ℕ) (es : List Entry) → pages_by p j (next_task j es (tasks j)) ≤ pages_by p j (next_task j (es ++ more) (later j))
+  pages_on : (p : Plain) (j : ℕ) (es : List Entry) → pages_by_task p j (next_task j es (tasks j)) ≤ pages_by_task p j (next_task j (es ++ more) (later j))
   pages_on p j es = by_task (next_task j es (tasks j)) refl
     where
-      by_task : (o : Option Task) → next_task j es (tasks j) ≡ o → pages_by p j (next_task j es (tasks j)) ≤ pages_by p j (next_task j (es ++ more) (later j))
-      by_task None is = let none : pages_by p j (next_task j es (tasks j)) ≡ 0 = ap (pages_by p j) is ∙ no_pages p j in omega (arith, none)
+      by_task : (o : Option Task) → next_task j es (tasks j) ≡ o → pages_by_task p j (next_task j es (tasks j)) ≤ pages_by_task p j (next_task j (es ++ more) (later j))
+      by_task None is = let none : pages_by_task p j (next_task j es (tasks j)) ≡ 0 = ap (pages_by_task p j) is ∙ no_pages p j in omega (arith, none)
       by_task (Some task) is =
-          let same : pages_by p j (next_task j (es ++ more) (later j)) ≡ pages_by p j (next_task j es (tasks j)) = ap (pages_by p j) (next_on j task es is ∙ sym is) in
+          let same : pages_by_task p j (next_task j (es ++ more) (later j)) ≡ pages_by_task p j (next_task j es (tasks j)) = ap (pages_by_task p j) (next_on j task es is ∙ sym is) in
           omega (arith, same)
 
-  making_on : (p : Plain) (m : ℕ) (es : List Entry) → being_made p tasks m es ≤ being_made p later m (es ++ more)
+  making_on : (p : Plain) (m : ℕ) (es : List Entry) → made_next p tasks m es ≤ made_next p later m (es ++ more)
   making_on p m es = sum_below-most (length p.mutators) _ _ (λ j below. either (j == m) _ _ (pages_on p j es))
     where
       either : (b : Bool) (was now : ℕ) → was ≤ now → cond b 0 was ≤ cond b 0 now
@@ -144,15 +147,7 @@ module _ (tasks later : Tasks) (more : List Entry) (goes_on : (j : ℕ) (task : 
 
   entry_on : (n : ℕ) (t : Tally) (e : Entry) (es : List Entry) → EntryIs n tasks t e es → EntryIs n later t e (es ++ more)
   entry_on n t (Made c) es f = did_on n t c.by c.task c.did es f
-  entry_on n t (Exchanged asked) es f = tt
-
-  -- who has asked for a flip says so before these entries, between them and those that come, and after these
-  pub flips_on : (t : Tally) (has then last : ℕ → Bool) (es : List Entry) → AreAskedFor tasks has then t es → AreAskedFor later then last (tally t es) more
-      → AreAskedFor later has last t (es ++ more)
-  flips_on t has then last [] h k = subst (λ (z : ℕ → Bool). AreAskedFor later z last t more) h k
-  flips_on t has then last (Made c ∷ es) h k = flips_on (after_entry t (Made c)) _ then last es h k
-  flips_on t has then last (Exchanged asked ∷ es) h k =
-      (h.0, record { first = h.1.first; makes = asks_on t.now h.0 asked es h.1.makes }, flips_on (after_entry t (Exchanged asked)) _ then last es h.2 k)
+  entry_on n t (Exchanged by asked) es f = record { first = f.first; makes = asks_on t.now by asked es f.makes }
 
   pub entries_on : (n : ℕ) (t : Tally) (log : List Entry) → EachEntry (EntryIs n tasks) t log → EachEntry (EntryIs n later) (tally t log) more → EachEntry (EntryIs n later) t (log ++ more)
   entries_on n = each_append (EntryIs n tasks) (EntryIs n later) more (entry_on n)

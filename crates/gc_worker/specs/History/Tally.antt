@@ -8,18 +8,17 @@ use Rattle.plain_state.specs.State.{Mutator, Plain}
 use Rattle.plain_heap.specs.Step.{new_record, pages_of}
 use Rattle.heap_state.specs.Functions.{sum_below}
 use Rattle.heap_state.specs.Reachable.{IsLive}
+use Rattle.gc_worker.specs.declared.did.Did.{Did}
+use Rattle.gc_worker.specs.declared.did.Did.TheVariants.{Done, Trap}
+use Rattle.gc_worker.specs.declared.entry.Entry.{Entry}
+use Rattle.gc_worker.specs.declared.entry.Entry.TheVariants.{Made, Exchanged}
 use Rattle.gc_worker.specs.declared.task.Task.{Task}
 use Rattle.gc_worker.specs.declared.task.Task.TheVariants.{Calls, Stops}
 use Rattle.gc_worker.specs.Begun.{IsPastLook}
 use Rattle.gc_worker.specs.Cycles.{IsFirst, IsInCall, low_of, set_aside}
 use Rattle.gc_worker.specs.Held.{Held}
+use Rattle.gc_worker.specs.History.Legal.{after_call}
 use Rattle.gc_worker.specs.Law.{Heap, epoch_of, held_at, nobody}
-use Rattle.ael_threads.specs.declared.view.Did.{Did}
-use Rattle.ael_threads.specs.declared.view.Did.TheVariants.{Done, Trap}
-use Rattle.ael_threads.specs.declared.view.Entry.{Entry}
-use Rattle.ael_threads.specs.declared.view.Entry.TheVariants.{Made, Exchanged}
-use Rattle.ael_threads.specs.declared.view.Plan.{Plan}
-use Rattle.ael_threads.specs.Histories.{after_call, first_plain}
 
 -- ---- what a mutator does next
 
@@ -27,14 +26,14 @@ use Rattle.ael_threads.specs.Histories.{after_call, first_plain}
 abbrev pub Tasks : Type 0
 Tasks = ℕ → Option Task
 
-abbrev pub tasks_of : List Held → Tasks
-tasks_of workers j = (slice_index_or workers j nobody).task
+abbrev pub tasks_held : List Held → Tasks
+tasks_held workers j = (slice_index_or workers j nobody).task
 
 -- the task of worker j's first call here; where it makes none, this
 abbrev pub next_task : (j : ℕ) → List Entry → Option Task → Option Task
 next_task j [] now = now
 next_task j (Made c ∷ es) now = cond (c.by == j) (Some c.task) (next_task j es now)
-next_task j (Exchanged asked ∷ es) now = next_task j es now
+next_task j (Exchanged by asked ∷ es) now = next_task j es now
 
 -- the pages of the record that a mutator's task makes
 abbrev pub asked_for : Mutator → Option Task → Option ℕ
@@ -48,30 +47,31 @@ asked_if None q task = asked_for q task
 asked_if (Some end) q task = None
 
 -- by mutator j
-abbrev pub asked_by : Plain → (j : ℕ) → Option Task → Option ℕ
-asked_by p j task = option_and_then (λ (q : Mutator). asked_if q.end q task) (slice_get p.mutators j)
+abbrev pub asked_by_task : Plain → (j : ℕ) → Option Task → Option ℕ
+asked_by_task p j task = option_and_then (λ (q : Mutator). asked_if q.end q task) (slice_get p.mutators j)
 
-abbrev pub pages_by : Plain → (j : ℕ) → Option Task → ℕ
-pages_by p j task = unwrap_or (asked_by p j task) 0
+abbrev pub pages_by_task : Plain → (j : ℕ) → Option Task → ℕ
+pages_by_task p j task = unwrap_or (asked_by_task p j task) 0
 
 -- the pages of the records that the mutators other than m make next: by their calls here, or else by their tasks
-abbrev pub being_made : Plain → Tasks → (m : ℕ) → List Entry → ℕ
-being_made p tasks m es = sum_below (length p.mutators) (λ j. cond (j == m) 0 (pages_by p j (next_task j es (tasks j))))
+abbrev pub made_next : Plain → Tasks → (m : ℕ) → List Entry → ℕ
+made_next p tasks m es = sum_below (length p.mutators) (λ j. cond (j == m) 0 (pages_by_task p j (next_task j es (tasks j))))
 
 -- ---- what is counted along a history
 
--- The plain state now and at the last flip; the pages of the records made since then; how many flips came, and of which workers one
--- came since their last call.
+-- The plain state now and at the last flip; the pages of the records made since then; how many flips came; of which workers one came
+-- since their last call, and which have asked for one since.
 pub record Tally : Type 0 where
   pub now : Plain
   pub flip : Plain
   pub made : ℕ
   pub flips : ℕ
   pub since : ℕ → Bool
+  pub asked : ℕ → Bool
 
 -- before the first entry
-abbrev pub opened : Plan → Tally
-opened plan = record { now = first_plain plan; flip = first_plain plan; made = 0; flips = 0; since = λ j. false }
+abbrev pub first_tally : Plain → Tally
+first_tally p = record { now = p; flip = p; made = 0; flips = 0; since = λ j. false; asked = λ j. false }
 
 abbrev pub made_if : Did → (pages : ℕ) → ℕ
 made_if Done pages = pages
@@ -81,10 +81,18 @@ made_if (Trap end) pages = 0
 abbrev pub after_entry : Tally → Entry → Tally
 after_entry t (Made c) = record t {
   now = after_call t.now c;
-  made = t.made + made_if c.did (pages_by t.now c.by (Some c.task));
+  made = t.made + made_if c.did (pages_by_task t.now c.by (Some c.task));
   since = λ j. cond (j == c.by) false (t.since j);
+  asked = λ j. cond (j == c.by) false (t.asked j);
 }
-after_entry t (Exchanged asked) = record t { flip = t.now; made = 0; flips = t.flips + 1; since = λ j. true }
+after_entry t (Exchanged by asked) = record {
+  now = t.now;
+  flip = t.now;
+  made = 0;
+  flips = t.flips + 1;
+  since = λ j. true;
+  asked = λ j. cond (j == by) true (t.asked j);
+}
 
 abbrev pub tally : Tally → List Entry → Tally
 tally t [] = t
@@ -98,28 +106,21 @@ EachEntry P t (e ∷ es) = P t e es × EachEntry P (after_entry t e) es
 -- ---- what each entry is
 
 -- Mutator by has no end, and the record that it makes next takes so many pages; it has asked for no other flip since its last call.
-pub record IsAskedFor (tasks : Tasks) (has : ℕ → Bool) (t : Tally) (by asked : ℕ) (es : List Entry) : Type 0 where
-  pub first : has by ≡ false
-  pub makes : asked_by t.now by (next_task by es (tasks by)) ≡ Some asked
-
--- Each flip came for the record of some mutator. Who has asked for one since its last call is said before these entries, and after them.
-abbrev pub AreAskedFor : Tasks → (has then : ℕ → Bool) → Tally → List Entry → Type 0
-AreAskedFor tasks has then t [] = then ≡ has
-AreAskedFor tasks has then t (Made c ∷ es) = AreAskedFor tasks (λ j. cond (j == c.by) false (has j)) then (after_entry t (Made c)) es
-AreAskedFor tasks has then t (Exchanged asked ∷ es) =
-    (by : ℕ) × IsAskedFor tasks has t by asked es × AreAskedFor tasks (λ j. cond (j == by) true (has j)) then (after_entry t (Exchanged asked)) es
+pub record IsAskedFor (tasks : Tasks) (t : Tally) (by asked : ℕ) (es : List Entry) : Type 0 where
+  pub first : t.asked by ≡ false
+  pub makes : asked_by_task t.now by (next_task by es (tasks by)) ≡ Some asked
 
 -- Mutator m finds too few words for the record that its task makes, in an epoch whose flip came since its last call, or in the last one.
 -- What is told as live was live at the last flip. With the room that is left and the words claimed since then it fills the space; and
 -- those were claimed for records made since then, of which a single mutator made none, or that the other mutators make next.
 pub record IsFilled (pages : ℕ) (tasks : Tasks) (t : Tally) (m : ℕ) (task : Task) (asked room live : ℕ) (es : List Entry) : Type 0 where
-  pub asked_is : asked_by t.now m (Some task) ≡ Some asked
+  pub asked_is : asked_by_task t.now m (Some task) ≡ Some asked
   pub short : room < PAGE_WORDS * asked
   pub no_flip : (t.since m ≡ true) ⊎ (t.flips ≡ 2 ^ 32 - 1)
   pub live_is : IsLive t.flip live
   pub claims : ℕ
   pub filled : room + live + claims ≡ PAGE_WORDS * pages
-  pub for_records : claims ≤ PAGE_WORDS * (t.made + being_made t.now tasks m es)
+  pub for_records : claims ≤ PAGE_WORDS * (t.made + made_next t.now tasks m es)
   pub single : length t.now.mutators ≡ 1 → t.since m ≡ true → t.made ≡ 0
 
 abbrev pub IsFilledByEnd : (pages : ℕ) → Tasks → Tally → (m : ℕ) → Task → End → List Entry → Type 0
@@ -130,10 +131,10 @@ abbrev pub IsFilledBy : (pages : ℕ) → Tasks → Tally → (m : ℕ) → Task
 IsFilledBy pages tasks t m task Done es = ⊤
 IsFilledBy pages tasks t m task (Trap end) es = IsFilledByEnd pages tasks t m task end es
 
--- where a call tells the heap to be full it is filled
+-- where a call tells the heap to be full it is filled, and each flip came for the record of the mutator that made it
 abbrev pub EntryIs : (pages : ℕ) → Tasks → Tally → Entry → List Entry → Type 0
 EntryIs pages tasks t (Made c) es = IsFilledBy pages tasks t c.by c.task c.did es
-EntryIs pages tasks t (Exchanged asked) es = ⊤
+EntryIs pages tasks t (Exchanged by asked) es = IsAskedFor tasks t by asked es
 
 -- ---- between two steps
 
@@ -145,7 +146,7 @@ aside_in h = sum_below (length h.workers) (λ k. set_aside (held_at h k))
 -- Where all mutators have a flip since their last call none was made. The gate's epoch is the number of flips; no instruction began in a
 -- later one, and a mutator whose instruction began in an earlier one has a flip since its last call. Who asks for a flip has seen none
 -- since it began its instruction; who has asked for one is still in its call, and has seen one.
-pub record Counts (h : Heap) (t : Tally) (asked : ℕ → Bool) : Type 0 where
+pub record FitsTally (h : Heap) (t : Tally) : Type 0 where
   pub claims : ℕ
   pub low : low_of h.pages h.words + claims ≡ PAGE_WORDS * h.pages
   pub for_records : claims ≤ PAGE_WORDS * t.made + aside_in h
@@ -154,11 +155,9 @@ pub record Counts (h : Heap) (t : Tally) (asked : ℕ → Bool) : Type 0 where
   pub begun : (m : ℕ) → m < h.mutators → (held_at h m).account.end ≡ None → IsPastLook (held_at h m).stage → (held_at h m).begun ≤ t.flips
   pub since : (m : ℕ) → m < h.mutators → (held_at h m).account.end ≡ None → IsPastLook (held_at h m).stage → (held_at h m).begun < t.flips → t.since m ≡ true
   pub first : (m : ℕ) → m < length h.workers → IsFirst (held_at h m)
-  pub call : (m : ℕ) → asked m ≡ true → IsInCall (held_at h m).stage × ((held_at h m).begun < t.flips)
+  pub call : (m : ℕ) → t.asked m ≡ true → IsInCall (held_at h m).stage × ((held_at h m).begun < t.flips)
 
 -- what a history tells of its cycles, from what is counted before it
 pub record IsTallied (h : Heap) (first : Tally) (log : List Entry) : Type 0 where
-  pub entries : EachEntry (EntryIs h.pages (tasks_of h.workers)) first log
-  pub asked : ℕ → Bool
-  pub flips : AreAskedFor (tasks_of h.workers) (λ j. false) asked first log
-  pub counts : Counts h (tally first log) asked
+  pub entries : EachEntry (EntryIs h.pages (tasks_held h.workers)) first log
+  pub counts : FitsTally h (tally first log)

@@ -17,12 +17,13 @@ use Rattle.gc_worker.specs.Begun.{IsPastAfter, IsPastLook}
 use Rattle.gc_worker.specs.Cycles.{IsInCall, IsInPassage}
 use Rattle.gc_worker.specs.Fits.{Fits, FitsTask}
 use Rattle.gc_worker.specs.Held.{Held}
-use Rattle.gc_worker.specs.Turned.{Ends, Answers, told, told_at}
+use Rattle.gc_worker.specs.declared.did.Did.TheVariants.{Trap}
+use Rattle.gc_worker.specs.Turned.{Answers, told, told_at}
 use Rattle.gc_worker.proofs.Between.Begun.{full_is_found_later}
 use Rattle.gc_worker.proofs.Between.GoingOn.{workers_go_on}
-use Rattle.ael_threads.specs.Cycles.{asked_by}
-use Rattle.ael_threads.specs.Histories.{call}
-use Rattle.ael_threads.proofs.Tallying.{asks_as}
+use Rattle.gc_worker.specs.History.Tally.{asked_by_task}
+use Rattle.gc_worker.specs.History.Legal.{call}
+use Rattle.gc_worker.proofs.History.Tallies.{asks_as}
 
 -- ---- who is in a call has begun its instruction
 
@@ -50,18 +51,18 @@ past_look Gone call = absurd call
 
 -- ---- a full heap is found by an instruction
 
-pub full_asks : (p : Plain) (k : ℕ) (task : Task) (instr : Instr) (asked room live : ℕ) → task ≡ Calls instr → ComesTo p k task (Ends (ends.HeapFull asked room live))
-    → asked_by p k (Some task) ≡ Some asked
+pub full_asks : (p : Plain) (k : ℕ) (task : Task) (instr : Instr) (asked room live : ℕ) → task ≡ Calls instr → ComesTo p k task (Trap (ends.HeapFull asked room live))
+    → asked_by_task p k (Some task) ≡ Some asked
 full_asks p k (Calls other) instr asked room live is c = asks_as p k c.mutator other asked c.is c.no_end c.may
 full_asks p k (Stops end) instr asked room live is c = absurd (cc)
 
 module _ (n mutators k : ℕ) (y : Held) (reply : Reply) (fits : Fits n mutators k y) (task : Task) (asked room live : ℕ)
-    (e : told y reply ≡ Answers task (Ends (ends.HeapFull asked room live))) where
+    (e : told y reply ≡ Answers task (Trap (ends.HeapFull asked room live))) where
   later : IsPastLook y.stage
   later = full_is_found_later n mutators k y reply task asked room live fits e
 
   its_task : y.task ≡ Some task
-  its_task = ((workers_go_on n mutators k y reply fits).answers task (Ends (ends.HeapFull asked room live)) e).asked
+  its_task = ((workers_go_on n mutators k y reply fits).answers task (Trap (ends.HeapFull asked room live)) e).asked
 
   pub full_calls : (instr : Instr) × (task ≡ Calls instr)
   full_calls = by_stage y.stage refl fits.task e
@@ -69,7 +70,7 @@ module _ (n mutators k : ℕ) (y : Held) (reply : Reply) (fits : Fits n mutators
       by_task : (instr : Instr) → y.task ≡ Some (Calls instr) → (instr : Instr) × (task ≡ Calls instr)
       by_task instr is = (instr, same_Some task (Calls instr) (sym its_task ∙ is))
 
-      by_stage : (stage : Stage) → y.stage ≡ stage → FitsTask y stage → told_at y stage reply ≡ Answers task (Ends (ends.HeapFull asked room live))
+      by_stage : (stage : Stage) → y.stage ≡ stage → FitsTask y stage → told_at y stage reply ≡ Answers task (Trap (ends.HeapFull asked room live))
           → (instr : Instr) × (task ≡ Calls instr)
       by_stage Looks at fit tells = absurd (subst IsPastLook at later)
       by_stage (Accesses a) at fit tells = by_task fit.executes.instr fit.executes.task_is

@@ -1,45 +1,47 @@
--- A history after one step more.
-use Rattle.std.proofs.Common.{◌≡◌, ◌≢◌, ℕ, Bool, true, false, cond, ◌==◌, List, [], ◌∷◌, ◌++◌, refl, sym, ◌∙◌, ap, append-nil, ne_eqb, eq-eqb, slice_get, length}
+-- Histories that go on: after one step more, and in two parts.
+use Rattle.std.proofs.Common.{◌≡◌, ◌≢◌, ℕ, Bool, true, false, cond, ◌==◌, List, [], ◌∷◌, ◌++◌, refl, sym, ◌∙◌, ap, append-nil, ne_eqb, eq-eqb, slice_get, length, ◌≤◌, arith}
+use Rattle.std.proofs.lemmas.List.{append_cancel_left}
+use Rattle.std.proofs.lemmas.Option.{slice_get_within}
 use mathlib.Core.List.{IsPrefix}
 use Rattle.plain_state.specs.State.{Plain, serial_of}
 use Rattle.gc_worker.specs.Answer.{ComesTo, IsAnswered, after_told}
 use Rattle.gc_worker.specs.Law.{at_flip}
-use Rattle.gc_worker.specs.Turned.{Effect, Ends, Told, Silent, Answers, Marks}
+use Rattle.gc_worker.specs.declared.did.Did.TheVariants.{Done, Trap}
+use Rattle.gc_worker.specs.Turned.{Told, Silent, Answers, Marks}
 use Rattle.gc_worker.specs.Between.{LeavesTheOthers}
 use Rattle.gc_worker.proofs.Between.Others.{answers_leave_the_others}
-use Rattle.ael_threads.specs.declared.view.Call.{Call}
-use Rattle.ael_threads.specs.declared.view.Entry.{Entry}
-use Rattle.ael_threads.specs.declared.view.Entry.TheVariants.{Made, Exchanged}
-use Rattle.ael_threads.specs.Histories.{IsLegal, after_all, after_call, call, calls_of, extra, flip_from, outcome_of, own_after}
-use Rattle.ael_threads.proofs.Elements.{no_more}
+use Rattle.gc_worker.specs.declared.call.Call.{Call}
+use Rattle.gc_worker.specs.declared.entry.Entry.{Entry}
+use Rattle.gc_worker.specs.declared.entry.Entry.TheVariants.{Made, Exchanged}
+use Rattle.gc_worker.specs.History.Legal.{IsLegal, after_all, after_call, call, calls_of, extra, flip_from, own_after}
 
 pub legal_more : (p : Plain) (log : List Entry) (m : ℕ) (t : Told) → IsLegal p log → IsAnswered (after_all p log) m t → IsLegal p (log ++ extra m t)
 legal_more p [] m Silent h e = tt
-legal_more p [] m (Answers task Effect) h e = (e, tt)
-legal_more p [] m (Answers task (Ends end)) h e = (e, tt)
+legal_more p [] m (Answers task Done) h e = (e, tt)
+legal_more p [] m (Answers task (Trap end)) h e = (e, tt)
 legal_more p [] m (Marks asked) h e = tt
 legal_more p (Made c ∷ es) m t h e = (h.0, legal_more (after_call p c) es m t h.1 e)
-legal_more p (Exchanged asked ∷ es) m t h e = legal_more p es m t h e
+legal_more p (Exchanged by asked ∷ es) m t h e = legal_more p es m t h e
 
-pub legal_last : (p : Plain) (log : List Entry) (c : Call) → IsLegal p (log ++ Made c ∷ []) → ComesTo (after_all p log) c.by c.task (outcome_of c.did)
+pub legal_last : (p : Plain) (log : List Entry) (c : Call) → IsLegal p (log ++ Made c ∷ []) → ComesTo (after_all p log) c.by c.task c.did
 legal_last p [] c h = h.0
 legal_last p (Made d ∷ es) c h = legal_last (after_call p d) es c h.1
-legal_last p (Exchanged asked ∷ es) c h = legal_last p es c h
+legal_last p (Exchanged by asked ∷ es) c h = legal_last p es c h
 
 pub after_more : (p : Plain) (log : List Entry) (m : ℕ) (t : Told) → after_all p (log ++ extra m t) ≡ after_told (after_all p log) m t
 after_more p [] m Silent = refl
-after_more p [] m (Answers task Effect) = refl
-after_more p [] m (Answers task (Ends end)) = refl
+after_more p [] m (Answers task Done) = refl
+after_more p [] m (Answers task (Trap end)) = refl
 after_more p [] m (Marks asked) = refl
 after_more p (Made c ∷ es) m t = after_more (after_call p c) es m t
-after_more p (Exchanged asked ∷ es) m t = after_more p es m t
+after_more p (Exchanged by asked ∷ es) m t = after_more p es m t
 
 pub flip_more : (p o : Plain) (log : List Entry) (m : ℕ) (t : Told) → flip_from p o (log ++ extra m t) ≡ at_flip (after_all p log) (flip_from p o log) t
 flip_more p o [] m Silent = refl
 flip_more p o [] m (Answers task outcome) = refl
 flip_more p o [] m (Marks asked) = refl
 flip_more p o (Made c ∷ es) m t = flip_more (after_call p c) o es m t
-flip_more p o (Exchanged asked ∷ es) m t = flip_more p p es m t
+flip_more p o (Exchanged by asked ∷ es) m t = flip_more p p es m t
 
 -- ---- the calls of one worker
 
@@ -50,19 +52,23 @@ cond_append false c xs ys zs e = e
 pub calls_append : (n : ℕ) (xs ys : List Entry) → calls_of n (xs ++ ys) ≡ calls_of n xs ++ calls_of n ys
 calls_append n [] ys = refl
 calls_append n (Made c ∷ es) ys = cond_append (c.by == n) c (calls_of n es) (calls_of n ys) (calls_of n (es ++ ys)) (calls_append n es ys)
-calls_append n (Exchanged asked ∷ es) ys = calls_append n es ys
+calls_append n (Exchanged by asked ∷ es) ys = calls_append n es ys
+
+-- what has no more calls of a worker than its beginning has none behind it
+pub no_more : (xs ys : List Entry) (m : ℕ) → calls_of m xs ++ calls_of m ys ≡ calls_of m xs → calls_of m ys ≡ []
+no_more xs ys m e = append_cancel_left (calls_of m xs) (calls_of m ys) [] (e ∙ sym (append-nil (calls_of m xs)))
 
 pub calls_other : (n : ℕ) (log : List Entry) (m : ℕ) (t : Told) → n ≢ m → calls_of n (log ++ extra m t) ≡ calls_of n log
 calls_other n log m Silent other = ap (calls_of n) (append-nil log)
 calls_other n log m (Answers task outcome) other = calls_append n log (Made (call m task outcome) ∷ [])
     ∙ (ap (λ (b : Bool). calls_of n log ++ cond b (call m task outcome ∷ []) []) (ne_eqb m n (λ e. other (sym e))) ∙ append-nil (calls_of n log))
-calls_other n log m (Marks asked) other = calls_append n log (Exchanged asked ∷ []) ∙ append-nil (calls_of n log)
+calls_other n log m (Marks asked) other = calls_append n log (Exchanged m asked ∷ []) ∙ append-nil (calls_of n log)
 
 pub calls_more : (log : List Entry) (m : ℕ) (t : Told) (own : List Call) → calls_of m log ≡ own → calls_of m (log ++ extra m t) ≡ own_after m own t
 calls_more log m Silent own is = ap (calls_of m) (append-nil log) ∙ is
 calls_more log m (Answers task outcome) own is = calls_append m log (Made (call m task outcome) ∷ [])
     ∙ (ap (λ (b : Bool). calls_of m log ++ cond b (call m task outcome ∷ []) []) (eq-eqb m m refl) ∙ ap (λ (z : List Call). z ++ call m task outcome ∷ []) is)
-calls_more log m (Marks asked) own is = calls_append m log (Exchanged asked ∷ []) ∙ (append-nil (calls_of m log) ∙ is)
+calls_more log m (Marks asked) own is = calls_append m log (Exchanged m asked ∷ []) ∙ (append-nil (calls_of m log) ∙ is)
 
 -- ---- what is not of worker m leaves its plain mutator
 
@@ -83,28 +89,38 @@ pub others_keep : (p : Plain) (log : List Entry) (m : ℕ) → calls_of m log �
 others_keep p [] m none = record { mutator = refl; serial = refl }
 others_keep p (Made c ∷ es) m none =
     let h = none_first m c es none in
-    let step : LeavesTheOthers p (after_call p c) c.by = answers_leave_the_others p c.by (Answers c.task (outcome_of c.did)) in
+    let step : LeavesTheOthers p (after_call p c) c.by = answers_leave_the_others p c.by (Answers c.task c.did) in
     let rest = others_keep (after_call p c) es m h.1 in
     record { mutator = rest.mutator ∙ step.mutator m h.0; serial = rest.serial ∙ step.serial m h.0 }
-others_keep p (Exchanged asked ∷ es) m none = others_keep p es m none
+others_keep p (Exchanged by asked ∷ es) m none = others_keep p es m none
 
 pub after_append : (p : Plain) (xs ys : List Entry) → after_all p (xs ++ ys) ≡ after_all (after_all p xs) ys
 after_append p [] ys = refl
 after_append p (Made c ∷ es) ys = after_append (after_call p c) es ys
-after_append p (Exchanged asked ∷ es) ys = after_append p es ys
+after_append p (Exchanged by asked ∷ es) ys = after_append p es ys
 
 -- no call makes or ends a plain mutator
 pub as_many : (p : Plain) (log : List Entry) → length (after_all p log).mutators ≡ length p.mutators
 as_many p [] = refl
-as_many p (Made c ∷ es) = as_many (after_call p c) es ∙ (answers_leave_the_others p c.by (Answers c.task (outcome_of c.did))).as_many
-as_many p (Exchanged asked ∷ es) = as_many p es
+as_many p (Made c ∷ es) = as_many (after_call p c) es ∙ (answers_leave_the_others p c.by (Answers c.task c.did)).as_many
+as_many p (Exchanged by asked ∷ es) = as_many p es
+
+-- a call is of a mutator that there is
+pub none_past : (p : Plain) (log : List Entry) (m : ℕ) → IsLegal p log → length p.mutators ≤ m → calls_of m log ≡ []
+none_past p [] m legal past = refl
+none_past p (Made c ∷ es) m legal past =
+    let h : ComesTo p c.by c.task c.did = legal.0 in
+    let within = slice_get_within p.mutators c.by h.mutator h.is in
+    let many = as_many p (Made c ∷ []) in
+    rw (ne_eqb c.by m (λ e. omega (arith, within, past, e))) (none_past (after_call p c) es m legal.1 (omega (arith, many, past)))
+none_past p (Exchanged by asked ∷ es) m legal past = none_past p es m legal past
 
 -- a beginning of a history with all calls of worker m leaves its mutator as the whole does
 pub seen_keeps : (p : Plain) (seen log : List Entry) (m : ℕ) (own : List Call) → IsPrefix seen log → calls_of m seen ≡ own → calls_of m log ≡ own
     → Agrees m (after_all p seen) (after_all p log)
 seen_keeps p seen log m own pre e f =
     let all : calls_of m seen ++ calls_of m pre.0 ≡ calls_of m seen = sym (calls_append m seen pre.0) ∙ (ap (calls_of m) pre.1 ∙ (f ∙ sym e)) in
-    let keeps = others_keep (after_all p seen) pre.0 m (no_more (calls_of m seen) (calls_of m pre.0) all) in
+    let keeps = others_keep (after_all p seen) pre.0 m (no_more seen pre.0 m all) in
     let same : after_all p log ≡ after_all (after_all p seen) pre.0 = ap (after_all p) (sym pre.1) ∙ after_append p seen pre.0 in
     record {
       mutator = ap (λ (z : Plain). slice_get z.mutators m) same ∙ keeps.mutator;

@@ -1,6 +1,6 @@
 -- What workers have set aside is for the records that their mutators' tasks make.
-use Rattle.std.proofs.Common.{◌≡◌, ◌≢◌, ℕ, zero, suc, ◌+◌, ◌*◌, ◌<◌, ◌≤◌, ◌==◌, cond, length, Some, [], refl, sym, ap, ◌∙◌, arith, ⊎_elim, get_or-set_same, get_or-set_other, length-set}
-use Rattle.std.proofs.lemmas.Bool.{cases_eq, cases_lt, ne_eqb}
+use Rattle.std.proofs.Common.{◌≡◌, ◌≢◌, ℕ, ◌+◌, ◌*◌, ◌<◌, ◌≤◌, ◌==◌, cond, length, Some, [], refl, sym, ap, ◌∙◌, arith, ⊎_elim, get_or-set_same, get_or-set_other, length-set}
+use Rattle.std.proofs.lemmas.Bool.{cases_eq, ne_eqb}
 use Rattle.std.proofs.lemmas.Option.{slice_get_within}
 use Rattle.plain_state.specs.declared.sizes.TheConstants.{PAGE_WORDS}
 use Rattle.plain_state.specs.State.{Plain}
@@ -15,27 +15,9 @@ use Rattle.gc_worker.specs.Law.{Heap, WorkersStand, held_at, moved, nobody}
 use Rattle.gc_worker.specs.Turned.{turned}
 use Rattle.gc_worker.proofs.Between.Standing.{what_stands_is_so}
 use Rattle.gc_worker.proofs.Cycles.SetAside.{set_aside_is_for_records}
-use Rattle.ael_threads.specs.Cycles.{Tasks, aside_in, asked_by, being_made, pages_by, tasks_of}
-use Rattle.ael_threads.proofs.Tallying.{asks_as, sum_below-most}
-
--- ---- sums
-
--- terms past an end that are 0
-sum_below-past : (n m : ℕ) (f : ℕ → ℕ) → m ≤ n → ((k : ℕ) → m ≤ k → k < n → f k ≡ 0) → sum_below n f ≡ sum_below m f
-unfolding sum_below
-sum_below-past zero m f within none = let e : m ≡ 0 = omega (arith, within) in rw e refl
-sum_below-past (suc n) m f within none = ⊎_elim
-    (λ (last : n < m). let e : m ≡ suc n = omega (arith, last, within) in rw e refl)
-    (λ (past : m ≤ n).
-    let rest = sum_below-past n m f past (λ k from below. none k from (omega (arith, below))) in
-    let here = none n past (omega arith) in
-    omega (arith, rest, here))
-    (cases_lt n m)
-
-sum_below-times : (n : ℕ) (f : ℕ → ℕ) → sum_below n (λ k. PAGE_WORDS * f k) ≡ PAGE_WORDS * sum_below n f
-unfolding sum_below
-sum_below-times zero f = omega arith
-sum_below-times (suc n) f = let rest = sum_below-times n f in omega (arith, rest)
+use Rattle.gc_worker.specs.History.Tally.{Tasks, aside_in, asked_by_task, made_next, pages_by_task, tasks_held}
+use Rattle.gc_worker.proofs.History.Tallies.{asks_as}
+use Rattle.gc_worker.proofs.History.Sums.{sum_below-most, sum_below-past, sum_below-times}
 
 -- ---- a step
 
@@ -56,8 +38,8 @@ aside_changes h k y q below holds =
 
 module _ (h : Heap) (p o : Plain) (st : WorkersStand h p o) where
   -- it makes the record that its task asks for
-  pub asks_by : (k : ℕ) (x : Held) (pages : ℕ) → Makes p k x pages → asked_by p k x.task ≡ Some pages
-  asks_by k x pages m = ap (asked_by p k) m.task ∙ asks_as p k m.mutator m.instr pages m.is m.no_end m.pages_are
+  pub asks_by : (k : ℕ) (x : Held) (pages : ℕ) → Makes p k x pages → asked_by_task p k x.task ≡ Some pages
+  asks_by k x pages m = ap (asked_by_task p k) m.task ∙ asks_as p k m.mutator m.instr pages m.is m.no_end m.pages_are
 
   module _ (k : ℕ) (below : k < length h.workers) where
     abbrev x : Held
@@ -69,8 +51,8 @@ module _ (h : Heap) (p o : Plain) (st : WorkersStand h p o) where
     some_or_none : (P : Type 0) → (0 < set_aside x → P) → (set_aside x ≡ 0 → P) → P
     some_or_none P some none = ⊎_elim (λ (z : set_aside x ≡ 0). none z) (λ (z : set_aside x ≢ 0). some (omega (arith, z))) (cases_eq (set_aside x) 0)
 
-    pub aside_most : set_aside x ≤ PAGE_WORDS * pages_by p k x.task
-    aside_most = some_or_none (set_aside x ≤ PAGE_WORDS * pages_by p k x.task)
+    pub aside_most : set_aside x ≤ PAGE_WORDS * pages_by_task p k x.task
+    aside_most = some_or_none (set_aside x ≤ PAGE_WORDS * pages_by_task p k x.task)
         (λ some. rw (asks_by k x _ (for_record.makes some)) for_record.few)
         (λ none. omega (arith, none))
 
@@ -81,8 +63,8 @@ module _ (h : Heap) (p o : Plain) (st : WorkersStand h p o) where
         (λ none. none)
 
   -- what all have set aside, where mutator m has nothing
-  pub aside_of_others : (m : ℕ) (tasks : Tasks) → m < length h.workers → set_aside (held_at h m) ≡ 0 → ((j : ℕ) → j ≢ m → tasks j ≡ tasks_of h.workers j)
-      → aside_in h ≤ PAGE_WORDS * being_made p tasks m []
+  pub aside_of_others : (m : ℕ) (tasks : Tasks) → m < length h.workers → set_aside (held_at h m) ≡ 0 → ((j : ℕ) → j ≢ m → tasks j ≡ tasks_held h.workers j)
+      → aside_in h ≤ PAGE_WORDS * made_next p tasks m []
   aside_of_others m tasks below none same =
       let so : IsSo h p = what_stands_is_so h p o st in
       let many = so.as_many in
@@ -95,7 +77,7 @@ module _ (h : Heap) (p o : Plain) (st : WorkersStand h p o) where
     where
       -- what the other mutators make
       making : ℕ → ℕ
-      making j = cond (j == m) 0 (pages_by p j (tasks j))
+      making j = cond (j == m) 0 (pages_by_task p j (tasks j))
 
       of_others : (j : ℕ) → j < length h.workers → set_aside (held_at h j) ≤ PAGE_WORDS * making j
       of_others j inside = ⊎_elim

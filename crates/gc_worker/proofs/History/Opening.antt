@@ -1,6 +1,7 @@
 -- What is counted at the opening.
 use Rattle.std.proofs.Common.{◌≡◌, ℕ, ◌+◌, ◌*◌, ◌<◌, ◌≤◌, Bool, true, false, cond, nat_lt, [], length, refl, sym, ap, subst, ◌∙◌, arith}
 use Rattle.plain_state.specs.declared.sizes.TheConstants.{PAGE_WORDS}
+use Rattle.plain_state.specs.State.{Plain}
 use Rattle.space_map.specs.Spaces.{IsPageCount, to_space}
 use Rattle.heap_state.specs.Configuration.{table}
 use Rattle.heap_state.specs.Entries.{table_with}
@@ -17,13 +18,13 @@ use Rattle.gc_worker.specs.Turned.{epoch_in}
 use Rattle.gc_worker.proofs.Areas.{area_says, is_space}
 use Rattle.gc_worker.proofs.Between.Opening.{heaps_open, is_there, many}
 use Rattle.gc_worker.proofs.Gate.Words.{gate_says}
-use Rattle.ael_threads.specs.Cycles.{IsTallied, Tally}
+use Rattle.gc_worker.specs.History.Tally.{IsTallied, first_tally}
 
 whole_at_first : (n : ℕ) → ((table_with n (opening_entries n)).area 0).low ≡ PAGE_WORDS * n
 unfolding put
 whole_at_first n = refl
 
-module _ (n mutators scanners : ℕ) (first : Tally) (size : IsPageCount n) (few : mutators ≤ 16) (all : mutators + scanners ≤ 24) where
+module _ (n mutators scanners : ℕ) (size : IsPageCount n) (few : mutators ≤ 16) (all : mutators + scanners ≤ 24) where
   abbrev h : Heap
   h = opening n mutators scanners
 
@@ -36,7 +37,7 @@ module _ (n mutators scanners : ℕ) (first : Tally) (size : IsPageCount n) (few
   epoch : epoch_of n h.words ≡ 0
   epoch = ap (epoch_in 0) (gate_says (read h) (opening_plain mutators) stands.stands) ∙ ap (λ (t : Table). t.gate.epoch) says
 
-  low : low_of n h.words ≡ PAGE_WORDS * n
+  pub low : low_of n h.words ≡ PAGE_WORDS * n
   low =
       ap (λ (e : ℕ). low_at n h.words (to_space e)) epoch
       ∙ (ap low_said (area_says (read h) (opening_plain mutators) stands.stands 0 (is_space 0)) ∙ (ap (λ (t : Table). (t.area 0).low) says ∙ whole_at_first n))
@@ -57,20 +58,18 @@ module _ (n mutators scanners : ℕ) (first : Tally) (size : IsPageCount n) (few
   begun m few = ap (λ (x : Held). x.begun) (first_worker m (let count = many n mutators 0 (mutators + scanners) in omega (arith, few, count))) ∙ first_begun m (nat_lt m mutators)
 
   -- nothing is claimed, and no flip came
-  pub opening_tallied : first.made ≡ 0 → first.flips ≡ 0 → IsTallied h first []
-  opening_tallied made flips = record {
+  pub opening_tallied : (p : Plain) → IsTallied h (first_tally p) []
+  opening_tallied p = record {
     entries = tt;
-    asked = λ j. false;
-    flips = refl;
     counts = record {
       claims = 0;
       low = (let l = low in omega (arith, l));
       for_records = omega arith;
-      none_made = λ all. made;
-      epoch = (let e = epoch in omega (arith, e, flips));
+      none_made = λ all. refl;
+      epoch = epoch;
       begun = λ m few none past. (let b = begun m few in omega (arith, b));
       first = λ m below. subst IsFirst (sym (first_worker m below)) (first_asks m (nat_lt m mutators));
       call = λ m has. absurd (cc);
-      since = λ m below none past early. absurd (omega (arith, early, flips));
+      since = λ m below none past early. absurd (omega (arith, early));
     };
   }

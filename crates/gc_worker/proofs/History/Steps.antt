@@ -1,17 +1,17 @@
 -- What a step does to what is counted along the history, and what its entry tells.
-use Rattle.std.proofs.Common.{◌≡◌, ◌≢◌, ℕ, ◌+◌, ◌-◌, ◌*◌, ◌^◌, ◌<◌, ◌≤◌, ◌==◌, ◌⊎◌, inl, inr, Bool, true, false, cond, nat_lt, is_some, List, [], ◌++◌, length, Option, Some, None, slice_get, refl, sym, ap, subst, ◌∙◌, arith, ⊎_elim, eq-eqb, ne_eqb, ltb-true, get_or-set_same, get_or-set_other, length-set}
+use Rattle.std.proofs.Common.{◌≡◌, ◌≢◌, ℕ, ◌+◌, ◌-◌, ◌*◌, ◌^◌, ◌<◌, ◌≤◌, ◌==◌, ◌⊎◌, inl, inr, Bool, true, false, cond, nat_lt, is_some, List, [], ◌++◌, length, Option, Some, None, get_or, slice_get, refl, sym, ap, subst, ◌∙◌, arith, ⊎_elim, eq-eqb, ne_eqb, ltb-true, get_or-set_same, get_or-set_other, length-set}
 use Rattle.std.proofs.lemmas.Bool.{cases_eq}
-use Rattle.std.proofs.lemmas.Option.{slice_get_within}
+use Rattle.std.proofs.lemmas.Option.{slice_get-get_or, slice_get_within}
 use Rattle.plain_state.specs.declared.end.End.{End}
 use Rattle.plain_state.specs.declared.end.End.TheVariants as ends
 use Rattle.plain_state.specs.declared.sizes.TheConstants.{PAGE_WORDS}
 use Rattle.plain_state.specs.State.{Mutator, Plain}
+use Rattle.plain_heap.specs.Order.{fresh}
 use Rattle.atom_store.specs.declared.reply.Reply.{Reply}
 use Rattle.atom_store.specs.declared.step.Step.{Step}
 use Rattle.atom_store.specs.Step.{words_after, reply_of}
 use Rattle.space_map.specs.Spaces.{to_space}
 use Rattle.gate_core.specs.Flip.{Flipping}
-use Rattle.heap_state.specs.Reachable.{IsLive}
 use Rattle.heap_state.specs.Worker.{Account, is_running}
 use Rattle.gc_worker.specs.declared.stage.Stage.{Stage}
 use Rattle.gc_worker.specs.declared.stage.Stage.TheVariants.{Looks, Flips}
@@ -25,7 +25,8 @@ use Rattle.gc_worker.specs.Full.{FindsNoRoom, FullWhereTold}
 use Rattle.gc_worker.specs.Held.{Held}
 use Rattle.gc_worker.specs.Knows.{post_in}
 use Rattle.gc_worker.specs.Law.{FlipsOnce, FlipsWhereTold, Heap, StepKeeps, WorkersStand, epoch_of, held_at, moved, nobody}
-use Rattle.gc_worker.specs.Turned.{Effect, Ends, Told, Silent, Answers, Marks, epoch_in, told, turned}
+use Rattle.gc_worker.specs.declared.did.Did.TheVariants.{Done, Trap}
+use Rattle.gc_worker.specs.Turned.{Told, Silent, Answers, Marks, epoch_in, told, turned}
 use Rattle.gc_worker.specs.Wanted.{wanted}
 use Rattle.gc_worker.proofs.Between.Begun.{beginnings_are_kept, full_is_found_later}
 use Rattle.gc_worker.proofs.Between.Claims.{flips_at}
@@ -39,26 +40,31 @@ use Rattle.gc_worker.proofs.Cycles.SetAside.{claims_are_set_aside}
 use Rattle.gc_worker.proofs.Gate.Resuming.{end_none}
 use Rattle.gc_worker.proofs.NewRecords.{asked_is, plain_pages}
 use Rattle.gc_worker.proofs.Whole.{steps_keep}
-use Rattle.ael_threads.specs.declared.view.Entry.{Entry}
-use Rattle.ael_threads.specs.Cycles.{AreAskedFor, Counts, EachEntry, EntryIs, IsAskedFor, IsFilled, IsFilledByEnd, IsTallied, Tally, Tasks, aside_in, asked_by, being_made, next_task, pages_by, tally, tasks_of}
-use Rattle.ael_threads.specs.Histories.{call, extra}
-use Rattle.ael_threads.proofs.Aside.{aside_changes, aside_most, aside_of_others}
-use Rattle.ael_threads.proofs.Asking.{full_asks, full_calls, past_look}
-use Rattle.ael_threads.proofs.Making.{makes_its_record}
-use Rattle.ael_threads.proofs.Showing.{mutator_at}
-use Rattle.ael_threads.proofs.Tallying.{asks_as, entries_on, flips_on, tally_append}
+use Rattle.gc_worker.specs.declared.entry.Entry.{Entry}
+use Rattle.gc_worker.specs.History.Tally.{FitsTally, EachEntry, EntryIs, IsAskedFor, IsFilled, IsFilledByEnd, IsTallied, Tally, Tasks, aside_in, asked_by_task, made_next, next_task, pages_by_task, tally, tasks_held}
+use Rattle.gc_worker.specs.History.Legal.{call, extra}
+use Rattle.gc_worker.proofs.History.Aside.{aside_changes, aside_most, aside_of_others}
+use Rattle.gc_worker.proofs.History.FullHeaps.{full_asks, full_calls, past_look}
+use Rattle.gc_worker.proofs.History.Records.{makes_its_record}
+use Rattle.gc_worker.proofs.History.Tallies.{asks_as, entries_on, tally_append}
 
 -- ---- the step of worker k, which holds y
 
-module _ (h : Heap) (p o : Plain) (k : ℕ) (y : Held) (q : Step) (st : WorkersStand h p o) (below : k < length h.workers) (holds : held_at h k ≡ y) (want : wanted y ≡ Some q)
-    (first : Tally) (log : List Entry) (b : IsTallied h first log) (now : (tally first log).now ≡ p) (flip : (tally first log).flip ≡ o) where
+module _ (h : Heap) (k : ℕ) (y : Held) (q : Step) (below : k < length h.workers) (holds : held_at h k ≡ y) (want : wanted y ≡ Some q)
+    (first : Tally) (log : List Entry) (b : IsTallied h first log) (st : WorkersStand h (tally first log).now (tally first log).flip) where
   abbrev n : ℕ
   n = h.pages
 
   abbrev t : Tally
   t = tally first log
 
-  abbrev c : Counts h t b.asked
+  abbrev p : Plain
+  p = t.now
+
+  abbrev o : Plain
+  o = t.flip
+
+  abbrev c : FitsTally h t
   c = b.counts
 
   abbrev reply : Reply
@@ -90,7 +96,7 @@ module _ (h : Heap) (p o : Plain) (k : ℕ) (y : Held) (q : Step) (st : WorkersS
   as_plain w its = subst (λ (x : Held). IsAsPlain h p k x w) holds (so.mutators k w its)
 
   its_mutator : k < h.mutators → (w : Mutator) × (slice_get p.mutators k ≡ Some w)
-  its_mutator few = mutator_at p.mutators k (let many = so.as_many in omega (arith, few, many))
+  its_mutator few = (get_or p.mutators k fresh, slice_get-get_or p.mutators k fresh (let many = so.as_many in omega (arith, few, many)))
 
   goes : GoesOn y reply
   goes = workers_go_on n h.mutators k y reply fits
@@ -114,19 +120,19 @@ module _ (h : Heap) (p o : Plain) (k : ℕ) (y : Held) (q : Step) (st : WorkersS
   low_after (Answers task outcome) low = let was = c.low in omega (arith, low, was)
   low_after (Marks asked) low = omega (arith, low)
 
-  its_most : (task : Task) → y.task ≡ Some task → set_aside y ≤ PAGE_WORDS * pages_by t.now k (Some task)
+  its_most : (task : Task) → y.task ≡ Some task → set_aside y ≤ PAGE_WORDS * pages_by_task t.now k (Some task)
   its_most task is =
-      subst (λ (w : Plain × Option Task). set_aside y ≤ PAGE_WORDS * pages_by w.0 k w.1) (λ i. (sym now i, is i))
-      (subst (λ (x : Held). set_aside x ≤ PAGE_WORDS * pages_by p k x.task) holds (aside_most h p o st k below))
+      subst (λ (asks : Option Task). set_aside y ≤ PAGE_WORDS * pages_by_task p k asks) is
+      (subst (λ (x : Held). set_aside x ≤ PAGE_WORDS * pages_by_task p k x.task) holds (aside_most h p o st k below))
 
   covers_after : (u : Told) → told y reply ≡ u → SetsAside y (claimed y reply) z u → claims_after u ≤ PAGE_WORDS * (then_by u).made + aside_in after
   covers_after Silent e sets = let was = c.for_records in let change = aside_changes h k y q below holds in omega (arith, sets, was, change)
-  covers_after (Answers task Effect) e sets =
+  covers_after (Answers task Done) e sets =
       let was = c.for_records in
       let change = aside_changes h k y q below holds in
-      let most = its_most task (goes.answers task Effect e).asked in
+      let most = its_most task (goes.answers task Done e).asked in
       omega (arith, sets, was, change, most)
-  covers_after (Answers task (Ends end)) e sets = let was = c.for_records in let change = aside_changes h k y q below holds in omega (arith, sets, was, change)
+  covers_after (Answers task (Trap end)) e sets = let was = c.for_records in let change = aside_changes h k y q below holds in omega (arith, sets, was, change)
   covers_after (Marks asked) e sets = omega arith
 
   -- where all have a flip since their last call no record was made since it
@@ -219,9 +225,9 @@ module _ (h : Heap) (p o : Plain) (k : ℕ) (y : Held) (q : Step) (st : WorkersS
   since_after : (u : Told) → told y reply ≡ u → (m : ℕ) → m < h.mutators → (held_at after m).account.end ≡ None → IsPastLook (held_at after m).stage
       → (held_at after m).begun < (then_by u).flips → (then_by u).since m ≡ true
   since_after Silent e = all_since t.since (λ m other. refl) own_since
-  since_after (Answers task Effect) e = all_since since_call beside_call (λ few none past early. absurd (subst IsPastLook (goes.answers task Effect e).after past))
-  since_after (Answers task (Ends end)) e = all_since since_call beside_call
-      (λ few none past early. absurd (let ended : None ≡ Some end = sym none ∙ ap (λ (a : Account). a.end) (goes.answers task (Ends end) e).after.0 in cc))
+  since_after (Answers task Done) e = all_since since_call beside_call (λ few none past early. absurd (subst IsPastLook (goes.answers task Done e).after past))
+  since_after (Answers task (Trap end)) e = all_since since_call beside_call
+      (λ few none past early. absurd (let ended : None ≡ Some end = sym none ∙ ap (λ (a : Account). a.end) (goes.answers task (Trap end) e).after.0 in cc))
   since_after (Marks asked) e = λ m few none past early. refl
 
   -- ---- who asks for a flip
@@ -231,12 +237,6 @@ module _ (h : Heap) (p o : Plain) (k : ℕ) (y : Held) (q : Step) (st : WorkersS
       (λ (same : m ≡ k). subst (λ (j : ℕ). IsFirst (held_at after j)) (sym same) (subst IsFirst (sym it_holds) (flips_stay_first y reply (subst IsFirst holds (c.first k below)))))
       (λ (other : m ≢ k). subst IsFirst (sym (other_holds m other)) (c.first m (let many = length-set h.workers k z in omega (arith, many, inside))))
       (cases_eq m k)
-
-  -- who has asked for one since its last call
-  abbrev asked_after : Told → ℕ → Bool
-  asked_after Silent = b.asked
-  asked_after (Answers task outcome) = λ j. cond (j == k) false (b.asked j)
-  asked_after (Marks asked) = λ j. cond (j == k) true (b.asked j)
 
   -- worker m, where it holds x, is in its call, and has seen a flip
   abbrev HasSeen : ℕ → Held → Type 0
@@ -256,7 +256,7 @@ module _ (h : Heap) (p o : Plain) (k : ℕ) (y : Held) (q : Step) (st : WorkersS
           (beginnings_are_kept n h.mutators k y reply fits (past_look z.stage on))
 
   -- the others are where they were
-  other_call : (u : Told) (m : ℕ) → m ≢ k → b.asked m ≡ true → HasSeen (then_by u).flips (held_at after m)
+  other_call : (u : Told) (m : ℕ) → m ≢ k → t.asked m ≡ true → HasSeen (then_by u).flips (held_at after m)
   other_call u m other has =
       let was = c.call m has in
       let up = more_flips u in
@@ -264,14 +264,14 @@ module _ (h : Heap) (p o : Plain) (k : ℕ) (y : Held) (q : Step) (st : WorkersS
       subst (HasSeen (then_by u).flips) (sym (other_holds m other)) (was.0, omega (arith, early, up))
 
   -- with what is so of worker k itself
-  all_call : (u : Told) (has : ℕ → Bool) → ((m : ℕ) → m ≢ k → has m ≡ b.asked m) → (has k ≡ true → HasSeen (then_by u).flips z) → (m : ℕ) → has m ≡ true
+  all_call : (u : Told) (has : ℕ → Bool) → ((m : ℕ) → m ≢ k → has m ≡ t.asked m) → (has k ≡ true → HasSeen (then_by u).flips z) → (m : ℕ) → has m ≡ true
       → HasSeen (then_by u).flips (held_at after m)
   all_call u has beside self m = ⊎_elim
       (λ (same : m ≡ k). subst (λ (j : ℕ). has j ≡ true → HasSeen (then_by u).flips (held_at after j)) (sym same) (λ is. subst (HasSeen (then_by u).flips) (sym it_holds) (self is)))
       (λ (other : m ≢ k) is. other_call u m other (sym (beside m other) ∙ is))
       (cases_eq m k)
 
-  its_call : b.asked k ≡ true → HasSeen t.flips y
+  its_call : t.asked k ≡ true → HasSeen t.flips y
   its_call has = subst (HasSeen t.flips) holds (c.call k has)
 
   -- a flip
@@ -305,10 +305,10 @@ module _ (h : Heap) (p o : Plain) (k : ℕ) (y : Held) (q : Step) (st : WorkersS
         own_call (t.flips + 1) (subst IsNoAnswer (sym e) tt) in_call (omega (arith, was))
 
     -- it has asked for none
-    none_asked : b.asked k ≡ false
-    none_asked = by_asked (b.asked k) refl
+    none_asked : t.asked k ≡ false
+    none_asked = by_asked (t.asked k) refl
       where
-        by_asked : (has : Bool) → b.asked k ≡ has → b.asked k ≡ false
+        by_asked : (has : Bool) → t.asked k ≡ has → t.asked k ≡ false
         by_asked false is = is
         by_asked true is = absurd
             (let seen = (its_call is).1 in
@@ -317,13 +317,13 @@ module _ (h : Heap) (p o : Plain) (k : ℕ) (y : Held) (q : Step) (st : WorkersS
             let flips = c.epoch in
             omega (arith, seen, own, epoch, flips))
 
-  call_after : (u : Told) → told y reply ≡ u → (m : ℕ) → asked_after u m ≡ true → HasSeen (then_by u).flips (held_at after m)
-  call_after Silent e = all_call Silent b.asked (λ m other. refl) (λ has. let was = its_call has in own_call t.flips (subst IsNoAnswer (sym e) tt) was.0 was.1)
-  call_after (Answers task outcome) e = all_call (Answers task outcome) (asked_after (Answers task outcome)) (λ m other. ap (λ (s : Bool). cond s false (b.asked m)) (ne_eqb m k other))
-      (λ has. absurd (let not : cond (k == k) false (b.asked k) ≡ false = ap (λ (s : Bool). cond s false (b.asked k)) (eq-eqb k k refl) in let never = sym not ∙ has in cc))
-  call_after (Marks asked) e = all_call (Marks asked) (asked_after (Marks asked)) (λ m other. ap (λ (s : Bool). cond s true (b.asked m)) (ne_eqb m k other)) (λ has. flipper_seen asked e)
+  call_after : (u : Told) → told y reply ≡ u → (m : ℕ) → (then_by u).asked m ≡ true → HasSeen (then_by u).flips (held_at after m)
+  call_after Silent e = all_call Silent t.asked (λ m other. refl) (λ has. let was = its_call has in own_call t.flips (subst IsNoAnswer (sym e) tt) was.0 was.1)
+  call_after (Answers task outcome) e = all_call (Answers task outcome) (then_by (Answers task outcome)).asked (λ m other. ap (λ (s : Bool). cond s false (t.asked m)) (ne_eqb m k other))
+      (λ has. absurd (let not : cond (k == k) false (t.asked k) ≡ false = ap (λ (s : Bool). cond s false (t.asked k)) (eq-eqb k k refl) in let never = sym not ∙ has in cc))
+  call_after (Marks asked) e = all_call (Marks asked) (then_by (Marks asked)).asked (λ m other. ap (λ (s : Bool). cond s true (t.asked m)) (ne_eqb m k other)) (λ has. flipper_seen asked e)
 
-  counts_by : (u : Told) → told y reply ≡ u → Counts after (then_by u) (asked_after u)
+  counts_by : (u : Told) → told y reply ≡ u → FitsTally after (then_by u)
   counts_by u e = record {
     claims = claims_after u;
     low = low_after u (subst (LowGoes n h.words words' (claimed y reply)) e (low_falls_by_claims h p o k y q st below holds want));
@@ -339,14 +339,14 @@ module _ (h : Heap) (p o : Plain) (k : ℕ) (y : Held) (q : Step) (st : WorkersS
   -- ---- the entry
 
   abbrev tasks : Tasks
-  tasks = tasks_of after.workers
+  tasks = tasks_held after.workers
 
   -- a full heap
-  module _ (task : Task) (asked room live : ℕ) (e : told y reply ≡ Answers task (Ends (ends.HeapFull asked room live))) where
+  module _ (task : Task) (asked room live : ℕ) (e : told y reply ≡ Answers task (Trap (ends.HeapFull asked room live))) where
     found : FindsNoRoom n h.words y asked room live
     found = subst (FullWhereTold n h.words y) e law.full
 
-    comes : ComesTo p k task (Ends (ends.HeapFull asked room live))
+    comes : ComesTo p k task (Trap (ends.HeapFull asked room live))
     comes = subst (IsAnswered p k) e law.answered
 
     of_now : epoch_of n h.words ≡ y.epoch
@@ -370,20 +370,18 @@ module _ (h : Heap) (p o : Plain) (k : ℕ) (y : Held) (q : Step) (st : WorkersS
         let sets : claimed y reply + set_aside y ≡ 0 = subst (SetsAside y (claimed y reply) z) e (claims_are_set_aside n h.mutators k y reply fits) in
         ap set_aside holds ∙ (omega (arith, sets))
 
-    for_others : c.claims ≤ PAGE_WORDS * (t.made + being_made t.now tasks k [])
+    for_others : c.claims ≤ PAGE_WORDS * (t.made + made_next t.now tasks k [])
     for_others =
         let was = c.for_records in
-        let aside = subst (λ (s : Plain). aside_in h ≤ PAGE_WORDS * being_made s tasks k []) (sym now)
-        (aside_of_others h p o st k tasks below none_aside (λ j other. ap (λ (x : Held). x.task) (other_holds j other))) in
+        let aside = aside_of_others h p o st k tasks below none_aside (λ j other. ap (λ (x : Held). x.task) (other_holds j other)) in
         omega (arith, was, aside)
 
     -- of a single mutator
     single : length t.now.mutators ≡ 1 → t.since k ≡ true → t.made ≡ 0
     single one has =
         let many = so.as_many in
-        let same : length t.now.mutators ≡ length p.mutators = ap (λ (s : Plain). length s.mutators) now in
         let here = few in
-        c.none_made (λ m inside. subst (λ (j : ℕ). t.since j ≡ true) (let only : k ≡ m = omega (arith, one, many, same, here, inside) in only) has)
+        c.none_made (λ m inside. subst (λ (j : ℕ). t.since j ≡ true) (let only : k ≡ m = omega (arith, one, many, here, inside) in only) has)
 
     is_filled : IsFilled n tasks t k task asked room live []
     is_filled =
@@ -393,17 +391,17 @@ module _ (h : Heap) (p o : Plain) (k : ℕ) (y : Held) (q : Step) (st : WorkersS
         let room_is = found.room_is in
         let live_is = found.live_is in
         record {
-          asked_is = subst (λ (s : Plain). asked_by s k (Some task) ≡ Some asked) (sym now) (full_asks p k task calls.0 asked room live calls.1 comes);
+          asked_is = full_asks p k task calls.0 asked room live calls.1 comes;
           short = found.short;
           no_flip = no_flip;
-          live_is = subst (λ (s : Plain). IsLive s live) (sym flip) (full_tells_live h p o y asked room live st found);
+          live_is = full_tells_live h p o y asked room live st found;
           claims = c.claims;
           filled = omega (arith, low, whole, room_is, live_is);
           for_records = for_others;
           single = single;
         }
 
-  end_is : (task : Task) (end : End) → told y reply ≡ Answers task (Ends end) → IsFilledByEnd n tasks t k task end []
+  end_is : (task : Task) (end : End) → told y reply ≡ Answers task (Trap end) → IsFilledByEnd n tasks t k task end []
   end_is task (ends.HeapFull asked room live) e = is_filled task asked room live e
   end_is task ends.Halt e = tt
   end_is task ends.NotPointer e = tt
@@ -418,54 +416,46 @@ module _ (h : Heap) (p o : Plain) (k : ℕ) (y : Held) (q : Step) (st : WorkersS
   -- a flip
   module _ (asked : ℕ) (e : told y reply ≡ Marks asked) where
     -- the plain mutator's record takes as many pages
-    its_pages : asked_by p k y.task ≡ Some asked
+    its_pages : asked_by_task p k y.task ≡ Some asked
     its_pages =
         let w = its_mutator (is_mutator asked e) in
         let plain = as_plain w.0 w.1 in
         let none : w.0.end ≡ None = sym plain.account.end ∙ unended asked e in
         let makes = making asked e in
         let pages = plain_pages y makes w.0 (makes_its_record y w.0 fits.eight fits.registers (plain.shows none) makes) in
-        ap (asked_by p k) makes.executes.task_is ∙ asks_as p k w.0 makes.executes.instr asked w.1 none (pages ∙ ap (λ (a : ℕ). Some a) (sym ((once asked e).asked_is ∙ asked_is y makes)))
+        ap (asked_by_task p k) makes.executes.task_is ∙ asks_as p k w.0 makes.executes.instr asked w.1 none (pages ∙ ap (λ (a : ℕ). Some a) (sym ((once asked e).asked_is ∙ asked_is y makes)))
 
-    is_asked_for : IsAskedFor tasks b.asked t k asked []
+    is_asked_for : IsAskedFor tasks t k asked []
     is_asked_for =
         let same : tasks k ≡ y.task = ap (λ (x : Held). x.task) it_holds ∙ goes.kept (subst IsNoAnswer (sym e) tt) in
-        record { first = none_asked asked e; makes = subst (λ (w : Plain × Option Task). asked_by w.0 k w.1 ≡ Some asked) (λ i. (sym now i, sym same i)) its_pages }
+        record { first = none_asked asked e; makes = ap (asked_by_task p k) same ∙ its_pages }
 
   entry_is : (u : Told) → told y reply ≡ u → EachEntry (EntryIs n tasks) t (extra k u)
   entry_is Silent e = tt
-  entry_is (Answers task Effect) e = (tt, tt)
-  entry_is (Answers task (Ends end)) e = (end_is task end e, tt)
-  entry_is (Marks asked) e = (tt, tt)
-
-  flip_is : (u : Told) → told y reply ≡ u → AreAskedFor tasks b.asked (asked_after u) t (extra k u)
-  flip_is Silent e = refl
-  flip_is (Answers task outcome) e = refl
-  flip_is (Marks asked) e = (k, is_asked_for asked e, refl)
+  entry_is (Answers task Done) e = (tt, tt)
+  entry_is (Answers task (Trap end)) e = (end_is task end e, tt)
+  entry_is (Marks asked) e = (is_asked_for asked e, tt)
 
   -- ---- the tasks go on
 
-  same_task : IsNoAnswer (told y reply) → (j : ℕ) → tasks j ≡ tasks_of h.workers j
+  same_task : IsNoAnswer (told y reply) → (j : ℕ) → tasks j ≡ tasks_held h.workers j
   same_task none j = ⊎_elim
-      (λ (same : j ≡ k). subst (λ (i : ℕ). tasks i ≡ tasks_of h.workers i) (sym same) (ap (λ (x : Held). x.task) it_holds ∙ (goes.kept none ∙ sym (ap (λ (x : Held). x.task) holds))))
+      (λ (same : j ≡ k). subst (λ (i : ℕ). tasks i ≡ tasks_held h.workers i) (sym same) (ap (λ (x : Held). x.task) it_holds ∙ (goes.kept none ∙ sym (ap (λ (x : Held). x.task) holds))))
       (λ (other : j ≢ k). ap (λ (x : Held). x.task) (other_holds j other))
       (cases_eq j k)
 
-  tasks_go_on : (u : Told) → told y reply ≡ u → (j : ℕ) (task : Task) → tasks_of h.workers j ≡ Some task → next_task j (extra k u) (tasks j) ≡ Some task
+  tasks_go_on : (u : Told) → told y reply ≡ u → (j : ℕ) (task : Task) → tasks_held h.workers j ≡ Some task → next_task j (extra k u) (tasks j) ≡ Some task
   tasks_go_on Silent e j task is = same_task (subst IsNoAnswer (sym e) tt) j ∙ is
   tasks_go_on (Marks asked) e j task is = same_task (subst IsNoAnswer (sym e) tt) j ∙ is
   tasks_go_on (Answers done outcome) e j task is = ⊎_elim
       (λ (same : j ≡ k).
-      let was : Some done ≡ Some task = sym (goes.answers done outcome e).asked ∙ (sym (ap (λ (x : Held). x.task) holds) ∙ (ap (tasks_of h.workers) (sym same) ∙ is)) in
+      let was : Some done ≡ Some task = sym (goes.answers done outcome e).asked ∙ (sym (ap (λ (x : Held). x.task) holds) ∙ (ap (tasks_held h.workers) (sym same) ∙ is)) in
       ap (λ (b : Bool). cond b (Some done) (tasks j)) (eq-eqb k j (sym same)) ∙ was)
       (λ (other : j ≢ k). ap (λ (b : Bool). cond b (Some done) (tasks j)) (ne_eqb k j (λ f. other (sym f))) ∙ (ap (λ (x : Held). x.task) (other_holds j other) ∙ is))
       (cases_eq j k)
 
   pub step_tallied : IsTallied after first (log ++ extra k (told y reply))
   step_tallied = record {
-    entries = entries_on (tasks_of h.workers) tasks (extra k (told y reply)) (tasks_go_on (told y reply) refl) n first log b.entries (entry_is (told y reply) refl);
-    asked = asked_after (told y reply);
-    flips = flips_on (tasks_of h.workers) tasks (extra k (told y reply)) (tasks_go_on (told y reply) refl) first (λ j. false) b.asked (asked_after (told y reply)) log
-        b.flips (flip_is (told y reply) refl);
-    counts = subst (λ (s : Tally). Counts after s (asked_after (told y reply))) (sym (tally_append first log (extra k (told y reply)))) (counts_by (told y reply) refl);
+    entries = entries_on (tasks_held h.workers) tasks (extra k (told y reply)) (tasks_go_on (told y reply) refl) n first log b.entries (entry_is (told y reply) refl);
+    counts = subst (FitsTally after) (sym (tally_append first log (extra k (told y reply)))) (counts_by (told y reply) refl);
   }

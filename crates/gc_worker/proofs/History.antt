@@ -1,0 +1,10 @@
+pub mod Sums
+pub mod Extensions
+pub mod Tallies
+pub mod Records
+pub mod Aside
+pub mod FullHeaps
+pub mod Steps
+pub mod Tasks
+pub mod Opening
+pub mod Orders

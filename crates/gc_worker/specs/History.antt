@@ -1,0 +1,3 @@
+pub mod Legal
+pub mod Tally
+pub mod Order

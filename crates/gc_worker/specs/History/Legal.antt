@@ -1,0 +1,59 @@
+-- Histories: which are legal, and whose calls they have.
+use Rattle.std.specs.Prelude.{ℕ, ◌==◌, ⊤, cond, List, [], ◌∷◌, ◌++◌}
+use Rattle.plain_state.specs.State.{Plain}
+use Rattle.gc_worker.specs.declared.did.Did.{Did}
+use Rattle.gc_worker.specs.declared.call.Call.{Call}
+use Rattle.gc_worker.specs.declared.entry.Entry.{Entry}
+use Rattle.gc_worker.specs.declared.entry.Entry.TheVariants.{Made, Exchanged}
+use Rattle.gc_worker.specs.declared.task.Task.{Task}
+use Rattle.gc_worker.specs.Answer.{ComesTo, after_told}
+use Rattle.gc_worker.specs.Turned.{Told, Silent, Answers, Marks}
+
+-- ---- calls
+
+abbrev pub call : ℕ → Task → Did → Call
+call m task did = record { by = m; task = task; did = did }
+
+-- the plain state after a call
+abbrev pub after_call : Plain → Call → Plain
+after_call p c = after_told p c.by (Answers c.task c.did)
+
+-- ---- histories
+
+-- each call comes to what the plain machine's may at that point
+abbrev pub IsLegal : Plain → List Entry → Type 0
+IsLegal p [] = ⊤
+IsLegal p (Made c ∷ es) = ComesTo p c.by c.task c.did × IsLegal (after_call p c) es
+IsLegal p (Exchanged by asked ∷ es) = IsLegal p es
+
+abbrev pub after_all : Plain → List Entry → Plain
+after_all p [] = p
+after_all p (Made c ∷ es) = after_all (after_call p c) es
+after_all p (Exchanged by asked ∷ es) = after_all p es
+
+-- the plain state at the last flip, or at the beginning
+abbrev pub flip_from : (p o : Plain) → List Entry → Plain
+flip_from p o [] = o
+flip_from p o (Made c ∷ es) = flip_from (after_call p c) o es
+flip_from p o (Exchanged by asked ∷ es) = flip_from p p es
+
+abbrev pub last_flip : Plain → List Entry → Plain
+last_flip p log = flip_from p p log
+
+-- the calls of one worker
+abbrev pub calls_of : ℕ → List Entry → List Call
+calls_of n [] = []
+calls_of n (Made c ∷ es) = cond (c.by == n) (c ∷ calls_of n es) (calls_of n es)
+calls_of n (Exchanged by asked ∷ es) = calls_of n es
+
+-- what a step of worker m adds to the history
+abbrev pub extra : ℕ → Told → List Entry
+extra m Silent = []
+extra m (Answers task did) = Made (call m task did) ∷ []
+extra m (Marks asked) = Exchanged m asked ∷ []
+
+-- what worker m has made after it
+abbrev pub own_after : ℕ → List Call → Told → List Call
+own_after m own Silent = own
+own_after m own (Answers task did) = own ++ call m task did ∷ []
+own_after m own (Marks asked) = own
