@@ -4,7 +4,7 @@ use Rattle.mutator_asm.specs.declared.instr.Instr.{Instr}
 use Rattle.mutator_asm.specs.declared.item.Item.{Item}
 use Rattle.gc_worker.specs.declared.config.Config.{Config}
 use Rattle.gc_core.specs.Core.{CoreState, opening_core, workers_of}
-use Rattle.gc_core.specs.Needs.{EachFullIs, HasNoFull, IsLargeEnough, opened}
+use Rattle.gc_worker.specs.History.Needs.{EachFullIs, HasNoFull, IsLargeEnough, opened}
 use Rattle.gc_core.specs.Run.{Ran, run_from, EachEvent}
 use Rattle.gc_core.specs.Whole.{IsFull}
 use Rattle.ael_commands.specs.declared.options.RunOptions.{RunOptions}

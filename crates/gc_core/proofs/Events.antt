@@ -140,7 +140,7 @@ module _ (law : StepsKeep) (goes : WorkersGoOn) (wants : WorkersWant) (so : What
     abbrev after : Heap
     after = moved r.heap w y q
 
-    event_is : event_of s w ≡ record { told = stepped_by w t; after = after }
+    pub event_is : event_of s w ≡ record { told = stepped_by w t; after = after }
     unfolding event_of
     event_is = rw asked (λ i. record { told = stepped_by w (told y (reply_of q (sym r.words i))); after = sym (r.moves y q) i })
 
@@ -150,7 +150,7 @@ module _ (law : StepsKeep) (goes : WorkersGoOn) (wants : WorkersWant) (so : What
     -- ---- an answer
 
     -- the task is the next one of the plain mutator
-    own_task : (task : Task) (outcome : Did) (k : Mutator) → t ≡ Answers task outcome → slice_get p.mutators w ≡ Some k → task ≡ task_of (fetch s.code s.turns w k)
+    pub own_task : (task : Task) (outcome : Did) (k : Mutator) → t ≡ Answers task outcome → slice_get p.mutators w ≡ Some k → task ≡ task_of (fetch s.code s.turns w k)
     own_task task outcome k e is =
         let a = account_before k is in
         ready_task s w steady (few k is) task (goes_on.answers task outcome e).asked ∙ rw (a.counter, a.executed) refl

@@ -3,11 +3,11 @@ pub mod Dumping
 pub mod Events
 pub mod Claims
 pub mod Copied
-pub mod Fulls
 pub mod Runs
 pub mod Running
 pub mod Begun
 pub mod Whole
+pub mod History
 pub mod Cycles
 pub mod Lawful
 pub mod Counting

@@ -1,9 +1,9 @@
 -- A mutator is given its next task before it looks at the gate: the heap stands on.
-use Rattle.std.proofs.Common.{◌≡◌, ℕ, ◌<◌, ◌≤◌, Bool, true, false, nat_lt, nat_le, List, length, Option, Some, None, Err, refl, ap, sym, subst, ◌∙◌, arith, get_or-set_same, length-set, leb-false, ltb-true}
+use Rattle.std.proofs.Common.{◌≡◌, ℕ, ◌<◌, ◌≤◌, Bool, true, false, nat_lt, nat_le, List, length, Option, Some, None, Err, refl, ap, sym, subst, ◌∙◌, arith, inl, inr, get_or-set_same, length-set, leb-false, ltb-true}
 use Rattle.std.specs.Option.{is_some, ok_or}
 use Rattle.std.specs.Prelude.{IsTrue, IfSome, if◌then◌else◌}
 use Rattle.std.specs.List.{list_all}
-use Rattle.std.proofs.lemmas.List.{set-set}
+use Rattle.std.proofs.lemmas.List.{set-get_or, set-set}
 use Rattle.plain_state.specs.declared.end.End.{End}
 use Rattle.plain_state.specs.declared.end.End.TheVariants.{TurnsOut, JumpOut}
 use Rattle.plain_state.specs.State.{Plain}
@@ -18,6 +18,7 @@ use Rattle.gc_worker.specs.declared.stage.Stage.{Stage}
 use Rattle.gc_worker.specs.declared.stage.Stage.TheVariants.{Looks, Passes, Flips, Forwards, Accesses, Places, Serves, Scans, Evacuates, Opens, Gone}
 use Rattle.gc_worker.specs.declared.task.Task.{Task}
 use Rattle.gc_worker.specs.Between.{ReadyingStands, TasksMayBegin, IsIdle, with_task, with_worker}
+use Rattle.gc_worker.specs.Between as between
 use Rattle.gc_worker.specs.Fits.{Fits, MayBegin, FitsEnd, IsOnSide}
 use Rattle.gc_worker.specs.Held.{Held}
 use Rattle.gc_worker.specs.Law.{Heap, nobody, held_at, moved, WorkersStand}
@@ -90,6 +91,7 @@ pub record Ready (s : CoreState) (w : ℕ) (p o : Plain) : Type 0 where
   pub pages : heap.pages ≡ s.heap.pages
   pub mutators : heap.mutators ≡ s.heap.mutators
   pub moves : (x : Held) (q : Step) → moved heap w x q ≡ moved s.heap w x q
+  pub is : heap ≡ with_worker s.heap w (ready s w)
 
 no_end : (end : Option End) → is_some end ≡ false → end ≡ None
 no_end None e = refl
@@ -115,7 +117,7 @@ module _ (readies : ReadyingStands) (tasks : TasksMayBegin) (s : CoreState) (w :
       mutator_by false e b = absurd (cc)
 
   ready_by : Due s.code s.turns w x → Ready s w p o
-  ready_by (Rests e) = record { heap = s.heap; stands = stands; below = below; holds = sym e; words = refl; pages = refl; mutators = refl; moves = λ y q. refl }
+  ready_by (Rests e) = record { heap = s.heap; stands = stands; below = below; holds = sym e; words = refl; pages = refl; mutators = refl; moves = λ y q. refl; is = sym (ap (with_worker s.heap w) e ∙ ap (λ (ks : List Held). record s.heap { workers = ks }) (set-get_or s.heap.workers w nobody)) }
   ready_by (Begins e f is) =
       let idle = looks_idle e f in
       let task = next_task s.code s.turns w x in
@@ -130,6 +132,7 @@ module _ (readies : ReadyingStands) (tasks : TasksMayBegin) (s : CoreState) (w :
         pages = refl;
         mutators = refl;
         moves = λ y q. ap (λ (ks : List Held). record s.heap { words = words_after q s.heap.words; workers = ks }) (set-set s.heap.workers w (with_task x task) (turned y (reply_of q s.heap.words)));
+        is = ap (with_worker s.heap w) (sym is);
       }
 
   pub readied_stands : Ready s w p o
@@ -150,6 +153,14 @@ module _ (s : CoreState) (w : ℕ) (steady : IsSteady s) (few : w < s.heap.mutat
       by_due : Due s.code s.turns w (held_at s.heap w) → task ≡ next_task s.code s.turns w (held_at s.heap w)
       by_due (Begins stage none is) = let q : Some (next_task s.code s.turns w (held_at s.heap w)) ≡ Some task = sym (ap (λ (h : Held). h.task) is) ∙ e in cc
       by_due (Rests is) = (steady.on_task w few).task task (sym (ap (λ (h : Held). h.task) is) ∙ e)
+
+-- it is as it was, or was given its next task
+pub ready_begins : (s : CoreState) (w : ℕ) → between.Begins (held_at s.heap w) (ready s w)
+ready_begins s w = by_due (due s.code s.turns w (held_at s.heap w))
+  where
+    by_due : Due s.code s.turns w (held_at s.heap w) → between.Begins (held_at s.heap w) (ready s w)
+    by_due (Begins stage none is) = inr (next_task s.code s.turns w (held_at s.heap w), none, is)
+    by_due (Rests is) = inl is
 
 pub ready_account : (s : CoreState) (w : ℕ) → (ready s w).account ≡ (held_at s.heap w).account
 ready_account s w = by_due (due s.code s.turns w (held_at s.heap w))

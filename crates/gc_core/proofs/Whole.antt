@@ -1,5 +1,4 @@
 -- What holds of all events and runs, from the laws of a worker's step.
-use Rattle.std.proofs.Common.{◌≡◌, false, arith}
 use Rattle.plain_heap.specs.Order.{Story, opening}
 use Rattle.plain_heap.proofs.Stories.{story_after-now}
 use Rattle.gc_worker.proofs.Between.Beginning.{tasks_may_begin}
@@ -13,17 +12,14 @@ use Rattle.gc_worker.proofs.Between.Wanting.{workers_want}
 use Rattle.gc_worker.proofs.Represented.{represented_workers}
 use Rattle.gc_worker.proofs.Whole.{steps_keep}
 use Rattle.gc_core.specs.Core.{CoreState, opening_core}
-use Rattle.gc_worker.specs.Claims.{epoch_in}
 use Rattle.gc_core.specs.Law.{EventsKeep, EventsMeet}
 use Rattle.gc_core.specs.Run.{Ran, run_from}
-use Rattle.gc_core.specs.Whole.{RunsArePlainRuns, RunsFollow, FullsFollowFlips, NoPageIsWonTwice, CopiedPagesAreWonOnce, FlipsAreOfTracedCores}
+use Rattle.gc_core.specs.Whole.{RunsArePlainRuns, RunsFollow, NoPageIsWonTwice, CopiedPagesAreWonOnce, FlipsAreOfTracedCores}
 use Rattle.gc_core.proofs.Events as events
 use Rattle.gc_core.proofs.Begun.{opening_stands, opening_steady, opening_lawful, opening_epoch}
 use Rattle.gc_core.proofs.Claims.{pages_are_won_once}
 use Rattle.gc_core.proofs.Copied.{pages_are_won, flipped_of_traced}
 use Rattle.gc_core.proofs.Dumping.{told_represents}
-use Rattle.gc_core.proofs.Fulls.{fulls_come_after_flips}
-use Rattle.gc_worker.proofs.Between.Begun.{beginnings_are_kept, full_is_found_later}
 use Rattle.gc_core.proofs.Running.{run_law, run_acts, run_full, stands_seen}
 
 pub events_keep : EventsKeep
@@ -75,13 +71,3 @@ copied_pages_are_won_once code items config schedule n program size turns few la
 
 pub flips_are_of_traced_cores : FlipsAreOfTracedCores
 flips_are_of_traced_cores s w asked l e = flipped_of_traced flips_are_of_traced readying_stands tasks_may_begin s w asked l.plain l.flip l.steady l.stands e
-
-pub fulls_follow_flips : FullsFollowFlips
-fulls_follow_flips code items config schedule n program size turns few =
-    let s : CoreState = opening_core code config in
-    let story : Story = record { flip = opening code; now = opening code } in
-    let stands = opening_stands heaps_open code items config program size turns few in
-    let steady = opening_steady heaps_open code items config program size turns few in
-    let first : epoch_in s.heap ≡ 0 = opening_epoch heaps_open code items config program size turns few in
-    rw first at (fulls_come_after_flips steps_keep workers_go_on what_stands_is_so beginnings_are_kept full_is_found_later readying_stands tasks_may_begin events_keep schedule 0 n s story (λ m. false) steady stands
-    (λ m l no_end past earlier. absurd (omega (arith, earlier, first))))

@@ -77,7 +77,7 @@ claims_of code config schedule n = count_of claims_next code config schedule n
 
 -- What is told as live was live at the last flip. With the room that is left and the words claimed since then it fills the space; so the
 -- pages that were asked for don't fit beside it.
-pub record IsFilled (pages : ℕ) (flip : Plain) (claims asked room live : ℕ) : Type 0 where
+pub record FillsTheSpace (pages : ℕ) (flip : Plain) (claims asked room live : ℕ) : Type 0 where
   pub live_is : IsLive flip live
   pub filled : room + live + claims ≡ PAGE_WORDS * pages
   pub short : PAGE_WORDS * pages < live + claims + PAGE_WORDS * asked
@@ -85,7 +85,7 @@ pub record IsFilled (pages : ℕ) (flip : Plain) (claims asked room live : ℕ) 
 abbrev pub FullHeapsAreFilled : Type 0
 FullHeapsAreFilled = InEveryRun (λ code config schedule n. (w m asked room live : ℕ)
     → (event_of (run_of code config schedule n).last w).told ≡ Ended m (ends.HeapFull asked room live)
-    → IsFilled config.pages (story_of code config schedule n).flip (claims_of code config schedule n) asked room live)
+    → FillsTheSpace config.pages (story_of code config schedule n).flip (claims_of code config schedule n) asked room live)
 
 -- ---- flips
 

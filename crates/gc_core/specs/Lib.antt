@@ -5,7 +5,6 @@ pub mod Event
 pub mod Run
 pub mod Law
 pub mod Claims
-pub mod Fulls
 pub mod Whole
 pub mod Cycles
 pub mod Needs

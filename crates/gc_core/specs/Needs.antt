@@ -1,51 +1,14 @@
--- What heap a program needs, by the order of its run alone: the pages of the records that it makes between two flips, beside what was
--- live at the first of them.
-use Rattle.std.specs.Prelude.{◌≡◌, ◌≢◌, ⊤, ℕ, ◌+◌, ◌*◌, ◌<◌, ◌≤◌, ◌-◌, ◌^◌, ◌==◌, ◌⊎◌, true, false, List, [], ◌∷◌, ◌++◌, Some, if◌then◌else◌, length, unwrap_or}
+-- What the order of a run says of a full heap, and what heap a program needs.
+use Rattle.std.specs.Prelude.{◌≡◌, ℕ, ◌+◌, ◌*◌, ◌<◌, ◌≤◌, ◌-◌, ◌^◌, List, ◌∷◌, ◌++◌, length}
 use Rattle.plain_state.specs.declared.end.End.TheVariants as ends
 use Rattle.plain_state.specs.declared.sizes.TheConstants.{PAGE_WORDS}
-use Rattle.plain_state.specs.State.{Plain}
-use Rattle.mutator_asm.specs.declared.instr.Instr.{Instr}
 use Rattle.plain_heap.specs.declared.mark.Mark.{Mark}
-use Rattle.plain_heap.specs.declared.mark.Mark.TheVariants.{Step, Flip, Full}
-use Rattle.plain_heap.specs.Order.{Story, opening, plain, story, turned}
-use Rattle.plain_heap.specs.Step.{asked_by}
-use Rattle.heap_state.specs.Functions.{sum_below}
-use Rattle.heap_state.specs.Reachable.{IsLive}
+use Rattle.plain_heap.specs.declared.mark.Mark.TheVariants.{Full}
 use Rattle.gc_worker.specs.declared.stepped.Stepped.TheVariants.{Ended}
-use Rattle.gc_core.specs.Run.{InEveryRun, run_of}
+use Rattle.gc_worker.specs.History.Needs.{EachFullIs, EndsWithFlip, HasNoFull, IsEnoughForOne, IsLargeEnough, being_made, flips_in, made_since, opened}
 use Rattle.gc_core.specs.Cycles.{story_of, claims_of}
 use Rattle.gc_core.specs.Event.{event_of}
-use Rattle.gc_core.specs.Fulls.{flips_in, since_in}
-
--- ---- records
-
--- the pages that mutator m's next step takes for a record, 0 where it makes none
-abbrev pub pages_next : List (List Instr) → ℕ → Plain → ℕ → ℕ
-pages_next code turns p m = unwrap_or (asked_by code turns p m) 0
-
--- the pages of the records that the next steps of the other mutators make
-abbrev pub being_made : List (List Instr) → ℕ → Plain → (m : ℕ) → ℕ
-being_made code turns p m = sum_below (length p.mutators) (λ j. if j == m then 0 else pages_next code turns p j)
-
--- the pages of the records made since the last flip, after a mark
-abbrev pub made_by : List (List Instr) → ℕ → Plain → (made : ℕ) → Mark → ℕ
-made_by code turns p made (Step m) = made + pages_next code turns p m
-made_by code turns p made (Flip asked) = 0
-made_by code turns p made (Full m asked room live) = made
-
-abbrev pub made_after : List (List Instr) → ℕ → Story → (made : ℕ) → List Mark → ℕ
-made_after code turns s made [] = made
-made_after code turns s made (mark ∷ marks) = made_after code turns (turned code turns s mark) (made_by code turns s.now made mark) marks
-
--- before the first mark
-abbrev pub opened : List (List Instr) → Story
-opened code = record { flip = opening code; now = opening code }
-
--- in the order of a program
-abbrev pub made_since : List (List Instr) → ℕ → List Mark → ℕ
-made_since code turns order = made_after code turns (opened code) 0 order
-
--- ---- a full heap
+use Rattle.gc_core.specs.Run.{InEveryRun, run_of}
 
 -- where the heap is full, what was claimed since the last flip are pages of records made since then, or being made by the others
 abbrev pub ClaimsAreForRecords : Type 0
@@ -54,79 +17,20 @@ ClaimsAreForRecords = InEveryRun (λ code config schedule n. (w m asked room liv
     → claims_of code config schedule n
     ≤ PAGE_WORDS * (made_since code config.turns (run_of code config schedule n).order + being_made code config.turns (story_of code config schedule n).now m))
 
--- ---- an order
-
--- The heap is full for mutator m, after marks that led to this story, and to so many pages made since the last flip: what is told as
--- live was live then, and with the room that is left, and pages claimed for those records or for ones being made, it fills the space.
-pub record IsFullAt (pages : ℕ) (code : List (List Instr)) (turns : ℕ) (s : Story) (made m asked room live : ℕ) : Type 0 where
-  pub asked_is : asked_by code turns s.now m ≡ Some asked
-  pub short : room < PAGE_WORDS * asked
-  pub live_is : IsLive s.flip live
-  pub claims : ℕ
-  pub filled : room + live + claims ≡ PAGE_WORDS * pages
-  pub for_records : claims ≤ PAGE_WORDS * (made + being_made code turns s.now m)
-
-abbrev pub IsFullMark : (pages : ℕ) → List (List Instr) → ℕ → Story → (made : ℕ) → Mark → Type 0
-IsFullMark pages code turns s made (Step m) = ⊤
-IsFullMark pages code turns s made (Flip asked) = ⊤
-IsFullMark pages code turns s made (Full m asked room live) = IsFullAt pages code turns s made m asked room live
-
--- so is each mark of an order
-abbrev pub EachFullIs : (pages : ℕ) → List (List Instr) → ℕ → Story → (made : ℕ) → List Mark → Type 0
-EachFullIs pages code turns s made [] = ⊤
-EachFullIs pages code turns s made (mark ∷ marks) =
-    IsFullMark pages code turns s made mark × EachFullIs pages code turns (turned code turns s mark) (made_by code turns s.now made mark) marks
-
 -- at a full heap of an order the space is filled by what was live at the last flip and by records made since
 abbrev pub OrdersFillTheSpace : Type 0
 OrdersFillTheSpace = InEveryRun (λ code config schedule n.
     EachFullIs config.pages code config.turns (opened code) 0 (run_of code config schedule n).order)
-
--- ---- a heap that is large enough
-
--- the record that mutator m's next step makes, if it makes one, fits beside what was live at the last flip and all records made since then
--- or being made
-abbrev pub HasRoomFor : (pages : ℕ) → List (List Instr) → ℕ → Story → (made m : ℕ) → Type 0
-HasRoomFor pages code turns s made m = (asked live : ℕ) → asked_by code turns s.now m ≡ Some asked → IsLive s.flip live
-    → live + PAGE_WORDS * (made + being_made code turns s.now m + asked) ≤ PAGE_WORDS * pages
-
--- after these marks mutator m may find the heap full: a flip came since its last step, or as many came as there can be
-abbrev pub MayBeFull : List Mark → (m : ℕ) → Type 0
-MayBeFull front m = (since_in (λ j. false) front m ≡ true) ⊎ (flips_in 0 front ≡ 2 ^ 32 - 1)
-
--- it does so wherever in the order a mutator may find the heap full
-abbrev pub IsLargeEnough : (pages : ℕ) → List (List Instr) → ℕ → List Mark → Type 0
-IsLargeEnough pages code turns order = (front rest : List Mark) (m : ℕ) → front ++ rest ≡ order → MayBeFull front m
-    → HasRoomFor pages code turns (story code turns front) (made_since code turns front) m
-
-abbrev pub HasNoFull : List Mark → Type 0
-HasNoFull order = (front rest : List Mark) (m asked room live : ℕ) → front ++ Full m asked room live ∷ rest ≢ order
 
 -- a heap that is as large as the run's order needs is never full
 abbrev pub LargeHeapsAreNeverFull : Type 0
 LargeHeapsAreNeverFull = InEveryRun (λ code config schedule n.
     IsLargeEnough config.pages code config.turns (run_of code config schedule n).order → HasNoFull (run_of code config schedule n).order)
 
--- ---- with one mutator
-
--- it ends with a flip
-pub record EndsWithFlip (front : List Mark) : Type 0 where
-  pub before : List Mark
-  pub asked : ℕ
-  pub is : front ≡ before ++ Flip asked ∷ []
-
 -- where there is one mutator its heap is full right after a flip, so that no record was made between the two; or the epoch is the last
 abbrev pub LoneFullsFollowTheirFlips : Type 0
 LoneFullsFollowTheirFlips = InEveryRun (λ code config schedule n. length code ≡ 1 → (front rest : List Mark) (m asked room live : ℕ)
     → (run_of code config schedule n).order ≡ front ++ Full m asked room live ∷ rest → flips_in 0 front < 2 ^ 32 - 1 → EndsWithFlip front)
-
--- the record that mutator m's next step makes, if it makes one, fits beside what is live now
-abbrev pub HasRoomNow : (pages : ℕ) → List (List Instr) → ℕ → Plain → (m : ℕ) → Type 0
-HasRoomNow pages code turns p m = (asked live : ℕ) → asked_by code turns p m ≡ Some asked → IsLive p live → live + PAGE_WORDS * asked ≤ PAGE_WORDS * pages
-
--- it does so after each front of the order
-abbrev pub IsEnoughForOne : (pages : ℕ) → List (List Instr) → ℕ → List Mark → Type 0
-IsEnoughForOne pages code turns order = (front rest : List Mark) (m : ℕ) → front ++ rest ≡ order → HasRoomNow pages code turns (plain code turns front) m
 
 -- the heap of a single mutator is never full where there is room beside what is live, in fewer epochs than there can be
 abbrev pub LoneHeapsAreNeverFull : Type 0

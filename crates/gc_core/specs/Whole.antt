@@ -15,7 +15,7 @@ use Rattle.gc_core.specs.Core.{CoreState, opening_core, workers_of}
 use Rattle.gc_core.specs.Dumped.{dump_said, dumped}
 use Rattle.gc_core.specs.Event.{core_after, event_of, ready}
 use Rattle.gc_core.specs.Claims.{AreApart, PagesAreWon, wins_from}
-use Rattle.gc_core.specs.Fulls.{EachMayCome}
+use Rattle.gc_worker.specs.History.Needs.{EachMayCome}
 use Rattle.gc_worker.specs.Claims.{epoch_in}
 use Rattle.gc_core.specs.Law.{IsLawful}
 use Rattle.gc_core.specs.Readers.{seen_of}

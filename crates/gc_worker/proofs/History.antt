@@ -8,3 +8,5 @@ pub mod Steps
 pub mod Tasks
 pub mod Opening
 pub mod Orders
+pub mod Needs
+pub mod Lone

@@ -1,3 +1,4 @@
 pub mod Legal
 pub mod Tally
 pub mod Order
+pub mod Needs

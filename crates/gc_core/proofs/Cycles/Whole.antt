@@ -1,45 +1,44 @@
--- What cycles keep in every run, from the laws of events.
-use Rattle.std.proofs.Common.{◌≡◌, ℕ, ◌+◌, ◌*◌, ◌≤◌, false, List, refl, sym, subst, ◌∙◌}
+-- What cycles keep in every run, from its history.
+use Rattle.std.proofs.Common.{◌≡◌, ℕ, ◌+◌, ◌*◌, ◌≤◌, false, List, [], ◌∷◌, ◌++◌, length, refl, ap, subst, ◌∙◌, arith}
 use Rattle.std.specs.Prelude.{IsTrue}
+use Rattle.std.specs.Option.{option_to_list}
+use Rattle.std.proofs.lemmas.List.{map-append}
 use Rattle.plain_state.specs.declared.end.End.TheVariants as ends
+use Rattle.plain_state.specs.declared.sizes.TheConstants.{PAGE_WORDS}
 use Rattle.mutator_asm.specs.declared.instr.Instr.{Instr}
 use Rattle.mutator_asm.specs.declared.item.Item.{Item}
 use Rattle.mutator_asm.specs.Program.{IsWellFormed}
+use Rattle.plain_heap.specs.declared.mark.Mark.{Mark}
+use Rattle.plain_heap.specs.declared.mark.Mark.TheVariants.{Full}
 use Rattle.plain_heap.specs.Order.{Story, opening}
-use Rattle.plain_heap.proofs.Staying.{plain_count}
-use Rattle.gc_worker.proofs.Between.Beginning.{tasks_may_begin}
-use Rattle.gc_worker.proofs.Between.Begun.{beginnings_are_kept, full_is_found_later}
-use Rattle.gc_worker.proofs.Between.Copied.{copied_was_live, full_tells_live}
-use Rattle.gc_worker.proofs.Between.GoingOn.{workers_go_on}
-use Rattle.gc_worker.proofs.Between.Opening.{heaps_open}
-use Rattle.gc_worker.proofs.Between.Readying.{readying_stands}
-use Rattle.gc_worker.proofs.Between.Standing.{what_stands_is_so}
-use Rattle.gc_worker.proofs.Cycles.Calls.{calls_go_on}
-use Rattle.gc_worker.proofs.Cycles.Flips.{flips_are_first, flips_stay_first}
-use Rattle.gc_worker.proofs.Cycles.Lows.{low_falls_by_claims}
-use Rattle.gc_worker.proofs.Cycles.SetAside.{claims_are_set_aside, set_aside_is_for_records}
-use Rattle.gc_worker.proofs.Whole.{steps_keep}
-use Rattle.gc_worker.specs.Law.{WorkersStand}
 use Rattle.gc_worker.specs.declared.config.Config.{Config}
+use Rattle.gc_worker.specs.declared.entry.Entry.{Entry}
+use Rattle.gc_worker.specs.declared.stepped.Stepped.{Stepped}
 use Rattle.gc_worker.specs.declared.stepped.Stepped.TheVariants.{Ended}
-use Rattle.gc_worker.specs.Marks.{EachActs}
+use Rattle.gc_worker.specs.History.Needs.{EachFullIs, EachMayCome, IsFullAt, being_made, made_since, opened}
+use Rattle.gc_worker.specs.History.Order.{entry_mark, order_of}
+use Rattle.gc_worker.specs.History.Tally.{tally}
+use Rattle.gc_worker.specs.Law.{WorkersStand}
+use Rattle.gc_worker.specs.Marks.{EachActs, mark_of}
+use Rattle.gc_worker.proofs.Between.Copied.{copied_was_live}
+use Rattle.gc_worker.proofs.Between.Opening.{heaps_open}
+use Rattle.gc_worker.proofs.History.Lone.{flip_before, lone_is_never_full}
+use Rattle.gc_worker.proofs.History.Needs.{at_full, large_is_never_full}
+use Rattle.gc_worker.proofs.History.Opening.{low, opening_tallied}
 use Rattle.gc_core.specs.Core.{CoreState, is_size, opening_core}
-use Rattle.gc_core.specs.Cycles.{CyclesKeepWhatIsLive, FullHeapsAreFilled, InstructionsFlipOnce, claims_next, claims_of, flips_next, story_of}
-use Rattle.gc_core.specs.Event.{event_of}
-use Rattle.gc_core.specs.Fulls.{EachMayCome}
+use Rattle.gc_core.specs.Cycles.{CyclesKeepWhatIsLive, FullHeapsAreFilled, InstructionsFlipOnce, FillsTheSpace, claims_next, claims_of, flips_next, story_of}
+use Rattle.gc_core.specs.Event.{core_after, event_of}
 use Rattle.gc_core.specs.Law.{IsSteady, IsTold}
-use Rattle.gc_core.specs.Needs.{ClaimsAreForRecords, LargeHeapsAreNeverFull, LoneFullsFollowTheirFlips, LoneHeapsAreNeverFull, OrdersFillTheSpace, being_made, made_since, opened}
+use Rattle.gc_core.specs.Needs.{ClaimsAreForRecords, LargeHeapsAreNeverFull, LoneFullsFollowTheirFlips, LoneHeapsAreNeverFull, OrdersFillTheSpace}
 use Rattle.gc_core.specs.Run.{run_of, Ran}
-use Rattle.gc_core.proofs.Begun.{opening_stands, opening_steady}
-use Rattle.gc_core.proofs.Cycles.Along.{holds_after}
-use Rattle.gc_core.proofs.Cycles.Filling.{Fills, event_fills, full_is_filled, opening_fills}
-use Rattle.gc_core.proofs.Cycles.Flips.{FlipsSo, event_flips, opening_flips}
+use Rattle.gc_core.specs.Whole.{FullsFollowFlips}
+use Rattle.gc_core.proofs.Begun.{opening_stands, opening_steady, size_fits}
+use Rattle.gc_core.proofs.Cycles.Filling.{Fills, event_fills, full_is_filled}
+use Rattle.gc_core.proofs.Cycles.Flips.{FlippedOnce, event_once}
 use Rattle.gc_core.proofs.Cycles.Kept.{keeps_what_is_live}
-use Rattle.gc_core.proofs.Cycles.Lone.{full_follows_flip, lone_is_never_full}
-use Rattle.gc_core.proofs.Cycles.Orders.{large_is_never_full, run_fills}
-use Rattle.gc_core.proofs.Cycles.Records.{Covers, covers_others, event_covers, none_claimed}
+use Rattle.gc_core.proofs.History.{HasHistory, adds, event_history, first, history_fills, holds_after, log_from, log_order, order_adds}
 use Rattle.gc_core.proofs.Running.{IsRunOf, run_acts, run_law}
-use Rattle.gc_core.proofs.Whole.{events_keep, fulls_follow_flips}
+use Rattle.gc_core.proofs.Whole.{events_keep}
 
 module _ (code : List (List Instr)) (items : List Item) (config : Config) (schedule : ℕ → ℕ) (n : ℕ)
     (program : IsWellFormed code items) (size : IsTrue (is_size config.pages)) (turns : config.turns ≤ 10000000) (few : config.scanners ≤ 8) where
@@ -52,6 +51,9 @@ module _ (code : List (List Instr)) (items : List Item) (config : Config) (sched
   abbrev now : Story
   now = story_of code config schedule n
 
+  abbrev log : List Entry
+  log = log_from schedule 0 n s
+
   steady : IsSteady s
   steady = opening_steady heaps_open code items config program size turns few
 
@@ -61,34 +63,70 @@ module _ (code : List (List Instr)) (items : List Item) (config : Config) (sched
   law : IsRunOf events_keep s (opened code) r
   law = run_law events_keep schedule 0 n s (opened code) steady stands
 
+  acts : EachActs code config.turns (opening code) r.order
+  acts = run_acts events_keep schedule 0 n s (opened code) steady stands
+
+  -- ---- its history
+
+  fits : length code + config.scanners ≤ 24
+  fits = let most = program.few_sections in omega (arith, most, few)
+
+  begins : HasHistory s []
+  begins = record {
+    steady = steady;
+    stands = stands;
+    tallied = opening_tallied config.pages (length code) config.scanners (size_fits config.pages size) program.few_sections fits (opening code);
+    legal = tt;
+    fetched = λ m. tt;
+  }
+
   fills : Fills config.pages s 0
-  fills = opening_fills heaps_open code items config program size turns few
+  fills = record { pages = refl; low = (let l = low config.pages (length code) config.scanners (size_fits config.pages size) program.few_sections fits in omega (arith, l)) }
 
-  -- ---- at the end of the run
+  -- a core of this program, its history, and the words that were claimed since the last flip
+  abbrev Has : CoreState → List Entry → (claims : ℕ) → Type 0
+  Has t log claims = (t.code ≡ code) × (t.turns ≡ config.turns) × HasHistory t log × Fills config.pages t claims
 
-  abbrev Full : CoreState → Story → ℕ → ℕ → Type 0
-  Full t story claims made = (t.code ≡ code) × (t.turns ≡ config.turns) × Fills config.pages t claims × Covers t claims made
+  has_then : (t : CoreState) (w : ℕ) (log : List Entry) (claims : ℕ) → Has t log claims → Has (core_after t w) (log ++ adds t w) (claims_next t w claims)
+  has_then t w log claims has = (has.0, has.1, event_history t w log has.2, event_fills config.pages t w log claims has.2 has.3)
 
-  full_last : Full r.last now (claims_of code config schedule n) (made_since code config.turns r.order)
-  full_last =
-      holds_after events_keep claims_next Full
-      (λ t w story claims made t_steady t_stands holds. (
-        holds.0,
-        holds.1,
-        event_fills low_falls_by_claims readying_stands tasks_may_begin config.pages t w story claims t_steady t_stands holds.2,
-        event_covers claims_are_set_aside what_stands_is_so set_aside_is_for_records readying_stands tasks_may_begin t w story claims made t_steady t_stands holds.3,
-      ))
-      schedule 0 n s (opened code) 0 0 steady stands (refl, refl, fills, none_claimed s)
+  has_last : Has r.last log (claims_of code config schedule n)
+  has_last = holds_after claims_next Has has_then schedule 0 n s [] 0 (refl, refl, begins, fills)
+
+  -- each full heap of it is so
+  abbrev Fulls : List Mark → Type 0
+  Fulls order = EachFullIs config.pages code config.turns (opened code) 0 order × EachMayCome (λ j. false) 0 order
+
+  fulls : (t : CoreState) (log : List Entry) (claims : ℕ) → Has t log claims → Fulls (order_of log)
+  fulls t log claims has =
+      let all = history_fills t log has.2 in
+      (subst (λ (z : ℕ × (List (List Instr) × ℕ)). EachFullIs z.0 z.1.0 z.1.1 (opened z.1.0) 0 (order_of log)) (λ i. (has.3.pages i, (has.0 i, has.1 i))) all.0, all.1)
+
+  fulls_last : Fulls r.order
+  fulls_last = subst Fulls (log_order schedule 0 n s) (fulls r.last log (claims_of code config schedule n) has_last)
+
+  -- ---- a full heap at its end
 
   module _ (w m asked room live : ℕ) (told : (event_of r.last w).told ≡ Ended m (ends.HeapFull asked room live)) where
     told_so : IsTold r.last w now.now (event_of r.last w).after (Ended m (ends.HeapFull asked room live))
     told_so = subst (IsTold r.last w now.now (event_of r.last w).after) told (events_keep r.last w now law.steady law.stands).told
 
-    for_records : claims_of code config schedule n ≤ 64 * (made_since code config.turns r.order + being_made code config.turns now.now m)
-    for_records =
-        let most = covers_others claims_are_set_aside what_stands_is_so set_aside_is_for_records readying_stands tasks_may_begin r.last w now law.steady law.stands m (ends.HeapFull asked room live) told
-        (claims_of code config schedule n) (made_since code config.turns r.order) full_last.3 in
-        rw (full_last.0, full_last.1, sym told_so.0) at most
+    filled : FillsTheSpace config.pages now.flip (claims_of code config schedule n) asked room live
+    filled = full_is_filled config.pages r.last m now.now now.flip (claims_of code config schedule n) asked room live law.stands has_last.3 told_so.3.1
+
+    order_then : order_of (log ++ adds r.last w) ≡ r.order ++ Full m asked room live ∷ []
+    order_then =
+        map-append entry_mark log (adds r.last w)
+        ∙ (λ i. log_order schedule 0 n s i ++ (order_adds r.last w ∙ ap (λ (t : Stepped). option_to_list (mark_of t)) told) i)
+
+    full : IsFullAt config.pages code config.turns now (made_since code config.turns r.order) m asked room live
+    full =
+        let later = has_then r.last w log (claims_of code config schedule n) has_last in
+        at_full config.pages code config.turns (opened code) 0 r.order [] m asked room live
+        (subst Fulls order_then (fulls (core_after r.last w) (log ++ adds r.last w) (claims_next r.last w (claims_of code config schedule n)) later)).0
+
+    for_records : claims_of code config schedule n ≤ PAGE_WORDS * (made_since code config.turns r.order + being_made code config.turns now.now m)
+    for_records = let all = filled.filled in let same = full.filled in let most = full.for_records in omega (arith, all, same, most)
 
 pub cycles_keep_what_is_live : CyclesKeepWhatIsLive
 cycles_keep_what_is_live code items config schedule n program size turns few =
@@ -97,46 +135,34 @@ cycles_keep_what_is_live code items config schedule n program size turns few =
     keeps_what_is_live copied_was_live (run_of code config schedule n).last now.now now.flip law.stands
 
 pub full_heaps_are_filled : FullHeapsAreFilled
-full_heaps_are_filled code items config schedule n program size turns few w m asked room live told =
-    let law = law code items config schedule n program size turns few in
-    let full = full_last code items config schedule n program size turns few in
-    let now : Story = story_of code config schedule n in
-    full_is_filled config.pages (run_of code config schedule n).last m now.now now.flip (claims_of code config schedule n) asked room live full_tells_live law.stands full.2
-    (told_so code items config schedule n program size turns few w m asked room live told).3.1
+full_heaps_are_filled code items config schedule n program size turns few w m asked room live told = filled code items config schedule n program size turns few w m asked room live told
 
 pub claims_are_for_records : ClaimsAreForRecords
 claims_are_for_records code items config schedule n program size turns few w m asked room live told = for_records code items config schedule n program size turns few w m asked room live told
 
 pub instructions_flip_once : InstructionsFlipOnce
 instructions_flip_once code items config schedule n program size turns few m =
-    let flips = holds_after events_keep (flips_next m) (λ t story flips made. FlipsSo m t flips)
-    (λ t w story flips made t_steady t_stands holds.
-    event_flips steps_keep workers_go_on what_stands_is_so beginnings_are_kept full_is_found_later flips_are_first flips_stay_first calls_go_on readying_stands tasks_may_begin m t w story flips t_steady t_stands holds)
-    schedule 0 n (opening_core code config) (opened code) 0 0 (steady code items config schedule n program size turns few) (stands code items config schedule n program size turns few) (opening_flips m code config) in
-    flips.once
+    let flips = holds_after (flips_next m) (λ t log flips. HasHistory t log × FlippedOnce m (tally (first t) log) flips)
+    (λ t w log flips has. (event_history t w log has.0, event_once m t w log flips has.0 has.1))
+    schedule 0 n (opening_core code config) [] 0 (begins code items config schedule n program size turns few, (omega arith, λ some. absurd (omega (arith, some)))) in
+    flips.1.0
+
+pub fulls_follow_flips : FullsFollowFlips
+fulls_follow_flips code items config schedule n program size turns few = (fulls_last code items config schedule n program size turns few).1
 
 pub orders_fill_the_space : OrdersFillTheSpace
-orders_fill_the_space code items config schedule n program size turns few =
-    run_fills events_keep low_falls_by_claims full_tells_live claims_are_set_aside what_stands_is_so set_aside_is_for_records readying_stands tasks_may_begin config.pages
-    schedule 0 n (opening_core code config) (opened code) 0 0 (steady code items config schedule n program size turns few) (stands code items config schedule n program size turns few)
-    (fills code items config schedule n program size turns few) (none_claimed (opening_core code config))
+orders_fill_the_space code items config schedule n program size turns few = (fulls_last code items config schedule n program size turns few).0
 
 pub large_heaps_are_never_full : LargeHeapsAreNeverFull
 large_heaps_are_never_full code items config schedule n program size turns few =
-    large_is_never_full config.pages code config.turns (run_of code config schedule n).order (orders_fill_the_space code items config schedule n program size turns few)
-    (fulls_follow_flips code items config schedule n program size turns few)
+    let all = fulls_last code items config schedule n program size turns few in
+    large_is_never_full config.pages code config.turns (run_of code config schedule n).order all.0 all.1
 
 pub lone_fulls_follow_their_flips : LoneFullsFollowTheirFlips
-lone_fulls_follow_their_flips code items config schedule n program size turns few one front rest m asked room live is below =
-    let r : Ran = run_of code config schedule n in
-    let acts = run_acts events_keep schedule 0 n (opening_core code config) (opened code) (steady code items config schedule n program size turns few) (stands code items config schedule n program size turns few) in
-    let may = fulls_follow_flips code items config schedule n program size turns few in
-    full_follows_flip code config.turns (opening code) front rest m asked room live (λ marks. plain_count code config.turns marks ∙ one)
-    (subst (EachActs code config.turns (opening code)) is acts) (subst (EachMayCome (λ j. false) 0) is may) below
+lone_fulls_follow_their_flips code items config schedule n program size turns few one =
+    flip_before config.pages code config.turns one (run_of code config schedule n).order (acts code items config schedule n program size turns few) (fulls_last code items config schedule n program size turns few).1
 
 pub lone_heaps_are_never_full : LoneHeapsAreNeverFull
 lone_heaps_are_never_full code items config schedule n program size turns few one flips enough =
-    let r : Ran = run_of code config schedule n in
-    lone_is_never_full config.pages code config.turns one r.order (orders_fill_the_space code items config schedule n program size turns few)
-    (run_acts events_keep schedule 0 n (opening_core code config) (opened code) (steady code items config schedule n program size turns few) (stands code items config schedule n program size turns few))
-    (fulls_follow_flips code items config schedule n program size turns few) flips enough
+    let all = fulls_last code items config schedule n program size turns few in
+    lone_is_never_full config.pages code config.turns one (run_of code config schedule n).order (acts code items config schedule n program size turns few) all.1 all.0 flips enough
