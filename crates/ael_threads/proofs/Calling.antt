@@ -7,7 +7,7 @@ use Rattle.gc_worker.specs.declared.stage.Stage.{Stage}
 use Rattle.ael_threads.proofs.Flipping.{answers_in_epoch}
 use Rattle.gc_worker.proofs.History.Extensions.{legal_last}
 use Rattle.ael_threads.proofs.Showing.{none_of}
-use Rattle.gc_worker.proofs.History.Tallies.{entries_last}
+use Rattle.gc_worker.proofs.History.Tallies.{entry_at}
 use Rattle.plain_state.specs.declared.end.End.{End}
 use Rattle.heap_state.specs.Worker.{Account}
 use Rattle.mutator_asm.specs.declared.instr.Instr.TheVariants.{Halt}
@@ -140,7 +140,7 @@ comes_last a task did hands later h = legal_last (first_plain a.knows.plan) (a.k
 filled_last : (a : Seated) (task : Task) (did : Did) (tasks : Tasks) (before : List Entry)
     → EachEntry (EntryIs a.knows.plan.spaces.pages tasks) (opened a.knows.plan) (before ++ Made (call_by a task did) ∷ [])
     → IsFilledBy a.knows.plan.spaces.pages tasks (tally (opened a.knows.plan) before) (first_number a.knows.hands) task did []
-filled_last a task did tasks before h = entries_last (EntryIs a.knows.plan.spaces.pages tasks) (opened a.knows.plan) before (Made (call_by a task did)) h
+filled_last a task did tasks before h = entry_at (EntryIs a.knows.plan.spaces.pages tasks) (opened a.knows.plan) before (Made (call_by a task did)) [] h
 
 lands_uncounted : (n : ℕ) (words : List ℕ) (z : Held) → Lands n words z → Lands n words (uncounted z)
 lands_uncounted n words z l = record { in_space = l.in_space; header = l.header }

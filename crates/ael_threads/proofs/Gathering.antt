@@ -9,7 +9,8 @@ use Rattle.ael_threads.specs.declared.view.Claim.{Claim}
 use Rattle.ael_threads.specs.declared.view.Hand.{Hand}
 use Rattle.ael_threads.specs.declared.view.Plan.{Plan}
 use Rattle.ael_threads.specs.Histories.{opened, Each, IsOnce, first_plain, number}
-use Rattle.gc_worker.specs.History.Tally.{tally}
+use Rattle.gc_worker.proofs.History.Large.{large_has_no_full}
+use Rattle.gc_worker.specs.History.Tally.{tally, tasks_held}
 use Rattle.gc_worker.specs.History.Legal.{after_all, last_flip}
 use Rattle.ael_threads.specs.Rule.{Has, Kept, heap_of}
 use Rattle.ael_threads.specs.Seats.{Absorbs, Closes, Gathers, Seated, Stays}
@@ -46,6 +47,7 @@ closes plan id t all one words xs g end =
       copied = copied_was_live (heap_of plan words b.workers) (after_all (first_plain plan) b.log) (last_flip (first_plain plan) b.log) stands;
       epoch = subst (λ (z : List ℕ). epoch_of plan.spaces.pages z ≡ (tally (opened plan) b.log).flips) end.2 b.tallied.counts.epoch;
       entries = b.tallied.entries;
+      large = large_has_no_full plan.spaces.pages (tasks_held b.workers) (opened plan) b.log b.tallied.entries;
       seen = each_map (λ (c : Seated). IsPrefix c.knows.seen one.knows.seen) (λ (c : Seated). IsPrefix c.knows.seen b.log) (λ c h. prefix_trans c.knows.seen one.knows.seen b.log h f.seen) all g.seen;
       hands = subst (Each (Stays b.workers b.log)) g.hands (each_map (Has b.workers b.log b.owner id) (Stays b.workers b.log) (λ h k. record { state = k.state; calls = k.calls }) one.knows.hands f.hands);
       apart = subst (λ (hands : List Hand). IsOnce (map number hands)) g.hands f.apart;

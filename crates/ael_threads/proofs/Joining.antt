@@ -12,7 +12,7 @@ use Rattle.gc_worker.specs.declared.entry.Entry.{Entry}
 use Rattle.ael_threads.specs.declared.view.Hand.{Hand}
 use Rattle.ael_threads.specs.declared.view.Plan.{Plan}
 use Rattle.ael_threads.specs.declared.view.View.{View}
-use Rattle.gc_worker.specs.History.Tally.{IsTallied}
+use Rattle.gc_worker.specs.History.Tally.{EachEntry, EntryIs, IsTallied, tasks_held}
 use Rattle.ael_threads.specs.Histories.{opened, Each, IsOnce, first_plain, number}
 use Rattle.gc_worker.specs.History.Legal.{IsLegal, after_all, calls_of, last_flip}
 use Rattle.ael_threads.specs.Rule.{FitsView, Has, Kept, Won, heap_of, spent_view, view}
@@ -157,6 +157,8 @@ learns plan slots id me st live s b homes at small =
           own = each_map (Has b.workers b.log b.owner id) (λ (h : Hand). calls_of h.number b.log ≡ h.own) (λ h t. t.calls) v.hands f.hands;
           once = f.once;
           legal = subst (λ (z : Plan). IsLegal (first_plain z) b.log) (sym (f.same live)) b.legal;
+          tasks = tasks_held b.workers;
+          entries = subst (λ (z : Plan). EachEntry (EntryIs z.spaces.pages (tasks_held b.workers)) (opened z) b.log) (sym (f.same live)) b.tallied.entries;
         },
       ),
     )
@@ -174,4 +176,6 @@ absorbs v u x w e l =
       apart = m.apart;
       once = m.once;
       legal = m.legal;
+      tasks = m.tasks;
+      entries = m.entries;
     }

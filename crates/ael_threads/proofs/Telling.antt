@@ -18,7 +18,8 @@ use Rattle.heap_state.specs.Kept as kept
 use Rattle.heap_state.specs.Table.{word_in}
 use Rattle.heap_state.specs.Worker.{Worker}
 use Rattle.heap_state.proofs.Table.Places.{word_in-row}
-use Rattle.heap_laws.specs.Opening.{opening_plain}
+use Rattle.std.proofs.lemmas.List.{length-replicate}
+use Rattle.heap_laws.specs.Opening.{opening_mutator, opening_plain}
 use Rattle.space_map.specs.Spaces.{to_space}
 use Rattle.space_map.specs.Table.{Area, IsRow, Row, Traced, place_of, table_length}
 use Rattle.gc_worker.specs.declared.config.Config.{Config}
@@ -47,7 +48,14 @@ use Rattle.ael_threads.specs.Rule.{StandsAs, heap_of}
 use Rattle.ael_threads.specs.Running.{EachFrom, FullByEnd, FullIn, HasRun, HaveRun, HaveScanned, Work}
 use Rattle.ael_threads.specs.Seats.{Closes, Seated, Stays, all_hands, first_number, first_own}
 use Rattle.ael_threads.proofs.Elements.{each_apart, each_both}
-use Rattle.gc_worker.proofs.History.Orders.{IsProgramOrder, orders_program}
+use Rattle.gc_worker.specs.History.Needs.{EachFullIs, EachMayCome}
+use Rattle.gc_worker.specs.History.Needs as needs
+use Rattle.gc_worker.specs.History.Order.{order_of}
+use Rattle.gc_worker.specs.History.Tally.{tasks_held}
+use Rattle.ael_threads.specs.Histories.{opened}
+use Rattle.gc_worker.proofs.History.Lone.{lone_is_never_full}
+use Rattle.gc_worker.proofs.History.Needs.{large_is_never_full, orders_fill}
+use Rattle.gc_worker.proofs.History.Orders.{IsProgramOrder, fetched_each, orders_program}
 use Rattle.ael_threads.proofs.Places.{get_of}
 use Rattle.ael_threads.proofs.Programs.{executed_all, shown_all}
 
@@ -288,6 +296,16 @@ module _ (code : List (List Instr)) (config : Config) (t : TableId) (ms : List S
           shows = (shown_all s c.log r.mine r.shows k.1 own q its).registers;
         }
 
+    -- each full heap of its order
+    fulls : EachFullIs config.pages code config.turns (needs.opened code) 0 (order_of c.log) × EachMayCome (λ j. false) 0 (order_of c.log)
+    fulls =
+        let sections : length p.mutators ≡ length code = length-replicate (length code) opening_mutator in
+        subst (λ (z : Plain). EachFullIs config.pages code config.turns (record { flip = z; now = z }) 0 (order_of c.log) × EachMayCome (λ j. false) 0 (order_of c.log)) (opens_so code)
+        (orders_fill code config.turns (tasks_held c.workers) config.pages (opened plan_here) 0 (λ j. false) c.log c.legal sections
+        (fetched_each code config.turns p c.log c.legal (λ m below. (executes m (omega (arith, below, sections))).1.fetched))
+        (λ j task q e its none. absurd (let ended = (ended_at j q its).3 in let never = sym none ∙ ended in cc))
+        c.entries (omega arith) (λ m e. e))
+
     -- THE CLAUSE OF RUN
     pub runs_so : (told : Outputs) → told.words ≡ words → length told.words ≡ table_length config.pages → told.regs.items ≡ map registers_by ms → Tells h told → Runs code config told
     runs_so told same all regs tells =
@@ -309,6 +327,10 @@ module _ (code : List (List Instr)) (config : Config) (t : TableId) (ms : List S
           shows = λ m q is. shown_at m q told regs (ap (λ (z : Plain). slice_get (after_all z c.log).mutators m) from ∙ is);
           entries = c.entries;
           tells = subst (λ (z : List ℕ). Tells (heap_of plan_here z c.workers) told) (sym same) tells;
+          filled = fulls.0;
+          follows = fulls.1;
+          large = large_is_never_full config.pages code config.turns (order_of c.log) fulls.0 fulls.1;
+          lone = λ one few enough. lone_is_never_full config.pages code config.turns one (order_of c.log) order.acts fulls.1 fulls.0 few enough;
           full = λ m q end is e. full_at m q end (ap (λ (z : Plain). slice_get (after_all z c.log).mutators m) from ∙ is) e;
         }
 

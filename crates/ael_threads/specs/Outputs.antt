@@ -27,6 +27,8 @@ use Rattle.ael_threads.specs.declared.outputs.Outputs.{Outputs}
 use Rattle.ael_threads.specs.declared.outputs.Printed.{Printed}
 use Rattle.ael_threads.specs.declared.outputs.RunError.{RunError}
 use Rattle.ael_threads.specs.declared.outputs.RunError.TheVariants as runs
+use Rattle.gc_worker.specs.History.Needs.{EachFullIs, EachMayCome, HasNoFull, IsEnoughForOne, IsLargeEnough, flips_in}
+use Rattle.gc_worker.specs.History.Needs as needs
 use Rattle.gc_worker.specs.History.Tally.{EachEntry, EntryIs, tasks_held, tally}
 use Rattle.ael_threads.specs.Histories.{opened, Each}
 use Rattle.gc_worker.specs.History.Legal.{IsLegal, after_all, last_flip}
@@ -88,7 +90,7 @@ pub record TellsRegisters (told : Outputs) (m : ℕ) (q : Mutator) : Type 0 wher
 -- are told, with what all workers hold, which have left, stand for the plain state after it, and registers show the plain ones; what was copied in an epoch that is traced is what was live
 -- at its last flip; what else is told is what these say. Each flip was for a record, an instruction asking for one at most; where a
 -- mutator's end is that the heap is full, it was, by the words that its own seat read, and what was live at the flip before filled the
--- space, with records made since then or being made.
+-- space, with records made since then or being made. So it is by the order alone; and a heap that is as large as the order needs is never full.
 pub record Runs (code : List (List Instr)) (config : Config) (told : Outputs) : Type 0 where
   pub log : List Entry
   pub workers : List Held
@@ -108,6 +110,10 @@ pub record Runs (code : List (List Instr)) (config : Config) (told : Outputs) : 
   pub all_words : length told.words ≡ table_length config.pages
   pub tells : Tells (heap_of (plan_of (length code) config) told.words workers) told
   pub full : (m : ℕ) (q : Mutator) (end : End) → slice_get (after_all (opening code) log).mutators m ≡ Some q → q.end ≡ Some end → FullIn (plan_of (length code) config) m log end
+  pub filled : EachFullIs config.pages code config.turns (needs.opened code) 0 (order_of log)
+  pub follows : EachMayCome (λ m. false) 0 (order_of log)
+  pub large : IsLargeEnough config.pages code config.turns (order_of log) → HasNoFull (order_of log)
+  pub lone : length code ≡ 1 → flips_in 0 (order_of log) < 2 ^ 32 - 1 → IsEnoughForOne config.pages code config.turns (order_of log) → HasNoFull (order_of log)
 
 -- ---- errors
 

@@ -10,3 +10,4 @@ pub mod Opening
 pub mod Orders
 pub mod Needs
 pub mod Lone
+pub mod Large

@@ -2,3 +2,4 @@ pub mod Legal
 pub mod Tally
 pub mod Order
 pub mod Needs
+pub mod Large

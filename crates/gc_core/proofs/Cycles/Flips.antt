@@ -1,5 +1,5 @@
 -- A mutator flips at most once for an instruction.
-use Rattle.std.proofs.Common.{◌≡◌, ℕ, ◌+◌, ◌<◌, ◌≤◌, ◌==◌, Bool, true, false, cond, List, ◌++◌, Option, Some, None, refl, ap, sym, subst, ◌∙◌, arith, ⊎_elim, append-nil, eq-eqb}
+use Rattle.std.proofs.Common.{◌≡◌, ℕ, ◌+◌, ◌<◌, ◌≤◌, ◌==◌, Bool, true, false, cond, List, [], ◌++◌, Option, Some, None, refl, ap, sym, subst, ◌∙◌, arith, ⊎_elim, append-nil, eq-eqb}
 use Rattle.std.proofs.lemmas.Bool.{cases_lt, eqb-true, eqb-false, ne_eqb}
 use Rattle.atom_store.specs.declared.step.Step.{Step}
 use Rattle.atom_store.specs.Step.{reply_of}
@@ -12,7 +12,7 @@ use Rattle.gc_worker.specs.Law.{Heap}
 use Rattle.gc_worker.specs.Stepped.{stepped_by}
 use Rattle.gc_worker.specs.Turned.{Told, Silent, Answers, Marks, told}
 use Rattle.gc_worker.specs.Wanted.{wanted}
-use Rattle.gc_worker.proofs.History.Tallies.{entries_last, tally_append}
+use Rattle.gc_worker.proofs.History.Tallies.{entry_at, tally_append}
 use Rattle.gc_core.specs.Core.{CoreState}
 use Rattle.gc_core.specs.Cycles.{flips_after, flips_next}
 use Rattle.gc_core.specs.Event.{core_after, event_of, ready}
@@ -46,7 +46,7 @@ module _ (m w flips : ℕ) (t : Tally) (once : FlippedOnce m t flips) where
 first_asked : (n : ℕ) (tasks : Tasks) (start : Tally) (log : List Entry) (w : ℕ) (u : Told) → EachEntry (EntryIs n tasks) start (log ++ extra w u) → (pages : ℕ) → u ≡ Marks pages
     → (tally start log).asked w ≡ false
 first_asked n tasks start log w u each pages e =
-    (entries_last (EntryIs n tasks) start log (Exchanged w pages) (subst (λ (v : Told). EachEntry (EntryIs n tasks) start (log ++ extra w v)) e each)).first
+    (entry_at (EntryIs n tasks) start log (Exchanged w pages) [] (subst (λ (v : Told). EachEntry (EntryIs n tasks) start (log ++ extra w v)) e each)).first
 
 module _ (m : ℕ) (s : CoreState) (w : ℕ) (log : List Entry) (flips : ℕ) (h : HasHistory s log) (once : FlippedOnce m (tally (first s) log) flips) where
   by_want : (o : Option Step) → wanted (ready s w) ≡ o → FlippedOnce m (tally (first s) (log ++ adds s w)) (flips_next m s w flips)

@@ -128,7 +128,7 @@ module _ (code : List (List Instr)) (turns : ℕ) where
   -- ---- mutators that there are
 
   -- no other has calls
-  fetched_each : (p : Plain) (log : List Entry) → IsLegal p log → ((m : ℕ) → m < length p.mutators → AreFetched code turns m p log) → (m : ℕ) → AreFetched code turns m p log
+  pub fetched_each : (p : Plain) (log : List Entry) → IsLegal p log → ((m : ℕ) → m < length p.mutators → AreFetched code turns m p log) → (m : ℕ) → AreFetched code turns m p log
   fetched_each p log legal each m = ⊎_elim (λ (l : m < length p.mutators). each m l) (λ (l : length p.mutators ≤ m). fetched_none code turns m p log (none_past p log m legal l)) (cases_lt m (length p.mutators))
 
   short_each : (p : Plain) (log : List Entry) → IsLegal p log → ((m : ℕ) → m < length p.mutators → AreShort m log) → (m : ℕ) → AreShort m log

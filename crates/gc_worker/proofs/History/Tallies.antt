@@ -50,9 +50,9 @@ module _ (P Q : Tally → Entry → List Entry → Type 0) (more : List Entry) (
   each_append t [] h k = k
   each_append t (e ∷ es) h k = (on t e es h.0, each_append (after_entry t e) es h.1 k)
 
-pub entries_last : (P : Tally → Entry → List Entry → Type 0) (t : Tally) (xs : List Entry) (e : Entry) → EachEntry P t (xs ++ e ∷ []) → P (tally t xs) e []
-entries_last P t [] e h = h.0
-entries_last P t (x ∷ xs) e h = entries_last P (after_entry t x) xs e h.1
+pub entry_at : (P : Tally → Entry → List Entry → Type 0) (t : Tally) (xs : List Entry) (e : Entry) (ys : List Entry) → EachEntry P t (xs ++ e ∷ ys) → P (tally t xs) e ys
+entry_at P t [] e ys h = h.0
+entry_at P t (x ∷ xs) e ys h = entry_at P (after_entry t x) xs e ys h.1
 
 -- ---- what a task asks for
 
