@@ -65,17 +65,11 @@ impl State {
     fn making(&self, instr: Instr) -> Option<Making>
         ensures { result ≡ making_in (action (seen_by self.now) instr) }
     {
-        match instr {
-            Instr::New(into, len) => self.making_of(Kind::Fields, into, len),
-            Instr::Raw(into, len) => self.making_of(Kind::Raw, into, len),
-            _ => None,
-        }
-    }
-
-    /// A record whose length an operand names, if that is none too long.
-    fn making_of(&self, kind: Kind, into: u8, len: Operand) -> Option<Making>
-        ensures { result ≡ making_in (allocates (seen_by self.now) kind into len) }
-    {
+        let (kind, into, len) = match instr {
+            Instr::New(into, len) => (Kind::Fields, into, len),
+            Instr::Raw(into, len) => (Kind::Raw, into, len),
+            _ => return None,
+        };
         match self.length(len) {
             Ok(len) => Some(Making { kind, into, len }),
             Err(_) => None,

@@ -120,6 +120,9 @@ impl State {
     }
 
     /// The worker goes on where it was before the round, in this epoch.
+    ///
+    /// It has the arms of `return_to` itself: if it hands on to that, each step of a run takes two machine instructions more.
+    #[tactic(auto, using(crate::proofs::Reading::placing_fits))]
     fn go_back(&mut self, epoch: u32)
         requires at { IsServing self.old.stage }
         requires fits { FitsStage (back_from (record self.old { epoch = epoch }) (back_at self.old.stage)) (goes_back (record self.old { epoch = epoch }) (back_at self.old.stage)) }
@@ -130,8 +133,9 @@ impl State {
             unreachable!()
         };
         match back {
+            Back::ToAccess(access) => self.stage = Stage::Accesses(access),
+            Back::ToPlace => self.stage = self.placing(),
             Back::ToScanner => self.begin_next_round(),
-            Back::ToAccess(_) | Back::ToPlace => self.return_to(back),
         }
     }
 
