@@ -85,7 +85,7 @@ module _ (h : Heap) (p o : Plain) (k : ℕ) (st : WorkersStand h p o) (y : Held)
     out =
         let e : ((team c).worker k).epoch ≡ d.epoch = ap (λ (w : Worker). w.epoch) is.as_known in
         let now = of_now h p o st in
-        let late = ((st.stands.invariant.workers k is.below).claim (claim_with q (looked_all q) true) (ap (λ (w : Worker). w.claim) is.as_known)).late refl (omega (arith, now, e, past)) in
+        let late = ((st.stands.invariant.workers k is.below).pages.claim (claim_with q (looked_all q) true) (ap (λ (w : Worker). w.claim) is.as_known)).late refl (omega (arith, now, e, past)) in
         let a = page_age c q.page in
         let i = own.sound.page in
         let n = pages in
@@ -113,7 +113,7 @@ module _ (h : Heap) (p o : Plain) (k : ℕ) (st : WorkersStand h p o) (y : Held)
     loses_traced =
         let e : ((team c).worker k).epoch ≡ d.epoch = ap (λ (w : Worker). w.epoch) is.as_known in
         let now = of_now h p o st in
-        let look = (st.stands.invariant.workers k is.below).last_look (record { traced = found }) (ap (λ (w : Worker). w.last_look) is.as_known) in
+        let look = (st.stands.invariant.workers k is.below).pages.last_look (record { traced = found }) (ap (λ (w : Worker). w.last_look) is.as_known) in
         let late = look.late (omega (arith, now, e, past)) in
         let earlier = look.earlier in
         let w = traced_word c in

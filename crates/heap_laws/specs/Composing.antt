@@ -58,10 +58,9 @@ LessAtHand w v = record {
   opened : IsLess w.opened v.opened;
 }
 
--- and so of its round of the duty
+-- and so of the page that it claims, and of its looks at pages
 abbrev pub LessAtPages : (w v : Worker) → Type 0
 LessAtPages w v = record {
-  round : (r : Round) → w.round ≡ Some r → IsLessRound r v.round;
   claim : IsLess w.claim v.claim;
   look : IsLess w.look v.look;
   last_look : IsLess w.last_look v.last_look;
@@ -76,11 +75,12 @@ LessAtGate w v = record {
   asks : (is_flipper w.post ≡ true) ⊎ (is_some w.gate_step ≡ true) → w.traced_seen ≡ v.traced_seen;
 }
 
--- worker w knows at most what v knows, and scans the same page as far
+-- worker w knows at most what v knows, and scans the same page as far, if it scans
 pub record IsAtMost (w v : Worker) : Type 0 where
   pub others : SameToOthers w v
   pub scan : IsScanWithin w.scan v.scan
   pub hand : LessAtHand w v
+  pub round : (r : Round) → w.round ≡ Some r → IsLessRound r v.round
   pub pages : LessAtPages w v
   pub gate : LessAtGate w v
 

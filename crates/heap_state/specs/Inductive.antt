@@ -18,6 +18,13 @@ use Rattle.heap_state.specs.Parts.Knowledge.{Timely, Ends, Passes, Resets, Clean
 use Rattle.heap_state.specs.Parts.Copying.{IsOrigin, Seeks, Copies, Keeps, Licensed}
 use Rattle.heap_state.specs.Parts.Scanning.{Scans, Stepping, Rounds, Claims, Looks, LastLooks}
 
+-- what a worker knows of pages, in a round of the duty
+pub record KnowsAtPages (E : Era) (traced front behind : ℕ) (size writer : ℕ → ℕ) (page : ℕ → PageWord) (w : Worker) : Type 0 where
+  pub round : (r : Round) → w.round ≡ Some r → Rounds E traced front w.epoch r
+  pub claim : (c : Claim) → w.claim ≡ Some c → Claims E front behind size writer page w.epoch c
+  pub look : (l : Look) → w.look ≡ Some l → Looks E behind front page w.epoch l
+  pub last_look : (l : LastLook) → w.last_look ≡ Some l → LastLooks E traced behind front page w.epoch l
+
 -- what worker k knows
 pub record Knows (E : Era) (gate : GateWord) (traced front low old_front old_low old_owed : ℕ) (g : Ghost) (page : ℕ → PageWord) (cross announced heap : ℕ → ℕ) (k : ℕ) (w : Worker) : Type 0 where
   pub timely : Timely E w.post w.epoch w.done
@@ -36,10 +43,7 @@ pub record Knows (E : Era) (gate : GateWord) (traced front low old_front old_low
   pub present : (s : Scan) → w.scan ≡ Some s → w.epoch ≡ E.epoch
   pub scan : (s : Scan) → w.scan ≡ Some s → Scans E front g.size g.writer g.kind heap page k s
   pub stepping : (s : Scan) → w.scan ≡ Some s → Stepping E front g.size g.writer g.kind s
-  pub round : (r : Round) → w.round ≡ Some r → Rounds E traced front w.epoch r
-  pub claim : (c : Claim) → w.claim ≡ Some c → Claims E front gate.behind g.size g.writer page w.epoch c
-  pub look : (l : Look) → w.look ≡ Some l → Looks E gate.behind front page w.epoch l
-  pub last_look : (l : LastLook) → w.last_look ≡ Some l → LastLooks E traced gate.behind front page w.epoch l
+  pub pages : KnowsAtPages E traced front gate.behind g.size g.writer page w
   pub seen_traced : w.traced_seen ≡ true → ((is_running w.post ≡ true) ⊎ (is_flipper w.post ≡ true)) × (traced ≡ E.epoch + 1)
   pub flips : is_flipper w.post ≡ true → w.traced_seen ≡ true
   pub passage : (s : GateStep) → w.gate_step ≡ Some s → Passes w.post w.epoch w.done (is_some w.account.end) w.traced_seen s.read s.passage

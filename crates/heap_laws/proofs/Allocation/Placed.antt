@@ -1,5 +1,5 @@
 -- A mutator stores a new record's header, and points to it, in one step.
-use Rattle.std.proofs.Common.{◌≡◌, ◌≢◌, ℕ, ◌<◌, Some, sym, ap, ◌∙◌, arith, ⊎_elim}
+use Rattle.std.proofs.Common.{◌≡◌, ◌≢◌, ℕ, ◌<◌, Some, None, sym, ap, ◌∙◌, arith, ⊎_elim}
 use Rattle.std.proofs.Math.ListN.{length-set}
 use Rattle.std.proofs.lemmas.Bool.{cases_eq}
 use Rattle.heap_words.specs.Decoded.{PointerWord, decode}
@@ -11,7 +11,8 @@ use Rattle.plain_state.specs.declared.value.Value.TheVariants.{Reference}
 use Rattle.heap_state.specs.Era.{Era, Memory}
 use Rattle.heap_state.specs.Ghost.{Ghost}
 use Rattle.heap_state.specs.Values.{Shown, Shows, value_of}
-use Rattle.heap_state.specs.Worker.{Worker, Team, Stock}
+use Rattle.heap_state.specs.Parts.Knowledge.{Accesses}
+use Rattle.heap_state.specs.Worker.{Worker, Team, Stock, Access}
 use Rattle.heap_state.proofs.Puts.{put_at, put_other, put_same, put_twice}
 use Rattle.heap_laws.specs.Fields.Held.{MayHold, HoldsValue, GoesOn}
 use Rattle.heap_laws.specs.Fields.Stores.{IsAs, MutatorsPlace, with_record, with_reference, plain_next}
@@ -61,29 +62,14 @@ module _ (E : Era) (m : Memory) (team : Team) (g : Ghost) (p : plain.Plain) (k :
   serial = sym goes.serial ∙ same.account.serial
 
   goes' : GoesOn E m' g' (placed team k s z) taken
-  goes' = record {
-    post = goes.post;
-    epoch = goes.epoch;
-    done = goes.done;
-    serial = let e = goes.serial in omega arith;
-    quest = goes.quest;
-    copy = goes.copy;
-    scan = goes.scan;
-    gate_step = goes.gate_step;
-    stock = λ t e. e;
-    round = goes.round;
-    claim = goes.claim;
-    look = goes.look;
-    last_look = goes.last_look;
-    traced_seen = goes.traced_seen;
-    reset = goes.reset;
-    access = λ f e. accesses_allocated cr g.writer g.kind c f (goes.access f e);
-    opened = goes.opened;
-    registers = λ n j l. ⊎_elim
-        (λ (e : j ≡ d). rw (put_at next.registers d pointer j e) new.held)
-        (λ (o : j ≢ d). rw (put_other next.registers d pointer j o) (held_on (next.registers j) (goes.registers n j l)))
-        (cases_eq j d);
-  }
+  goes' =
+      let serial' : taken.account.serial ≡ (placed team k s z).account.serial = let e = goes.serial in omega arith in
+      let access : (f : Access) → next.access ≡ Some f → Accesses E g'.size g'.writer g'.kind f = λ f e. accesses_allocated cr g.writer g.kind c f (goes.access f e) in
+      let registers : next.account.end ≡ None → (j : ℕ) → j < 8 → MayHold E g'.size g'.writer (taken.registers j) = λ n j l. ⊎_elim
+      (λ (e : j ≡ d). rw (put_at next.registers d pointer j e) new.held)
+      (λ (o : j ≢ d). rw (put_other next.registers d pointer j o) (held_on (next.registers j) (goes.registers n j l)))
+      (cases_eq j d) in
+      assumption
 
   same' : IsAs g' (gained p.heap k r) k taken (with_reference p.heap k q d)
   same' = record {

@@ -118,5 +118,5 @@ worker_allocated E m g a z c i heap k w cr zeros p =
     let o6 = λ (y : Copy) (e : w.copy ≡ Some y). keeps_allocated cr g.writer g.kind c g.identity i g.kept m.announced m.cross heap k y (p.copy y e) (p.keeps y e) in
     let o7 = λ (s : Scan) (e : w.scan ≡ Some s). scans_allocated cr g.writer g.kind c heap zeros m.page k s (p.scan s e) in
     let o8 = λ (s : Scan) (e : w.scan ≡ Some s). stepping_allocated cr g.writer g.kind c s (p.stepping s e) in
-    let o9 = λ (q : Claim) (e : w.claim ≡ Some q). claims_allocated cr g.writer m.gate.behind m.page w.epoch q (p.claim q e) in
+    let o9 = λ (q : Claim) (e : w.claim ≡ Some q). claims_allocated cr g.writer m.gate.behind m.page w.epoch q (p.pages.claim q e) in
     assumption

@@ -269,7 +269,7 @@ module _ {E : Era} {m : Memory} {team : Team} {g : Ghost} {k : ℕ} {c : Copy} {
       let o2 = λ (f : Access) (e : (team.worker j).access ≡ Some f). accesses f (u.access f e) in
       let o3 = λ (s : Scan) (e : (team.worker j).scan ≡ Some s). scans j s (scans_unread unread_word m.heap v g.kind m.page j s (u.scan s e)) in
       let o4 = λ (s : Scan) (e : (team.worker j).scan ≡ Some s). stepping s (u.stepping s e) in
-      let o5 = λ (x : Claim) (e : (team.worker j).claim ≡ Some x). claims (team.worker j).epoch x (u.claim x e) in
+      let o5 = λ (x : Claim) (e : (team.worker j).claim ≡ Some x). claims (team.worker j).epoch x (u.pages.claim x e) in
       assumption
 
   others : (j : ℕ) → j < team.count → j ≢ k → Knows E m.gate m.traced m.front m.low m.old_front m.old_low m.old_owed g' m.page m.cross m.announced heap' j (team.worker j)

@@ -266,10 +266,10 @@ module _ {E : Era} {m : Memory} {team : Team} {g : Ghost} {k : ℕ} {c : Copy} (
       let o4 = λ (x : Quest) (e : (team.worker j).quest ≡ Some x). seeks x (u.quest x e) in
       let o5 = λ (s : Scan) (e : (team.worker j).scan ≡ Some s). scans j s (u.scan s e) in
       let o6 = λ (s : Scan) (e : (team.worker j).scan ≡ Some s). stepping j s e (u.scan s e) (u.stepping s e) in
-      let o7 = λ (r : Round) (e : (team.worker j).round ≡ Some r). rounds (team.worker j).epoch r (u.round r e) in
-      let o8 = λ (x : Claim) (e : (team.worker j).claim ≡ Some x). claims (team.worker j).epoch x (u.claim x e) in
-      let o9 = λ (x : Look) (e : (team.worker j).look ≡ Some x). looks (team.worker j).epoch x (u.look x e) in
-      let o10 = λ (x : LastLook) (e : (team.worker j).last_look ≡ Some x). last_looks (team.worker j).epoch x (u.last_look x e) in
+      let o7 = λ (r : Round) (e : (team.worker j).round ≡ Some r). rounds (team.worker j).epoch r (u.pages.round r e) in
+      let o8 = λ (x : Claim) (e : (team.worker j).claim ≡ Some x). claims (team.worker j).epoch x (u.pages.claim x e) in
+      let o9 = λ (x : Look) (e : (team.worker j).look ≡ Some x). looks (team.worker j).epoch x (u.pages.look x e) in
+      let o10 = λ (x : LastLook) (e : (team.worker j).last_look ≡ Some x). last_looks (team.worker j).epoch x (u.pages.last_look x e) in
       let o11 = λ (r : Reset) (e : (team.worker j).reset ≡ Some r). resets j r l e in
       assumption
 

@@ -22,6 +22,8 @@ use Rattle.heap_laws.specs.Steps.{with_worker}
 use Rattle.plain_state.proofs.Lists.{slice_get-set_other, set-found}
 use Rattle.heap_laws.proofs.Scanning.Scanners.{now_not_late}
 use Rattle.heap_laws.proofs.Frames.Values.{still_leads}
+use Rattle.heap_laws.proofs.Steps.Composing.{less_at_pages}
+use Rattle.heap_laws.proofs.Steps.Forgotten.{same_round}
 
 -- ---- posts
 
@@ -94,10 +96,7 @@ module _ (E : Era) (m : Memory) (team : Team) (g : Ghost) (k : ℕ) (next : Work
     present = λ s e. goes.epoch ∙ me.present s (sym goes.scan ∙ e);
     scan = λ s e. me.scan s (sym goes.scan ∙ e);
     stepping = λ s e. me.stepping s (sym goes.scan ∙ e);
-    round = λ r e. rw goes.epoch (me.round r (goes.round r e));
-    claim = λ c e. rw goes.epoch (me.claim c (goes.claim c e));
-    look = λ a e. rw goes.epoch (me.look a (goes.look a e));
-    last_look = λ a e. rw goes.epoch (me.last_look a (goes.last_look a e));
+    pages = less_at_pages goes.epoch (λ r e. same_round w r (goes.round r e)) goes.pages me.pages;
     seen_traced = λ e. (inl still_runs, goes.traced_seen e);
     flips = λ e. true_false (runs next.post still_runs).flips e;
     passage = λ s e. none≢some (sym goes.gate_step ∙ e);

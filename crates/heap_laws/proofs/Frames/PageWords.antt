@@ -109,7 +109,7 @@ module _ {E : Era} {page : ℕ → PageWord} {p : ℕ} {v : PageWord} (t : Turns
   knows_turns {k = k} {w = w} scans u =
       let b : (x : ℕ) → w.opened ≡ Some x → (is_running w.post ≡ true) × (page' x ≡ Open E.epoch) = λ x e. ((u.opened x e).0, stays x (u.opened x e).1) in
       let s = λ (s : Scan) (e : w.scan ≡ Some s). scans s e (u.scan s e) in
-      let c = λ (c : Claim) (e : w.claim ≡ Some c). claims_turn w.epoch c (u.claim c e) in
-      let o = λ (c : Look) (e : w.look ≡ Some c). looks_turn w.epoch c (u.look c e) in
-      let q = λ (c : LastLook) (e : w.last_look ≡ Some c). last_looks_turn w.epoch c (u.last_look c e) in
+      let c = λ (c : Claim) (e : w.claim ≡ Some c). claims_turn w.epoch c (u.pages.claim c e) in
+      let o = λ (c : Look) (e : w.look ≡ Some c). looks_turn w.epoch c (u.pages.look c e) in
+      let q = λ (c : LastLook) (e : w.last_look ≡ Some c). last_looks_turn w.epoch c (u.pages.last_look c e) in
       assumption

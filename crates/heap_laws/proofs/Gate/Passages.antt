@@ -14,12 +14,12 @@ use Rattle.heap_state.specs.Parts.Scanning.{Claims, Looks, LastLooks}
 use Rattle.heap_state.specs.Worker.{Worker, Team, Post, Scanner, Outside, Running, Stopped, Flipping, Gone, Passage, Enter, Park, Request, Forwarded, Resume, Leave, Origin, Register, Scanned, Quest, Claim, Look, LastLook, GateStep, Reset, Access, is_mutator, is_flipper, is_gone, is_live, is_running, is_late}
 use Rattle.heap_state.proofs.Puts.{none≢some, true_false}
 use Rattle.heap_state.specs.Entries.{GateIs}
-use Rattle.heap_laws.specs.Gate.{gate_after, worker_after, WinsGate, PassingGateKeeps}
+use Rattle.heap_laws.specs.Gate.{gate_after, into_epoch, worker_after, WinsGate, PassingGateKeeps}
 use Rattle.heap_laws.specs.Steps.{with_worker, Ready, Steps, InGate, with_gate, Preserves}
 use Rattle.heap_laws.proofs.Flipping.Sums.{sum_below-term, sum_below-two, one_of}
 use Rattle.heap_laws.proofs.Gate.Counts.{counted_moves, fits}
 use Rattle.heap_laws.proofs.Gate.Team.{passing_keeps, usual}
-use Rattle.heap_laws.proofs.Gate.Worker.{no_reset, knows_then}
+use Rattle.heap_laws.proofs.Gate.Worker.{no_reset, none_at_pages, knows_then}
 use Rattle.heap_laws.proofs.Scanning.Scanners.{now_not_late}
 
 runs : (p : Post) → is_running p ≡ true → p ≡ Running
@@ -88,7 +88,7 @@ module _ (E : Era) (m : Memory) (team : Team) (g : Ghost) (k : ℕ) (s : GateSte
       (inl q)
       (counted_moves team.worker team.count k (worker_after m.gate.epoch Enter w) Outside Running m.gate (gate_after Enter m.gate) false false ready.member at refl (late m.gate.epoch) (now_not_late m.gate.epoch m.gate.epoch Running refl)
       refl (omega arith) (omega arith) refl refl refl (λ y. absurd (omega (arith, y, b))) inv.counted)
-      (knows_then E m team g k (gate_after Enter m.gate) inv ready.member (no_flip (inl q)) Running m.gate.epoch 0 None w.access w.opened None None None None w.traced_seen
+      (knows_then E m team g k (gate_after Enter m.gate) inv ready.member (no_flip (inl q)) Running m.gate.epoch 0 (into_epoch w m.gate.epoch) w.access w.opened w.traced_seen
       (record {
         now = ready.at_gate;
         done_none = refl;
@@ -99,10 +99,7 @@ module _ (E : Era) (m : Memory) (team : Team) (g : Ghost) (k : ℕ) (s : GateSte
         stocks = λ y e. none≢some e;
         accesses = λ f e. (refl, me.access f e);
         opens = λ x e. (refl, (me.opened x e).1);
-        rounds = λ y e. none≢some e;
-        claims = λ y e. none≢some e;
-        looks = λ y e. none≢some e;
-        last_looks = λ y e. none≢some e;
+        pages = none_at_pages w m.gate.epoch;
         seen = λ e. (inl refl, (me.seen_traced e).1);
         flips = λ e. absurd (cc);
       }))
@@ -138,7 +135,7 @@ module _ (E : Era) (m : Memory) (team : Team) (g : Ghost) (k : ℕ) (s : GateSte
       busy
       (counted_moves team.worker team.count k w' p q m.gate gate' false false ready.member at refl (now_not_late m.gate.epoch w.epoch w.post gate_now) (now_not_late m.gate.epoch w.epoch q gate_now)
       refl lives runs refl leaves asks still inv.counted)
-      (knows_then E m team g k gate' inv ready.member (no_flip busy) q w.epoch w.done w.stock access opened w.round w.claim w.look w.last_look seen
+      (knows_then E m team g k gate' inv ready.member (no_flip busy) q w.epoch w.done w access opened seen
       (record {
         now = now;
         done_none = done_none now;
@@ -149,10 +146,7 @@ module _ (E : Era) (m : Memory) (team : Team) (g : Ghost) (k : ℕ) (s : GateSte
         stocks = me.stock;
         accesses = accesses;
         opens = opens;
-        rounds = me.round;
-        claims = me.claim;
-        looks = me.look;
-        last_looks = me.last_look;
+        pages = me.pages;
         seen = sees;
         flips = flips;
       }))
@@ -235,9 +229,9 @@ module _ (E : Era) (m : Memory) (team : Team) (g : Ghost) (k : ℕ) (s : GateSte
               let x = one_of (is_late m.gate.epoch (team.worker j)) (rw ready.at_gate e) in let y = one_of (is_late m.gate.epoch w) (late m.gate.epoch gate_next) in
               let c = inv.counted.behind in omega (arith, t, x, y, c);
         } in
-        let b : (q : Claim) → (team.worker j).claim ≡ Some q → Claims E m.front (m.gate.behind - 1) g.size g.writer m.page (team.worker j).epoch q = λ q e. claims (team.worker j).epoch q (u.claim q e) in
-        let c : (q : Look) → (team.worker j).look ≡ Some q → Looks E (m.gate.behind - 1) m.front m.page (team.worker j).epoch q = λ q e. looks (team.worker j).epoch q (u.look q e) in
-        let f : (q : LastLook) → (team.worker j).last_look ≡ Some q → LastLooks E m.traced (m.gate.behind - 1) m.front m.page (team.worker j).epoch q = λ q e. last_looks (team.worker j).epoch q (u.last_look q e) in
+        let b : (q : Claim) → (team.worker j).claim ≡ Some q → Claims E m.front (m.gate.behind - 1) g.size g.writer m.page (team.worker j).epoch q = λ q e. claims (team.worker j).epoch q (u.pages.claim q e) in
+        let c : (q : Look) → (team.worker j).look ≡ Some q → Looks E (m.gate.behind - 1) m.front m.page (team.worker j).epoch q = λ q e. looks (team.worker j).epoch q (u.pages.look q e) in
+        let f : (q : LastLook) → (team.worker j).last_look ≡ Some q → LastLooks E m.traced (m.gate.behind - 1) m.front m.page (team.worker j).epoch q = λ q e. last_looks (team.worker j).epoch q (u.pages.last_look q e) in
         let h : (r : Reset) → (team.worker j).reset ≡ Some r → Resets E gate' m.front m.low m.old_front m.old_low m.old_owed r = λ r e. absurd (no_reset E m team g inv busy j r l e) in
         assumption
       where
@@ -268,7 +262,7 @@ module _ (E : Era) (m : Memory) (team : Team) (g : Ghost) (k : ℕ) (s : GateSte
         (record { filling = λ p l n a. unquiet (inv.filling.filling p l n a) })
         (record { begun = inv.tracing.begun; bottom = inv.tracing.bottom; top = inv.tracing.top; quiet = λ e. unquiet (inv.tracing.quiet e); last = inv.tracing.last })
         others
-        (knows_then E m team g k (gate_after Forwarded m.gate) inv ready.member (no_flip busy) w.post m.gate.epoch 0 None w.access w.opened None None None None w.traced_seen
+        (knows_then E m team g k (gate_after Forwarded m.gate) inv ready.member (no_flip busy) w.post m.gate.epoch 0 (into_epoch w m.gate.epoch) w.access w.opened w.traced_seen
         (record {
           now = ready.at_gate;
           done_none = refl;
@@ -279,10 +273,7 @@ module _ (E : Era) (m : Memory) (team : Team) (g : Ghost) (k : ℕ) (s : GateSte
           stocks = λ y e. none≢some e;
           accesses = λ f e. (me.active f e, me.access f e);
           opens = me.opened;
-          rounds = λ y e. none≢some e;
-          claims = λ y e. none≢some e;
-          looks = λ y e. none≢some e;
-          last_looks = λ y e. none≢some e;
+          pages = none_at_pages w m.gate.epoch;
           seen = me.seen_traced;
           flips = me.flips;
         }))

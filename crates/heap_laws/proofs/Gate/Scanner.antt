@@ -10,7 +10,7 @@ use Rattle.heap_laws.specs.Gate.{TakingEpochKeeps, into_epoch}
 use Rattle.heap_laws.specs.Steps.{with_worker, Preserves}
 use Rattle.heap_laws.proofs.Gate.Counts.{counted_moves}
 use Rattle.heap_laws.proofs.Gate.Team.{passing_keeps}
-use Rattle.heap_laws.proofs.Gate.Worker.{knows_then}
+use Rattle.heap_laws.proofs.Gate.Worker.{none_at_pages, knows_then}
 use Rattle.heap_laws.proofs.Steps.Learning.{learnt}
 
 module _ (E : Era) (m : Memory) (team : Team) (g : Ghost) (k : ℕ) (inv : Invariant E m team g) (below : k < team.count) (at_gate : m.gate.epoch ≡ E.epoch) (scanner : (team.worker k).post ≡ Scanner)
@@ -51,7 +51,7 @@ module _ (E : Era) (m : Memory) (team : Team) (g : Ghost) (k : ℕ) (inv : Invar
       inv.filling
       inv.tracing
       (λ j l d. inv.workers j l)
-      (knows_then E m team g k m.gate inv below (λ r e. true_false not_flipping (me.resets r e)) w.post m.gate.epoch 0 None w.access w.opened None None None None w.traced_seen
+      (knows_then E m team g k m.gate inv below (λ r e. true_false not_flipping (me.resets r e)) w.post m.gate.epoch 0 (into_epoch w m.gate.epoch) w.access w.opened w.traced_seen
       (record {
         now = at_gate;
         done_none = refl;
@@ -62,10 +62,7 @@ module _ (E : Era) (m : Memory) (team : Team) (g : Ghost) (k : ℕ) (inv : Invar
         stocks = λ q e. none≢some e;
         accesses = λ f e. (me.active f e, me.access f e);
         opens = me.opened;
-        rounds = λ r e. none≢some e;
-        claims = λ c e. none≢some e;
-        looks = λ l e. none≢some e;
-        last_looks = λ l e. none≢some e;
+        pages = none_at_pages w m.gate.epoch;
         seen = me.seen_traced;
         flips = me.flips;
       }))

@@ -1,16 +1,18 @@
 -- What a worker knows once it has passed the gate into or within the current epoch.
 use Rattle.std.proofs.Common.{◌≡◌, ℕ, ◌+◌, ◌<◌, Bool, true, false, Option, Some, None, is_some, refl, ap, arith, ⊎_elim, ◌⊎◌, inl, inr}
 use Rattle.space_map.specs.declared.gate_word.GateWord.{GateWord}
+use Rattle.space_map.specs.declared.page_word.PageWord.{PageWord}
 use Rattle.space_map.specs.declared.page_word.PageWord.TheVariants.{Open}
 use Rattle.heap_state.specs.Era.{Era, Memory}
 use Rattle.heap_state.specs.Functions.{count_one}
 use Rattle.heap_state.specs.Ghost.{Ghost}
-use Rattle.heap_state.specs.Inductive.{Invariant, Knows}
+use Rattle.heap_state.specs.Inductive.{Invariant, Knows, KnowsAtPages}
 use Rattle.heap_state.specs.Parts.Copying.{IsOrigin}
 use Rattle.heap_state.specs.Parts.Knowledge.{Ends, Clean, Accesses}
-use Rattle.heap_state.specs.Parts.Scanning.{Rounds, Claims, Looks, LastLooks}
-use Rattle.heap_state.specs.Worker.{Worker, Team, Post, Outside, Origin, Register, Scanned, Quest, Stock, Access, Round, Claim, Look, LastLook, Reset, is_mutator, is_running, is_flipper, is_late}
+use Rattle.heap_state.specs.Worker.{Worker, Team, Post, Outside, Origin, Register, Scanned, Quest, Stock, Access, Reset, is_mutator, is_running, is_flipper, is_late}
 use Rattle.heap_state.proofs.Puts.{none≢some, true_false}
+use Rattle.heap_state.proofs.Workers.Idle.{at_rest, nothing_at_pages}
+use Rattle.heap_laws.specs.Gate.{into_epoch}
 use Rattle.heap_laws.proofs.Flipping.Sums.{sum_below-term, one_of}
 use Rattle.heap_laws.proofs.Scanning.Scanners.{now_not_late}
 
@@ -33,44 +35,47 @@ module _ (E : Era) (m : Memory) (team : Team) (g : Ghost) (inv : Invariant E m t
       by_gate (inr (inl q)) = let o = u.reset r e in let z = ap (λ (w : GateWord). w.running) o.unmoved in omega (arith, o.stopped, z, q)
       by_gate (inr (inr q)) = let o = u.reset r e in let z = ap (λ (w : GateWord). w.behind) o.unmoved in omega (arith, o.stopped, z, q)
 
--- what it brings with it
-pub record Brings (E : Era) (m : Memory) (g : Ghost) (behind : ℕ) (w : Worker) (post : Post) (epoch done : ℕ) (stock : Option Stock) (access : Option Access) (opened : Option ℕ) (round : Option Round) (claim : Option Claim) (look : Option Look) (last_look : Option LastLook) (traced_seen : Bool) : Type 0 where
+-- who comes into an epoch has no round of the duty
+pub none_at_pages : {E : Era} {traced front behind : ℕ} {size writer : ℕ → ℕ} {page : ℕ → PageWord} (w : Worker) (epoch : ℕ) → KnowsAtPages E traced front behind size writer page (into_epoch w epoch)
+none_at_pages {E} {traced} {front} {behind} {size} {writer} {page} w epoch =
+    let none : KnowsAtPages E traced front behind size writer page (at_rest (record w { epoch = epoch })) = nothing_at_pages (record w { epoch = epoch }) in
+    assumption
+
+-- what it brings with it: its run and its round of the duty are those of `duty`
+pub record Brings (E : Era) (m : Memory) (g : Ghost) (behind : ℕ) (w : Worker) (post : Post) (epoch done : ℕ) (duty : Worker) (access : Option Access) (opened : Option ℕ) (traced_seen : Bool) : Type 0 where
   pub now : epoch ≡ E.epoch
   pub done_none : done ≡ 0
   pub inside : post ≡ Outside → ⊥
   pub ends : Ends post (is_some w.account.end)
   pub not_asked : (q : Quest) → is_late E.epoch w ≡ true → w.quest ≡ Some q → ⊥
   pub clean : is_mutator post ≡ true → w.account.end ≡ None → Clean E g.size g.writer false 0 w.registers
-  pub stocks : (q : Stock) → stock ≡ Some q → q.epoch ≡ epoch
+  pub stocks : (q : Stock) → duty.stock ≡ Some q → q.epoch ≡ epoch
   pub accesses : (f : Access) → access ≡ Some f → (is_running post ≡ true) × Accesses E g.size g.writer g.kind f
   pub opens : (p : ℕ) → opened ≡ Some p → (is_running post ≡ true) × (m.page p ≡ Open E.epoch)
-  pub rounds : (r : Round) → round ≡ Some r → Rounds E m.traced m.front epoch r
-  pub claims : (c : Claim) → claim ≡ Some c → Claims E m.front behind g.size g.writer m.page epoch c
-  pub looks : (l : Look) → look ≡ Some l → Looks E behind m.front m.page epoch l
-  pub last_looks : (l : LastLook) → last_look ≡ Some l → LastLooks E m.traced behind m.front m.page epoch l
+  pub pages : KnowsAtPages E m.traced m.front behind g.size g.writer m.page (record duty { epoch = epoch })
   pub seen : traced_seen ≡ true → ((is_running post ≡ true) ⊎ (is_flipper post ≡ true)) × (m.traced ≡ E.epoch + 1)
   pub flips : is_flipper post ≡ true → traced_seen ≡ true
 
 module _ (E : Era) (m : Memory) (team : Team) (g : Ghost) (k : ℕ) (gate' : GateWord) (inv : Invariant E m team g) (below : k < team.count) (no_flip : (r : Reset) → (team.worker k).reset ≡ Some r → ⊥)
-    (post : Post) (epoch done : ℕ) (stock : Option Stock) (access : Option Access) (opened : Option ℕ) (round : Option Round) (claim : Option Claim) (look : Option Look) (last_look : Option LastLook) (traced_seen : Bool)
-    (brings : Brings E m g gate'.behind (team.worker k) post epoch done stock access opened round claim look last_look traced_seen) where
+    (post : Post) (epoch done : ℕ) (duty : Worker) (access : Option Access) (opened : Option ℕ) (traced_seen : Bool) (brings : Brings E m g gate'.behind (team.worker k) post epoch done duty access opened traced_seen) where
   abbrev w : Worker
   w = team.worker k
 
   abbrev passed : Worker
-  passed = record (team.worker k) {
+  passed = record duty {
     post = post;
     epoch = epoch;
+    account = w.account;
+    registers = w.registers;
     done = done;
-    stock = stock;
     access = access;
     opened = opened;
-    round = round;
-    claim = claim;
-    look = look;
-    last_look = last_look;
+    quest = w.quest;
+    copy = w.copy;
+    scan = w.scan;
     traced_seen = traced_seen;
     gate_step = None;
+    reset = w.reset;
   }
 
   me : Knows E m.gate m.traced m.front m.low m.old_front m.old_low m.old_owed g m.page m.cross m.announced m.heap k w
@@ -107,10 +112,7 @@ module _ (E : Era) (m : Memory) (team : Team) (g : Ghost) (k : ℕ) (gate' : Gat
     present = λ s e. now;
     scan = me.scan;
     stepping = me.stepping;
-    round = brings.rounds;
-    claim = brings.claims;
-    look = brings.looks;
-    last_look = brings.last_looks;
+    pages = assumption (brings.pages);
     seen_traced = brings.seen;
     flips = brings.flips;
     passage = λ s e. none≢some e;

@@ -94,7 +94,7 @@ module _ (n : ℕ) where
   Known k w = Knows E m.gate m.traced m.front m.low m.old_front m.old_low m.old_owed nothing m.page m.cross m.announced m.heap k w
 
   outside : (k : ℕ) → Known k (fresh Outside)
-  outside k = idle_knows (assumption)
+  outside k = idle_knows (fresh Outside) refl
       (record { past = omega arith; live = λ l. true_false refl l; running = λ r. refl; flipping = λ f. refl; rest = λ r. refl; below = omega arith })
       (record { stays = λ e. true_false refl e; gone = λ e. true_false refl e })
       (λ e j l. refl)
@@ -104,7 +104,7 @@ module _ (n : ℕ) where
       refl
 
   scanner : (k : ℕ) → Known k (fresh Scanner)
-  scanner k = idle_knows (assumption)
+  scanner k = idle_knows (fresh Scanner) refl
       (record { past = omega arith; live = λ l. true_false refl l; running = λ r. refl; flipping = λ f. refl; rest = λ r. refl; below = omega arith })
       (record { stays = λ e. true_false refl e; gone = λ e. true_false refl e })
       (λ e. absurd (cc))

@@ -26,7 +26,7 @@ use Rattle.heap_laws.proofs.Steps.Rows.{page_below, few}
 
 pub sleeper_loses : SleeperLosesPage
 sleeper_loses E m team g k q ready cl sure past won =
-    let c = (ready.invariant.workers k ready.member).claim q cl in
+    let c = (ready.invariant.workers k ready.member).pages.claim q cl in
     let z = c.late sure past in
     let a : age_of (m.page q.page) ≡ age_of q.old = ap age_of won in
     omega (arith, z, a, c.earlier)
@@ -51,7 +51,7 @@ module _ (E : Era) (m : Memory) (team : Team) (g : Ghost) (k : ℕ) (q : Claim) 
   me = inv.workers k ready.member
 
   mine : Claims E m.front m.gate.behind g.size g.writer m.page (team.worker k).epoch q
-  mine = me.claim q wins.claims
+  mine = me.pages.claim q wins.claims
 
   of_now : (team.worker k).epoch ≡ E.epoch
   of_now = ⊎_elim

@@ -25,7 +25,7 @@ module _ (E : Era) (m : Memory) (team : Team) (g : Ghost) (k : ℕ) (q : Claim) 
 pub begins_claim : BeginningClaimKeeps
 begins_claim E m team g k p old ready may = learnt (claims_more E m team g k (claim_of old p) ready.invariant ready.member (record {
   earlier = may.earlier;
-  full = λ now _. ⊎_elim (λ b. inr b) (λ f. inl (f.0, ⊎_elim (λ y. y) (λ y. let z = ((ready.invariant.workers k ready.member).round y.0 y.2).front_then y.1 y.3 now in omega (arith, z, y.4)) f.1)) (may.full now);
+  full = λ now _. ⊎_elim (λ b. inr b) (λ f. inl (f.0, ⊎_elim (λ y. y) (λ y. let z = ((ready.invariant.workers k ready.member).pages.round y.0 y.2).front_then y.1 y.3 now in omega (arith, z, y.4)) f.1)) (may.full now);
   clear = λ now i b j st w l. absurd (omega (arith, l));
   last = λ now i. absurd (cc);
   late = λ s. absurd (cc);
@@ -43,7 +43,7 @@ announced E m team g inv b k st w =
 pub looks_at_place : LookingAtPlaceKeeps
 looks_at_place E m team g k q ready sees =
     let inv = ready.invariant in
-    let old = (inv.workers k ready.member).claim q sees.claims in
+    let old = (inv.workers k ready.member).pages.claim q sees.claims in
     learnt (claims_more E m team g k (record q { looked = q.looked + 1 }) inv ready.member (record {
       earlier = old.earlier;
       full = old.full;
@@ -58,7 +58,7 @@ looks_at_place E m team g k q ready sees =
 
 pub looks_at_gate : LookingAtGateKeeps
 looks_at_gate E m team g k q ready sees =
-    let old = (ready.invariant.workers k ready.member).claim q sees.claims in
+    let old = (ready.invariant.workers k ready.member).pages.claim q sees.claims in
     learnt (claims_more E m team g k (record q { sure = true }) ready.invariant ready.member (record {
       earlier = old.earlier;
       full = old.full;

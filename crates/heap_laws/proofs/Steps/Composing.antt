@@ -8,14 +8,14 @@ use Rattle.heap_state.specs.Entries.{Entry}
 use Rattle.heap_state.specs.Era.{Era, Memory}
 use Rattle.heap_state.specs.Functions.{put}
 use Rattle.heap_state.specs.Ghost.{Ghost}
-use Rattle.heap_state.specs.Inductive.{Invariant, Knows}
+use Rattle.heap_state.specs.Inductive.{Invariant, Knows, KnowsAtPages}
 use Rattle.heap_state.specs.Parts.Copying.{IsOrigin, Licensed}
 use Rattle.heap_state.specs.Parts.Scanning.{Scans, Stepping, Rounds}
 use Rattle.heap_state.specs.Values.{Shown}
 use Rattle.heap_state.specs.Worker.{Worker, Team, Account, Quest, Scan, Round, Origin, Register, Scanned, is_mutator, is_flipper, is_late}
 use Rattle.heap_state.proofs.Workers.Frames.{counted_put, staffed_put, stocks_put, numbered_put, rooted_put}
 use Rattle.heap_state.proofs.Puts.{put_same, put_twice, each_put, some_same}
-use Rattle.heap_laws.specs.Composing.{IsAtMost, IsLess, IsLessScan, IsScanWithin, SameScan, LessScan, StepsForget, StepsAreReady, StepsFollow, PlainStepsForget, PlainStepsAreReady, PlainStepsFollow}
+use Rattle.heap_laws.specs.Composing.{IsAtMost, IsLess, IsLessScan, IsLessRound, LessAtPages, IsScanWithin, SameScan, LessScan, StepsForget, StepsAreReady, StepsFollow, PlainStepsForget, PlainStepsAreReady, PlainStepsFollow}
 use Rattle.heap_laws.specs.Steps.{Writes, NoRow, InGate, with_worker, Preserves, Steps}
 use Rattle.heap_laws.proofs.Steps.Learning.{shown_put, scanned_on}
 
@@ -68,6 +68,16 @@ less_steps {s = s} {u = u} less p = record {
 less_rounds : {E : Era} {traced front d : ℕ} {r u : Round} → r.traced ≡ u.traced → IsLess r.front u.front → Rounds E traced front d u → Rounds E traced front d r
 less_rounds same less p = record { traced_then = rw same p.traced_then; front_then = λ f e n. p.front_then f (less f e) n }
 
+-- of the pages that it claims and looks at, a worker knows what one knows that forgets nothing there
+pub less_at_pages : {E : Era} {traced front behind : ℕ} {size writer : ℕ → ℕ} {page : ℕ → PageWord} {w v : Worker} → w.epoch ≡ v.epoch → ((r : Round) → w.round ≡ Some r → IsLessRound r v.round) → LessAtPages w v
+    → KnowsAtPages E traced front behind size writer page v → KnowsAtPages E traced front behind size writer page w
+less_at_pages same rounds less p = record {
+  round = λ r e. let z = rounds r e in rw same (less_rounds z.traced z.front (p.round z.more z.is));
+  claim = λ c e. rw same (p.claim c (less.claim c e));
+  look = λ l e. rw same (p.look l (less.look l e));
+  last_look = λ l e. rw same (p.last_look l (less.last_look l e));
+}
+
 -- a worker that knows at most what another knows is right
 module _ (E : Era) (n : Memory) (h : Ghost) (k : ℕ) (w v : Worker) (most : IsAtMost w v)
     (me : Knows E n.gate n.traced n.front n.low n.old_front n.old_low n.old_owed h n.page n.cross n.announced n.heap k v) where
@@ -110,10 +120,7 @@ module _ (E : Era) (n : Memory) (h : Ghost) (k : ℕ) (w v : Worker) (most : IsA
     present = λ s e. let z = (within most.scan).had s e in most.others.epoch ∙ me.present z.0 z.1;
     scan = λ s e. let z = (within most.scan).had s e in less_scans z.2 (me.scan z.0 z.1);
     stepping = λ s e. let z = (within most.scan).had s e in less_steps z.2 (me.stepping z.0 z.1);
-    round = λ r e. let z = most.pages.round r e in rw most.others.epoch (less_rounds z.traced z.front (me.round z.more z.is));
-    claim = λ c e. rw most.others.epoch (me.claim c (most.pages.claim c e));
-    look = λ l e. rw most.others.epoch (me.look l (most.pages.look l e));
-    last_look = λ l e. rw most.others.epoch (me.last_look l (most.pages.last_look l e));
+    pages = less_at_pages most.others.epoch most.round most.pages me.pages;
     seen_traced = λ e. rw most.others.post (me.seen_traced (most.gate.traced_seen e));
     flips = λ e. most.gate.asks (inl e) ∙ me.flips (ap is_flipper (sym most.others.post) ∙ e);
     passage = λ s e. rw (most.others.post, most.others.epoch, most.others.done, most.others.account, most.gate.asks (inr (ap is_some e))) (me.passage s (most.gate.gate_step s e));

@@ -1,39 +1,33 @@
--- What a worker may forget: a group of its parts, and all others stay. No other file spells the parts.
+-- What a worker may forget: a group of its parts, and all others stay.
 use Rattle.std.proofs.Common.{◌≡◌, Bool, false, Option, Some, None, is_some, refl, sym, ap, ◌∙◌, ⊎_elim}
 use Rattle.heap_state.specs.Worker.{Worker, Scan, Round, Claim, Look, LastLook, GateStep, Reset}
 use Rattle.heap_state.proofs.Puts.{some_same, none≢some}
-use Rattle.heap_laws.specs.Composing.{SameToOthers, LessAtHand, LessAtPages, LessAtGate, IsAtMost, IsLess, IsLessScan, SameScan, LessScan, IsLessRound, of_no_record, without_front, RoundsAreForgotten, TracedIsForgotten, ScannedRecordsAreForgotten, RoundFrontsAreForgotten}
-
--- nothing of a round is forgotten
-all_of_round : {o : Option Round} (r : Round) → o ≡ Some r → IsLessRound r o
-all_of_round r e = record { more = r; is = e; traced = refl; front = λ _ y. y }
+use Rattle.heap_laws.specs.Composing.{SameToOthers, LessAtHand, LessAtPages, LessAtGate, IsAtMost, IsLess, IsLessScan, SameScan, LessScan, IsLessRound, of_no_record, RoundsAreForgotten, TracedIsForgotten, ScannedRecordsAreForgotten, RoundFrontsAreForgotten}
 
 module _ (w : Worker) where
   pub same_to_others : SameToOthers w w
-  same_to_others = record { post = refl; epoch = refl; account = refl; registers = refl; done = refl; quest = refl; copy = refl }
+  same_to_others = assumption
 
   pub same_at_hand : LessAtHand w w
-  same_at_hand = record { stock = λ _ e. e; access = λ _ e. e; opened = λ _ e. e }
+  same_at_hand = assumption
+
+  pub same_round : (r : Round) → w.round ≡ Some r → IsLessRound r w.round
+  same_round r e = record { more = r; is = e; traced = refl; front = λ _ y. y }
 
   pub same_at_pages : LessAtPages w w
-  same_at_pages = record { round = all_of_round; claim = λ _ e. e; look = λ _ e. e; last_look = λ _ e. e }
+  same_at_pages = assumption
 
   pub same_at_gate : LessAtGate w w
-  same_at_gate = record { gate_step = λ _ e. e; reset = λ _ e. e; traced_seen = λ e. e; asks = λ _. refl }
+  same_at_gate = assumption
 
 -- a worker that knows less of its scan
 pub of_scan : (w : Worker) (a b : Scan) → w.scan ≡ Some b → IsLessScan a b → IsAtMost (record w { scan = Some a }) w
-of_scan w a b has less = record { others = same_to_others w; scan = LessScan a b refl has less; hand = same_at_hand w; pages = same_at_pages w; gate = same_at_gate w }
-
--- of its round of the duty
-of_pages : (w : Worker) (round : Option Round) (claim : Option Claim) (look : Option Look) (last_look : Option LastLook) → LessAtPages (record w { round = round; claim = claim; look = look; last_look = last_look }) w
-    → IsAtMost (record w { round = round; claim = claim; look = look; last_look = last_look }) w
-of_pages w round claim look last_look less = record { others = same_to_others w; scan = SameScan refl; hand = same_at_hand w; pages = less; gate = same_at_gate w }
+of_scan w a b has less = record { others = same_to_others w; scan = LessScan a b refl has less; hand = same_at_hand w; round = same_round w; pages = same_at_pages w; gate = same_at_gate w }
 
 -- of the gate
 of_gate : (w : Worker) (gate_step : Option GateStep) (reset : Option Reset) (seen : Bool) → LessAtGate (record w { gate_step = gate_step; reset = reset; traced_seen = seen }) w
     → IsAtMost (record w { gate_step = gate_step; reset = reset; traced_seen = seen }) w
-of_gate w gate_step reset seen less = record { others = same_to_others w; scan = SameScan refl; hand = same_at_hand w; pages = same_at_pages w; gate = less }
+of_gate w gate_step reset seen less = record { others = same_to_others w; scan = SameScan refl; hand = same_at_hand w; round = same_round w; pages = same_at_pages w; gate = less }
 
 -- ---- the cases
 
@@ -43,19 +37,28 @@ scanned_records_are_forgotten w s has =
 
 -- a round and its last look, and what is to be forgotten of its claim and its look
 pub of_round : (w : Worker) (claim : Option Claim) (look : Option Look) → IsLess claim w.claim → IsLess look w.look → IsAtMost (record w { round = None; claim = claim; look = look; last_look = None }) w
-of_round w claim look less_claim less_look = of_pages w None claim look None (record { round = λ _ e. absurd (cc); claim = less_claim; look = less_look; last_look = λ _ e. absurd (cc) })
+of_round w claim look less_claim less_look = record {
+  others = same_to_others w;
+  scan = SameScan refl;
+  hand = same_at_hand w;
+  round = λ _ e. absurd (cc);
+  pages = let no_look : (l : LastLook) → None ≡ Some l → w.last_look ≡ Some l = λ _ e. absurd (cc) in assumption (same_at_pages w);
+  gate = same_at_gate w;
+}
 
 pub rounds_are_forgotten : RoundsAreForgotten
 rounds_are_forgotten w = of_round w None None (λ _ e. absurd (cc)) (λ _ e. absurd (cc))
 
 -- that a round read FRONT
 pub round_fronts_are_forgotten : RoundFrontsAreForgotten
-round_fronts_are_forgotten w r has = of_pages w (Some (without_front r)) w.claim w.look w.last_look (record {
+round_fronts_are_forgotten w r has = record {
+  others = same_to_others w;
+  scan = SameScan refl;
+  hand = same_at_hand w;
   round = λ z e. record { more = r; is = has; traced = ap (λ (y : Round). y.traced) (sym (some_same e)); front = λ f y. absurd (let q = ap (λ (y : Round). y.front) (some_same e) in none≢some (q ∙ y)) };
-  claim = λ _ e. e;
-  look = λ _ e. e;
-  last_look = λ _ e. e;
-})
+  pages = same_at_pages w;
+  gate = same_at_gate w;
+}
 
 -- that the epoch is traced
 pub traced_is_forgotten : TracedIsForgotten

@@ -40,14 +40,14 @@ reads_traced E m team g k ready n = learnt (rounds_more E m team g k ready.invar
 
 pub reads_front : ReadingRoundFrontKeeps
 reads_front E m team g k r f ready e front =
-    let o = (ready.invariant.workers k ready.member).round r e in
+    let o = (ready.invariant.workers k ready.member).pages.round r e in
     learnt (rounds_more E m team g k ready.invariant ready.member (record r { front = Some f }) (record { traced_then = o.traced_then; front_then = λ y e d. let z : f ≡ y = some_same e in let q = front.now d in omega (arith, z, q) }))
 
 pub begins_look : BeginningLookKeeps
 begins_look E m team g k r ready begins =
     let inv = ready.invariant in
     let me = inv.workers k ready.member in
-    let o = me.round r begins.round in
+    let o = me.pages.round r begins.round in
     let d : (team.worker k).epoch ≡ E.epoch = sym begins.same ∙ ready.at_gate in
     learnt (looks_more E m team g k inv ready.member (first_look E r) (record {
       earlier = let a = o.traced_then in let t = inv.tracing.top in omega (arith, a, t, d);
@@ -62,7 +62,7 @@ begins_look E m team g k r ready begins =
 pub looks_at_front : LookingAtFrontKeeps
 looks_at_front E m team g k l f ready is board filled front =
     let inv = ready.invariant in
-    let o = (inv.workers k ready.member).look l is.looks in
+    let o = (inv.workers k ready.member).pages.look l is.looks in
     learnt (looks_more E m team g k inv ready.member (record l { front = f }) (record {
       earlier = o.earlier;
       none = λ e. ((o.none e).0, let z = front.now e in omega (arith, z));
@@ -80,7 +80,7 @@ pub looks_at_board : LookingAtBoardKeeps
 looks_at_board E m team g k l ready is opened =
     let inv = ready.invariant in
     let me = inv.workers k ready.member in
-    let o = me.look l is.looks in
+    let o = me.pages.look l is.looks in
     learnt (looks_more E m team g k inv ready.member (record l { board = true }) (record {
       earlier = o.earlier;
       none = o.none;
@@ -94,7 +94,7 @@ looks_at_board E m team g k l ready is opened =
 pub looks_at_page : LookingAtPageKeeps
 looks_at_page E m team g k l p ready is next opened =
     let inv = ready.invariant in
-    let o = (inv.workers k ready.member).look l is.looks in
+    let o = (inv.workers k ready.member).pages.look l is.looks in
     learnt (looks_more E m team g k inv ready.member (record l { upto = p + 1 }) (record {
       earlier = o.earlier;
       none = o.none;
@@ -114,7 +114,7 @@ looks_at_page E m team g k l p ready is next opened =
 pub looks_at_filling : LookingAtFillingPageKeeps
 looks_at_filling E m team g k l ready is opened =
     let inv = ready.invariant in
-    let o = (inv.workers k ready.member).look l is.looks in
+    let o = (inv.workers k ready.member).pages.look l is.looks in
     learnt (looks_more E m team g k inv ready.member (record l { filled = true }) (record {
       earlier = o.earlier;
       none = o.none;
@@ -129,7 +129,7 @@ looks_at_filling E m team g k l ready is opened =
 
 module _ (E : Era) (m : Memory) (team : Team) (g : Ghost) (k : ℕ) (l : Look) (inv : Invariant E m team g) (below : k < team.count) (again : LooksAgain E m team k l) where
   o : Looks E m.gate.behind m.front m.page (team.worker k).epoch l
-  o = (inv.workers k below).look l again.looks
+  o = (inv.workers k below).pages.look l again.looks
 
   quiet : (team.worker k).epoch ≡ E.epoch → Quiet E m.gate.behind m.front m.page
   quiet e = record {

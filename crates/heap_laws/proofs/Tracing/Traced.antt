@@ -19,7 +19,7 @@ use Rattle.heap_laws.proofs.Steps.Learning.{shown_put}
 use Rattle.heap_laws.proofs.Scanning.Scanners.{open_scan, scans_last, copies_last, none_writes, here_lies}
 
 pub sleeper_loses_traced : SleeperLosesTraced
-sleeper_loses_traced E m team g k l ready looks past won = let o = (ready.invariant.workers k ready.member).last_look l looks in let a = o.late past in let b = o.earlier in omega (arith, a, b, won)
+sleeper_loses_traced E m team g k l ready looks past won = let o = (ready.invariant.workers k ready.member).pages.last_look l looks in let a = o.late past in let b = o.earlier in omega (arith, a, b, won)
 
 module _ (E : Era) (m : Memory) (team : Team) (g : Ghost) (k : ℕ) (l : LastLook) (ready : Ready E m team g k) (wins : WinsTraced m team k l) where
   abbrev inv : Invariant E m team g
@@ -38,7 +38,7 @@ module _ (E : Era) (m : Memory) (team : Team) (g : Ghost) (k : ℕ) (l : LastLoo
       (cases_lt (team.worker k).epoch E.epoch)
 
   mine : LastLooks E m.traced m.gate.behind m.front m.page (team.worker k).epoch l
-  mine = me.last_look l wins.looks
+  mine = me.pages.last_look l wins.looks
 
   now : Quiet E m.gate.behind m.front m.page × IsLastOpen E m.front m.page
   now = mine.now of_now wins.unchanged
@@ -55,15 +55,15 @@ module _ (E : Era) (m : Memory) (team : Team) (g : Ghost) (k : ℕ) (l : LastLoo
   others : (j : ℕ) → j < team.count → j ≢ k → KnowsNow j (team.worker j)
   others j y d =
       let u = inv.workers j y in
-      let a = λ (r : Round) (e : (team.worker j).round ≡ Some r). rounds (team.worker j).epoch r (u.round r e) in
-      let b = λ (q : LastLook) (e : (team.worker j).last_look ≡ Some q). looks (team.worker j).epoch q (u.last_look q e) in
+      let a = λ (r : Round) (e : (team.worker j).round ≡ Some r). rounds (team.worker j).epoch r (u.pages.round r e) in
+      let b = λ (q : LastLook) (e : (team.worker j).last_look ≡ Some q). looks (team.worker j).epoch q (u.pages.last_look q e) in
       let c : (team.worker j).traced_seen ≡ true → ((is_running (team.worker j).post ≡ true) ⊎ (is_flipper (team.worker j).post ≡ true)) × (E.epoch + 1 ≡ E.epoch + 1) = λ e. ((u.seen_traced e).0, refl) in
       assumption
 
   own : KnowsNow k w'
   own =
       let u = me in
-      let a = λ (r : Round) (e : (team.worker k).round ≡ Some r). rounds (team.worker k).epoch r (u.round r e) in
+      let a = λ (r : Round) (e : (team.worker k).round ≡ Some r). rounds (team.worker k).epoch r (u.pages.round r e) in
       let b : (q : LastLook) → None ≡ Some q → LastLooks E (E.epoch + 1) m.gate.behind m.front m.page (team.worker k).epoch q = λ q e. none≢some e in
       let c : (team.worker k).traced_seen ≡ true → ((is_running (team.worker k).post ≡ true) ⊎ (is_flipper (team.worker k).post ≡ true)) × (E.epoch + 1 ≡ E.epoch + 1) = λ e. ((u.seen_traced e).0, refl) in
       assumption

@@ -7,7 +7,8 @@ use Rattle.heap_state.specs.Era.{Era, Memory}
 use Rattle.heap_state.specs.Ghost.{Ghost, Leads, Lands}
 use Rattle.heap_state.specs.Parts.Knowledge.{Accesses}
 use Rattle.heap_state.specs.Values.{value_of}
-use Rattle.heap_state.specs.Worker.{Worker, Stock, Access, Round, Claim, Look, LastLook, Reset, Account, Team}
+use Rattle.heap_state.specs.Worker.{Worker, Stock, Access, Round, Reset, Account, Team}
+use Rattle.heap_laws.specs.Composing.{LessAtPages}
 use Rattle.heap_laws.specs.Steps.{Ready}
 
 -- a word that a mutator may hold: where it is a pointer, it leads to a record that stands, and not into the old space
@@ -38,9 +39,7 @@ pub record GoesOn (E : Era) (m : Memory) (g : Ghost) (w next : Worker) : Type 0 
   pub gate_step : next.gate_step ≡ None
   pub stock : (q : Stock) → next.stock ≡ Some q → w.stock ≡ Some q
   pub round : (r : Round) → next.round ≡ Some r → w.round ≡ Some r
-  pub claim : (c : Claim) → next.claim ≡ Some c → w.claim ≡ Some c
-  pub look : (l : Look) → next.look ≡ Some l → w.look ≡ Some l
-  pub last_look : (l : LastLook) → next.last_look ≡ Some l → w.last_look ≡ Some l
+  pub pages : LessAtPages next w
   pub traced_seen : next.traced_seen ≡ true → m.traced ≡ E.epoch + 1
   pub reset : (r : Reset) → next.reset ≡ Some r → w.reset ≡ Some r
   pub access : (f : Access) → next.access ≡ Some f → Accesses E g.size g.writer g.kind f

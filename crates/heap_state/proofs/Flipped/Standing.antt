@@ -6,7 +6,6 @@ use Rattle.plain_state.specs.declared.kind.Kind.TheVariants.{Raw}
 use Rattle.heap_words.specs.Decoded.{PointerWord, NumberWord, decode}
 use Rattle.heap_words.specs.Word.{header_word, pointer_word, tag_of}
 use Rattle.plain_state.specs.declared.value.Value.TheVariants.{Number, Reference}
-use Rattle.plain_state.specs.State as plain
 use Rattle.heap_state.specs.Configuration.{team, Stands}
 use Rattle.heap_state.specs.Denotes.{denoted, denoted_in}
 use Rattle.heap_state.specs.Entries.{EachFits}
@@ -27,7 +26,7 @@ use Rattle.heap_state.specs.Worker.{Worker}
 use Rattle.heap_state.proofs.Flipped.Parts.{flipped_table, flipped_era, flipped_ghost, workers, heap, page, size, none, identity, only, blank_word, zero_word, first_register, number_lands, pointer_lands, counted, staffed, laid, headed, copied, once, kept_by, room, raw_words, shut, filling, tracing, aged, scanned, opened, landing, older, new_area, new_written, old_space, old_words, old_pages, crossing, stocks, numbered}
 use Rattle.heap_state.proofs.Workers.Idle.{idle_knows}
 use Rattle.heap_state.proofs.Holds.Keeping.{holds}
-use Rattle.heap_state.proofs.Puts.{some_same, none≢some, true_false}
+use Rattle.heap_state.proofs.Puts.{none≢some, true_false}
 use Rattle.heap_state.proofs.Represents.Representing.{represents}
 use Rattle.heap_state.proofs.Worked.Standing.{the_mutator, register_zero, pointer_value, number_value, of_one}
 use Rattle.heap_state.proofs.Table.Writing.{writes_tables}
@@ -52,7 +51,7 @@ clean = record {
     old j b e (inr n) = absurd (let q : NumberWord 0 ≡ PointerWord b = sym zero_word ∙ rw (ne_eqb j 0 n) at e in cc)
 
 mutator_knows : Known 0 late_mutator
-mutator_knows = idle_knows (assumption)
+mutator_knows = idle_knows late_mutator refl
     (record { past = omega arith; live = λ l. inr refl; running = λ r. true_false refl r; flipping = λ f. true_false refl f; rest = λ r. refl; below = omega arith })
     (record { stays = λ e. true_false refl e; gone = λ e. true_false refl e })
     (λ e. absurd (cc))

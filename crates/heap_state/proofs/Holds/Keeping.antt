@@ -184,7 +184,7 @@ module _ (c : Configuration) (g : Ghost) (inv : Invariant (era c) (memory c) (te
         (λ (n : 64 * p + 64 ≤ m.front). (inv.tracing.quiet t).full p s n)
         (cases_lt m.front (64 * p + 64));
     knows = λ k q l e d. claim k q l e d (cases_Bool q.in_place);
-    late = λ k q l e s d. ((knows k l).claim q e).late s d;
+    late = λ k q l e s d. ((knows k l).pages.claim q e).late s d;
     alone = λ p j k x l s r e.
         let v = reserves E m (team c) g inv k r.copy l r.copies r.reserved in
         let y = inv.shut.by r.copy.to x j (omega (arith, v)) (omega (arith, v)) r.inside.0 (omega (arith, v, r.inside)) (ap m.page e ∙ s) in
@@ -193,11 +193,11 @@ module _ (c : Configuration) (g : Ghost) (inv : Invariant (era c) (memory c) (te
     where
       claim : (k : ℕ) (q : Claim) → k < (team c).count → (worker_of c k).claim ≡ Some q → (worker_of c k).epoch ≡ E.epoch → (q.in_place ≡ true) ⊎ (q.in_place ≡ false)
           → (q.page ≡ E.board / 64) ⊎ ((E.start ≤ 64 * q.page) × (64 * q.page < m.front) × ((q.in_place ≡ true) ⊎ (64 * q.page + 64 ≤ m.front)))
-      claim k q l e d (inl i) = let f = ((knows k l).claim q e).last d i in inr (f.0, f.1, inl i)
+      claim k q l e d (inl i) = let f = ((knows k l).pages.claim q e).last d i in inr (f.0, f.1, inl i)
       claim k q l e d (inr i) = ⊎_elim
           (λ f. inr (f.0, omega (arith, f.1), inr f.1))
           (λ b. inl b)
-          (((knows k l).claim q e).full d i)
+          (((knows k l).pages.claim q e).full d i)
 
   -- ---- free words
 

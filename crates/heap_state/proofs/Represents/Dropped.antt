@@ -4,10 +4,10 @@ use Rattle.heap_state.specs.Configuration.{Configuration, era, memory, team}
 use Rattle.heap_state.specs.Era.{Era, Memory}
 use Rattle.heap_state.specs.Ghost.{Ghost}
 use Rattle.heap_state.specs.Inductive.{Invariant, Knows}
-use Rattle.heap_state.specs.Parts.Copying.{IsOrigin}
+use Rattle.heap_state.specs.Parts.Copying.{IsOrigin, Seeks, Copies, Keeps}
 use Rattle.heap_state.specs.Parts.Knowledge.{Clean, Accesses}
-use Rattle.heap_state.specs.Parts.Scanning.{Claims}
-use Rattle.heap_state.specs.Worker.{Worker, Origin, Register, Scanned, Quest, Access, Claim, is_mutator, is_late}
+use Rattle.heap_state.specs.Parts.Scanning.{Scans, Stepping, Claims}
+use Rattle.heap_state.specs.Worker.{Worker, Origin, Register, Scanned, Quest, Copy, Access, Scan, Claim, is_mutator, is_late}
 use Rattle.heap_state.proofs.Holds.Still.{nobody_scans, nobody_copies}
 use Rattle.heap_state.proofs.Represents.Dropping as drop
 use Rattle.heap_state.proofs.Represents.Dropping.{without_old}
@@ -57,7 +57,7 @@ module _ (c : Configuration) (g : Ghost) (inv : Invariant (era c) (memory c) (te
     }
 
     claim : (q : Claim) → w.claim ≡ Some q → Claims E m.front m.gate.behind h.size h.writer m.page w.epoch q
-    claim q e = let a = knew.claim q e in record {
+    claim q e = let a = knew.pages.claim q e in record {
       earlier = a.earlier;
       full = a.full;
       clear = λ n i b j st. a.clear n i b j (drop.was c g inv traced b st).0;
@@ -67,33 +67,14 @@ module _ (c : Configuration) (g : Ghost) (inv : Invariant (era c) (memory c) (te
     }
 
     knows : Knows E m.gate m.traced m.front m.low m.old_front m.old_low m.old_owed h m.page m.cross m.announced m.heap k w
-    knows = record {
-      timely = knew.timely;
-      ends = knew.ends;
-      outside = knew.outside;
-      stock = knew.stock;
-      registers = registers;
-      active = knew.active;
-      access = access;
-      opened = knew.opened;
-      origin = λ q e. absurd (asks_not q e);
-      quest = λ q e. absurd (asks_not q e);
-      licensed = knew.licensed;
-      copy = λ q e. absurd (nobody_copies E m (team c) g inv traced k q l e);
-      keeps = λ q e. absurd (nobody_copies E m (team c) g inv traced k q l e);
-      present = knew.present;
-      scan = λ s e. absurd (nobody_scans E m (team c) g inv traced k s l e);
-      stepping = λ s e. absurd (nobody_scans E m (team c) g inv traced k s l e);
-      round = knew.round;
-      claim = claim;
-      look = knew.look;
-      last_look = knew.last_look;
-      seen_traced = knew.seen_traced;
-      flips = knew.flips;
-      passage = knew.passage;
-      resets = knew.resets;
-      reset = knew.reset;
-    }
+    knows =
+        let origin : (q : Quest) → w.quest ≡ Some q → IsOrigin E h.size h.writer h.kind m.heap (is_late E.epoch w) w.done w.registers w.scan q.old q.origin = λ q e. absurd (asks_not q e) in
+        let quest : (q : Quest) → w.quest ≡ Some q → Seeks E h.size h.writer h.copy q = λ q e. absurd (asks_not q e) in
+        let copy : (q : Copy) → w.copy ≡ Some q → Copies E m.front h.size h.writer h.copy h.keeper h.kept m.announced m.cross m.heap k q = λ q e. absurd (nobody_copies E m (team c) g inv traced k q l e) in
+        let keeps : (q : Copy) → w.copy ≡ Some q → Keeps h.kind h.identity m.heap q = λ q e. absurd (nobody_copies E m (team c) g inv traced k q l e) in
+        let scan : (s : Scan) → w.scan ≡ Some s → Scans E m.front h.size h.writer h.kind m.heap m.page k s = λ s e. absurd (nobody_scans E m (team c) g inv traced k s l e) in
+        let stepping : (s : Scan) → w.scan ≡ Some s → Stepping E m.front h.size h.writer h.kind s = λ s e. absurd (nobody_scans E m (team c) g inv traced k s l e) in
+        assumption (knew, registers, access, claim)
 
   pub dropped : Invariant E m (team c) h
   dropped = record {

@@ -7,13 +7,13 @@ use Rattle.heap_words.specs.Word.{number_word, pointer_word, header_word}
 use Rattle.heap_words.proofs.Decoding.{decode-number_word, decode-pointer_word, decode-header_word}
 use Rattle.heap_state.specs.Functions.{put}
 use Rattle.heap_state.specs.Ghost.{Here, Leads, header_kind}
-use Rattle.heap_state.specs.Inductive.{Knows}
+use Rattle.heap_state.specs.Inductive.{Knows, KnowsAtPages}
 use Rattle.heap_state.specs.Parts.Copying.{IsOrigin, Seeks, Copies, Keeps}
 use Rattle.heap_state.specs.Parts.Knowledge.{Clean}
 use Rattle.heap_state.specs.Parts.Scanning.{Scans, Stepping}
 use Rattle.heap_state.specs.Worked.{worked_mutator, worked_scanner}
 use Rattle.heap_state.specs.Worker.{Worker, Copy, Scan, Quest, Scanned}
-use Rattle.heap_state.proofs.Workers.Idle.{idle_knows}
+use Rattle.heap_state.proofs.Workers.Idle.{at_rest, nothing_at_pages, idle_knows}
 use Rattle.heap_state.proofs.Puts.{some_same, none≢some, true_false}
 use Rattle.heap_state.proofs.Worked.Ghost.{worked_table, worked_era, worked_ghost, size, writer, copy, keeper, identity, kept, each_place}
 use Rattle.heap_state.proofs.Worked.Pages.{page}
@@ -47,7 +47,7 @@ clean = record {
 }
 
 pub mutator_knows : Known 0 worked_mutator
-mutator_knows = idle_knows (assumption)
+mutator_knows = idle_knows worked_mutator refl
     (record { past = omega arith; live = λ l. inl refl; running = λ r. refl; flipping = λ f. true_false refl f; rest = λ r. refl; below = omega arith })
     (record { stays = λ e. true_false refl e; gone = λ e. true_false refl e })
     (λ e. absurd (cc))
@@ -126,6 +126,9 @@ origin : IsOrigin worked_era size writer (λ a. Fields) heap false 0 (λ r. 0) (
 unfolding Here
 origin = ((the_scan, refl, refl, refl, refl), inl (record { a = 256; i = 2; field = record { stands = omega arith; written = refl; field = refl; first = omega arith; last = omega arith }; inside = (omega arith, omega arith); at = refl }), word_258)
 
+at_pages : KnowsAtPages worked_era 1 261 worked_table.gate.behind size writer page (at_rest worked_scanner)
+at_pages = nothing_at_pages worked_scanner
+
 pub scanner_knows : Known 1 worked_scanner
 scanner_knows = record {
   timely = record { past = omega arith; live = λ l. true_false refl l; running = λ r. refl; flipping = λ f. refl; rest = λ r. refl; below = omega arith };
@@ -149,10 +152,7 @@ scanner_knows = record {
   present = λ s e. refl;
   scan = λ r e. let s : the_scan ≡ r = some_same e in rw (← s) scans;
   stepping = λ r e. let s : the_scan ≡ r = some_same e in rw (← s) stepping;
-  round = λ r e. none≢some e;
-  claim = λ q e. none≢some e;
-  look = λ l e. none≢some e;
-  last_look = λ l e. none≢some e;
+  pages = assumption (at_pages);
   seen_traced = λ e. true_false refl e;
   flips = λ e. true_false refl e;
   passage = λ s e. none≢some e;

@@ -91,7 +91,7 @@ module _ (c : Configuration) (p : Plain) (s : Stands c p) (y : Held) (d : Round)
     claim = claim_with q (looked_all q) true
 
     knows_claim : Claims (era c) (memory c).front (memory c).gate.behind s.ghost.size s.ghost.writer (memory c).page ((team c).worker 0).epoch claim
-    knows_claim = (s.invariant.workers 0 a.is.below).claim claim (ap (λ (w : Worker). w.claim) a.is.as_known)
+    knows_claim = (s.invariant.workers 0 a.is.below).pages.claim claim (ap (λ (w : Worker). w.claim) a.is.as_known)
 
     -- a page of the space up to FRONT is one of those to be traced
     in_space : (era c).start ≤ first_word q.page → first_word q.page < (memory c).front → IsToBeTraced c.pages (era c).epoch q.page
