@@ -1,8 +1,7 @@
 -- A round chooses a page: the board, or a full one.
-use Rattle.std.proofs.Common.{◌≡◌, ◌≢◌, ℕ, ◌+◌, ◌*◌, ◌/◌, ◌%◌, ◌<◌, ◌≤◌, ◌⊎◌, inl, inr, Bool, true, false, cond, nat_eq, Option, Some, None, refl, sym, ap, subst, ◌∙◌, arith}
+use Rattle.std.proofs.Common.{◌≡◌, ◌≢◌, ℕ, ◌+◌, ◌*◌, ◌/◌, ◌≤◌, ◌⊎◌, inl, inr, Bool, true, false, cond, nat_eq, Option, Some, None, refl, sym, ap, subst, ◌∙◌, arith}
 use Rattle.std.proofs.lemmas.Bool.{cases_eq}
 use Rattle.std.proofs.lemmas.Bool.Decides.{nat_tests}
-use Rattle.std.proofs.Math.Nat.{mul-le-mul_left}
 use Rattle.plain_state.specs.State.{Plain}
 use Rattle.atom_store.specs.declared.reply.Reply.TheVariants.{Value}
 use Rattle.space_map.specs.declared.area_word.AreaWord.{AreaWord}
@@ -21,6 +20,7 @@ use Rattle.fault_duty.specs.Duty as duty
 use Rattle.fault_duty.specs.Duty.{Round}
 use Rattle.fault_duty.specs.Soundness as duty_sound
 use Rattle.fault_duty.specs.Soundness.{FitsFront, IsChoice, PageInScan, FitsDutyStage}
+use Rattle.fault_duty.proofs.Lowering.{to_start-le, to_start-to_page}
 use Rattle.fault_duty.proofs.Telling.{says_state}
 use Rattle.heap_state.specs.Configuration.{Configuration, Stands, table, era, memory, team}
 use Rattle.heap_state.specs.Worker.{Worker}
@@ -40,15 +40,6 @@ use Rattle.gc_worker.proofs.Rounds.Claiming.{begins, earlier_now, start_now, boa
 use Rattle.gc_worker.proofs.Rounds.Going.{round, at, goes_on, ends, loads_it, same_pages}
 use Rattle.gc_worker.proofs.Rounds.Words.{page_now, page_says}
 use Rattle.gc_worker.proofs.Steps.{Law, nothing, less, prepared}
-
--- the space begins at the first word of a page, and lies below the board
-pub to_start-le : (d : Round) → duty.to_start d ≤ 64 * d.layout.pages
-to_start-le d =
-    let below : d.layout.pages * (d.epoch % 2) ≤ d.layout.pages * 1 = mul-le-mul_left d.layout.pages (let rest : d.epoch % 2 < 2 = omega arith in omega arith) in
-    omega (arith, below)
-
-pub to_start-to_page : (d : Round) → duty.to_start d ≡ 64 * duty.to_page d
-to_start-to_page d = omega arith
 
 full_le : (front page : ℕ) → duty.is_full front page ≡ true → 64 * (page + 1) ≤ front
 full_le front page full = grind (arith, nat_tests)

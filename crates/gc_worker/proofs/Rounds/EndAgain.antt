@@ -27,7 +27,8 @@ use Rattle.gc_worker.specs.Goes.{Is, Goes, StepsSo}
 use Rattle.gc_worker.specs.Held.{Held}
 use Rattle.gc_worker.specs.Knows.{look_with, upto_all, is_open_state}
 use Rattle.gc_worker.proofs.Areas.{area_now, area_says, is_space}
-use Rattle.gc_worker.proofs.Rounds.Choosing.{to_start-le, to_start-to_page, front_for}
+use Rattle.fault_duty.proofs.Lowering.{to_start-le, to_start-to_page}
+use Rattle.gc_worker.proofs.Rounds.Choosing.{front_for}
 use Rattle.gc_worker.proofs.Rounds.Claiming.{waits_earlier}
 use Rattle.gc_worker.proofs.Rounds.Going.{round, at, goes_on, ends, loads_it}
 use Rattle.gc_worker.proofs.Steps.{Law, prepared}

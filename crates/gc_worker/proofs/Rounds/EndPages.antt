@@ -29,7 +29,8 @@ use Rattle.gc_worker.specs.declared.back.Back.{Back}
 use Rattle.gc_worker.specs.Goes.{Is, Goes, StepsSo}
 use Rattle.gc_worker.specs.Held.{Held}
 use Rattle.gc_worker.specs.Knows.{knows, look_with, is_past_board, upto_before, upto_all}
-use Rattle.gc_worker.proofs.Rounds.Choosing.{to_start-le, to_start-to_page, next_choice, at_another}
+use Rattle.fault_duty.proofs.Lowering.{to_start-le, to_start-to_page}
+use Rattle.gc_worker.proofs.Rounds.Choosing.{next_choice, at_another}
 use Rattle.gc_worker.proofs.Rounds.Claiming.{board_now}
 use Rattle.gc_worker.proofs.Rounds.Going.{round, at, goes_on, ends, loads_it, same_pages}
 use Rattle.gc_worker.proofs.Rounds.Words.{page_now, page_says}

@@ -38,7 +38,8 @@ use Rattle.gc_worker.specs.Knows.{knows, look_with, upto_all, is_open_state}
 use Rattle.gc_worker.specs.Turned.{back_from}
 use Rattle.gc_worker.proofs.Areas.{area_now, area_says, is_space}
 use Rattle.gc_worker.proofs.Gate.Words.{wants, gate_now, gate_says}
-use Rattle.gc_worker.proofs.Rounds.Choosing.{to_start-le, front_for, first_choice}
+use Rattle.fault_duty.proofs.Lowering.{to_start-le}
+use Rattle.gc_worker.proofs.Rounds.Choosing.{front_for, first_choice}
 use Rattle.gc_worker.proofs.Rounds.Going.{round, at, done, goes_on, ends, ends_with, ended_known, own_stock_same, loads_it, same_pages}
 use Rattle.gc_worker.proofs.Rounds.Words.{traced_now, traced_word, page_now, page_says}
 use Rattle.gc_worker.proofs.Steps.{Law, exchanges, nothing, prepared}

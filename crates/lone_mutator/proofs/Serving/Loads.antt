@@ -26,7 +26,8 @@ use Rattle.gc_worker.specs.Held.{Held}
 use Rattle.gc_worker.specs.Knows.{knows}
 use Rattle.gc_worker.proofs.Areas.{area_now, area_says, is_space}
 use Rattle.gc_worker.proofs.Gate.Words.{gate_now, gate_says}
-use Rattle.gc_worker.proofs.Rounds.Choosing.{front_for, to_start-le}
+use Rattle.fault_duty.proofs.Lowering.{to_start-le}
+use Rattle.gc_worker.proofs.Rounds.Choosing.{front_for}
 use Rattle.gc_worker.proofs.Rounds.Going.{round, at, same_pages}
 use Rattle.gc_worker.proofs.Rounds.Words.{traced_word, page_now, page_says, announced_now, announced_word}
 use Rattle.lone_mutator.specs.Law.{IsAlone, StepsLower}
