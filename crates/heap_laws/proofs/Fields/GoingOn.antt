@@ -1,10 +1,11 @@
 -- A running mutator goes on.
-use Rattle.std.proofs.Common.{◌≡◌, ◌≢◌, ℕ, ◌<◌, true, false, Some, None, refl, sym, ap, ◌∙◌, arith, ⊎_elim, ◌⊎◌, inl, inr}
+use Rattle.std.proofs.Common.{◌≡◌, ◌≢◌, ℕ, ◌+◌, ◌<◌, true, false, Some, None, is_some, refl, sym, ap, ◌∙◌, arith, ⊎_elim, ◌⊎◌, inl, inr}
 use Rattle.std.proofs.Common.{slice_get, slice_set}
 use Rattle.std.proofs.Math.ListN.{length-set}
 use Rattle.std.proofs.lemmas.Bool.{cases_eq}
 use Rattle.std.proofs.lemmas.Option.{slice_get_within}
 use Rattle.plain_state.specs.State.{Plain, Mutator}
+use Rattle.space_map.specs.declared.page_word.PageWord.TheVariants.{Open}
 use Rattle.plain_state.specs.declared.value.Identity.{Identity}
 use Rattle.heap_state.specs.Cycle.{Rooted, RootLeads, ByBoard, ByRegister, StillLeads, Cycle}
 use Rattle.heap_state.specs.Era.{Era, Memory}
@@ -12,17 +13,19 @@ use Rattle.heap_state.specs.Functions.{put}
 use Rattle.heap_state.specs.Ghost.{Ghost}
 use Rattle.heap_state.specs.Inductive.{Invariant, Knows}
 use Rattle.heap_state.specs.Parts.Copying.{IsOrigin}
+use Rattle.heap_state.specs.Parts.Knowledge.{Clean, Ends, Passes}
 use Rattle.heap_state.specs.Reachable.{Reachable}
 use Rattle.heap_state.specs.Values.{Accounts, RegistersShow, value_of, Shown}
-use Rattle.heap_state.specs.Worker.{Worker, Team, Post, Running, Outside, Scanner, Stopped, Flipping, Gone, Origin, Register, Scanned, Quest, Scan, is_mutator, is_live, is_running, is_flipper, is_gone, is_late}
+use Rattle.heap_state.specs.Worker.{Worker, Team, Post, Running, Outside, Scanner, Stopped, Flipping, Gone, Origin, Register, Scanned, Quest, Access, GateStep, is_mutator, is_live, is_running, is_flipper, is_gone, is_late}
 use Rattle.heap_state.proofs.Workers.Frames.{counted_put, staffed_put, scanned_put, stocks_put, numbered_put}
 use Rattle.heap_state.proofs.Puts.{put_at, put_other, each_put, team_put, none≢some, true_false}
+use Rattle.heap_laws.specs.Composing.{IsAtMost, SameScan}
 use Rattle.heap_laws.specs.Fields.Held.{GoesOn, with_mutator}
 use Rattle.heap_laws.specs.Steps.{with_worker}
 use Rattle.plain_state.proofs.Lists.{slice_get-set_other, set-found}
 use Rattle.heap_laws.proofs.Scanning.Scanners.{now_not_late}
 use Rattle.heap_laws.proofs.Frames.Values.{still_leads}
-use Rattle.heap_laws.proofs.Steps.Composing.{less_at_pages}
+use Rattle.heap_laws.proofs.Steps.Composing.{knows_less}
 use Rattle.heap_laws.proofs.Steps.Forgotten.{same_round}
 
 -- ---- posts
@@ -73,40 +76,34 @@ module _ (E : Era) (m : Memory) (team : Team) (g : Ghost) (k : ℕ) (next : Work
       by_origin old (Register r) p = true_false late p.0
       by_origin old (Scanned x) p = rw goes.scan p
 
-  knows : Knows E m.gate m.traced m.front m.low m.old_front m.old_low m.old_owed g m.page m.cross m.announced m.heap k next
-  knows = record {
-    timely = rw (goes.post, goes.epoch, goes.done) me.timely;
-    ends = record { stays = λ e. inl still_runs; gone = λ e. true_false (runs next.post still_runs).gone e };
-    outside = λ e. absurd ((runs next.post still_runs).outside e);
-    stock = λ q e. rw goes.epoch (me.stock q (goes.stock q e));
-    registers = λ u n. record { clean = λ j s t. (goes.registers n j s).clean; lands = λ j s. (goes.registers n j s).lands; old = λ t. true_false still_late t };
-    active = λ f e. still_runs;
-    access = goes.access;
-    opened = λ p e. (still_runs, goes.opened p e);
-    origin = origin;
-    quest = λ q e. me.quest q (sym goes.quest ∙ e);
-    licensed = record {
-      licensed = λ c e. rw goes.scan (inl_only (me.licensed.licensed c (sym goes.copy ∙ e)));
-      asked = λ c e. rw goes.quest (me.licensed.asked c (sym goes.copy ∙ e));
-      counted = λ e. true_false still_late e;
-      idle = λ e. me.licensed.idle (sym goes.copy ∙ e);
-    };
-    copy = λ c e. me.copy c (sym goes.copy ∙ e);
-    keeps = λ c e. me.keeps c (sym goes.copy ∙ e);
-    present = λ s e. goes.epoch ∙ me.present s (sym goes.scan ∙ e);
-    scan = λ s e. me.scan s (sym goes.scan ∙ e);
-    stepping = λ s e. me.stepping s (sym goes.scan ∙ e);
-    pages = less_at_pages goes.epoch (λ r e. same_round w r (goes.round r e)) goes.pages me.pages;
-    seen_traced = λ e. (inl still_runs, goes.traced_seen e);
-    flips = λ e. true_false (runs next.post still_runs).flips e;
-    passage = λ s e. none≢some (sym goes.gate_step ∙ e);
-    resets = λ r e. true_false (runs w.post run).flips (me.resets r (goes.reset r e));
-    reset = λ r e. me.reset r (goes.reset r e);
+  -- it forgets what it accesses and which page is open
+  abbrev before : Worker
+  before = record next { account = w.account; registers = w.registers; access = None; opened = None; traced_seen = w.traced_seen }
+
+  forgets : IsAtMost before w
+  forgets = record {
+    others = assumption (goes);
+    scan = SameScan goes.scan;
+    hand = record { stock = goes.stock; access = λ f e. none≢some e; opened = λ p e. none≢some e };
+    round = λ r e. same_round w r (goes.round r e);
+    pages = goes.pages;
+    gate = record { gate_step = λ s e. none≢some (sym goes.gate_step ∙ e); reset = goes.reset; traced_seen = λ e. e; asks = λ _. refl };
   }
-    where
-      inl_only : ((s : Scan) × (w.scan ≡ Some s)) ⊎ (is_late E.epoch w ≡ true) → ((s : Scan) × (w.scan ≡ Some s)) ⊎ (is_late E.epoch next ≡ true)
-      inl_only (inl s) = inl s
-      inl_only (inr t) = true_false late t
+
+  -- and what it then learns is so
+  knows : Knows E m.gate m.traced m.front m.low m.old_front m.old_low m.old_owed g m.page m.cross m.announced m.heap k next
+  knows =
+      let knew = knows_less E m g k before w forgets me in
+      let ends : Ends next.post (is_some next.account.end) = record { stays = λ e. inl still_runs; gone = λ e. true_false (runs next.post still_runs).gone e } in
+      let outside : next.post ≡ Outside → (j : ℕ) → j < 8 → next.registers j ≡ 0 = λ e. absurd ((runs next.post still_runs).outside e) in
+      let registers : is_mutator next.post ≡ true → next.account.end ≡ None → Clean E g.size g.writer (is_late E.epoch next) next.done next.registers =
+      λ u n. record { clean = λ j s t. (goes.registers n j s).clean; lands = λ j s. (goes.registers n j s).lands; old = λ t. true_false still_late t } in
+      let active : (f : Access) → next.access ≡ Some f → is_running next.post ≡ true = λ f e. still_runs in
+      let opened : (p : ℕ) → next.opened ≡ Some p → (is_running next.post ≡ true) × (m.page p ≡ Open E.epoch) = λ p e. (still_runs, goes.opened p e) in
+      let seen_traced : next.traced_seen ≡ true → ((is_running next.post ≡ true) ⊎ (is_flipper next.post ≡ true)) × (m.traced ≡ E.epoch + 1) = λ e. (inl still_runs, goes.traced_seen e) in
+      let flips : is_flipper next.post ≡ true → next.traced_seen ≡ true = λ e. true_false (runs next.post still_runs).flips e in
+      let passage : (s : GateStep) → next.gate_step ≡ Some s → Passes next.post next.epoch next.done (is_some next.account.end) next.traced_seen s.read s.passage = λ s e. none≢some (sym goes.gate_step ∙ e) in
+      assumption (origin)
 
   keeps : Invariant E m (with_worker team k next) g
   keeps =
