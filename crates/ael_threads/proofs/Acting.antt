@@ -1,5 +1,5 @@
 -- What an act tells.
-use Rattle.std.proofs.Common.{Option, None, true, ◌≡◌, ℕ, ◌<◌, List, [], ◌∷◌, Some, sym, ◌∙◌, ap, subst, arith, length}
+use Rattle.std.proofs.Common.{Option, None, true, ◌≡◌, ℕ, ◌<◌, List, [], ◌∷◌, Some, sym, ◌∙◌, subst, arith, length}
 use Rattle.std.proofs.lemmas.List.{length-replicate}
 use Rattle.atom_store.specs.declared.reply.Reply.{Reply}
 use Rattle.atom_store.specs.declared.step.Step.{Step}
@@ -95,14 +95,3 @@ acts a r s b q heads wants is worker moves = by_stepped a r s b (record {
   knows = moves;
   goes_on = workers_go_on a.knows.plan.spaces.pages a.knows.plan.mutators (first_number a.knows.hands) a.worker r (heads_fit a.knows.plan a.worker a.knows.hands heads);
 })
-
--- it stays on its side
-side_by : (a : Seated) (r : Reply) (s : Stepped) (b : Seated) → ActsBy a r s b → a.worker.number < a.worker.mutators → b.worker.number < b.worker.mutators
-side_by a r s b h below = let number = ap (λ (x : Held). x.number) h.worker ∙ h.goes_on.number in let mutators = ap (λ (x : Held). x.mutators) h.worker ∙ h.goes_on.mutators in omega (arith, below, number, mutators)
-
-pub acts_side : (a : Seated) (s : Stepped) (b : Seated) → Acts a s b → a.worker.number < a.worker.mutators → b.worker.number < b.worker.mutators
-acts_side a stepped.Idle b h below = subst (λ (z : Seated). z.worker.number < z.worker.mutators) (sym h.0) below
-acts_side a stepped.Moved b h below = side_by a h.0 stepped.Moved b h.1 below
-acts_side a (stepped.Effect m) b h below = side_by a h.0 (stepped.Effect m) b h.1 below
-acts_side a (stepped.Flipped n) b h below = side_by a h.0 (stepped.Flipped n) b h.1 below
-acts_side a (stepped.Ended m end) b h below = side_by a h.0 (stepped.Ended m end) b h.1 below

@@ -3,7 +3,6 @@ use Rattle.std.proofs.Common.{◌≡◌, ◌≢◌, ℕ, suc, ◌+◌, ◌-◌, 
 use mathlib.Core.Option.{some}
 use lib.ListN.{get_elem?}
 use Rattle.atomic_table.specs.Table as table
-use Rattle.atomic_table.specs.Seated.{TableId}
 use Rattle.gc_worker.specs.Held.{Held}
 use Rattle.ael_threads.specs.declared.view.Claim.{Claim}
 use Rattle.gc_worker.specs.declared.entry.Entry.{Entry}
@@ -12,7 +11,7 @@ use Rattle.ael_threads.specs.declared.view.Plan.{Plan}
 use Rattle.ael_threads.specs.declared.view.View.{View}
 use Rattle.ael_threads.specs.Histories.{Each, first_held, hand, new_hands, number}
 use Rattle.ael_threads.specs.Rule.{FitsView, Has, Kept, view}
-use Rattle.ael_threads.specs.Seats.{Seated, first_of, new_callers, new_seated, others_of}
+use Rattle.ael_threads.specs.Seats.{first_of, others_of}
 use Rattle.ael_threads.proofs.Places.{at_end, at_set}
 use Rattle.ael_threads.proofs.Elements.{each_both, each_map, each_of_map}
 
@@ -131,6 +130,3 @@ leaves v plan i m less e = ap others_of (e ∙ (λ k. view plan (next_hands plan
 
 pub gives : (v : View) (plan : Plan) (i m : ℕ) → i < m → v ≡ view plan (new_hands plan i (m - i)) [] [] [] → first_of v ≡ view plan (hand i (first_held plan i) [] ∷ []) [] [] []
 gives v plan i m less e = ap first_of (e ∙ (λ k. view plan (next_hands plan i m less k) [] [] []))
-
-pub next_callers : (t : TableId) (plan : Plan) (from i : ℕ) (all all' : List Seated) (c : Seated) → all ≡ new_callers t plan from i → all' ≡ all ++ c ∷ [] → c ≡ new_seated t plan (from + i) → all' ≡ new_callers t plan from (i + 1)
-next_callers t plan from i all all' c was is new = let e : suc i ≡ i + 1 = omega arith in is ∙ ((λ k. was k ++ new k ∷ []) ∙ ap (new_callers t plan from) e)

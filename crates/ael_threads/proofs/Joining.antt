@@ -16,7 +16,7 @@ use Rattle.gc_worker.specs.History.Tally.{EachEntry, EntryIs, IsTallied, tasks_h
 use Rattle.ael_threads.specs.Histories.{opened, Each, IsOnce, first_plain, number}
 use Rattle.gc_worker.specs.History.Legal.{IsLegal, after_all, calls_of, last_flip}
 use Rattle.ael_threads.specs.Rule.{FitsView, Has, Kept, Won, heap_of, spent_view, view}
-use Rattle.ael_threads.specs.Seats.{Absorbs, Learned, Learns, Me, both_of}
+use Rattle.ael_threads.specs.Seats.{Learns, Me, both_of}
 use Rattle.ael_threads.proofs.Places.{at_set, set_else}
 use Rattle.ael_threads.proofs.Elements.{each_append, each_map, each_to_map, prefix_self}
 
@@ -162,20 +162,3 @@ learns plan slots id me st live s b homes at small =
         },
       ),
     )
-
--- what both steps come to
-pub absorbs : (v u x w : View) → x ≡ both_of v u → Learned x w → Absorbs v u w
-absorbs v u x w e l =
-    let m = subst (λ (z : View). Learned z w) e l in record {
-      plan = m.plan;
-      hands = m.hands;
-      claims = m.claims;
-      mine = m.seen;
-      other = m.heard;
-      own = m.own;
-      apart = m.apart;
-      once = m.once;
-      legal = m.legal;
-      tasks = m.tasks;
-      entries = m.entries;
-    }

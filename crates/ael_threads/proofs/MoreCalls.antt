@@ -1,7 +1,6 @@
 -- What one more call of a mutator does to what its thread knows of the history that it has seen.
 use Rattle.std.proofs.Common.{◌≡◌, ℕ, ◌+◌, ◌<◌, ◌≤◌, Bool, cond, List, [], ◌∷◌, ◌++◌, length, Option, Some, None, Result, Ok, Err, slice_get, slice_set, refl, sym, ◌∙◌, ap, subst, arith, append-nil, eq-eqb}
 use Rattle.std.specs.Prelude.{IfOk, IsOk}
-use Rattle.std.specs.Option.{option_map}
 use Rattle.std.proofs.lemmas.List.{append_cancel_right, get_or-replicate, length-replicate}
 use Rattle.std.proofs.lemmas.Option.{same_Some, slice_get_within}
 use Rattle.std.proofs.Math.ListN.{length-set}
@@ -18,7 +17,6 @@ use Rattle.plain_heap.specs.declared.action.Action.{Action}
 use Rattle.plain_heap.specs.declared.action.Action.TheVariants.{Sets, Jumps, Links, Prints, Makes, Measures, Loads, Stores, Gets, Puts, Swaps}
 use Rattle.plain_heap.specs.Action.{action}
 use Rattle.plain_heap.specs.Call.{After, call, may_hold, performed, store_in, value_in}
-use Rattle.plain_heap.specs.Order.{end_of}
 use Rattle.plain_heap.specs.Step.{ended, fetch, settled}
 use Rattle.plain_heap.proofs.Counting.{Went, call-went}
 use Rattle.plain_heap.proofs.Outcomes.{if_ok-bind, if_ok-then}
@@ -119,10 +117,6 @@ module _ (m : ℕ) (seen log : List Entry) (begins : IsPrefix seen log) (same : 
         kept = omega (arith, kept, a, b);
       }
 
-  -- its end is the end that it had
-  pub ends_all : (p : Plain) → end_of (after_all p log) m ≡ end_of (after_all p seen) m
-  ends_all p = ap (option_map (λ (q : Mutator). q.end)) (agrees_all p).mutator
-
 -- ---- counts
 
 pub counts_first : (n m : ℕ) → m < n → Counts (opening_plain n) m 0
@@ -219,23 +213,6 @@ module _ (seen later : List Entry) (c : Call) (h : OneMore seen c later) where
   counted_more p count legal k =
       let t = comes_to p legal in
       subst (λ (z : Plain). Counts z c.by (count_after c.did count)) (sym (after_task p legal)) (counts_outcome (after_all p front) c.by count t.mutator c.task c.did t.is t.may (counts_all c.by seen front begins no_others p count k))
-
-  -- after a call that ends its mutator that one has its end
-  pub ends_more : (p : Plain) (end : End) → IsLegal p later → c.did ≡ Trap end → end_of (after_all p later) c.by ≡ Some (Some end)
-  ends_more p end legal trap =
-      let t = comes_to p legal in
-      let same : after_all p later ≡ after_outcome (after_all p front) c.by t.mutator c.task (Trap end) = after_task p legal ∙ ap (λ (did : Did). after_outcome (after_all p front) c.by t.mutator c.task did) trap in
-      ap (λ (z : Plain). end_of z c.by) same ∙ by_task c.task
-    where
-      t : ComesTo (after_all p front) c.by c.task c.did
-      t = comes_to p legal
-
-      within : c.by < length (after_all p front).mutators
-      within = slice_get_within (after_all p front).mutators c.by t.mutator t.is
-
-      by_task : (task : Task) → end_of (after_outcome (after_all p front) c.by t.mutator task (Trap end)) c.by ≡ Some (Some end)
-      by_task (Calls instr) = ap (option_map (λ (q : Mutator). q.end)) (slice_get-set_same (after_all p front).mutators c.by (record t.mutator { end = Some end }) within)
-      by_task (Stops why) = ap (option_map (λ (q : Mutator). q.end)) (slice_get-set_same (after_all p front).mutators c.by (record t.mutator { end = Some end }) within)
 
 -- ---- all of it
 

@@ -1,14 +1,12 @@
 -- What a mutator's thread keeps of its program from call to call.
-use Rattle.std.proofs.Common.{◌≡◌, ℕ, ◌<◌, ◌^◌, List, [], ◌∷◌, ◌++◌, Some, slice_get, refl, sym, ◌∙◌, ap, subst, arith}
+use Rattle.std.proofs.Common.{◌≡◌, ℕ, ◌<◌, ◌^◌, List, [], ◌∷◌, ◌++◌, Some, slice_get, sym, ◌∙◌, ap, subst, arith}
 use Rattle.std.specs.Prelude.{IsTrue}
 use mathlib.Core.List.{IsPrefix}
 use Rattle.atomic_table.specs.Seated.{TableId}
-use Rattle.plain_state.specs.declared.end.End.{End}
 use Rattle.plain_state.specs.declared.end.End.TheVariants.{Halt, NotPointer, NotNumber, OutOfRange, IntoRaw, ZeroDivisor, JumpOut, TurnsOut, OutputFull, HeapFull}
 use Rattle.plain_state.specs.State.{Mutator}
 use Rattle.mutator_asm.specs.declared.instr.Instr.{Instr}
 use Rattle.mutator_asm.specs.Program.{is_valid}
-use Rattle.plain_heap.specs.Order.{end_of}
 use Rattle.plain_heap.specs.Step.{fetch}
 use Rattle.gc_worker.specs.declared.task.Task.{Task}
 use Rattle.gc_worker.specs.declared.task.Task.TheVariants.{Calls}
@@ -28,7 +26,7 @@ use Rattle.gc_worker.specs.History.Order.{IsShort}
 use Rattle.ael_threads.specs.Programs.{Executes, HasExecuted, count_after}
 use Rattle.ael_threads.specs.Readers.{IsThere}
 use Rattle.ael_threads.specs.Seats.{IsMine, IsShown, Seated, ShowsSeen, first_number, first_own, new_seated, plain_seen}
-use Rattle.ael_threads.proofs.MoreCalls.{OneMore, ends_more, executes_all, executes_first, executes_more, one_more}
+use Rattle.ael_threads.proofs.MoreCalls.{OneMore, executes_all, executes_first, executes_more, one_more}
 use Rattle.gc_worker.proofs.History.Extensions.{seen_keeps}
 use Rattle.ael_threads.proofs.Showing.{mutator_at}
 
@@ -108,10 +106,3 @@ executed_more code turns count a b task did mine was h own =
     executes_more code turns (first_plain a.knows.plan) a.knows.seen b.knows.seen c count (called_more a b task did mine h) h.history.legal was own
     (short_by a.knows.plan.spaces.pages h.acts.knows.before h.last.worker did h.full) in
     seen_as code turns (count_after did count) a b m h.plan (ap first_number h.hands) now
-
--- a call that ends it is its end
-pub ended_more : (a b : Seated) (task : Task) (end : End) → IsMine a.knows → Called a task (Trap end) b → end_of (plain_seen b.knows) (first_number b.knows.hands) ≡ Some (Some end)
-ended_more a b task end mine h =
-    let m : ℕ = first_number a.knows.hands in
-    let e = ends_more a.knows.seen b.knows.seen (call_by a task (Trap end)) (called_more a b task (Trap end) mine h) (first_plain a.knows.plan) end h.history.legal refl in
-    ap (λ (plan : Plan). end_of (after_all (first_plain plan) b.knows.seen) (first_number b.knows.hands)) h.plan ∙ (ap (λ (n : ℕ). end_of (after_all (first_plain a.knows.plan) b.knows.seen) n) (ap first_number h.hands) ∙ e)

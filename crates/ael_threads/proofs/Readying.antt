@@ -1,6 +1,5 @@
 -- A caller between two steps.
-use Rattle.std.proofs.Common.{None, inl, inr, ◌≡◌, ℕ, ◌+◌, ◌<◌, ◌≤◌, Bool, true, false, nat_lt, List, [], ◌∷◌, ◌++◌, Some, refl, sym, ap, subst, ◌∙◌, slice_get, arith, lt-ltb}
-use Rattle.std.proofs.lemmas.Bool.{le-ltb}
+use Rattle.std.proofs.Common.{None, inl, inr, ◌≡◌, ℕ, ◌+◌, ◌<◌, ◌≤◌, Bool, true, false, nat_lt, List, [], ◌∷◌, ◌++◌, Some, refl, sym, ap, subst, ◌∙◌, slice_get, arith}
 use Rattle.std.specs.Prelude.{if◌then◌else◌}
 use mathlib.Core.List.{IsPrefix}
 use Rattle.atomic_table.specs.Seated.{TableId}
@@ -90,12 +89,6 @@ first_fits plan k size few = by_side (nat_lt k plan.mutators) refl
     by_side : (b : Bool) → nat_lt k plan.mutators ≡ b → Fits plan.spaces.pages plan.mutators k (if b then fresh_mutator plan.spaces.pages plan.mutators k else fresh_scanner plan.spaces.pages plan.mutators k)
     by_side true e = mutator_fits plan.spaces.pages plan.mutators k size few e
     by_side false e = scanner_fits plan.spaces.pages plan.mutators k size few e
-
-pub mutator_first : (plan : Plan) (k : ℕ) (x : Held) → k < plan.mutators → x ≡ fresh_mutator plan.spaces.pages plan.mutators k → x ≡ first_held plan k
-mutator_first plan k x below is = is ∙ sym (ap (λ (b : Bool). if b then fresh_mutator plan.spaces.pages plan.mutators k else fresh_scanner plan.spaces.pages plan.mutators k) (lt-ltb k plan.mutators below))
-
-pub scanner_first : (plan : Plan) (k : ℕ) (x : Held) → plan.mutators ≤ k → x ≡ fresh_scanner plan.spaces.pages plan.mutators k → x ≡ first_held plan k
-scanner_first plan k x past is = is ∙ sym (ap (λ (b : Bool). if b then fresh_mutator plan.spaces.pages plan.mutators k else fresh_scanner plan.spaces.pages plan.mutators k) (le-ltb k plan.mutators past))
 
 pub fresh_heads : (plan : Plan) (k : ℕ) (x : Held) (v : View) → IsPageCount plan.spaces.pages → k ≤ 23 → x ≡ first_held plan k → v ≡ view plan (hand k (first_held plan k) [] ∷ []) [] [] [] → Heads v.plan x v.hands
 fresh_heads plan k x v size few e is =

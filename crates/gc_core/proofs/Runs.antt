@@ -61,9 +61,3 @@ pub came_out_order : (schedule : ℕ → ℕ) (at steps : ℕ) (s : CoreState) (
     → ComesToOrder schedule at steps s marks all → marks ≡ all.order
 came_out_order schedule at steps s marks all done h =
     let none : steps - at ≡ 0 = omega arith in sym (append-nil marks) ∙ (rw (run_out schedule at (steps - at) s none) at h.order)
-
-pub comes_all : (schedule : ℕ → ℕ) (steps : ℕ) (s : CoreState) → ComesTo schedule 0 steps s (run_from schedule 0 steps s)
-comes_all schedule steps s = let e : steps - 0 ≡ steps = omega arith in record { last = rw e }
-
-pub comes_all_order : (schedule : ℕ → ℕ) (steps : ℕ) (s : CoreState) → ComesToOrder schedule 0 steps s [] (run_from schedule 0 steps s)
-comes_all_order schedule steps s = let e : steps - 0 ≡ steps = omega arith in record { order = rw e }
