@@ -68,7 +68,7 @@ less_steps {s = s} {u = u} less p = record {
 less_rounds : {E : Era} {traced front d : ℕ} {r u : Round} → r.traced ≡ u.traced → IsLess r.front u.front → Rounds E traced front d u → Rounds E traced front d r
 less_rounds same less p = record { traced_then = rw same p.traced_then; front_then = λ f e n. p.front_then f (less f e) n }
 
--- of the pages that it claims and looks at, a worker knows what one knows that forgets nothing there
+-- what is known of pages is so of a worker of the same epoch that has forgotten some of it
 less_at_pages : {E : Era} {traced front behind : ℕ} {size writer : ℕ → ℕ} {page : ℕ → PageWord} {w v : Worker} → w.epoch ≡ v.epoch → ((r : Round) → w.round ≡ Some r → IsLessRound r v.round) → LessAtPages w v
     → KnowsAtPages E traced front behind size writer page v → KnowsAtPages E traced front behind size writer page w
 less_at_pages same rounds less p = record {
