@@ -335,11 +335,6 @@ claims_page d stage before after in_place page sound whole acts =
 
 -- ---- all have left
 
--- it comes at the gate alone
-abbrev IsFirst : DutyStage → Type 0
-IsFirst LoadsGate = Unit {0}
-IsFirst stage = ⊥
-
 no_left : (word : ℕ) → IsNothing (AllLeft word) → ⊥
 no_left word is = let e = is.1 in cc
 
@@ -355,6 +350,7 @@ sees_left d LoadsGate before after word acts =
     let loaded : ℕ = row_of d Gate before in
     let ends = left_ends (at_stage d LoadsGate) loaded word (decode_gate loaded) acts.tells in
     record {
+      first = refl;
       mutators = ends.mutators;
       scanner = ends.caller;
       gate = ends.gate;

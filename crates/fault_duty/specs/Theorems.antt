@@ -104,6 +104,7 @@ TracedEpochsEndRounds = (d : Round) (hindrance : Option ℕ) (words : List ℕ) 
 
 -- the gate's word, which a scanner reads first, counts all mutators as left; no word changes
 pub record SeesAllLeft (d : Round) (before after : List ℕ) (word : ℕ) : Type 0 where
+  pub first : d.stage ≡ LoadsGate
   pub mutators : ℕ
   pub scanner : d.caller ≡ Scans mutators
   pub gate : GateWord

@@ -1,4 +1,5 @@
 pub mod Going
+pub mod GoingOn
 pub mod Looking
 pub mod Acting
 pub mod Outcomes

@@ -9,6 +9,8 @@ pub mod Begun
 pub mod Readying
 pub mod Beginning
 pub mod Wanting
+pub mod Gone
+pub mod Last
 pub mod Opening
 pub mod GoingOn
 pub mod Others

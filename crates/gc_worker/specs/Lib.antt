@@ -1,6 +1,8 @@
 pub mod Seen
 pub mod Held
 pub mod Access
+pub mod HeldUp
+pub mod AccessRows
 pub mod Turned
 pub mod Answer
 pub mod Full
@@ -10,6 +12,7 @@ pub mod Fits
 pub mod Goes
 pub mod Law
 pub mod Between
+pub mod Gone
 pub mod Copied
 pub mod Claims
 pub mod Past

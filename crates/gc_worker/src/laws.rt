@@ -1,7 +1,10 @@
 //! What holds of a worker's steps. Each function here does nothing: its contract is what is proved.
 
 ghost use Rattle.gc_worker.specs.Law.{StepsKeep, FlipsAreWon, PlacesFit, RegistersLeadBack};
+ghost use Rattle.gc_worker.specs.HeldUp.{AccessesGoOn, LostSwapsLoadAgain};
+ghost use Rattle.gc_worker.specs.AccessRows.{LostSwapIsTriedAgain, NextPageIsLookedAt, SamePageIsNotLookedAt, ClosedPageIsAFault, NoSuchValueFails};
 ghost use Rattle.gc_worker.specs.Between.{HeapsOpen, ReadyingStands, TasksMayBegin, WorkersGoOn, WorkersWant, WhatStandsIsSo, AnswersLeaveTheOthers};
+ghost use Rattle.gc_worker.specs.Gone.{ScannersBeginLast, ScannersStayLast, WhoIsGoneSawWhy};
 ghost use Rattle.gc_worker.specs.Begun.{BeginningsAreKept, FullIsFoundLater};
 ghost use Rattle.gc_worker.specs.Claims.{TracedPagesAreOpen, FlipsAreOfTraced, PagesAreOpenedByClaims, LowRisesAtFlips, CopiedPagesAreBelowLow};
 ghost use Rattle.gc_worker.specs.Copied.{CopiedWasLive, FullTellsLive};
@@ -60,6 +63,34 @@ pub fn workers_go_on()
 /// A worker wants a step until it is gone.
 pub fn workers_want()
     ensures { WorkersWant }
+{}
+
+/// Nothing but a lost exchange holds an access up, whatever words its steps meet, or a word that can't be there. A lost exchange loads
+/// the word again, and the next one is from what stands there then.
+pub fn accesses_go_on()
+    ensures held_up { AccessesGoOn }
+    ensures lost { LostSwapsLoadAgain }
+{}
+
+/// Accesses, worked out step by step with all words as numbers.
+pub fn accesses_are_worked_out()
+    ensures lost_swap_is_tried_again { LostSwapIsTriedAgain }
+    ensures next_page_is_looked_at { NextPageIsLookedAt }
+    ensures same_page_is_not_looked_at { SamePageIsNotLookedAt }
+    ensures closed_page_is_a_fault { ClosedPageIsAFault }
+    ensures no_such_value_fails { NoSuchValueFails }
+{}
+
+/// The step after which a worker is gone is a mutator's won exchange of the gate that counts it as left, or a scanner's look at a gate that
+/// counts all mutators as left.
+pub fn who_is_gone_saw_why()
+    ensures { WhoIsGoneSawWhy }
+{}
+
+/// Scanners go last: a heap begins so that once a scanner is gone all mutators are, and each step of a worker keeps that.
+pub fn scanners_go_last()
+    ensures begin { ScannersBeginLast }
+    ensures stay { ScannersStayLast }
 {}
 
 /// What is so of a heap with its workers between any two steps: its words represent the plain state, each mutator is as its plain one,

@@ -1,0 +1,8 @@
+use Rattle.gc_worker.proofs.Accessing.GoingOn.{accesses_go_on, lost_swaps_load_again}
+use Rattle.gc_worker.proofs.laws.accesses_go_on.Goals as goal
+
+pub returns-clause-held_up : goal.returns-clause-held_up
+returns-clause-held_up c = accesses_go_on
+
+pub returns-clause-lost : goal.returns-clause-lost
+returns-clause-lost c = lost_swaps_load_again
