@@ -19,6 +19,7 @@ use Rattle.gc_worker.specs.Held.{Held}
 use Rattle.gc_worker.specs.Law.{WorkersStand, held_at, read}
 use Rattle.gc_worker.specs.Turned.{epoch_in as epoch_in_gate}
 use Rattle.gc_worker.proofs.Gate.Words.{gate_says}
+use Rattle.gc_worker.proofs.Between.Last.{scanners_begin_last}
 use Rattle.gc_worker.proofs.Between.Opening.{is_there}
 use Rattle.gc_worker.specs.declared.config.Config.{Config}
 use Rattle.gc_worker.proofs.Outcomes.{opens_so}
@@ -63,6 +64,7 @@ module _ (opens : HeapsOpen) (code : List (List Instr)) (items : List Item) (con
     sections = refl;
     turns_fit = turns;
     on_task = λ m l. let e = mutator_there m l in record { counted = rw e (omega arith); within = rw e (omega arith); task = λ task t. none≢some (sym (ap (λ (h : Held). h.task) e) ∙ t) };
+    last = scanners_begin_last config.pages (length code) config.scanners;
   }
 
   pub opening_lawful : IsLawful (opening_core code config)

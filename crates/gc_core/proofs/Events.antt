@@ -1,5 +1,5 @@
 -- The law of an event, from the law of a worker's step.
-use Rattle.std.proofs.Common.{◌≡◌, ◌≢◌, ℕ, ◌+◌, ◌<◌, ◌≤◌, true, false, nat_lt, length, Option, Some, None, slice_get, get_or, refl, ap, sym, subst, ◌∙◌, arith, get_or-set_same, get_or-set_other, lt-ltb, ⊎_elim}
+use Rattle.std.proofs.Common.{◌≡◌, ◌≢◌, ℕ, ◌+◌, ◌<◌, ◌≤◌, true, false, nat_lt, length, Option, Some, None, slice_get, get_or, refl, ap, sym, subst, ◌∙◌, arith, get_or-set_same, get_or-set_other, length-set, lt-ltb, ⊎_elim}
 use Rattle.std.specs.Option.{is_some, option_map, option_to_list}
 use Rattle.std.proofs.lemmas.Bool.{cases_eq, cases_lt}
 use Rattle.std.proofs.lemmas.List.{get_or_past}
@@ -21,6 +21,7 @@ use Rattle.gc_worker.specs.Answer.{ComesTo, MayCome, IsAnswered, after_outcome, 
 use Rattle.gc_worker.specs.Between.{ReadyingStands, TasksMayBegin, WorkersGoOn, WorkersWant, WhatStandsIsSo, GoesOn, IsSo, IsNoAnswer}
 use Rattle.gc_worker.specs.Fits.{Fits, IsOnSide}
 use Rattle.gc_worker.specs.Full.{FullByEnd, FullWhereTold}
+use Rattle.gc_worker.specs.Gone.{ScannersAreLast}
 use Rattle.gc_worker.specs.Held.{Held}
 use Rattle.gc_worker.specs.Law.{Heap, nobody, held_at, read, moved, WorkersStand, StepKeeps, StepsKeep, FlipsWhereTold, epoch_of, at_flip}
 use Rattle.gc_worker.specs.declared.did.Did.{Did}
@@ -34,11 +35,12 @@ use Rattle.gc_core.specs.Core.{CoreState}
 use Rattle.gc_core.specs.Event.{event_of, ready}
 use Rattle.gc_worker.specs.Stepped.{stepped_by}
 use Rattle.gc_worker.specs.Claims.{epoch_in}
-use Rattle.gc_core.specs.Law.{IsOnTask, IsSteady, IsForWant, IsTold, Keeps, EventsKeep, EventsMeet, plain_after, story_by}
+use Rattle.gc_core.specs.Law.{AllHaveLeft, IsOnTask, IsScanner, IsSteady, IsForWant, IsTold, Keeps, EventsKeep, EventsMeet, plain_after, story_by}
 use Rattle.gc_core.specs.Whole.{MissingWorkersAreIdle}
+use Rattle.gc_worker.proofs.Between.Last.{scanners_last_with, scanners_stay_last}
 use Rattle.gc_worker.proofs.Represented.{represented_workers}
 use Rattle.gc_worker.proofs.Outcomes.{Sort, IsFull, IsStep, sort, comes, end_then, asks_then, counted_then, was_running}
-use Rattle.gc_core.proofs.Readied.{Ready, readied_stands, same_task, ready_task, ready_account}
+use Rattle.gc_core.proofs.Readied.{Ready, readied_stands, same_task, ready_task, ready_account, ready_stage}
 
 -- ---- idle
 
@@ -47,8 +49,8 @@ module _ (s : CoreState) (w : ℕ) (story : Story) (steady : IsSteady s) (stands
   unfolding event_of
   idle_event none = rw none refl
 
-  pub idle_keeps : wanted (ready s w) ≡ None → end_of story.now w ≢ Some None → Keeps s w story
-  idle_keeps none ended = let e = idle_event none in record { steady = rw e steady; stands = rw e stands; told = rw e (refl, ended) }
+  pub idle_keeps : wanted (ready s w) ≡ None → end_of story.now w ≢ Some None → (IsScanner s.heap w → AllHaveLeft s.heap) → Keeps s w story
+  idle_keeps none ended left = let e = idle_event none in record { steady = rw e steady; stands = rw e stands; told = rw e (refl, ended, left) }
 
 -- ---- the story
 
@@ -127,6 +129,10 @@ module _ (law : StepsKeep) (goes : WorkersGoOn) (wants : WorkersWant) (so : What
       by_found : (o : Option Mutator) → slice_get p.mutators w ≡ o → option_map (λ k. k.end) o ≡ Some None → ⊥
       by_found None e f = absurd (cc)
       by_found (Some q) e f = by_end q e (let g : q.end ≡ None = cc in g)
+
+  -- and all mutators are, where it is a scanner
+  gone_last : y.stage ≡ Gone → IsScanner s.heap w → AllHaveLeft s.heap
+  gone_last gone scanner m l = steady.last w m scanner.1 scanner.0 (sym (ready_stage s w) ∙ gone) l
 
   -- ---- it makes a step
 
@@ -274,6 +280,11 @@ module _ (law : StepsKeep) (goes : WorkersGoOn) (wants : WorkersWant) (so : What
     own_on l (Marks asked) e answered = still_task l (rw e refl) (rw e tt)
     own_on l (Answers task outcome) e answered = answered_task l task outcome e answered
 
+    ready_last : ScannersAreLast r.heap
+    ready_last =
+        let below : w < length s.heap.workers = (let n = length-set s.heap.workers w y in let a = ap (λ (h : Heap). length h.workers) r.is in let b = r.below in omega (arith, n, a, b)) in
+        subst ScannersAreLast (sym r.is) (scanners_last_with s.heap w y below (ready_stage s w) steady.last)
+
     later_steady : IsSteady later
     later_steady = record {
       valid = steady.valid;
@@ -283,6 +294,7 @@ module _ (law : StepsKeep) (goes : WorkersGoOn) (wants : WorkersWant) (so : What
           (λ (e : m ≡ w). rw e (own_on (omega (arith, l, e, c)) t refl keeps.answered))
           (λ (d : m ≢ w). other_task m (omega (arith, l, c)) d)
           (cases_eq m w);
+      last = scanners_stay_last r.heap p story.flip w y q r.stands r.below r.holds asked ready_last;
     }
 
     pub step_keeps : Keeps s w story
@@ -300,8 +312,8 @@ module _ (law : StepsKeep) (readies : ReadyingStands) (tasks : TasksMayBegin) (g
   by_want : (s : CoreState) (w : ℕ) (story : Story) (steady : IsSteady s) (stands : WorkersStand s.heap story.now story.flip) (r : Ready s w story.now story.flip)
       → (o : Option Step) → wanted (ready s w) ≡ o → Keeps s w story
   by_want s w story steady stands r None e =
-      idle_keeps s w story steady stands e
-      (gone_ended law goes wants so s w story steady r ((wants r.heap.pages r.heap.mutators w (ready s w) (fits law goes wants so s w story steady r)).0 e))
+      let gone = (wants r.heap.pages r.heap.mutators w (ready s w) (fits law goes wants so s w story steady r)).0 e in
+      idle_keeps s w story steady stands e (gone_ended law goes wants so s w story steady r gone) (gone_last law goes wants so s w story steady r gone)
   by_want s w story steady stands r (Some q) e = step_keeps law goes wants so s w story steady r q e
 
   -- there is no such worker
@@ -318,7 +330,8 @@ module _ (law : StepsKeep) (readies : ReadyingStands) (tasks : TasksMayBegin) (g
   pub events_keep : EventsKeep
   events_keep s w story steady stands = ⊎_elim
       (λ (below : w < length s.heap.workers). by_want s w story steady stands (readied_stands readies tasks s w story.now story.flip steady stands below) (wanted (ready s w)) refl)
-      (λ (past : length s.heap.workers ≤ w). idle_keeps s w story steady stands (missing s w past) (not_there s w story.now story.flip stands past))
+      (λ (past : length s.heap.workers ≤ w). idle_keeps s w story steady stands (missing s w past) (not_there s w story.now story.flip stands past)
+      (λ scanner m l. absurd (let there = scanner.1 in omega (arith, there, past))))
       (cases_lt w (length s.heap.workers))
 
   -- ---- of each plain state that is represented

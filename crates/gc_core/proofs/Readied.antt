@@ -168,3 +168,10 @@ ready_account s w = by_due (due s.code s.turns w (held_at s.heap w))
     by_due : Due s.code s.turns w (held_at s.heap w) → (ready s w).account ≡ (held_at s.heap w).account
     by_due (Begins stage none is) = ap (λ (h : Held). h.account) is
     by_due (Rests is) = ap (λ (h : Held). h.account) is
+
+pub ready_stage : (s : CoreState) (w : ℕ) → (ready s w).stage ≡ (held_at s.heap w).stage
+ready_stage s w = by_due (due s.code s.turns w (held_at s.heap w))
+  where
+    by_due : Due s.code s.turns w (held_at s.heap w) → (ready s w).stage ≡ (held_at s.heap w).stage
+    by_due (Begins stage none is) = ap (λ (h : Held). h.stage) is
+    by_due (Rests is) = ap (λ (h : Held). h.stage) is

@@ -10,10 +10,12 @@ use Rattle.plain_heap.specs.Step.{asked_by}
 use Rattle.plain_heap.specs.Order.{Story, state_after, story_after, end_of}
 use Rattle.heap_state.specs.Represents.{Represents}
 use Rattle.gc_worker.specs.declared.config.TheConstants.{MOST_TURNS}
+use Rattle.gc_worker.specs.declared.stage.Stage.TheVariants.{Gone}
 use Rattle.gc_worker.specs.declared.task.Task.{Task}
 use Rattle.gc_worker.specs.Full.{FindsNoRoom}
 use Rattle.gc_worker.specs.Held as held
 use Rattle.gc_worker.specs.Claims.{epoch_in}
+use Rattle.gc_worker.specs.Gone.{ScannersAreLast}
 use Rattle.gc_worker.specs.Law.{Heap, WorkersStand, held_at, read}
 use Rattle.gc_worker.specs.declared.stepped.Stepped.{Stepped}
 use Rattle.gc_worker.specs.declared.stepped.Stepped.TheVariants.{Idle, Moved, Effect, Flipped, Ended}
@@ -29,12 +31,13 @@ pub record IsOnTask (s : CoreState) (m : ℕ) : Type 0 where
   pub within : (held_at s.heap m).account.executed ≤ s.turns
   pub task : (t : Task) → (held_at s.heap m).task ≡ Some t → t ≡ next_task s.code s.turns m (held_at s.heap m)
 
--- there is a mutator for each section of valid code, and each is on its task
+-- there is a mutator for each section of valid code, and each is on its task; once a scanner is gone, all mutators are
 pub record IsSteady (s : CoreState) : Type 0 where
   pub valid : IsTrue (list_all (list_all is_valid) s.code)
   pub sections : length s.code ≡ s.heap.mutators
   pub turns_fit : s.turns ≤ MOST_TURNS
   pub on_task : (m : ℕ) → m < s.heap.mutators → IsOnTask s m
+  pub last : ScannersAreLast s.heap
 
 -- it is steady, and its heap stands for some plain state
 pub record IsLawful (s : CoreState) : Type 0 where
@@ -66,11 +69,19 @@ IsForWant s p m ends.JumpOut = ⊤
 IsForWant s p m ends.TurnsOut = ⊤
 IsForWant s p m ends.OutputFull = ⊤
 
--- What is told of an event of worker w is so: an idle worker has its end, or is no mutator, and nothing changed. An effect or
--- an end is of mutator w, which had no end, and has just the end that is told. A flip is for the pages that the worker's task asks
--- for, and comes into the next epoch; nothing else changes the epoch.
+-- worker w is a scanner
+abbrev pub IsScanner : Heap → ℕ → Type 0
+IsScanner h w = (h.mutators ≤ w) × (w < length h.workers)
+
+-- each mutator is gone
+abbrev pub AllHaveLeft : Heap → Type 0
+AllHaveLeft h = (m : ℕ) → m < h.mutators → (held_at h m).stage ≡ Gone
+
+-- What is told of an event of worker w is so: an idle mutator has its end, of an idle scanner all mutators are gone, and nothing
+-- changed. An effect or an end is of mutator w, which had no end, and has just the end that is told. A flip is for the pages that the
+-- worker's task asks for, and comes into the next epoch; nothing else changes the epoch.
 abbrev pub IsTold : CoreState → ℕ → Plain → Heap → Stepped → Type 0
-IsTold s w p after Idle = (after ≡ s.heap) × (end_of p w ≢ Some None)
+IsTold s w p after Idle = (after ≡ s.heap) × (end_of p w ≢ Some None) × (IsScanner s.heap w → AllHaveLeft s.heap)
 IsTold s w p after Moved = epoch_in after ≡ epoch_in s.heap
 IsTold s w p after (Flipped asked) = (asked ≡ held.asked_by (ready s w)) × (epoch_in after ≡ epoch_in s.heap + 1)
 IsTold s w p after (Effect m) = (m ≡ w) × (end_of p m ≡ Some None) × (end_of (plain_after s p (Effect m)) m ≡ Some None) × (epoch_in after ≡ epoch_in s.heap)
