@@ -13,6 +13,7 @@ pub mod Goes
 pub mod Law
 pub mod Between
 pub mod Gone
+pub mod Progress
 pub mod Copied
 pub mod Claims
 pub mod Past

@@ -5,6 +5,7 @@ ghost use Rattle.gc_worker.specs.HeldUp.{AccessesGoOn, LostSwapsLoadAgain};
 ghost use Rattle.gc_worker.specs.AccessRows.{LostSwapIsTriedAgain, NextPageIsLookedAt, SamePageIsNotLookedAt, ClosedPageIsAFault, NoSuchValueFails};
 ghost use Rattle.gc_worker.specs.Between.{HeapsOpen, ReadyingStands, TasksMayBegin, WorkersGoOn, WorkersWant, WhatStandsIsSo, AnswersLeaveTheOthers};
 ghost use Rattle.gc_worker.specs.Gone.{ScannersBeginLast, ScannersStayLast, WhoIsGoneSawWhy};
+ghost use Rattle.gc_worker.specs.Progress.{MachinesGoOn};
 ghost use Rattle.gc_worker.specs.Begun.{BeginningsAreKept, FullIsFoundLater};
 ghost use Rattle.gc_worker.specs.Claims.{TracedPagesAreOpen, FlipsAreOfTraced, PagesAreOpenedByClaims, LowRisesAtFlips, CopiedPagesAreBelowLow};
 ghost use Rattle.gc_worker.specs.Copied.{CopiedWasLive, FullTellsLive};
@@ -79,6 +80,13 @@ pub fn accesses_are_worked_out()
     ensures same_page_is_not_looked_at { SamePageIsNotLookedAt }
     ensures closed_page_is_a_fault { ClosedPageIsAFault }
     ensures no_such_value_fails { NoSuchValueFails }
+{}
+
+/// A step from a heap that stands, after which the same machine is at work, leaves it less to do, by the machine's own count of what is
+/// left; or its exchange was lost; or it loaded the first word of a record whose header another worker keeps; or the worker waits for
+/// others: the gate doesn't let it in or run on yet, mutators run or are behind while it is to flip, or it is a scanner, whose round has ended.
+pub fn machines_go_on()
+    ensures { MachinesGoOn }
 {}
 
 /// The step after which a worker is gone is a mutator's won exchange of the gate that counts it as left, or a scanner's look at a gate that

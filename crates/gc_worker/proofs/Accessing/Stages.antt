@@ -1,16 +1,17 @@
 -- All stages of an access.
-use Rattle.std.proofs.Common.{◌≡◌, ℕ, ◌≤◌, Some, sym, subst}
+use Rattle.std.proofs.Common.{◌≡◌, ℕ, ◌≤◌, true, Some, sym, ap, subst}
 use Rattle.plain_state.specs.State.{Plain}
 use Rattle.plain_state.specs.declared.value.Value.TheVariants.{Reference}
 use Rattle.plain_heap.specs.declared.action.Action.{Action}
 use Rattle.plain_heap.specs.declared.action.Action.TheVariants.{Sets, Jumps, Links, Prints, Makes, Measures, Loads, Stores, Gets, Puts, Swaps}
-use Rattle.heap_state.specs.Configuration.{Configuration, Stands, era}
+use Rattle.heap_words.specs.Decoded.{decode}
+use Rattle.heap_state.specs.Configuration.{Configuration, Stands, era, memory}
 use Rattle.gc_worker.specs.declared.access.Access.{Access}
 use Rattle.gc_worker.specs.declared.access_stage.AccessStage.{AccessStage}
 use Rattle.gc_worker.specs.declared.access_stage.AccessStage.TheVariants.{LooksAtRecord, LoadsHeader, LooksAtField, LoadsField, StoresField, LooksAtBoard, LoadsBoard, StoresBoard, LoadsForSwap, SwapsBoard}
 use Rattle.gc_worker.specs.declared.record_access.RecordAccess.{RecordAccess}
 use Rattle.gc_worker.specs.declared.stage.Stage.TheVariants.{Accesses}
-use Rattle.gc_worker.specs.Access.{begun}
+use Rattle.gc_worker.specs.Access.{begun, is_header}
 use Rattle.gc_worker.specs.Fits.{Executes}
 use Rattle.gc_worker.specs.Goes.{Is, StepsSo}
 use Rattle.gc_worker.specs.Held.{Held, at_stage}
@@ -24,17 +25,17 @@ use Rattle.gc_worker.proofs.Accessing.Looking.{looks_at_record, looks_at_field, 
 module _ (c : Configuration) (p : Plain) (s : Stands c p) (k : ℕ) (x : Held) where
   -- ---- the record that the action names
 
-  module _ (r : RecordAccess) (is : Is c k (at c p s k x (LooksAtRecord r))) where
+  module _ (stage : AccessStage) (r : RecordAccess) (is : Is c k (at c p s k x stage)) where
     abbrev Holds_it : ℕ → Type 0
-    Holds_it a = Held_value c p s k x (LooksAtRecord r) is (Reference (record { mutator = 0; serial = a }))
+    Holds_it a = Held_value c p s k x stage is (Reference (record { mutator = 0; serial = a }))
 
     at_address : (u : RecordAccess) → Some (LooksAtRecord u) ≡ Some (LooksAtRecord r) → Holds_it u.at → Holds_it r.at
     at_address u e holds = let same : u.at ≡ r.at = cc in subst Holds_it same holds
 
     named_by : (act : Action) → Executes x.account x.registers x.task act → begun act ≡ Some (LooksAtRecord r) → Holds_it r.at
-    named_by (Measures d j) executes e = at_address _ e (names c p s k x (LooksAtRecord r) is (Measures d j) executes)
-    named_by (Loads d j y) executes e = at_address _ e (names c p s k x (LooksAtRecord r) is (Loads d j y) executes)
-    named_by (Stores j y v) executes e = at_address _ e (names c p s k x (LooksAtRecord r) is (Stores j y v) executes).0
+    named_by (Measures d j) executes e = at_address _ e (names c p s k x stage is (Measures d j) executes)
+    named_by (Loads d j y) executes e = at_address _ e (names c p s k x stage is (Loads d j y) executes)
+    named_by (Stores j y v) executes e = at_address _ e (names c p s k x stage is (Stores j y v) executes).0
     named_by (Sets d v) executes e = absurd (cc)
     named_by (Jumps target) executes e = absurd (cc)
     named_by (Links d target) executes e = absurd (cc)
@@ -44,8 +45,13 @@ module _ (c : Configuration) (p : Plain) (s : Stands c p) (k : ℕ) (x : Held) w
     named_by (Puts y v) executes e = absurd (cc)
     named_by (Swaps d y v) executes e = absurd (cc)
 
-    low : (era c).start ≤ r.at
-    low = (led c p s k x (LooksAtRecord r) is r.at is.fits.stage.sound.stage.0 (named_by is.fits.task.act is.fits.task.executes is.fits.task.is)).inside.0
+  low : (r : RecordAccess) → Is c k (at c p s k x (LooksAtRecord r)) → (era c).start ≤ r.at
+  low r is = (led c p s k x (LooksAtRecord r) is r.at is.fits.stage.sound.stage.0 (named_by (LooksAtRecord r) r is is.fits.task.act is.fits.task.executes is.fits.task.is)).inside.0
+
+  -- where it loads the header, there is one
+  pub header_there : (r : RecordAccess) → Is c k (at c p s k x (LoadsHeader r)) → is_header (decode ((memory c).heap r.at)) ≡ true
+  header_there r is =
+      ap is_header (led c p s k x (LoadsHeader r) is r.at is.fits.stage.sound.stage.0 (named_by (LoadsHeader r) r is is.fits.task.act is.fits.task.executes is.fits.task.is)).header
 
   -- ---- the stages
 

@@ -91,7 +91,7 @@ module _ (c : Configuration) (p : Plain) (s : Stands c p) (k : ℕ) (y : Held) (
   abbrev Finds : Type 0
   Finds = (len to : ℕ) → decode first_word ≡ ForwardWord len to → Goes c p s k None (at y o v LoadsHeader) (Value first_word)
 
-  answers : OldHeaderAnswers (era c) (memory c) s.ghost k (quest_with y v o None)
+  pub answers : OldHeaderAnswers (era c) (memory c) s.ghost k (quest_with y v o None)
   answers =
       old_headers_are_read (era c) (memory c) (team c) s.ghost k (quest_with y v o None) (prepared c p s k (at y o v LoadsHeader) is)
       (ap (λ (u : Worker). u.quest) is.as_known ∙ quest_is y v o LoadsHeader) (ap (λ (u : Worker). u.copy) is.as_known ∙ copy_is y v o LoadsHeader)

@@ -137,11 +137,15 @@ module _ (c : Configuration) (p : Plain) (s : Stands c p) (k : ℕ) (y : Held) (
         (rw (max_comm (a + first_field (said_kind h.kind 0)) (first_word u.page)) law)
         (rw said refl) (λ sound. rw said sound) refl
 
+    -- its header stands there, and it reaches past that word
+    pub first_header : (h : MeetsHeader (memory c) a) × (64 * u.page < a + (h.len + 1))
+    first_header = (answers1.first a apart1 refl).1
+
     pub reads_first : StepsSo c p s k x1
     reads_first =
-        let f = answers1.first a apart1 refl in
+        let f = first_header in
         wants c p s k x1 (Load (place_of c.pages (HeapWord a))) (rw (is.fits.stage.0.layout, is.fits.pages) refl)
-        (loads c p s k x1 (HeapWord a) (let i = inside1 in omega (arith, i)) (goes1 f.1.0 f.1.1))
+        (loads c p s k x1 (HeapWord a) (let i = inside1 in omega (arith, i)) (goes1 f.0 f.1))
 
 -- ---- the next record
 
@@ -175,7 +179,7 @@ module _ (c : Configuration) (p : Plain) (s : Stands c p) (k : ℕ) (y : Held) (
     below2 : q.next < 64 * u.page + 64
     below2 = let o = on_page in omega (arith, o)
 
-    answer2 : MeetsHeader (memory c) q.next
+    pub answer2 : MeetsHeader (memory c) q.next
     answer2 = (scans_are_answered (era c) (memory c) (team c) s.ghost k now2 (prepared c p s k x2 is) scans2).next (seen_of q) apart2 refl refl below2 (inner_or_not u.in_place refl)
 
     goes2 : (h : MeetsHeader (memory c) q.next) → Goes c p s k None x2 (Value (word_in c.pages c.words (HeapWord q.next)))

@@ -1,0 +1,7 @@
+pub mod Lowering
+pub mod Copies
+pub mod Scans
+pub mod Accesses
+pub mod Replies
+pub mod Ends
+pub mod Whole

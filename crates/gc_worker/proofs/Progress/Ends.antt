@@ -1,0 +1,178 @@
+-- A machine that has come to its end: another one is at work then, but for a worker that waits for others.
+use Rattle.std.proofs.Common.{◌≡◌, ℕ, ◌+◌, ◌-◌, Bool, true, false, cond, Option, Some, None, refl, sym, ap, subst, ◌∙◌, arith}
+use Rattle.std.specs.Prelude.{⊤}
+use Rattle.atom_store.specs.declared.reply.Reply.{Reply}
+use Rattle.atom_store.specs.declared.reply.Reply.TheVariants.{Value, Done, Won, Lost}
+use Rattle.atom_store.specs.declared.turn.Turn.TheVariants.{Finished}
+use Rattle.record_layout.specs.declared.header.Header.{Header}
+use Rattle.alloc_end.specs.declared.allocated.Allocated.{Allocated}
+use Rattle.alloc_end.specs.declared.allocated.Allocated.TheVariants.{Placed, Full}
+use Rattle.alloc_end.specs.declared.run.Run.{Run}
+use Rattle.alloc_end.specs.declared.shortage.Shortage.{Shortage}
+use Rattle.alloc_end.specs.Place as place
+use Rattle.fault_duty.specs.declared.round_end.RoundEnd.{RoundEnd}
+use Rattle.fault_duty.specs.declared.round_end.RoundEnd.TheVariants.{ScanPage, ScanInPlace, Marked, AllLeft, NothingNow}
+use Rattle.fault_duty.specs.Duty as duty
+use Rattle.forwarding.specs.declared.to.To.{To}
+use Rattle.gate_core.specs.declared.flipped.Flipped.{Flipped}
+use Rattle.gate_core.specs.declared.flipped.Flipped.TheVariants as flipped
+use Rattle.space_map.specs.declared.gate_word.GateWord.{GateWord}
+use Rattle.space_map.specs.GateWord.{decode_gate}
+use Rattle.gate_core.specs.declared.gate_stage.GateStage.{GateStage}
+use Rattle.gate_core.specs.declared.gate_stage.GateStage.TheVariants as gate_stage
+use Rattle.gate_core.specs.declared.passage.Passage.{Passage}
+use Rattle.gate_core.specs.declared.passage.Passage.TheVariants.{Look, Attach, Park, Request, Resume, Forwarded, Leave}
+use Rattle.gate_core.specs.declared.passed.Passed.{Passed}
+use Rattle.gate_core.specs.declared.passed.Passed.TheVariants as passed
+use Rattle.gate_core.specs.Flip as flip
+use Rattle.gate_core.specs.Gate as gate
+use Rattle.gate_core.specs.Soundness.{IsPassingGoing}
+use Rattle.page_scan.specs.declared.scanned.Scanned.{Scanned}
+use Rattle.page_scan.specs.declared.scanned.Scanned.TheVariants as scanned
+use Rattle.page_scan.specs.Scanning as scan
+use Rattle.page_slots.specs.Open as open_page
+use Rattle.gc_worker.specs.declared.access.Access.{Access}
+use Rattle.gc_worker.specs.declared.accessed.Accessed.{Accessed}
+use Rattle.gc_worker.specs.declared.accessed.Accessed.TheVariants.{Faults, Brings, Stored, Fails}
+use Rattle.gc_worker.specs.declared.after.After.{After}
+use Rattle.gc_worker.specs.declared.after.After.TheVariants as afters
+use Rattle.gc_worker.specs.declared.back.Back.{Back}
+use Rattle.gc_worker.specs.declared.back.Back.TheVariants.{ToAccess, ToPlace, ToScanner}
+use Rattle.gc_worker.specs.declared.forwarding_register.ForwardingRegister.{ForwardingRegister}
+use Rattle.gc_worker.specs.declared.stage.Stage.TheVariants.{Passes, Flips, Forwards, Accesses, Places, Serves, Scans, Opens}
+use Rattle.gc_worker.specs.Fits.{IsMaking}
+use Rattle.gc_worker.specs.Held.{Held, at_stage, header_for, making_for}
+use Rattle.gc_worker.specs.Progress.{IsSameMachine, MayWait}
+use Rattle.gc_worker.specs.Seen.{Making}
+use Rattle.gc_worker.specs.Turned.{Pointed, accessed_by, end_of, ended, first_pointer, flipped_by, forwarded_to, forwards_it, full_by, goes_back, goes_on, is_full, passed_by, passes, places, scanned_by, served_by, with_copy, with_record, allocated_by}
+use Rattle.gc_worker.proofs.NewRecords.{made_is}
+use Rattle.gc_worker.proofs.Pointers.{Found, There, Nowhere, found}
+
+-- ---- passages
+
+no_pass : (g : gate.Passing) (after : After) (y : Held) (o : Option Header) → IsSameMachine (Passes g after) (places y o) → ⊥
+no_pass g after y (Some header) same = same
+no_pass g after y None same = same
+
+no_passing_on : (g : gate.Passing) (before : After) (y : Held) (after : After) → IsSameMachine (Passes g before) (goes_on y after) → ⊥
+no_passing_on g before y afters.Looks same = same
+no_passing_on g before y afters.Places same = no_pass g before y (header_for y) same
+
+-- who leaves, or says that its registers are forwarded, is let through by any gate
+always_passes : (passage : Passage) → ((read : GateWord) → gate.allows passage read ≡ true) → ((word : ℕ) (read : GateWord) → gate.allowed passage word read ≡ gate_stage.Exchanges read) → (stage : GateStage) (reply : Reply)
+    → IsPassingGoing stage → (word : ℕ) → gate.told_at (gate.next_stage passage stage reply) ≡ Finished (passed.NotYet word) → ⊥
+always_passes passage allows exchanges gate_stage.Loads (Value loaded) going word ends = by_gate (decode_gate loaded) ends
+  where
+    by_gate : (o : Option GateWord) → gate.told_at (gate.looked passage loaded o) ≡ Finished (passed.NotYet word) → ⊥
+    by_gate (Some read) ends =
+        let e : gate.looked passage loaded (Some read) ≡ gate_stage.Exchanges read = ap (λ (b : Bool). cond b (gate.allowed passage loaded read) (gate_stage.Ended (passed.NotYet loaded))) (allows read) ∙ exchanges loaded read in
+        let f = sym (ap gate.told_at e) ∙ ends in cc
+    by_gate None ends = cc
+always_passes passage allows exchanges gate_stage.Loads Won going word ends = cc
+always_passes passage allows exchanges gate_stage.Loads (Lost lost) going word ends = cc
+always_passes passage allows exchanges gate_stage.Loads Done going word ends = cc
+always_passes passage allows exchanges (gate_stage.Exchanges read) Won going word ends = cc
+always_passes passage allows exchanges (gate_stage.Exchanges read) (Lost lost) going word ends = cc
+always_passes passage allows exchanges (gate_stage.Exchanges read) (Value value) going word ends = cc
+always_passes passage allows exchanges (gate_stage.Exchanges read) Done going word ends = cc
+always_passes passage allows exchanges (gate_stage.Ended result) reply going word ends = absurd going
+
+-- the gate doesn't let it in or run on yet
+pub passages_end : (x : Held) (g : gate.Passing) (before after : After) (reply : Reply) (passage : Passage) (result : Passed) → g.passage ≡ passage → (passage ≡ Look → ⊥) → IsPassingGoing g.stage
+    → gate.told_at (gate.next_stage passage g.stage reply) ≡ Finished result → IsSameMachine (Passes g before) (passed_by x after passage result).stage
+    → MayWait passage × ((word : ℕ) × (result ≡ passed.NotYet word))
+passages_end x g before after reply Attach (passed.NotYet word) is look going ends same = (tt, (word, refl))
+passages_end x g before after reply (Resume epoch) (passed.NotYet word) is look going ends same = (tt, (word, refl))
+passages_end x g before after reply Park (passed.NotYet word) is look going ends same = absurd (no_passing_on g before x after same)
+passages_end x g before after reply Request (passed.NotYet word) is look going ends same = absurd (let e = sym is ∙ sym same in cc)
+passages_end x g before after reply Forwarded (passed.NotYet word) is look going ends same = absurd (always_passes Forwarded (λ read. refl) (λ loaded read. refl) g.stage reply going word ends)
+passages_end x g before after reply Leave (passed.NotYet word) is look going ends same = absurd (always_passes Leave (λ read. refl) (λ loaded read. refl) g.stage reply going word ends)
+passages_end x g before after reply Attach (passed.Went word) is look going ends same = absurd same
+passages_end x g before after reply Park (passed.Went word) is look going ends same = absurd (let e = sym is ∙ sym same in cc)
+passages_end x g before after reply Request (passed.Went word) is look going ends same = absurd same
+passages_end x g before after reply (Resume epoch) (passed.Went word) is look going ends same = absurd (no_passing_on g before x after same)
+passages_end x g before after reply Forwarded (passed.Went word) is look going ends same = absurd (let e = sym is ∙ sym same in cc)
+passages_end x g before after reply Leave (passed.Went word) is look going ends same = absurd same
+passages_end x g before after reply Look result is look going ends same = absurd (look refl)
+
+-- ---- flips
+
+pub flips_end : (x : Held) (f was : flip.Flipping) (result : Flipped) → IsSameMachine (Flips was) (flipped_by x f result).stage → (word : ℕ) × (result ≡ flipped.NotYet word)
+flips_end x f was (flipped.NotYet word) same = (word, refl)
+flips_end x f was (flipped.Went asked) same = absurd same
+
+-- ---- registers: the next one is forwarded
+
+next_register : (y : Held) (was : ForwardingRegister) (after : After) (n : ℕ) (o : Option Pointed) → Found y.registers n (was.register + 1) o → IsSameMachine (Forwards was) (forwards_it y after o) → ⊥
+next_register y was after n (Some q) (There r a l u at before) same = omega (arith, l, same)
+next_register y was after n None (Nowhere all) same = same
+
+pub registers_end : (x : Held) (was w : ForwardingRegister) (to : To) → w.register ≡ was.register → IsSameMachine (Forwards was) (forwarded_to x w to).stage → ⊥
+registers_end x was w to is same =
+    let y = with_copy x w.register to.0 in
+    let n = 8 - (w.register + 1) in
+    next_register y was w.after n (first_pointer y.registers n (w.register + 1)) (subst (λ (j : ℕ). Found y.registers n j (first_pointer y.registers n (w.register + 1))) (ap (λ (j : ℕ). j + 1) is) (found y.registers n (w.register + 1))) same
+
+-- ---- accesses, allocations
+
+pub accesses_end : (x : Held) (was a : Access) (result : Accessed) → IsSameMachine (Accesses was) (accessed_by x a result).stage → ⊥
+accesses_end x was a (Faults page) same = same
+accesses_end x was a (Brings into word) same = same
+accesses_end x was a Stored same = same
+accesses_end x was a (Fails why) same = same
+
+no_placing : (x : Held) (was : place.Placing) (s : Shortage) (b : Bool) → IsSameMachine (Places was) (cond b (ended x (end_of s)) (at_stage x (passes x Request afters.Places))).stage → ⊥
+no_placing x was s true same = same
+no_placing x was s false same = same
+
+short_end : (x : Held) (was : place.Placing) (s : Shortage) (traced : Bool) → IsSameMachine (Places was) (full_by x s traced).stage → ⊥
+short_end x was s false same = same
+short_end x was s true same = no_placing x was s (is_full x) same
+
+record_end : (x : Held) (was : place.Placing) (run : Run) (at : ℕ) (o : Option Making) → IsMaking x.account x.registers x.task → making_for x x.task ≡ o → IsSameMachine (Places was) (with_record x run at o).stage → ⊥
+record_end x was run at (Some m) making is same = same
+record_end x was run at None making is same = absurd (let e = sym is ∙ made_is x making in cc)
+
+pub allocations_end : (x : Held) (was p : place.Placing) (result : Allocated) → IsMaking x.account x.registers x.task → IsSameMachine (Places was) (allocated_by x p result).stage → ⊥
+allocations_end x was p (Placed at) making same = record_end x was p.run at (making_for x x.task) making refl same
+allocations_end x was p (Full s) making same = short_end x was s s.traced same
+
+-- ---- rounds, scans
+
+no_round : (y : Held) (was : duty.Round) (back : Back) (o : Option Header) → IsSameMachine (Serves was back) (places y o) → ⊥
+no_round y was back (Some header) same = same
+no_round y was back None same = same
+
+-- only a scanner makes another round at once
+abbrev pub IsOfScanner : Back → Type 0
+IsOfScanner ToScanner = ⊤
+IsOfScanner (ToAccess a) = ⊥
+IsOfScanner ToPlace = ⊥
+
+round_back : (y : Held) (was : duty.Round) (back : Back) → IsSameMachine (Serves was back) (goes_back y back) → IsOfScanner back
+round_back y was (ToAccess a) same = same
+round_back y was ToPlace same = absurd (no_round y was ToPlace (header_for y) same)
+round_back y was ToScanner same = tt
+
+pub rounds_end : (x : Held) (was d : duty.Round) (back : Back) (result : RoundEnd) → IsSameMachine (Serves was back) (served_by x d back result).stage → IsOfScanner back
+rounds_end x was d back (ScanPage page) same = absurd same
+rounds_end x was d back (ScanInPlace page) same = absurd same
+rounds_end x was d back Marked same = round_back (record x { epoch = d.epoch }) was back same
+rounds_end x was d back (NothingNow word) same = round_back (record x { epoch = d.epoch }) was back same
+rounds_end x was d back (AllLeft word) same = absurd same
+
+pub scans_end : (x : Held) (was s : scan.Scanning) (back : Back) (result : Scanned) → IsSameMachine (Scans was back) (scanned_by x s back result).stage → ⊥
+scans_end x was s back (scanned.Ask old) same = same
+scans_end x was s back (scanned.Ended at_front) same = same
+
+opening_back : (y : Held) (was : open_page.Opening) (s : scan.Scanning) (back : Back) → IsSameMachine (Opens was s back) (goes_back y back) → ⊥
+opening_back y was s (ToAccess a) same = same
+opening_back y was s ToPlace same = no_opening (header_for y) same
+  where
+    no_opening : (o : Option Header) → IsSameMachine (Opens was s ToPlace) (places y o) → ⊥
+    no_opening (Some header) same = same
+    no_opening None same = same
+opening_back y was s ToScanner same = same
+
+pub openings_end : (x : Held) (was : open_page.Opening) (s : scan.Scanning) (back : Back) → IsSameMachine (Opens was s back) (goes_back x back) → ⊥
+openings_end x was s back same = opening_back x was s back same

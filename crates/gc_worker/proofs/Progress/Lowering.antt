@@ -1,0 +1,115 @@
+-- A reply that takes a machine on leaves it less to do: of passages, flips, openings, allocations and accesses. Copies and scans have files
+-- of their own, claims and rounds are told of in their crates.
+use Rattle.std.proofs.Common.{◌≡◌, ℕ, ◌+◌, ◌-◌, ◌*◌, ◌<◌, Bool, true, false, cond, Option, Some, None, is_some, arith}
+use Rattle.std.proofs.lemmas.Bool.Decides.{nat_tests}
+use Rattle.atom_store.specs.declared.reply.Reply.{Reply}
+use Rattle.atom_store.specs.declared.reply.Reply.TheVariants.{Value, Done, Won}
+use Rattle.space_map.specs.declared.area_word.AreaWord.{AreaWord}
+use Rattle.space_map.specs.declared.gate_word.GateWord.{GateWord}
+use Rattle.space_map.specs.AreaWord.{decode_area}
+use Rattle.space_map.specs.GateWord.{decode_gate}
+use Rattle.space_map.specs.Spaces.{page_of}
+use Rattle.gate_core.specs.declared.flip_stage.FlipStage.{FlipStage}
+use Rattle.gate_core.specs.declared.flip_stage.FlipStage.TheVariants as flip_stage
+use Rattle.gate_core.specs.declared.flipped.Flipped.TheVariants as flipped
+use Rattle.gate_core.specs.declared.gate_stage.GateStage.{GateStage}
+use Rattle.gate_core.specs.declared.gate_stage.GateStage.TheVariants as gate_stage
+use Rattle.gate_core.specs.declared.passage.Passage.{Passage}
+use Rattle.gate_core.specs.declared.passage.Passage.TheVariants.{Look, Attach, Park, Request, Resume, Forwarded, Leave}
+use Rattle.gate_core.specs.declared.passed.Passed.TheVariants as passed
+use Rattle.gate_core.specs.Flip as flip
+use Rattle.gate_core.specs.Gate as gate
+use Rattle.page_slots.specs.declared.open_stage.OpenStage.{OpenStage}
+use Rattle.page_slots.specs.declared.open_stage.OpenStage.TheVariants as open_stage
+use Rattle.page_slots.specs.Open as open_page
+use Rattle.alloc_end.specs.declared.allocated.Allocated.TheVariants.{Full}
+use Rattle.alloc_end.specs.declared.new_pages.NewPages.{NewPages}
+use Rattle.alloc_end.specs.declared.place_stage.PlaceStage.{PlaceStage}
+use Rattle.alloc_end.specs.declared.place_stage.PlaceStage.TheVariants as place_stage
+use Rattle.alloc_end.specs.Place as place
+use Rattle.alloc_end.specs.Soundness.{FitsPlaceStage}
+
+-- ---- passages
+
+by_allowed : (passage : Passage) (word : ℕ) (read : GateWord) (b : Bool) → gate.left_at passage (cond b (gate.allowed passage word read) (gate_stage.Ended (passed.NotYet word))) < gate.left_before passage
+by_allowed Look word read true = omega arith
+by_allowed Look word read false = omega arith
+by_allowed Attach word read true = omega arith
+by_allowed Attach word read false = omega arith
+by_allowed Park word read true = omega arith
+by_allowed Park word read false = omega arith
+by_allowed Request word read true = omega arith
+by_allowed Request word read false = omega arith
+by_allowed (Resume epoch) word read true = omega arith
+by_allowed (Resume epoch) word read false = omega arith
+by_allowed Forwarded word read true = omega arith
+by_allowed Forwarded word read false = omega arith
+by_allowed Leave word read true = omega arith
+by_allowed Leave word read false = omega arith
+
+by_gate : (passage : Passage) (word : ℕ) (o : Option GateWord) → is_some o ≡ true → gate.left_at passage (gate.looked passage word o) < gate.left_before passage
+by_gate passage word (Some read) t = by_allowed passage word read (gate.allows passage read)
+by_gate passage word None t = absurd (cc)
+
+pub passages_lower : (passage : Passage) (stage : GateStage) (r : Reply) → gate.advances_at stage r ≡ true → gate.left_at passage (gate.next_stage passage stage r) < gate.left_at passage stage
+passages_lower passage gate_stage.Loads (Value word) t = by_gate passage word (decode_gate word) t
+passages_lower passage (gate_stage.Exchanges read) Won t = omega arith
+passages_lower passage stage r t = cc
+
+-- ---- flips
+
+by_still : (word : ℕ) (read : GateWord) (b : Bool) → flip.left_at (cond b (flip_stage.LoadsArea read) (flip_stage.Ended (flipped.NotYet word))) < 4
+by_still word read true = omega arith
+by_still word read false = omega arith
+
+by_flip_gate : (word : ℕ) (o : Option GateWord) → is_some o ≡ true → flip.left_at (flip.looked word o) < 4
+by_flip_gate word (Some read) t = by_still word read (flip.is_still read)
+by_flip_gate word None t = absurd (cc)
+
+by_flip_area : (n : ℕ) (read : GateWord) (o : Option AreaWord) → is_some o ≡ true → flip.left_at (flip.read_area n read o) < 3
+by_flip_area n read (Some area) t = omega arith
+by_flip_area n read None t = absurd (cc)
+
+pub flips_lower : (f : flip.Flipping) (stage : FlipStage) (r : Reply) → flip.advances_at stage r ≡ true → flip.left_at (flip.next_stage f stage r) < flip.left_at stage
+flips_lower f flip_stage.LoadsGate (Value word) t = by_flip_gate word (decode_gate word) t
+flips_lower f (flip_stage.LoadsArea read) (Value word) t = by_flip_area f.layout.pages read (decode_area word) t
+flips_lower f (flip_stage.StoresArea reset) Done t = omega arith
+flips_lower f (flip_stage.Exchanges reset) Won t = omega arith
+flips_lower f stage r t = cc
+
+-- ---- openings
+
+pub openings_lower : (stage : OpenStage) (r : Reply) → open_page.advances_at stage r ≡ true → open_page.left_at (open_page.next_stage stage r) < open_page.left_at stage
+openings_lower open_stage.StoresOpen Done t = omega arith
+openings_lower stage r t = cc
+
+-- ---- allocations
+
+module _ (p : place.Placing) where
+  abbrev asked : ℕ
+  asked = place.pages_for (place.size_of p.header)
+
+  by_fits : (traced : Bool) (area : AreaWord) (b : Bool) → place.left_at asked (cond b (place_stage.ExchangesArea (record { traced = traced; area = area })) (place_stage.Ended (Full (place.shortage traced p.header area)))) < 65 * asked + 3
+  by_fits traced area true = omega arith
+  by_fits traced area false = omega arith
+
+  by_place_area : (traced : Bool) (o : Option AreaWord) → is_some o ≡ true → place.left_at asked (place.looked_at_area p traced o) < 65 * asked + 3
+  by_place_area traced (Some area) t = by_fits traced area (place.fits traced (place.words_for p.header) area)
+  by_place_area traced None t = absurd (cc)
+
+  by_cleared : (new : NewPages) → FitsPlaceStage p.layout.pages asked p.run p.header (place_stage.StoresZero new)
+      → place.left_at asked (place.cleared (place.words_for p.header) new) < 65 * asked + 1 - (new.next - new.first)
+  by_cleared new fits = grind (arith, nat_tests)
+
+  by_opened : (new : NewPages) → FitsPlaceStage p.layout.pages asked p.run p.header (place_stage.OpensPage new) → place.left (place.opened p new) < asked + 1 - (new.next - page_of new.first)
+  by_opened new fits = grind (arith, nat_tests)
+
+  pub allocations_lower : (stage : PlaceStage) (r : Reply) → FitsPlaceStage p.layout.pages asked p.run p.header stage → place.advances_at stage r ≡ true
+      → place.left (place.taken_at p stage r) < place.left_at asked stage
+  allocations_lower place_stage.LoadsTraced (Value word) fits t = omega arith
+  allocations_lower (place_stage.LoadsArea traced) (Value word) fits t = by_place_area traced (decode_area word) t
+  allocations_lower (place_stage.ExchangesArea f) Won fits t = omega arith
+  allocations_lower (place_stage.StoresZero new) Done fits t = by_cleared new fits
+  allocations_lower (place_stage.OpensPage new) Done fits t = by_opened new fits
+  allocations_lower place_stage.StoresHeader Done fits t = omega arith
+  allocations_lower stage r fits t = cc

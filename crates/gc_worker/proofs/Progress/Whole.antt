@@ -1,0 +1,300 @@
+-- What a step has brought after which the same machine is at work, from what each stage may read and what that leaves it to do.
+use Rattle.std.proofs.Common.{◌≡◌, ◌≢◌, ℕ, ◌<◌, Bool, true, Some, refl, sym, ap, subst, ◌∙◌, arith}
+use Rattle.std.proofs.lemmas.Option.{same_Some}
+use Rattle.plain_state.specs.State.{Plain}
+use Rattle.atom_store.specs.declared.reply.Reply.{Reply}
+use Rattle.atom_store.specs.declared.reply.Reply.TheVariants.{Lost}
+use Rattle.atom_store.specs.declared.step.Step.{Step}
+use Rattle.atom_store.specs.declared.step.Step.TheVariants.{Load}
+use Rattle.atom_store.specs.declared.turn.Turn.{Turn}
+use Rattle.atom_store.specs.declared.turn.Turn.TheVariants.{More, Finished}
+use Rattle.atom_store.specs.Step.{reply_of}
+use Rattle.heap_words.specs.Decoded.{Decoded, HeaderWord, decode}
+use Rattle.heap_words.specs.FirstWords.{is_header}
+use Rattle.space_map.specs.Spaces.{Layout}
+use Rattle.space_map.specs.Table.{HeapWord, place_of}
+use Rattle.alloc_end.specs.declared.allocated.Allocated.{Allocated}
+use Rattle.alloc_end.specs.Place as place
+use Rattle.fault_duty.specs.declared.round_end.RoundEnd.{RoundEnd}
+use Rattle.fault_duty.specs.Duty as duty
+use Rattle.fault_duty.proofs.Lowering as duty_lowering
+use Rattle.forwarding.specs.declared.evac_stage.EvacStage.{EvacStage}
+use Rattle.forwarding.specs.declared.to.To.{To}
+use Rattle.forwarding.specs.Evacuation as evac
+use Rattle.forwarding.specs.Left as evac_left
+use Rattle.forwarding.specs.Taken as evac_taken
+use Rattle.gate_core.specs.declared.flipped.Flipped.{Flipped}
+use Rattle.gate_core.specs.declared.passed.Passed.{Passed}
+use Rattle.gate_core.specs.Flip as flip
+use Rattle.gate_core.specs.Gate as gate
+use Rattle.page_scan.specs.declared.scan_stage.ScanStage.{ScanStage}
+use Rattle.page_scan.specs.declared.scan_stage.ScanStage.TheVariants as scan_stage
+use Rattle.page_scan.specs.declared.scanned.Scanned.{Scanned}
+use Rattle.page_scan.specs.declared.scanned_record.ScannedRecord.{ScannedRecord}
+use Rattle.page_scan.specs.Left as scan_left
+use Rattle.page_scan.specs.Scanning as scan
+use Rattle.page_scan.specs.Taken as scan_taken
+use Rattle.page_slots.specs.declared.opened.Opened.{Opened}
+use Rattle.page_slots.specs.Open as open_page
+use Rattle.heap_state.specs.Configuration.{Configuration, Stands}
+use Rattle.gc_worker.specs.declared.access.Access.{Access}
+use Rattle.gc_worker.specs.declared.access_stage.AccessStage.{AccessStage}
+use Rattle.gc_worker.specs.declared.access_stage.AccessStage.TheVariants.{LoadsHeader}
+use Rattle.gc_worker.specs.declared.accessed.Accessed.{Accessed}
+use Rattle.gc_worker.specs.declared.after.After.{After}
+use Rattle.gc_worker.specs.declared.back.Back.{Back}
+use Rattle.gc_worker.specs.declared.back.Back.TheVariants.{ToAccess, ToPlace, ToScanner}
+use Rattle.gc_worker.specs.declared.forwarding_register.ForwardingRegister.{ForwardingRegister}
+use Rattle.gc_worker.specs.declared.record_access.RecordAccess.{RecordAccess}
+use Rattle.gc_worker.specs.declared.stage.Stage.{Stage}
+use Rattle.gc_worker.specs.declared.stage.Stage.TheVariants.{Looks, Passes, Flips, Forwards, Accesses, Places, Serves, Scans, Evacuates, Opens, Gone}
+use Rattle.gc_worker.specs.Access as access
+use Rattle.gc_worker.specs.Fits.{IsOwnPassage}
+use Rattle.gc_worker.specs.Goes.{Is}
+use Rattle.gc_worker.specs.Held.{Held, at_stage}
+use Rattle.gc_worker.specs.Law.{read}
+use Rattle.gc_worker.specs.Progress.{Progress, LessIsLeft, ExchangeWasLost, AnotherCopies, OthersGoFirst, IsSameMachine, IsWaiting, MachinesGoOn, left_at}
+use Rattle.gc_worker.specs.Turned.{turned_access, turned_at, turned_copy, turned_flip, turned_gate, turned_opening, turned_place, turned_register, turned_round, turned_scan, with_evac}
+use Rattle.gc_worker.specs.Wanted.{wanted_at}
+use Rattle.gc_worker.proofs.Accessing.Going as accessing_going
+use Rattle.gc_worker.proofs.Accessing.Stages.{header_there}
+use Rattle.gc_worker.proofs.Copying.Finding.{answers}
+use Rattle.gc_worker.proofs.Copying.Hosts.{Host, ForScan, ForRegister}
+use Rattle.gc_worker.proofs.Copying.Hosts as hosts
+use Rattle.gc_worker.proofs.Copying.Words.{heap_word}
+use Rattle.gc_worker.proofs.Members.{member}
+use Rattle.gc_worker.proofs.Progress.Accesses.{accesses_lower}
+use Rattle.gc_worker.proofs.Progress.Replies.{TakesOn, Advances, Loses, Waits, MeetsBusy, On, accessing, copying, flipping, loads_header, opening, passing, placing, scanning, serving, word_at, word_is}
+use Rattle.gc_worker.proofs.Progress.Copies.{copies_lower}
+use Rattle.gc_worker.proofs.Progress.Ends.{IsOfScanner, accesses_end, allocations_end, flips_end, openings_end, passages_end, registers_end, rounds_end, scans_end}
+use Rattle.gc_worker.proofs.Progress.Lowering.{allocations_lower, flips_lower, openings_lower, passages_lower}
+use Rattle.gc_worker.proofs.Progress.Scans.{first-lt, scans_lower}
+use Rattle.gc_worker.proofs.Scan.Headers.{answer2, first_header}
+
+module _ (c : Configuration) (p : Plain) (s : Stands c p) (k : ℕ) (x : Held) (q : Step) where
+  abbrev r : Reply
+  r = reply_of q c.words
+
+  -- what a step at a stage has brought
+  data Result (stage : Stage) : Type 0 where
+    Less : left_at (turned_at (at_stage x stage) stage r).stage < left_at stage → Result stage
+    Was_lost : (word : ℕ) → r ≡ Lost word → Result stage
+    Meets : MeetsBusy c k q → Result stage
+    Awaits : IsWaiting stage r → Result stage
+
+  by_answer : (stage : Stage) (advances : Reply → Bool) → TakesOn advances r (MeetsBusy c k q)
+      → (advances r ≡ true → left_at (turned_at (at_stage x stage) stage r).stage < left_at stage) → Result stage
+  by_answer stage advances (Advances t) lowers = Less (lowers t)
+  by_answer stage advances (Loses word is) lowers = Was_lost word is
+  by_answer stage advances (Waits busy) lowers = Meets busy
+
+  pages_of : (l : Layout) → l ≡ x.layout → x.layout.pages ≡ c.pages → l.pages ≡ c.pages
+  pages_of l same is = ap (λ (m : Layout). m.pages) same ∙ is
+
+  -- ---- copies, for whatever they are
+
+  module _ (o : Host) (v : evac.Evacuation) (is : Is c k (hosts.at x o v v.stage)) where
+    copy_answers : evac.wanted v ≡ Some q → On c p s k (evac_left.advances v.stage) q
+    copy_answers asked =
+        let pages = hosts.has_pages x v c.pages c.mutators k o v.stage is.fits in
+        let sound = hosts.is_sound x v c.pages c.mutators k o v.stage is.fits in
+        let inside = sound.addr in
+        copying c p s k v q pages v.stage asked
+        (λ e. loads_header c p s k v q pages (s.ghost.size v.addr) (omega (arith, inside, pages))
+        (answers c p s k x o v (subst (λ (z : EvacStage). Is c k (hosts.at x o v z)) e is)).word)
+
+    copy_lowers : evac_left.advances v.stage r ≡ true → evac_left.left (evac_taken.taken v r) < evac_left.left v
+    copy_lowers t = copies_lower v v.stage r (hosts.is_sound x v c.pages c.mutators k o v.stage is.fits).fits t
+
+  -- ---- scans
+
+  module _ (v : scan.Scanning) (back : Back) where
+    abbrev at_scan : ScanStage → Stage
+    at_scan stage = Scans (record v { stage = stage }) back
+
+    abbrev scan_then : ScanStage → ScanStage
+    scan_then stage = scan_taken.stage_after v.layout v.page v.epoch v.in_place stage r
+
+    scan_falls : (stage : ScanStage) → scan_taken.told (scan_then stage) ≡ More
+        → scan_left.left_at (scan_taken.scan_end v.layout v.page) (scan_then stage) < scan_left.left_at (scan_taken.scan_end v.layout v.page) stage
+        → left_at (turned_at (at_stage x (at_scan stage)) (at_scan stage) r).stage < left_at (at_scan stage)
+    scan_falls stage more fewer =
+        subst (λ (turn : Turn Scanned). left_at (turned_scan (at_stage x (at_scan stage)) (scan_taken.taken (record v { stage = stage }) r) back turn).stage < left_at (at_scan stage)) (sym more) fewer
+
+    first_scan : (at : ℕ) → Is c k (at_stage x (at_scan (scan_stage.LoadsFirst at))) → scan.wanted (record v { stage = scan_stage.LoadsFirst at }) ≡ Some q
+        → scan_taken.told (scan_then (scan_stage.LoadsFirst at)) ≡ More → Result (at_scan (scan_stage.LoadsFirst at))
+    first_scan at is asked more =
+        let f = first_header c p s k x v back at is in
+        let pages = pages_of v.layout is.fits.stage.0.layout is.fits.pages in
+        let inside = is.fits.stage.0.sound.fits.1 in
+        let there = word_is c p s k v.layout.pages pages (HeapWord at) (omega (arith, inside, pages)) in
+        let says : decode (word_at c p s k v.layout.pages (HeapWord at)) ≡ HeaderWord f.0.kind f.0.len f.0.serial f.0.mutator = ap decode (there ∙ sym (heap_word c at)) ∙ f.0.header in
+        let fewer = first-lt v.layout v.page v.in_place at f.0.kind f.0.len f.1 in
+        let entered : scan_left.left_at (scan_taken.scan_end v.layout v.page) (scan_taken.by_header v.page v.in_place at (scan_stage.LoadsFirst at) (decode (word_at c p s k v.layout.pages (HeapWord at)))) < 449 =
+        subst (λ (d : Decoded). scan_left.left_at (scan_taken.scan_end v.layout v.page) (scan_taken.by_header v.page v.in_place at (scan_stage.LoadsFirst at) d) < 449) (sym says) fewer in
+        Less (scan_falls (scan_stage.LoadsFirst at) more
+        (subst (λ (z : Step). scan_left.left_at (scan_taken.scan_end v.layout v.page) (scan_taken.stage_after v.layout v.page v.epoch v.in_place (scan_stage.LoadsFirst at) (reply_of z c.words)) < 449)
+        (same_Some (Load (place_of v.layout.pages (HeapWord at))) q asked) entered))
+
+    other_scan : (stage : ScanStage) → ((at : ℕ) → stage ≢ scan_stage.LoadsFirst at) → Is c k (at_stage x (at_scan stage)) → scan.wanted (record v { stage = stage }) ≡ Some q
+        → scan_taken.told (scan_then stage) ≡ More
+        → ((z : ScannedRecord) → stage ≡ scan_stage.LoadsNext z → is_header (decode (word_at c p s k v.layout.pages (HeapWord z.next))) ≡ true) → Result (at_scan stage)
+    other_scan stage other is asked more header =
+        by_answer (at_scan stage) (scan_left.advances stage)
+        (scanning c p s k v q (pages_of v.layout is.fits.stage.0.layout is.fits.pages) stage asked other header)
+        (λ t. scan_falls stage more (scans_lower v.layout v.page v.in_place v.epoch stage r other is.fits.stage.0.sound.fits t))
+
+    next_there : (z : ScannedRecord) → Is c k (at_stage x (at_scan (scan_stage.LoadsNext z))) → is_header (decode (word_at c p s k v.layout.pages (HeapWord z.next))) ≡ true
+    next_there z is =
+        let pages = pages_of v.layout is.fits.stage.0.layout is.fits.pages in
+        let fits = is.fits.stage.0.sound.fits in
+        let space = fits.1 in
+        let low = fits.3 in
+        let there = word_is c p s k v.layout.pages pages (HeapWord z.next) (omega (arith, space, low, pages)) in
+        ap (λ (w : ℕ). is_header (decode w)) (there ∙ sym (heap_word c z.next)) ∙ ap is_header (answer2 c p s k x v back z is).header
+
+    scans_on : (stage : ScanStage) → Is c k (at_stage x (at_scan stage)) → scan.wanted (record v { stage = stage }) ≡ Some q → scan_taken.told (scan_then stage) ≡ More → Result (at_scan stage)
+    scans_on (scan_stage.LoadsFirst at) is asked more = first_scan at is asked more
+    scans_on scan_stage.LoadsCross is asked more = other_scan scan_stage.LoadsCross (λ at e. cc) is asked more (λ z e. absurd (cc))
+    scans_on (scan_stage.LoadsWord spot) is asked more = other_scan (scan_stage.LoadsWord spot) (λ at e. cc) is asked more (λ z e. absurd (cc))
+    scans_on (scan_stage.Asks ask) is asked more = other_scan (scan_stage.Asks ask) (λ at e. cc) is asked more (λ z e. absurd (cc))
+    scans_on (scan_stage.StoresCopy ask to) is asked more = other_scan (scan_stage.StoresCopy ask to) (λ at e. cc) is asked more (λ z e. absurd (cc))
+    scans_on (scan_stage.LoadsFront z) is asked more = other_scan (scan_stage.LoadsFront z) (λ at e. cc) is asked more (λ y e. absurd (cc))
+    scans_on (scan_stage.LoadsNext z) is asked more =
+        other_scan (scan_stage.LoadsNext z) (λ at e. cc) is asked more
+        (λ y e. let same : z ≡ y = cc in subst (λ (n : ScannedRecord). is_header (decode (word_at c p s k v.layout.pages (HeapWord n.next))) ≡ true) same (next_there z is))
+    scans_on (scan_stage.Ended ending) is asked more = other_scan (scan_stage.Ended ending) (λ at e. cc) is asked more (λ z e. absurd (cc))
+
+  -- ---- accesses
+
+  module _ (stage : AccessStage) (is : Is c k (accessing_going.at c p s k x stage)) where
+    abbrev own : Access
+    own = accessing_going.own c p s k x stage
+
+    header_read : (z : RecordAccess) → stage ≡ LoadsHeader z → access.is_header (decode (word_at c p s k x.layout.pages (HeapWord z.at))) ≡ true
+    header_read z e =
+        let it = subst (λ (n : AccessStage). Is c k (accessing_going.at c p s k x n)) e is in
+        let inside = it.fits.stage.sound.stage.0 in
+        let pages = is.fits.pages in
+        let there = word_is c p s k x.layout.pages pages (HeapWord z.at) (omega (arith, inside, pages)) in
+        ap (λ (w : ℕ). access.is_header (decode w)) (there ∙ sym (heap_word c z.at)) ∙ header_there c p s k x z it
+
+    accesses_on : access.wanted own ≡ q → access.told own r ≡ More → Result (Accesses own)
+    accesses_on step more =
+        by_answer (Accesses own) (access.advances_at stage)
+        (subst (λ (z : Step). On c p s k (access.advances_at stage) z) step
+        (accessing c p s k own is.fits.pages stage (subst (λ (z : Step). access.told own (reply_of z c.words) ≡ More) (sym step) more) header_read))
+        (λ t. subst (λ (turn : Turn Accessed). left_at (turned_access (at_stage x (Accesses own)) (access.taken own r) turn).stage < access.left own) (sym more)
+        (accesses_lower own stage r more t))
+
+  -- ---- each machine: it has more to do, or has come to its end
+
+  abbrev Same : (stage : Stage) → Held → Type 0
+  Same stage y = IsSameMachine stage y.stage
+
+  gate_on : (g : gate.Passing) (after : After) (turn : Turn Passed) → gate.told (gate.taken g r) ≡ turn → Is c k (at_stage x (Passes g after)) → gate.wanted g ≡ Some q
+      → Same (Passes g after) (turned_gate (at_stage x (Passes g after)) (gate.taken g r) after turn) → Result (Passes g after)
+  gate_on g after More more is asked same =
+      by_answer (Passes g after) (gate.advances_at g.stage) (passing c p s k g g.stage q (pages_of g.layout is.fits.stage.layout is.fits.pages) asked)
+      (λ t. subst (λ (turn : Turn Passed). left_at (turned_gate (at_stage x (Passes g after)) (gate.taken g r) after turn).stage < gate.left g) (sym more)
+      (passages_lower g.passage g.stage r t))
+  gate_on g after (Finished result) ends is asked same =
+      let not_yet = passages_end (at_stage x (Passes g after)) g after after r g.passage result refl (λ e. subst (IsOwnPassage x.epoch) e is.fits.stage.passage) is.fits.stage.going ends same in
+      Awaits (not_yet.0, (not_yet.1.0, ends ∙ ap (λ (y : Passed). Finished y) not_yet.1.1))
+
+  flip_on : (f : flip.Flipping) (turn : Turn Flipped) → flip.told (flip.taken f r) ≡ turn → Is c k (at_stage x (Flips f)) → flip.wanted f ≡ Some q
+      → Same (Flips f) (turned_flip (at_stage x (Flips f)) (flip.taken f r) turn) → Result (Flips f)
+  flip_on f More more is asked same =
+      by_answer (Flips f) (flip.advances_at f.stage) (flipping c p s k f f.stage q (pages_of f.layout is.fits.stage.layout is.fits.pages) asked)
+      (λ t. subst (λ (turn : Turn Flipped). left_at (turned_flip (at_stage x (Flips f)) (flip.taken f r) turn).stage < flip.left f) (sym more) (flips_lower f f.stage r t))
+  flip_on f (Finished result) ends is asked same =
+      let not_yet = flips_end (at_stage x (Flips f)) (flip.taken f r) f result same in
+      Awaits (not_yet.0, ends ∙ ap (λ (y : Flipped). Finished y) not_yet.1)
+
+  register_on : (w : ForwardingRegister) (turn : Turn To) → evac_taken.told (evac_taken.taken w.evac r).stage ≡ turn → Is c k (at_stage x (Forwards w)) → evac.wanted w.evac ≡ Some q
+      → Same (Forwards w) (turned_register (at_stage x (Forwards w)) (with_evac w (evac_taken.taken w.evac r)) turn) → Result (Forwards w)
+  register_on w More more is asked same =
+      by_answer (Forwards w) (evac_left.advances w.evac.stage) (copy_answers (ForRegister w.register w.after) w.evac is asked)
+      (λ t. subst (λ (turn : Turn To). left_at (turned_register (at_stage x (Forwards w)) (with_evac w (evac_taken.taken w.evac r)) turn).stage < evac_left.left w.evac) (sym more)
+      (copy_lowers (ForRegister w.register w.after) w.evac is t))
+  register_on w (Finished to) ends is asked same = absurd (registers_end (at_stage x (Forwards w)) w (with_evac w (evac_taken.taken w.evac r)) to refl same)
+
+  access_on : (stage : AccessStage) (turn : Turn Accessed) → access.told (accessing_going.own c p s k x stage) r ≡ turn → Is c k (accessing_going.at c p s k x stage)
+      → access.wanted (accessing_going.own c p s k x stage) ≡ q
+      → Same (Accesses (accessing_going.own c p s k x stage)) (turned_access (accessing_going.at c p s k x stage) (access.taken (accessing_going.own c p s k x stage) r) turn)
+      → Result (Accesses (accessing_going.own c p s k x stage))
+  access_on stage More more is step same = accesses_on stage is step more
+  access_on stage (Finished result) ends is step same =
+      absurd (accesses_end (accessing_going.at c p s k x stage) (accessing_going.own c p s k x stage) (access.taken (accessing_going.own c p s k x stage) r) result same)
+
+  place_on : (a : place.Placing) (turn : Turn Allocated) → place.told (place.taken a r) ≡ turn → Is c k (at_stage x (Places a)) → place.wanted a ≡ Some q
+      → Same (Places a) (turned_place (at_stage x (Places a)) (place.taken a r) turn) → Result (Places a)
+  place_on a More more is asked same =
+      by_answer (Places a) (place.advances_at a.stage) (placing c p s k a a.stage q (pages_of a.layout is.fits.stage.layout is.fits.pages) asked)
+      (λ t. subst (λ (turn : Turn Allocated). left_at (turned_place (at_stage x (Places a)) (place.taken a r) turn).stage < place.left a) (sym more)
+      (allocations_lower a a.stage r is.fits.stage.sound.stage t))
+  place_on a (Finished result) ends is asked same = absurd (allocations_end (at_stage x (Places a)) a (place.taken a r) result is.fits.task.0 same)
+
+  round_waits : (d : duty.Round) (back : Back) (result : RoundEnd) → duty.told (duty.taken d r) ≡ Finished result → IsOfScanner back → IsWaiting (Serves d back) r
+  round_waits d ToScanner result ends scanner = (result, ends)
+  round_waits d (ToAccess a) result ends scanner = scanner
+  round_waits d ToPlace result ends scanner = scanner
+
+  round_on : (d : duty.Round) (back : Back) (turn : Turn RoundEnd) → duty.told (duty.taken d r) ≡ turn → Is c k (at_stage x (Serves d back)) → duty.wanted d ≡ Some q
+      → Same (Serves d back) (turned_round (at_stage x (Serves d back)) (duty.taken d r) back turn) → Result (Serves d back)
+  round_on d back More more is asked same =
+      let sound = is.fits.stage.0.sound in
+      by_answer (Serves d back) (duty.advances_at d.stage) (serving c p s k d q (pages_of d.layout is.fits.stage.0.layout is.fits.pages) d.stage sound asked)
+      (λ t. subst (λ (turn : Turn RoundEnd). left_at (turned_round (at_stage x (Serves d back)) (duty.taken d r) back turn).stage < duty.left d) (sym more)
+      (duty_lowering.lowers d d.stage r sound.pages sound.stage t))
+  round_on d back (Finished result) ends is asked same =
+      Awaits (round_waits d back result ends (rounds_end (at_stage x (Serves d back)) d (duty.taken d r) back result same))
+
+  scan_on : (v : scan.Scanning) (back : Back) (turn : Turn Scanned) → scan_taken.told (scan_taken.taken v r).stage ≡ turn → Is c k (at_stage x (Scans v back)) → scan.wanted v ≡ Some q
+      → Same (Scans v back) (turned_scan (at_stage x (Scans v back)) (scan_taken.taken v r) back turn) → Result (Scans v back)
+  scan_on v back More more is asked same = scans_on v back v.stage is asked more
+  scan_on v back (Finished result) ends is asked same = absurd (scans_end (at_stage x (Scans v back)) v (scan_taken.taken v r) back result same)
+
+  copy_on : (v : evac.Evacuation) (z : scan.Scanning) (back : Back) (turn : Turn To) → evac_taken.told (evac_taken.taken v r).stage ≡ turn → Is c k (at_stage x (Evacuates v z back))
+      → evac.wanted v ≡ Some q → Same (Evacuates v z back) (turned_copy (at_stage x (Evacuates v z back)) (evac_taken.taken v r) z back turn) → Result (Evacuates v z back)
+  copy_on v z back More more is asked same =
+      by_answer (Evacuates v z back) (evac_left.advances v.stage) (copy_answers (ForScan z back) v is asked)
+      (λ t. subst (λ (turn : Turn To). left_at (turned_copy (at_stage x (Evacuates v z back)) (evac_taken.taken v r) z back turn).stage < evac_left.left v) (sym more)
+      (copy_lowers (ForScan z back) v is t))
+  copy_on v z back (Finished to) ends is asked same = absurd same
+
+  opening_on : (o : open_page.Opening) (z : scan.Scanning) (back : Back) (turn : Turn Opened) → open_page.told (open_page.taken o r) ≡ turn → open_page.wanted o ≡ Some q
+      → Same (Opens o z back) (turned_opening (at_stage x (Opens o z back)) (open_page.taken o r) z back turn) → Result (Opens o z back)
+  opening_on o z back More more asked same =
+      by_answer (Opens o z back) (open_page.advances_at o.stage) (opening c p s k o o.stage q asked)
+      (λ t. subst (λ (turn : Turn Opened). left_at (turned_opening (at_stage x (Opens o z back)) (open_page.taken o r) z back turn).stage < open_page.left o) (sym more)
+      (openings_lower o.stage r t))
+  opening_on o z back (Finished result) ends asked same = absurd (openings_end (at_stage x (Opens o z back)) o z back same)
+
+  -- ---- each stage
+
+  by_stage : (stage : Stage) → Is c k (at_stage x stage) → wanted_at (at_stage x stage) stage ≡ Some q → Same stage (turned_at (at_stage x stage) stage r) → Result stage
+  by_stage (Passes g after) is asked same = gate_on g after (gate.told (gate.taken g r)) refl is asked same
+  by_stage (Flips f) is asked same = flip_on f (flip.told (flip.taken f r)) refl is asked same
+  by_stage (Forwards w) is asked same = register_on w (evac_taken.told (evac_taken.taken w.evac r).stage) refl is asked same
+  by_stage (Accesses a) is asked same =
+      let its : a ≡ accessing_going.own c p s k x a.stage = (λ i. record { spaces = is.fits.stage.layout i; epoch = is.fits.stage.epoch i; stage = a.stage }) in
+      let now = subst (λ (z : Access). (Is c k (at_stage x (Accesses z))) × (access.wanted z ≡ q) × Same (Accesses z) (turned_at (at_stage x (Accesses z)) (Accesses z) r)) its
+      (is, same_Some (access.wanted a) q asked, same) in
+      subst (λ (z : Access). Result (Accesses z)) (sym its) (access_on a.stage (access.told (accessing_going.own c p s k x a.stage) r) refl now.0 now.1 now.2)
+  by_stage (Places a) is asked same = place_on a (place.told (place.taken a r)) refl is asked same
+  by_stage (Serves d back) is asked same = round_on d back (duty.told (duty.taken d r)) refl is asked same
+  by_stage (Scans v back) is asked same = scan_on v back (scan_taken.told (scan_taken.taken v r).stage) refl is asked same
+  by_stage (Evacuates v z back) is asked same = copy_on v z back (evac_taken.told (evac_taken.taken v r).stage) refl is asked same
+  by_stage (Opens o z back) is asked same = opening_on o z back (open_page.told (open_page.taken o r)) refl asked same
+  by_stage Looks is asked same = absurd same
+  by_stage Gone is asked same = absurd (cc)
+
+pub machines_go_on : MachinesGoOn
+machines_go_on h p o k x q st l holds asked same = by_result (by_stage (read h) p st.stands k x q x.stage (member h p o k x st l holds) asked same)
+  where
+    by_result : Result (read h) p st.stands k x q x.stage → Progress h k x q
+    by_result (Less fewer) = LessIsLeft fewer
+    by_result (Was_lost word is) = ExchangeWasLost word is
+    by_result (Meets busy) = AnotherCopies (record { at = busy.at; loads = busy.loads; len = busy.len; worker = busy.worker; busy = busy.busy; other = busy.other })
+    by_result (Awaits waiting) = OthersGoFirst waiting

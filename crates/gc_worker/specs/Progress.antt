@@ -1,0 +1,96 @@
+-- What a step has brought after which the same machine is at work: less is left of it, but for an exchange that was lost, a record that
+-- another worker copies, and a worker that waits for others.
+use Rattle.std.specs.Prelude.{◌≡◌, ◌≢◌, ℕ, ◌<◌, ⊤, length, Some}
+use Rattle.plain_state.specs.State.{Plain}
+use Rattle.atom_store.specs.declared.reply.Reply.{Reply}
+use Rattle.atom_store.specs.declared.reply.Reply.TheVariants.{Lost}
+use Rattle.atom_store.specs.declared.step.Step.{Step}
+use Rattle.atom_store.specs.declared.step.Step.TheVariants.{Load}
+use Rattle.atom_store.specs.declared.turn.Turn.TheVariants.{Finished}
+use Rattle.atom_store.specs.Step.{reply_of}
+use Rattle.heap_words.specs.Decoded.{BusyWord, decode}
+use Rattle.space_map.specs.Table.{HeapWord, place_of}
+use Rattle.alloc_end.specs.Place as place
+use Rattle.fault_duty.specs.declared.round_end.RoundEnd.{RoundEnd}
+use Rattle.fault_duty.specs.Duty as duty
+use Rattle.forwarding.specs.Left as evac_left
+use Rattle.gate_core.specs.declared.flipped.Flipped.TheVariants as flipped
+use Rattle.gate_core.specs.declared.passage.Passage.{Passage}
+use Rattle.gate_core.specs.declared.passage.Passage.TheVariants.{Attach, Resume}
+use Rattle.gate_core.specs.declared.passed.Passed.TheVariants as passed
+use Rattle.gate_core.specs.Flip as flip
+use Rattle.gate_core.specs.Gate as gate
+use Rattle.heap_state.specs.Table.{word_in}
+use Rattle.page_scan.specs.Left as scan_left
+use Rattle.page_slots.specs.Open as open_page
+use Rattle.gc_worker.specs.Access as access
+use Rattle.gc_worker.specs.Held.{Held}
+use Rattle.gc_worker.specs.Law.{Heap, WorkersStand, held_at}
+use Rattle.gc_worker.specs.Turned.{turned}
+use Rattle.gc_worker.specs.Wanted.{wanted}
+use Rattle.gc_worker.specs.declared.back.Back.TheVariants.{ToScanner}
+use Rattle.gc_worker.specs.declared.stage.Stage.{Stage}
+use Rattle.gc_worker.specs.declared.stage.Stage.TheVariants.{Looks, Passes, Flips, Forwards, Accesses, Places, Serves, Scans, Evacuates, Opens, Gone}
+
+-- so many steps are left of the machine at work at a stage, as the machine itself counts them
+abbrev pub left_at : Stage → ℕ
+left_at Looks = 0
+left_at (Passes g after) = gate.left g
+left_at (Flips f) = flip.left f
+left_at (Forwards w) = evac_left.left w.evac
+left_at (Accesses a) = access.left a
+left_at (Places p) = place.left p
+left_at (Serves d back) = duty.left d
+left_at (Scans s back) = scan_left.left s
+left_at (Evacuates v s back) = evac_left.left v
+left_at (Opens o s back) = open_page.left o
+left_at Gone = 0
+
+-- the machine at work at one stage is at work at the other too, or one of its sort that does the same
+abbrev pub IsSameMachine : Stage → Stage → Type 0
+IsSameMachine (Passes g after) (Passes next later) = next.passage ≡ g.passage
+IsSameMachine (Flips f) (Flips next) = ⊤
+IsSameMachine (Forwards w) (Forwards next) = next.register ≡ w.register
+IsSameMachine (Accesses a) (Accesses next) = ⊤
+IsSameMachine (Places p) (Places next) = ⊤
+IsSameMachine (Serves d back) (Serves next later) = ⊤
+IsSameMachine (Scans s back) (Scans next later) = ⊤
+IsSameMachine (Evacuates v s back) (Evacuates next t later) = ⊤
+IsSameMachine (Opens o s back) (Opens next t later) = ⊤
+IsSameMachine stage next = ⊥
+
+-- who is about to come in, or to run on, may have to wait at the gate
+abbrev pub MayWait : Passage → Type 0
+MayWait Attach = ⊤
+MayWait (Resume epoch) = ⊤
+MayWait passage = ⊥
+
+-- The worker waits for others: the gate doesn't let it in or run on yet, or mutators run or are behind while it is to flip; or it is a scanner,
+-- whose round has come to its end.
+abbrev pub IsWaiting : Stage → Reply → Type 0
+IsWaiting (Passes g after) reply = MayWait g.passage × ((word : ℕ) × (gate.told (gate.taken g reply) ≡ Finished (passed.NotYet word)))
+IsWaiting (Flips f) reply = (word : ℕ) × (flip.told (flip.taken f reply) ≡ Finished (flipped.NotYet word))
+IsWaiting (Serves d ToScanner) reply = (result : RoundEnd) × (duty.told (duty.taken d reply) ≡ Finished result)
+IsWaiting stage reply = ⊥
+
+-- the step of worker k loads the first word of a record whose header another worker keeps
+pub record ReadsAnothers (h : Heap) (k : ℕ) (q : Step) : Type 0 where
+  pub at : ℕ
+  pub loads : q ≡ Load (place_of h.pages (HeapWord at))
+  pub len : ℕ
+  pub worker : ℕ
+  pub busy : decode (word_in h.pages h.words (HeapWord at)) ≡ BusyWord len worker
+  pub other : worker ≢ k
+
+-- what a step of worker k, which holds x, has brought
+pub data Progress (h : Heap) (k : ℕ) (x : Held) (q : Step) : Type 0 where
+  LessIsLeft : left_at (turned x (reply_of q h.words)).stage < left_at x.stage → Progress h k x q
+  ExchangeWasLost : (word : ℕ) → reply_of q h.words ≡ Lost word → Progress h k x q
+  AnotherCopies : ReadsAnothers h k q → Progress h k x q
+  OthersGoFirst : IsWaiting x.stage (reply_of q h.words) → Progress h k x q
+
+-- A step from a heap that stands, after which the same machine is at work, leaves it less to do; or its exchange was lost, or another worker
+-- copies the record, or the worker waits for others.
+abbrev pub MachinesGoOn : Type 0
+MachinesGoOn = (h : Heap) (p o : Plain) (k : ℕ) (x : Held) (q : Step) → WorkersStand h p o → k < length h.workers → held_at h k ≡ x → wanted x ≡ Some q
+    → IsSameMachine x.stage (turned x (reply_of q h.words)).stage → Progress h k x q
