@@ -207,7 +207,8 @@ pub record ActsBy (a : Seated) (r : Reply) (s : Stepped) (b : Seated) : Type 0 w
   pub knows : Moves a.knows (first_number a.knows.hands) a.worker r b.knows
   pub goes_on : GoesOn a.worker r
 
--- an act is idle exactly where a mutator has left, or a scanner has seen that all have
+-- An act is idle exactly where the worker is gone: a mutator that has left, or a scanner that has read a gate which all mutators have left.
+-- No other step brings a worker there (`who_is_gone_saw_why` of gc_worker).
 abbrev pub Acts : Seated → Stepped → Seated → Type 0
 Acts a Idle b = (b ≡ a) × (a.worker.stage ≡ Gone)
 Acts a s b = (r : Reply) × ActsBy a r s b
