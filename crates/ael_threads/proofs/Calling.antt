@@ -6,7 +6,7 @@ use Rattle.std.specs.Option.{is_some}
 use Rattle.gc_worker.specs.declared.stage.Stage.{Stage}
 use Rattle.ael_threads.proofs.Flipping.{answers_in_epoch}
 use Rattle.gc_worker.proofs.History.Extensions.{legal_last}
-use Rattle.ael_threads.proofs.Showing.{none_of}
+use Rattle.ael_threads.proofs.Showing.{looks_run, none_of}
 use Rattle.gc_worker.proofs.History.Tallies.{entry_at}
 use Rattle.plain_state.specs.declared.end.End.{End}
 use Rattle.heap_state.specs.Worker.{Account}
@@ -36,7 +36,7 @@ use Rattle.ael_threads.specs.Calls.{Called, Departs, end_of, IsDone, IsQuiet, Kn
 use Rattle.gc_worker.specs.History.Tally.{EachEntry, EntryIs, IsFilledBy, Tasks, tally, tasks_held}
 use Rattle.ael_threads.specs.Histories.{opened, hand, first_plain}
 use Rattle.gc_worker.specs.History.Legal.{IsLegal, after_all, call, own_after, last_flip}
-use Rattle.ael_threads.specs.Seats.{Acts, ActsBy, Extends, IsEffect, Seated, Sees, ShowsSeen, first_number, first_own, plain_seen, seen_after, LiveWhereTold, claim_of, with_claim}
+use Rattle.ael_threads.specs.Seats.{Acts, ActsBy, Extends, IsRunning, Seated, Sees, ShowsSeen, first_number, first_own, plain_seen, seen_after, LiveWhereTold, claim_of, with_claim}
 
 -- ---- pages won
 
@@ -127,9 +127,10 @@ ends_by : (n mutators m : ℕ) (was z : Held) (did : Did) → RestsAfter was z d
 ends_by n mutators m was z Done looks f = none_of z.account.end (subst (λ (stage : Stage). FitsEnd stage (is_some z.account.end)) looks f.end)
 ends_by n mutators m was z (Trap end) after f = ap (λ (a : Account). a.end) after.0
 
-done_is : (did : Did) (x : Held) (task : Task) → IsDone did → IsEffect (Answers task did)
-done_is Done x task h = tt
-done_is (Trap end) x task h = absurd h
+-- who executed its task runs
+done_runs : (n mutators m : ℕ) (was z : Held) (did : Did) → IsDone did → RestsAfter was z did → Fits n mutators m z → IsRunning z
+done_runs n mutators m was z Done done looks f = looks_run n mutators m z f looks
+done_runs n mutators m was z (Trap end) done after f = absurd done
 
 -- the last call of a history comes to what it may at that point
 comes_last : (a : Seated) (task : Task) (did : Did) (hands : List Hand) (later : List Entry) (h : Extends a.knows.plan hands a.knows.seen (call_by a task did) later)
@@ -151,6 +152,8 @@ calls a b c task r s did w h other is =
     let k = h.knows in
     let answer = h.goes_on.answers other did is in
     let same : other ≡ task = same_Some other task (sym answer.asked ∙ w.asks) in
+    let runs : IsDone did → IsRunning (turned b.worker r) =
+    (λ yes. done_runs b.knows.plan.spaces.pages b.knows.plan.mutators m b.worker (turned b.worker r) did yes answer.after k.fits) in
     let answers : told b.worker r ≡ Answers task did = is ∙ (λ j. Answers (same j) did) in
     let call_is : call m other did ≡ call_by a task did = (λ i. call (w.rests.number i) (same i) did) in
     let pages : b.knows.plan.spaces.pages ≡ a.knows.plan.spaces.pages = ap (λ (p : Plan). p.spaces.pages) w.rests.plan in
@@ -179,9 +182,9 @@ calls a b c task r s did w h other is =
       filled = filled_last a task did (tasks_held k.stands.workers) (a.knows.seen ++ history.between)
           (subst (λ (z : Plan × List Entry). EachEntry (EntryIs z.0.spaces.pages (tasks_held k.stands.workers)) (opened z.0) z.1) (λ i. (w.rests.plan i, ends i)) k.stands.tallied.entries);
       lands = λ yes. subst (λ (z : ℕ × Held). Lands z.0 k.after z.1) (λ i. (pages i, sym h.worker i))
-          (lands_uncounted b.knows.plan.spaces.pages k.after (turned b.worker r) (k.lands (subst IsEffect (sym is) (done_is did b.worker other yes))));
+          (lands_uncounted b.knows.plan.spaces.pages k.after (turned b.worker r) (k.lands (runs yes)));
       alike = λ yes q its. subst (λ (x : Held). AreAlike x.registers q) (sym h.worker)
-          (k.alike (subst IsEffect (sym is) (done_is did b.worker other yes)) q (ap (λ (j : ℕ). slice_get (plain_seen c.knows).mutators j) w.rests.number ∙ its));
+          (k.alike (runs yes) q (ap (λ (j : ℕ). slice_get (plain_seen c.knows).mutators j) w.rests.number ∙ its));
     }
 
 by_effect : (a b c : Seated) (task : Task) (r : Reply) (m : ℕ) → Waits a task b → ActsBy b r (stepped.Effect m) c → (t : Told) → told b.worker r ≡ t → stepped.Effect m ≡ stepped_by b.worker.number t → Called a task Done c

@@ -1,5 +1,5 @@
 -- What a worker shows of its plain mutator, whatever its count of instructions is.
-use Rattle.std.proofs.Common.{◌≡◌, ℕ, zero, suc, ◌<◌, true, false, Option, Some, None, List, [], ◌∷◌, length, slice_get, refl, sym, ◌∙◌, ap, subst, arith}
+use Rattle.std.proofs.Common.{◌≡◌, ℕ, zero, suc, ◌<◌, Bool, true, false, nat_lt, ltb-true, Option, Some, None, List, [], ◌∷◌, length, slice_get, refl, sym, ◌∙◌, ap, subst, arith}
 use Rattle.std.specs.Option.{is_some}
 use Rattle.plain_state.specs.declared.end.End.{End}
 use Rattle.plain_state.specs.declared.end.End.TheVariants.{Halt, NotPointer, NotNumber, OutOfRange, IntoRaw, ZeroDivisor, JumpOut, TurnsOut, OutputFull, HeapFull}
@@ -8,22 +8,24 @@ use Rattle.plain_state.proofs.Lists.{slice_get-set_same}
 use Rattle.std.proofs.lemmas.Option.{same_Some, slice_get_within}
 use Rattle.heap_state.specs.Worker.{is_running}
 use Rattle.gc_worker.specs.declared.stage.Stage.{Stage}
-use Rattle.gc_worker.specs.declared.stage.Stage.TheVariants.{Looks}
+use Rattle.gc_worker.specs.declared.back.Back.{Back}
+use Rattle.gc_worker.specs.declared.back.Back.TheVariants.{ToAccess, ToPlace, ToScanner}
+use Rattle.gc_worker.specs.declared.stage.Stage.TheVariants.{Accesses, Evacuates, Flips, Forwards, Gone, Looks, Opens, Passes, Places, Scans, Serves}
 use Rattle.gc_worker.specs.declared.task.Task.{Task}
 use Rattle.gc_worker.specs.declared.task.Task.TheVariants.{Calls, Stops}
 use Rattle.gc_worker.specs.Answer.{after_answer, after_told}
 use Rattle.gc_worker.specs.Between.{AreAlike, IsAsPlain, Lands, Shows}
 use Rattle.gc_worker.specs.Counted.{counted}
-use Rattle.gc_worker.specs.Fits.{Fits, FitsEnd}
+use Rattle.gc_worker.specs.Fits.{Fits, FitsEnd, IsOnSide, IsOnSideBack}
 use Rattle.gc_worker.specs.Full.{FullByEnd, FullWhereTold}
 use Rattle.gc_worker.specs.Held.{Held}
-use Rattle.gc_worker.specs.Knows.{post_in}
+use Rattle.gc_worker.specs.Knows.{post_back, post_gone, post_in}
 use Rattle.gc_worker.specs.Law.{Heap, WorkersStand}
 use Rattle.gc_worker.proofs.Between.Copied.{full_tells_live}
 use Rattle.gc_worker.specs.Stepped.{uncounted}
 use Rattle.gc_worker.specs.declared.did.Did.TheVariants.{Done, Trap}
 use Rattle.gc_worker.specs.Turned.{Told, Silent, Answers, Marks}
-use Rattle.ael_threads.specs.Seats.{IsEffect, IsShown, LiveByEnd, LiveWhereTold}
+use Rattle.ael_threads.specs.Seats.{IsRunning, IsShown, LiveByEnd, LiveWhereTold}
 
 pub shown_by : (h : Heap) (p : Plain) (m count : ℕ) (z : Held) (q : Mutator) → IsAsPlain h p m (counted count z) q → Shows z.registers q → IsShown p.heap m (uncounted z) q
 shown_by h p m count z q a shows = record {
@@ -34,13 +36,7 @@ shown_by h p m count z q a shows = record {
   registers = shows;
 }
 
--- ---- after an effect
-
-pub effect_is : (t : Told) → IsEffect t → (task : Task) × (t ≡ Answers task Done)
-effect_is Silent h = absurd h
-effect_is (Answers task Done) h = (task, refl)
-effect_is (Answers task (Trap end)) h = absurd h
-effect_is (Marks asked) h = absurd h
+-- ---- who runs
 
 pub none_of : (o : Option End) → is_some o ≡ false → o ≡ None
 none_of None e = refl
@@ -50,14 +46,69 @@ none_of (Some end) e = absurd (cc)
 pub no_end : (h : Heap) (p : Plain) (n mutators m count : ℕ) (z : Held) (q : Mutator) → IsAsPlain h p m (counted count z) q → Fits n mutators m z → z.stage ≡ Looks → q.end ≡ None
 no_end h p n mutators m count z q a f looks = sym a.account.end ∙ none_of z.account.end (subst (λ (stage : Stage). FitsEnd stage (is_some z.account.end)) looks f.end)
 
-runs : (count : ℕ) (z : Held) → z.stage ≡ Looks → is_running (post_in (counted count z) z.stage) ≡ true
-runs count z looks = ap (λ (stage : Stage). is_running (post_in (counted count z) stage)) looks
+-- and runs
+pub looks_run : (n mutators m : ℕ) (z : Held) → Fits n mutators m z → z.stage ≡ Looks → IsRunning z
+looks_run n mutators m z f looks = (
+  none_of z.account.end (subst (λ (stage : Stage). FitsEnd stage (is_some z.account.end)) looks f.end),
+  ap (λ (stage : Stage). is_running (post_in z stage)) looks,
+)
 
-pub lands_by : (h : Heap) (p : Plain) (n mutators m count : ℕ) (z : Held) (q : Mutator) → IsAsPlain h p m (counted count z) q → Fits n mutators m z → z.stage ≡ Looks → Lands h.pages h.words z
-lands_by h p n mutators m count z q a f looks = let l = a.lands (no_end h p n mutators m count z q a f looks) (runs count z looks) in record { in_space = l.in_space; header = l.header }
+-- a scanner never runs
+gone_stops : (b : Bool) → is_running (post_gone b) ≡ true → ⊥
+gone_stops true e = cc
+gone_stops false e = cc
 
-pub alike_by : (h : Heap) (p : Plain) (n mutators m count : ℕ) (z : Held) (q : Mutator) → IsAsPlain h p m (counted count z) q → Fits n mutators m z → z.stage ≡ Looks → AreAlike z.registers q
-alike_by h p n mutators m count z q a f looks = a.alike (no_end h p n mutators m count z q a f looks) (runs count z looks)
+back_runs : (back : Back) (b : Bool) → IsOnSideBack back b → is_running (post_back back) ≡ true → b ≡ true
+back_runs (ToAccess a) b side e = side
+back_runs ToPlace b side e = side
+back_runs ToScanner b side e = absurd (cc)
+
+pub runs_aside : (n mutators m : ℕ) (z : Held) → Fits n mutators m z → is_running (post_in z z.stage) ≡ true → m < mutators
+runs_aside n mutators m z f runs =
+    let less = ltb-true z.number z.mutators (by_stage z.stage f.side runs) in
+    let number = f.number in
+    let beside = f.beside in
+    omega (arith, less, number, beside)
+  where
+    by_stage : (stage : Stage) → IsOnSide stage (nat_lt z.number z.mutators) (is_some z.account.end) → is_running (post_in z stage) ≡ true → nat_lt z.number z.mutators ≡ true
+    by_stage Looks side e = side
+    by_stage (Passes g after) side e = side
+    by_stage (Flips g) side e = side
+    by_stage (Forwards w) side e = side
+    by_stage (Accesses a) side e = side
+    by_stage (Places p) side e = side
+    by_stage (Serves d back) side e = back_runs back (nat_lt z.number z.mutators) side e
+    by_stage (Scans s back) side e = back_runs back (nat_lt z.number z.mutators) side e
+    by_stage (Evacuates v s back) side e = back_runs back (nat_lt z.number z.mutators) side e
+    by_stage (Opens o s back) side e = back_runs back (nat_lt z.number z.mutators) side e
+    by_stage Gone side e = absurd (gone_stops (nat_lt z.number z.mutators) e)
+
+-- whatever its count is
+counted_post : (count : ℕ) (z : Held) (stage : Stage) → post_in (counted count z) stage ≡ post_in z stage
+counted_post count z Looks = refl
+counted_post count z (Passes g after) = refl
+counted_post count z (Flips g) = refl
+counted_post count z (Forwards w) = refl
+counted_post count z (Accesses a) = refl
+counted_post count z (Places p) = refl
+counted_post count z (Serves d back) = refl
+counted_post count z (Scans s back) = refl
+counted_post count z (Evacuates v s back) = refl
+counted_post count z (Opens o s back) = refl
+counted_post count z Gone = refl
+
+module _ (h : Heap) (p : Plain) (m count : ℕ) (z : Held) (q : Mutator) (a : IsAsPlain h p m (counted count z) q) (r : IsRunning z) where
+  unended : q.end ≡ None
+  unended = sym a.account.end ∙ r.0
+
+  counted_runs : is_running (post_in (counted count z) z.stage) ≡ true
+  counted_runs = ap is_running (counted_post count z z.stage) ∙ r.1
+
+  pub lands_by : Lands h.pages h.words z
+  lands_by = let l = a.lands unended counted_runs in record { in_space = l.in_space; header = l.header }
+
+  pub alike_by : AreAlike z.registers q
+  alike_by = a.alike unended counted_runs
 
 pub mutator_at : (l : List Mutator) (i : ℕ) → i < length l → (q : Mutator) × (slice_get l i ≡ Some q)
 mutator_at [] i h = absurd (omega arith)

@@ -2,7 +2,6 @@
 use Rattle.std.proofs.Common.{◌≡◌, ◌≢◌, ℕ, ◌<◌, inl, inr, Option, Some, None, List, [], ◌∷◌, ◌++◌, length, slice_get, slice_set, set, refl, sym, ◌∙◌, ap, subst, length-set, arith, get_or-set_same}
 use mathlib.Core.Option.{some}
 use mathlib.Core.List.{IsPrefix}
-use Rattle.std.proofs.lemmas.Option.{slice_get_within}
 use lib.ListN.{get_elem?}
 use Rattle.atomic_table.specs.Table as table
 use Rattle.atom_store.specs.declared.reply.Reply.{Reply}
@@ -13,7 +12,7 @@ use Rattle.plain_state.specs.State.{Mutator, Plain}
 use Rattle.gc_worker.specs.declared.stage.Stage.TheVariants.{Looks}
 use Rattle.gc_worker.specs.declared.task.Task.{Task}
 use Rattle.gc_worker.specs.Answer.{ComesTo, IsAnswered, after_told}
-use Rattle.gc_worker.specs.Between.{Begins, AreAlike, GoesOn, IsAsPlain, Lands, Readies, Shows}
+use Rattle.gc_worker.specs.Between.{Begins, AreAlike, GoesOn, IsAsPlain, IsSo, Lands, Readies, Shows}
 use Rattle.gc_worker.specs.Counted.{CountsApart, counted, count_after}
 use Rattle.gc_worker.specs.Fits.{Fits}
 use Rattle.gc_worker.specs.Full.{FullWhereTold}
@@ -24,7 +23,6 @@ use Rattle.gc_worker.specs.declared.did.Did.TheVariants.{Done, Trap}
 use Rattle.gc_worker.specs.Turned.{Told, Silent, Answers, Marks, told, turned, won}
 use Rattle.gc_worker.specs.Wanted.{wanted}
 use Rattle.gc_worker.proofs.Between.GoingOn.{workers_go_on}
-use Rattle.gc_worker.proofs.Between.Others.{answers_leave_the_others}
 use Rattle.gc_worker.proofs.Between.Readying.{readying_stands}
 use Rattle.gc_worker.proofs.Between.Standing.{what_stands_is_so}
 use Rattle.gc_worker.proofs.Counting.{counted_fit, counts_are_apart}
@@ -40,13 +38,13 @@ use Rattle.gc_worker.specs.History.Tally.{IsTallied}
 use Rattle.ael_threads.specs.Histories.{opened, HasOwn, first_plain, hand}
 use Rattle.gc_worker.specs.History.Legal.{IsLegal, after_all, call, calls_of, extra, last_flip, own_after}
 use Rattle.ael_threads.specs.Rule.{FitsView, Has, Kept, crew, heap_of, view}
-use Rattle.ael_threads.specs.Seats.{Follows, IsEffect, IsShown, Moves, Sees, ShowsSeen, StandWith, plain_seen, seen_after, with_claim, LiveByEnd, LiveWhereTold}
+use Rattle.ael_threads.specs.Seats.{Follows, IsRunning, IsShown, Moves, Sees, ShowsSeen, StandWith, plain_seen, seen_after, with_claim, LiveByEnd, LiveWhereTold}
 use Rattle.ael_threads.proofs.Places.{at_inside, get_of, set_else, set_here}
 use Rattle.ael_threads.proofs.Elements.{each_map, prefix_more, prefix_self}
 use Rattle.gc_worker.proofs.History.Steps.{step_tallied}
 use Rattle.ael_threads.proofs.Flipping.{flips_by}
 use Rattle.gc_worker.proofs.History.Extensions.{Agrees, after_more, calls_more, flip_more, legal_more, seen_keeps}
-use Rattle.ael_threads.proofs.Showing.{alike_by, effect_is, ends_with, full_by, lands_by, live_by, mutator_at, no_end, shown_by}
+use Rattle.ael_threads.proofs.Showing.{alike_by, ends_with, full_by, lands_by, live_by, mutator_at, no_end, runs_aside, shown_by}
 use Rattle.gc_worker.proofs.History.Tallies.{tally_flip, tally_now}
 use Rattle.gc_worker.proofs.History.Tasks.{task_tallied}
 use Rattle.ael_threads.proofs.Views.{all_fit, my_fit}
@@ -203,26 +201,27 @@ module _ (plan : Plan) (id : ℕ) (was : Hand) (x : Held) (others : List Hand) (
       (step_tallied (heap_of plan s.words workers1) m y q inside1 (get_or-set_same b.workers m y nobody inside) (apart.wants ∙ want) (opened plan) b.log readied_tallied
       (subst (λ (w : Plain × Plain). WorkersStand (heap_of plan s.words workers1) w.0 w.1) (λ i. (sym (tally_now (opened plan) b.log) i, sym (tally_flip (opened plan) b.log) i)) readied))
 
+  so' : IsSo heap' p'
+  so' = what_stands_is_so heap' p' (last_flip (first_plain plan) log') stands'
+
   as_plain : (w : Mutator) → slice_get p'.mutators m ≡ Some w → IsAsPlain heap' p' m (counted count' z) w
-  as_plain w its = subst (λ (h : Held). IsAsPlain heap' p' m h w) (get_or-set_same workers1 m (turned y r) nobody inside1 ∙ becomes)
-      ((what_stands_is_so heap' p' (last_flip (first_plain plan) log') stands').mutators m w its)
+  as_plain w its = subst (λ (h : Held). IsAsPlain heap' p' m h w) (get_or-set_same workers1 m (turned y r) nobody inside1 ∙ becomes) (so'.mutators m w its)
 
   looks : (task : Task) → t ≡ Answers task Done → z.stage ≡ Looks
   looks task is = ((workers_go_on n plan.mutators m x r follows.fits).answers task Done is).after
 
-  -- the plain mutator of who answers
-  its_mutator : (task : Task) → t ≡ Answers task Done → (w : Mutator) × (slice_get p'.mutators m ≡ Some w)
-  its_mutator task is =
-      let comes : ComesTo p m task Done = subst (IsAnswered p m) is answered in
-      let here = slice_get_within p.mutators m comes.mutator comes.is in
-      let same : length p'.mutators ≡ length p.mutators = ap (λ (w : Plain). length w.mutators) (after_more (first_plain plan) b.log m t) ∙ (answers_leave_the_others p m t).as_many in
-      mutator_at p'.mutators m (omega (arith, here, same))
+  -- the plain mutator of who runs
+  its_mutator : IsRunning z → (w : Mutator) × (slice_get p'.mutators m ≡ Some w)
+  its_mutator runs =
+      let many = so'.as_many in
+      let below = runs_aside n plan.mutators m z fits_z runs.1 in
+      mutator_at p'.mutators m (omega (arith, many, below))
 
-  lands : IsEffect t → Lands n later z
-  lands h = let e = effect_is t h in let w = its_mutator e.0 e.1 in lands_by heap' p' n plan.mutators m count' z w.0 (as_plain w.0 w.1) fits_z (looks e.0 e.1)
+  lands : IsRunning z → Lands n later z
+  lands runs = let w = its_mutator runs in lands_by heap' p' m count' z w.0 (as_plain w.0 w.1) runs
 
-  alike : IsEffect t → (w : Mutator) → slice_get p'.mutators m ≡ Some w → AreAlike z.registers w
-  alike h w its = let e = effect_is t h in alike_by heap' p' n plan.mutators m count' z w (as_plain w its) fits_z (looks e.0 e.1)
+  alike : IsRunning z → (w : Mutator) → slice_get p'.mutators m ≡ Some w → AreAlike z.registers w
+  alike runs w its = alike_by heap' p' m count' z w (as_plain w its) runs
 
   -- ---- its registers, also once it has its end
 

@@ -87,10 +87,11 @@ pub record TellsRegisters (told : Outputs) (m : ℕ) (q : Mutator) : Type 0 wher
 
 -- THE CLAUSE OF RUN: all calls of its mutators stand in one legal history. In the order of that history the plain machine executes the
 -- program, each mutator its section from the start, none of its instructions skipped and none executed twice, to its end. The words that
--- are told, with what all workers hold, which have left, stand for the plain state after it, and registers show the plain ones; what was copied in an epoch that is traced is what was live
--- at its last flip; what else is told is what these say. Each flip was for a record, an instruction asking for one at most; where a
--- mutator's end is that the heap is full, it was, by the words that its own seat read, and what was live at the flip before filled the
--- space, with records made since then or being made. So it is by the order alone; and a heap that is as large as the order needs is never full.
+-- are told, with what all workers hold, which have left, stand for the plain state after it, and registers show the plain ones; what was
+-- copied in an epoch that is traced is what was live at its last flip; what else is told is what these say. Each flip was for a record, an
+-- instruction asking for one at most; where a mutator's end is that the heap is full, it was, by the words that its own seat read, and
+-- what was live at the flip before filled the space, with records made since then or being made. So it is by the order alone; and a heap
+-- that is as large as the order needs is never full.
 pub record Runs (code : List (List Instr)) (config : Config) (told : Outputs) : Type 0 where
   pub log : List Entry
   pub workers : List Held

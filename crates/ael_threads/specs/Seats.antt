@@ -1,5 +1,5 @@
 -- What a seat is told by a step, and by what it takes in.
-use Rattle.std.specs.Prelude.{◌≡◌, ◌≢◌, ℕ, zero, suc, ◌+◌, ◌==◌, ◌<◌, ⊤, Option, Some, None, List, [], ◌∷◌, ◌++◌, map, take, drop, slice_get, length, if◌then◌else◌}
+use Rattle.std.specs.Prelude.{◌≡◌, ◌≢◌, ℕ, zero, suc, ◌+◌, ◌==◌, ◌<◌, ⊤, true, Option, Some, None, List, [], ◌∷◌, ◌++◌, map, take, drop, slice_get, length, if◌then◌else◌}
 use mathlib.Core.List.{IsPrefix}
 use lib.ListN.{get_elem?}
 use Rattle.atomic_table.specs.Table as table
@@ -20,9 +20,11 @@ use Rattle.gc_worker.specs.Counted.{counted}
 use Rattle.gc_worker.specs.Fits.{Fits, Takes}
 use Rattle.gc_worker.specs.Full.{FullWhereTold}
 use Rattle.gc_worker.specs.Held.{Held}
+use Rattle.gc_worker.specs.Knows.{post_in}
 use Rattle.plain_state.specs.declared.end.End.{End}
 use Rattle.plain_state.specs.declared.end.End.TheVariants.{HeapFull}
 use Rattle.heap_state.specs.Reachable as reachable
+use Rattle.heap_state.specs.Worker.{is_running}
 use Rattle.gc_worker.specs.Copied.{IsTraced}
 use Rattle.gc_worker.specs.Law.{FlipsWhereTold, WorkersStand, read, epoch_of}
 use Rattle.heap_state.specs.Copies.{CopiedIsLive}
@@ -120,11 +122,9 @@ LiveWhereTold o (Answers task Done) = ⊤
 LiveWhereTold o (Answers task (Trap end)) = LiveByEnd o end
 LiveWhereTold o (Marks asked) = ⊤
 
-abbrev pub IsEffect : Told → Type 0
-IsEffect Silent = ⊥
-IsEffect (Answers task Done) = ⊤
-IsEffect (Answers task (Trap end)) = ⊥
-IsEffect (Marks asked) = ⊥
+-- a mutator that has no end, and runs: no flip comes before it stops at the gate
+abbrev pub IsRunning : Held → Type 0
+IsRunning x = (x.account.end ≡ None) × (is_running (post_in x x.stage) ≡ true)
 
 -- With these words, and with worker m, which holds x but for its count, all workers stand for the plain state after a legal history
 -- that begins with this; what is counted along it fits them.
@@ -138,11 +138,12 @@ pub record StandWith (plan : Plan) (m : ℕ) (x : Held) (seen : List Entry) (wor
   pub stands : WorkersStand (heap_of plan words workers) (after_all (first_plain plan) log) (last_flip (first_plain plan) log)
   pub tallied : IsTallied (heap_of plan words workers) (opened plan) log
 
--- A step of worker m, whose code holds x and takes r. It is the step that x wants, on the words before it, and r is what that step replies;
--- with the words before and after it the workers stand for histories of which the latter has what the step tells besides, and no other
--- worker has changed. A flip, and nothing else, raises the epoch by one, for the pages that the worker's task asks for. Where the heap
--- is told to be full it was by the words before, and what is told as live was live at the last flip; after an effect each pointer in the
--- registers leads to a record's header in the words after, two registers holding one word exactly where the plain ones hold one value.
+-- A step of worker m, whose code holds x and takes r. It is the step that x wants, on the words before it, and r is what that step
+-- replies; with the words before and after it the workers stand for histories of which the latter has what the step tells besides, and no
+-- other worker has changed. A flip, and nothing else, raises the epoch by one, for the pages that the worker's task asks for. Where the
+-- heap is told to be full it was by the words before, and what is told as live was live at the last flip. If the worker is then a mutator
+-- that runs, as after each effect, each pointer in its registers leads to a record's header in the words after, and two registers hold
+-- one word exactly where the plain ones hold one value.
 pub record Moves (v : View) (m : ℕ) (x : Held) (r : Reply) (w : View) : Type 0 where
   pub takes : Takes x r
   pub fits : Fits v.plan.spaces.pages v.plan.mutators m (turned x r)
@@ -167,8 +168,8 @@ pub record Moves (v : View) (m : ℕ) (x : Held) (r : Reply) (w : View) : Type 0
   pub flips : FlipsWhereTold v.plan.spaces.pages before after x (told x r)
   pub full : FullWhereTold v.plan.spaces.pages before x (told x r)
   pub live : LiveWhereTold (last_flip (first_plain v.plan) w.seen) (told x r)
-  pub lands : IsEffect (told x r) → Lands v.plan.spaces.pages after (turned x r)
-  pub alike : IsEffect (told x r) → (q : Mutator) → slice_get (plain_seen w).mutators m ≡ Some q → AreAlike (turned x r).registers q
+  pub lands : IsRunning (turned x r) → Lands v.plan.spaces.pages after (turned x r)
+  pub alike : IsRunning (turned x r) → (q : Mutator) → slice_get (plain_seen w).mutators m ≡ Some q → AreAlike (turned x r).registers q
 
 abbrev pub Me : Type 0
 Me = table.Me ℕ View
@@ -253,7 +254,8 @@ abbrev pub Learns : table.Step ℕ → Me → ℕ → Me → Type 0
 Learns st me found later = (later.1 ≡ me.1) × Learned me.0 later.0
 
 -- THE CLAUSE OF ABSORB: one history for both callers, with just the calls that both made; no worker of both, and no page won by both in
--- one epoch. Each full heap of it was filled, and each of its flips was asked for, by what it has later or else by tasks that workers have begun.
+-- one epoch. There are tasks, one a worker at most, by which, where the history has no later call of a worker, each full heap of it was
+-- filled and each of its flips was asked for.
 pub record Absorbs (v u w : View) : Type 0 where
   pub plan : w.plan ≡ v.plan
   pub hands : w.hands ≡ v.hands ++ u.hands
@@ -291,11 +293,11 @@ pub record Stays (workers : List Held) (log : List Entry) (h : Hand) : Type 0 wh
   pub calls : calls_of h.number log ≡ h.own
 
 -- THE CLAUSE OF CLOSE: the calls of all these callers stand in one legal history, each once, of which what each has seen is a
--- beginning; with what their codes hold the words stand for the plain state after it; what was copied in an epoch
--- that is traced is what was live at the last flip of the history; the gate's epoch is the number of its flips; each flip was for a record, and where a call told the heap to be full
--- what was live at the flip before it filled the space, with records made since then or being made, by the history or else by the tasks
--- that mutators have begun, so a heap that is as large as the history needs is never full; no mutator asked for two flips between two of
--- its calls; no worker stands twice, and no page was won twice in one epoch.
+-- beginning; with what their codes hold the words stand for the plain state after it; what was copied in an epoch that is traced is what
+-- was live at the last flip of the history; the gate's epoch is the number of its flips; each flip was for a record, and where a call told
+-- the heap to be full what was live at the flip before it filled the space, with records made since then or being made, by the history or
+-- else by the tasks that mutators have begun, so a heap that is as large as the history needs is never full; no mutator asked for two
+-- flips between two of its calls; no worker stands twice, and no page was won twice in one epoch.
 pub record Closes (plan : Plan) (all : List Seated) (words : List ℕ) : Type 0 where
   pub log : List Entry
   pub workers : List Held

@@ -137,7 +137,7 @@ impl Mutator {
         self.caller.worker.serial()
     }
 
-    /// The epoch of the heap in which it is, 0 before the first flip: its pointers lead into the space of this epoch.
+    /// The epoch in which it is, 0 before its first act. After a call that was executed its pointers lead into the space of this epoch.
     pub fn epoch(&self) -> u32
         ensures { result ≡ self.now.worker.epoch }
     {

@@ -26,6 +26,13 @@ impl Model for Words {
 }
 
 impl Words {
+    /// How many there are.
+    pub fn len(&self) -> usize
+        ensures { result ≡ length self.now }
+    {
+        self.closed.words.len()
+    }
+
     /// The word at this place, which is below their number.
     pub fn word(&self, place: usize) -> u64
         requires { place < length self.now }
