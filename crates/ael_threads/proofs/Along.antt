@@ -29,7 +29,8 @@ use Rattle.ael_threads.specs.Programs.{HasExecuted, count_after, fetched_at}
 use Rattle.ael_threads.specs.Rule.{StandsAs, heap_of}
 use Rattle.ael_threads.specs.Running.{Executed, Executing, FoundFull, FullByEnd, HasRun, IsScanning, Work}
 use Rattle.ael_threads.specs.Seats.{Acts, IsMine, IsShown, Seated, ShowsSeen, first_number, first_own, plain_seen, seen_after}
-use Rattle.ael_threads.proofs.Calling.{quiet_first, quiet_more}
+use Rattle.ael_threads.specs.Began.{FlippedSinceBegun}
+use Rattle.ael_threads.proofs.Calling.{found_is, quiet_first, quiet_more}
 use Rattle.gc_worker.proofs.History.Extensions.{legal_last}
 use Rattle.ael_threads.proofs.MoreCalls.{fetches_shown}
 use Rattle.ael_threads.proofs.Programs.{executed_more, executed_rests}
@@ -131,6 +132,7 @@ module _ (w : Work) (m count : ℕ) (a : Seated) (h : Executing w m count a) whe
         stands = subst (λ (v : Plan). WorkersStand (heap_of v k.before k.found.workers) (after_all (first_plain v) k.found.log) (last_flip (first_plain v) k.found.log)) plan k.found.stands;
         no_room = subst (λ (v : Plan). FindsNoRoom v.spaces.pages k.before c.last.worker asked room live) h.plan c.full;
         was_live = subst (λ (v : Plan). IsLive (last_flip (first_plain v) b.knows.seen) live) h.plan c.live;
+        flipped = subst (λ (v : Plan × (ℕ × List Entry)). FlippedSinceBegun v.0 v.1.0 task v.1.1) (λ i. (h.plan i, (number_is i, found_is a b task (Trap (HeapFull asked room live)) c i))) c.flipped.since;
       }
 
   full_by : (b : Seated) (task : Task) (end : End) → Called a task (Trap end) b → FullByEnd w.plan m b.knows.seen end

@@ -1,6 +1,11 @@
 -- From acts to a call.
-use Rattle.std.proofs.Common.{◌≡◌, ℕ, Bool, true, false, not, Option, List, [], ◌∷◌, ◌++◌, drop, Some, None, refl, sym, ◌∙◌, ap, subst, slice_get, append_assoc}
+use Rattle.std.proofs.Common.{◌≡◌, ℕ, inl, inr, Bool, true, false, not, Option, List, [], ◌∷◌, ◌++◌, drop, Some, None, refl, sym, ◌∙◌, ap, subst, slice_get, append_assoc}
+use Rattle.std.proofs.lemmas.List.{append_cancel_right}
 use Rattle.std.proofs.lemmas.Option.{same_Some}
+use mathlib.Core.List.{IsPrefix}
+use Rattle.gc_worker.specs.Cycles.{IsInCall}
+use Rattle.ael_threads.proofs.Elements.{prefix_self, prefix_trans}
+use Rattle.ael_threads.proofs.Underway.{begun_by, flipped_by, heard_more, heard_past}
 use Rattle.atom_store.specs.declared.reply.Reply.{Reply}
 use Rattle.std.specs.Option.{is_some}
 use Rattle.gc_worker.specs.declared.stage.Stage.{Stage}
@@ -32,10 +37,10 @@ use Rattle.gc_worker.specs.declared.entry.Entry.TheVariants.{Made}
 use Rattle.ael_threads.specs.declared.view.Hand.{Hand}
 use Rattle.ael_threads.specs.declared.view.Plan.{Plan}
 use Rattle.ael_threads.specs.declared.view.View.{View}
-use Rattle.ael_threads.specs.Calls.{Called, Departs, end_of, IsDone, IsQuiet, KnowsWorker, Rests, Waits, WinsMore, call_by}
+use Rattle.ael_threads.specs.Calls.{Called, Departs, end_of, FlippedByOutcome, IsDone, IsQuiet, IsUnderWay, KnowsWorker, Rests, Waits, WinsMore, call_by}
 use Rattle.gc_worker.specs.History.Tally.{EachEntry, EntryIs, IsFilledBy, Tasks, tally, tasks_held}
 use Rattle.ael_threads.specs.Histories.{opened, hand, first_plain}
-use Rattle.gc_worker.specs.History.Legal.{IsLegal, after_all, call, own_after, last_flip}
+use Rattle.gc_worker.specs.History.Legal.{IsLegal, after_all, call, extra, own_after, last_flip}
 use Rattle.ael_threads.specs.Seats.{Acts, ActsBy, Extends, IsRunning, Seated, Sees, ShowsSeen, first_number, first_own, plain_seen, seen_after, LiveWhereTold, claim_of, with_claim}
 
 -- ---- pages won
@@ -59,6 +64,7 @@ rests_same a b same = record {
   own = ap (λ (v : View). first_own v.hands) same;
   others = ap (λ (v : View). drop 1 v.hands) same;
   seen = ap (λ (v : View). v.seen) same;
+  heard = subst (λ (v : View). IsPrefix a.knows.heard v.heard) (sym same) (prefix_self a.knows.heard);
   claims = ([], ap (λ (v : View). v.claims) same);
 }
 
@@ -69,11 +75,17 @@ rests_more a b c r s = record {
   own = s.own ∙ r.own;
   others = s.others ∙ r.others;
   seen = s.seen ∙ r.seen;
+  heard = prefix_trans a.knows.heard b.knows.heard c.knows.heard r.heard s.heard;
   claims = wins_more a b c r.claims s.claims;
 }
 
-pub waits_first : (a b : Seated) (task : Task) → b.worker ≡ with_task a.worker task → b.knows ≡ a.knows → Waits a task b
-waits_first a b task begins same = record { asks = ap (λ (x : Held). x.task) begins; rests = rests_same a b same }
+-- a caller that was given a task, and is in no call yet
+pub under_way : (a b : Seated) (task : Task) → b.worker ≡ with_task a.worker task → b.knows ≡ a.knows → (IsInCall b.worker.stage → ⊥) → IsUnderWay a task b
+under_way a b task begins same first = record {
+  waits = record { asks = ap (λ (x : Held). x.task) begins; rests = rests_same a b same };
+  epoch = inl (ap (λ (x : Held). x.epoch) begins);
+  begun = λ call. absurd (first call);
+}
 
 -- ---- a step that answers nothing
 
@@ -94,6 +106,7 @@ rests_by b c r s h none = let k = h.knows in record {
   own = ap first_own k.hands ∙ own_kept (first_number b.knows.hands) (first_own b.knows.hands) (told b.worker r) none;
   others = ap (drop 1) k.hands;
   seen = seen_kept b.knows c.knows (first_number b.knows.hands) (told b.worker r) none k.seen;
+  heard = heard_more b c r s h;
   claims = wins_by b c r s h;
 }
 
@@ -114,12 +127,20 @@ waits_by a b c task r s w h neither =
       rests = rests_more a b c w.rests (rests_by b c r s h none);
     }
 
-pub waits_more : (a b c : Seated) (task : Task) (s : Stepped) → Waits a task b → Acts b s c → ((m : ℕ) → s ≡ stepped.Effect m → ⊥) → ((m : ℕ) (end : End) → s ≡ stepped.Ended m end → ⊥) → Waits a task c
-waits_more a b c task stepped.Idle w h no_effect no_end = subst (Waits a task) (sym h.0) w
-waits_more a b c task stepped.Moved w h no_effect no_end = waits_by a b c task h.0 stepped.Moved w h.1 (no_effect, no_end)
-waits_more a b c task (stepped.Effect m) w h no_effect no_end = absurd (no_effect m refl)
-waits_more a b c task (stepped.Flipped n) w h no_effect no_end = waits_by a b c task h.0 (stepped.Flipped n) w h.1 (no_effect, no_end)
-waits_more a b c task (stepped.Ended m end) w h no_effect no_end = absurd (no_end m end refl)
+way_by : (a b c : Seated) (task : Task) (r : Reply) (s : Stepped) → IsUnderWay a task b → ActsBy b r s c → IsNeither s → IsUnderWay a task c
+way_by a b c task r s u h neither = record {
+  waits = waits_by a b c task r s u.waits h neither;
+  epoch = inr (heard_past a b c task r s u h);
+  begun = begun_by a b c task r s u h;
+}
+
+pub way_more : (a b c : Seated) (task : Task) (s : Stepped) → IsUnderWay a task b → Acts b s c → ((m : ℕ) → s ≡ stepped.Effect m → ⊥) → ((m : ℕ) (end : End) → s ≡ stepped.Ended m end → ⊥)
+    → IsUnderWay a task c
+way_more a b c task stepped.Idle u h no_effect no_end = subst (IsUnderWay a task) (sym h.0) u
+way_more a b c task stepped.Moved u h no_effect no_end = way_by a b c task h.0 stepped.Moved u h.1 (no_effect, no_end)
+way_more a b c task (stepped.Effect m) u h no_effect no_end = absurd (no_effect m refl)
+way_more a b c task (stepped.Flipped n) u h no_effect no_end = way_by a b c task h.0 (stepped.Flipped n) u h.1 (no_effect, no_end)
+way_more a b c task (stepped.Ended m end) u h no_effect no_end = absurd (no_end m end refl)
 
 -- ---- the step that answers
 
@@ -146,8 +167,9 @@ filled_last a task did tasks before h = entry_at (EntryIs a.knows.plan.spaces.pa
 lands_uncounted : (n : ℕ) (words : List ℕ) (z : Held) → Lands n words z → Lands n words (uncounted z)
 lands_uncounted n words z l = record { in_space = l.in_space; header = l.header }
 
-calls : (a b c : Seated) (task : Task) (r : Reply) (s : Stepped) (did : Did) → Waits a task b → ActsBy b r s c → (other : Task) → told b.worker r ≡ Answers other did → Called a task did c
-calls a b c task r s did w h other is =
+calls : (a b c : Seated) (task : Task) (r : Reply) (s : Stepped) (did : Did) → IsUnderWay a task b → ActsBy b r s c → (other : Task) → told b.worker r ≡ Answers other did → Called a task did c
+calls a b c task r s did u h other is =
+    let w = u.waits in
     let m = first_number b.knows.hands in
     let k = h.knows in
     let answer = h.goes_on.answers other did is in
@@ -161,6 +183,9 @@ calls a b c task r s did w h other is =
     subst (λ (z : Plan × (List Entry × Call)). Extends z.0 c.knows.hands z.1.0 z.1.1 c.knows.seen) (λ i. (w.rests.plan i, (w.rests.seen i, call_is i)))
     (subst (λ (t : Told). Sees b.knows m t c.knows) is k.seen) in
     let ends : k.stands.log ≡ (a.knows.seen ++ history.between) ++ Made (call_by a task did) ∷ [] = sym (k.sees ∙ ap (seen_after b.knows.seen k.stands.log) is) ∙ history.is in
+    let front : k.found.log ≡ a.knows.seen ++ history.between =
+    append_cancel_right k.found.log (a.knows.seen ++ history.between) (Made (call_by a task did) ∷ [])
+    ((λ i. k.found.log ++ Made (sym call_is i) ∷ []) ∙ ((λ i. k.found.log ++ extra m (sym is i)) ∙ (sym k.grows ∙ ends))) in
     record {
       rests = ap (λ (x : Held). x.task) h.worker ∙ answer.rests;
       ends = ap (λ (x : Held). x.account.end) h.worker ∙ ends_by b.knows.plan.spaces.pages b.knows.plan.mutators m b.worker (turned b.worker r) did answer.after k.fits;
@@ -175,6 +200,8 @@ calls a b c task r s did w h other is =
       stepped = s;
       acts = h;
       answers = answers;
+      heard = prefix_trans a.knows.heard b.knows.heard c.knows.heard w.rests.heard (heard_more b c r s h);
+      flipped = subst (λ (log : List Entry). FlippedByOutcome a task log c did) front (flipped_by a b c task r s u h other did is);
       epoch = ap (λ (x : Held). x.epoch) h.worker ∙ answers_in_epoch b.worker r other did is;
       comes = comes_last a task did c.knows.hands c.knows.seen history;
       full = subst (λ (z : ℕ × Told). FullWhereTold z.0 k.before b.worker z.1) (λ i. (pages i, is i)) k.full;
@@ -187,22 +214,30 @@ calls a b c task r s did w h other is =
           (k.alike (runs yes) q (ap (λ (j : ℕ). slice_get (plain_seen c.knows).mutators j) w.rests.number ∙ its));
     }
 
-by_effect : (a b c : Seated) (task : Task) (r : Reply) (m : ℕ) → Waits a task b → ActsBy b r (stepped.Effect m) c → (t : Told) → told b.worker r ≡ t → stepped.Effect m ≡ stepped_by b.worker.number t → Called a task Done c
+by_effect : (a b c : Seated) (task : Task) (r : Reply) (m : ℕ) → IsUnderWay a task b → ActsBy b r (stepped.Effect m) c → (t : Told) → told b.worker r ≡ t → stepped.Effect m ≡ stepped_by b.worker.number t → Called a task Done c
 by_effect a b c task r m w h Silent is e = absurd (cc)
 by_effect a b c task r m w h (Answers other Done) is e = calls a b c task r (stepped.Effect m) Done w h other is
 by_effect a b c task r m w h (Answers other (Trap end)) is e = absurd (cc)
 by_effect a b c task r m w h (Marks asked) is e = absurd (cc)
 
-by_end : (a b c : Seated) (task : Task) (r : Reply) (m : ℕ) (end : End) → Waits a task b → ActsBy b r (stepped.Ended m end) c → (t : Told) → told b.worker r ≡ t → stepped.Ended m end ≡ stepped_by b.worker.number t → Called a task (Trap end) c
+by_end : (a b c : Seated) (task : Task) (r : Reply) (m : ℕ) (end : End) → IsUnderWay a task b → ActsBy b r (stepped.Ended m end) c → (t : Told) → told b.worker r ≡ t → stepped.Ended m end ≡ stepped_by b.worker.number t → Called a task (Trap end) c
 by_end a b c task r m end w h Silent is e = absurd (cc)
 by_end a b c task r m end w h (Answers other Done) is e = absurd (cc)
 by_end a b c task r m end w h (Answers other (Trap why)) is e = let same : why ≡ end = cc in calls a b c task r (stepped.Ended m end) (Trap end) w h other (is ∙ ap (λ (z : End). Answers other (Trap z)) same)
 by_end a b c task r m end w h (Marks asked) is e = absurd (cc)
 
-pub executed : (a b c : Seated) (task : Task) (m : ℕ) → Waits a task b → Acts b (stepped.Effect m) c → Called a task Done c
+-- the history that the last act found is the one before the call
+pub found_is : (a b : Seated) (task : Task) (did : Did) (c : Called a task did b) → a.knows.seen ++ c.history.between ≡ c.acts.knows.found.log
+found_is a b task did c =
+    let k = c.acts.knows in
+    sym (append_cancel_right k.found.log (a.knows.seen ++ c.history.between) (Made (call_by a task did) ∷ [])
+    ((λ i. k.found.log ++ extra (sym c.waits.rests.number i) (sym c.answers i))
+    ∙ (sym k.grows ∙ (sym (k.sees ∙ (λ i. seen_after c.last.knows.seen k.stands.log (c.answers i))) ∙ c.history.is))))
+
+pub executed : (a b c : Seated) (task : Task) (m : ℕ) → IsUnderWay a task b → Acts b (stepped.Effect m) c → Called a task Done c
 executed a b c task m w h = by_effect a b c task h.0 m w h.1 (told b.worker h.0) refl h.1.stepped
 
-pub ended : (a b c : Seated) (task : Task) (m : ℕ) (end : End) → Waits a task b → Acts b (stepped.Ended m end) c → Called a task (Trap end) c
+pub ended : (a b c : Seated) (task : Task) (m : ℕ) (end : End) → IsUnderWay a task b → Acts b (stepped.Ended m end) c → Called a task (Trap end) c
 ended a b c task m end w h = by_end a b c task h.0 m end w h.1 (told b.worker h.0) refl h.1.stepped
 
 -- ---- a caller without a task

@@ -1,20 +1,26 @@
 -- All callers in one, and what stands at the end.
-use Rattle.std.proofs.Common.{◌≡◌, ℕ, List, [], ◌∷◌, ◌++◌, map, take, ◌-◌, arith, refl, ◌∙◌, ap, subst, append_assoc}
+use Rattle.std.proofs.Common.{◌≡◌, ℕ, ◌<◌, length, List, [], ◌∷◌, ◌++◌, map, take, ◌-◌, arith, refl, ◌∙◌, ap, subst, append_assoc}
 use mathlib.Core.List.{IsPrefix}
 use Rattle.atomic_table.specs.Table as table
 use Rattle.atomic_table.specs.Seated.{TableId}
+use Rattle.std.proofs.lemmas.List.{length-map, length-replicate}
+use Rattle.heap_laws.specs.Opening.{opening_mutator}
+use Rattle.gc_worker.specs.declared.entry.Entry.{Entry}
+use Rattle.gc_worker.specs.Held.{Held}
 use Rattle.gc_worker.specs.Law.{WorkersStand, epoch_of}
 use Rattle.gc_worker.proofs.Between.Copied.{copied_was_live}
 use Rattle.ael_threads.specs.declared.view.Claim.{Claim}
 use Rattle.ael_threads.specs.declared.view.Hand.{Hand}
 use Rattle.ael_threads.specs.declared.view.Plan.{Plan}
-use Rattle.ael_threads.specs.Histories.{opened, Each, IsOnce, first_plain, number}
+use Rattle.ael_threads.specs.Histories.{AreBy, opened, Each, IsOnce, first_plain, number}
 use Rattle.gc_worker.proofs.History.Large.{large_has_no_full}
 use Rattle.gc_worker.specs.History.Tally.{tally, tasks_held}
-use Rattle.gc_worker.specs.History.Legal.{after_all, last_flip}
-use Rattle.ael_threads.specs.Rule.{Has, Kept, heap_of}
-use Rattle.ael_threads.specs.Seats.{Absorbs, Closes, Gathers, Seated, Stays}
-use Rattle.ael_threads.proofs.Elements.{each_at, each_map, prefix_self, prefix_trans}
+use Rattle.gc_worker.specs.History.Legal.{IsLegal, after_all, last_flip}
+use Rattle.ael_threads.specs.Rule.{Has, Kept, crew, heap_of}
+use Rattle.ael_threads.specs.Seats.{Absorbs, Closes, Gathers, Seated, Stays, all_hands}
+use Rattle.ael_threads.proofs.Callers.{are_by, each_is_there}
+use Rattle.ael_threads.proofs.Elements.{each_at, each_map, each_to_map, prefix_self, prefix_trans}
+use Rattle.ael_threads.proofs.Places.{at_inside}
 
 pub gathers_one : (t : TableId) (one : Seated) → one.table ≡ t → Gathers t (one ∷ []) one
 gathers_one t one same = record { table = same; hands = refl; claims = refl; seen = (prefix_self one.knows.seen, tt) }
@@ -31,6 +37,15 @@ gathers_more t all one other one' g same a = record {
   );
 }
 
+-- the calls are by these, where all workers are among them
+all_by : (plan : Plan) (workers : List Held) (log : List Entry) (hands : List Hand) → length workers ≡ crew plan → IsLegal (first_plain plan) log → Each (Stays workers log) hands → IsOnce (map number hands)
+    → length hands ≡ crew plan → AreBy (map number hands) log
+all_by plan workers log hands count legal stays apart many =
+    let below : Each (λ j. j < crew plan) (map number hands) =
+    each_to_map (λ j. j < crew plan) number hands (each_map (Stays workers log) (λ (h : Hand). h.number < crew plan) (λ h k. let i = at_inside workers h.number k.state.held k.state.is in omega (arith, i, count)) hands stays) in
+    let mutators : length (first_plain plan).mutators ≡ plan.mutators = length-replicate plan.mutators opening_mutator in
+    are_by (map number hands) (first_plain plan) log (λ j mine. each_is_there (crew plan) (map number hands) apart below (length-map hands number ∙ many) j (omega (arith, mine, mutators))) legal
+
 -- what the table's end tells of the caller that has taken in all
 pub closes : (plan : Plan) (id : ℕ) (t : TableId) (all : List Seated) (one : Seated) (words xs : List ℕ) → Gathers t all one → table.Final (table.Seen (Kept plan) id one.knows) words xs → Closes plan all words
 closes plan id t all one words xs g end =
@@ -38,7 +53,9 @@ closes plan id t all one words xs g end =
     let b = end.1.0 in
     let stands : WorkersStand (heap_of plan words b.workers) (after_all (first_plain plan) b.log) (last_flip (first_plain plan) b.log) =
     subst (λ (z : List ℕ). WorkersStand (heap_of plan z b.workers) (after_all (first_plain plan) b.log) (last_flip (first_plain plan) b.log)) end.2 b.stands in
-    let f = b.seats id one.knows end.1.1 in record {
+    let f = b.seats id one.knows end.1.1 in
+    let hands = subst (Each (Stays b.workers b.log)) g.hands (each_map (Has b.workers b.log b.owner id) (Stays b.workers b.log) (λ h k. record { state = k.state; calls = k.calls }) one.knows.hands f.hands) in
+    let apart = subst (λ (hands : List Hand). IsOnce (map number hands)) g.hands f.apart in record {
       log = b.log;
       workers = b.workers;
       legal = b.legal;
@@ -49,8 +66,9 @@ closes plan id t all one words xs g end =
       entries = b.tallied.entries;
       large = large_has_no_full plan.spaces.pages (tasks_held b.workers) (opened plan) b.log b.tallied.entries;
       seen = each_map (λ (c : Seated). IsPrefix c.knows.seen one.knows.seen) (λ (c : Seated). IsPrefix c.knows.seen b.log) (λ c h. prefix_trans c.knows.seen one.knows.seen b.log h f.seen) all g.seen;
-      hands = subst (Each (Stays b.workers b.log)) g.hands (each_map (Has b.workers b.log b.owner id) (Stays b.workers b.log) (λ h k. record { state = k.state; calls = k.calls }) one.knows.hands f.hands);
-      apart = subst (λ (hands : List Hand). IsOnce (map number hands)) g.hands f.apart;
+      hands = hands;
+      others = λ many. all_by plan b.workers b.log (all_hands all) b.count b.legal hands apart many;
+      apart = apart;
       once = subst IsOnce g.claims f.once;
     }
 

@@ -4,6 +4,8 @@ pub mod Winning
 pub mod Views
 pub mod Seating
 pub mod Showing
+pub mod Epochs
+pub mod Began
 pub mod Flipping
 pub mod Turning
 pub mod Allowing
@@ -12,7 +14,9 @@ pub mod Dealing
 pub mod Joining
 pub mod Readying
 pub mod Acting
+pub mod Underway
 pub mod Calling
+pub mod Callers
 pub mod Gathering
 pub mod MoreCalls
 pub mod Programs

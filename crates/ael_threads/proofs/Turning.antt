@@ -265,7 +265,7 @@ module _ (plan : Plan) (id : ℕ) (was : Hand) (x : Held) (others : List Hand) (
   seen' = seen_after seen log' t
 
   abbrev v' : View
-  v' = view plan (d ∷ others) seen' heard (with_claim claims (won x r))
+  v' = view plan (d ∷ others) seen' log' (with_claim claims (won x r))
 
   has' : Has workers2 log' b.owner id d
   has' = record {
@@ -281,7 +281,8 @@ module _ (plan : Plan) (id : ℕ) (was : Hand) (x : Held) (others : List Hand) (
   same j other = set_else workers1 m j (turned y r) other ∙ set_else b.workers m j y other
 
   fit : FitsView plan later workers2 log' b.owner (won_after b.winner id (won x r)) id v'
-  fit = my_fit plan s.words later b.workers workers2 b.log t b.owner b.winner id m (won x r) keeps same plan was d others seen seen' heard claims fits_view refl refl has' (seen_fits seen b.log m t fits_view.seen)
+  fit = my_fit plan s.words later b.workers workers2 b.log t b.owner b.winner id m (won x r) keeps same plan was d others seen seen' heard log' claims fits_view refl refl has'
+      (seen_fits seen b.log m t fits_view.seen) (prefix_self log')
 
   legal' : IsLegal (first_plain plan) log'
   legal' = legal_more (first_plain plan) b.log m t b.legal answered
@@ -356,7 +357,6 @@ module _ (plan : Plan) (id : ℕ) (was : Hand) (x : Held) (others : List Hand) (
       fits = fits_z;
       hands = refl;
       plan = refl;
-      heard = refl;
       claims = refl;
       seen = sees v v' b.log m t fits_view.seen refl legal' (each_map (Has workers2 log' b.owner id) (λ (h : Hand). calls_of h.number log' ≡ h.own) (λ h k. k.calls) (d ∷ others) fit.hands);
       mine = mine';
@@ -370,6 +370,9 @@ module _ (plan : Plan) (id : ℕ) (was : Hand) (x : Held) (others : List Hand) (
       found = found;
       stands = stands_after;
       grows = refl;
+      heard = fits_view.heard;
+      own = has.calls;
+      hears = refl;
       sees = refl;
       others = λ j other. set_else workers1 m j (turned y r) other;
       flips = flips_by n plan.mutators m count x r follows.fits s.words later t refl (subst (FlipsWhereTold n s.words later y) tells law.flips);

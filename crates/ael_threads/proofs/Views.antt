@@ -49,14 +49,14 @@ module _ (plan : Plan) (words later : List ℕ) (workers workers' : List Held) (
   }
 
   -- what the seat itself knows
-  pub my_fit : (p : Plan) (was d : Hand) (others : List Hand) (seen seen' heard : List Entry) (claims : List Claim)
+  pub my_fit : (p : Plan) (was d : Hand) (others : List Hand) (seen seen' heard heard' : List Entry) (claims : List Claim)
       → FitsView plan words workers log owner winner id (view p (was ∷ others) seen heard claims) → was.number ≡ m → d.number ≡ m → Has workers' log' owner id d
-      → IsPrefix seen' log'
-      → FitsView plan later workers' log' owner winner' id (view p (d ∷ others) seen' heard (with_claim claims w))
-  my_fit p was d others seen seen' heard claims f was_is number_is has pre = record {
+      → IsPrefix seen' log' → IsPrefix heard' log'
+      → FitsView plan later workers' log' owner winner' id (view p (d ∷ others) seen' heard' (with_claim claims w))
+  my_fit p was d others seen seen' heard heard' claims f was_is number_is has pre hears = record {
     same = f.same;
     seen = pre;
-    heard = prefix_more heard log (extra m t) f.heard;
+    heard = hears;
     hands = (
       has,
       each_map (λ (z : Hand). Has workers log owner id z × (z.number ≢ was.number)) (Has workers' log' owner id)

@@ -1,7 +1,9 @@
 -- What a call is to its caller.
-use Rattle.std.specs.Prelude.{◌≡◌, ℕ, ⊤, Option, Some, None, List, [], ◌∷◌, ◌++◌, drop, slice_get}
+use Rattle.std.specs.Prelude.{◌≡◌, ℕ, ◌^◌, ◌-◌, ◌<◌, ◌≤◌, ◌⊎◌, ⊤, Option, Some, None, List, [], ◌∷◌, ◌++◌, drop, slice_get}
+use mathlib.Core.List.{IsPrefix}
 use Rattle.atom_store.specs.declared.reply.Reply.{Reply}
 use Rattle.plain_state.specs.declared.end.End.{End}
+use Rattle.plain_state.specs.declared.end.End.TheVariants.{HeapFull}
 use Rattle.plain_state.specs.State.{Mutator}
 use Rattle.plain_state.specs.State as plain
 use Rattle.mutator_asm.specs.declared.instr.Instr.TheVariants.{Halt}
@@ -10,15 +12,18 @@ use Rattle.gc_worker.specs.declared.task.Task.{Task}
 use Rattle.gc_worker.specs.declared.task.Task.TheVariants.{Calls}
 use Rattle.gc_worker.specs.Answer.{ComesTo}
 use Rattle.gc_worker.specs.Between.{AreAlike, Lands}
+use Rattle.gc_worker.specs.Cycles.{IsInCall}
 use Rattle.gc_worker.specs.Full.{FullByOutcome}
 use Rattle.gc_worker.specs.Turned.{Answers, told}
 use Rattle.gc_worker.specs.declared.call.Call.{Call}
+use Rattle.gc_worker.specs.declared.entry.Entry.{Entry}
 use Rattle.ael_threads.specs.declared.view.Claim.{Claim}
 use Rattle.gc_worker.specs.declared.did.Did.{Did}
 use Rattle.gc_worker.specs.declared.did.Did.TheVariants.{Done, Trap}
 use Rattle.gc_worker.specs.History.Tally.{IsFilledBy, tally, tasks_held}
 use Rattle.ael_threads.specs.Histories.{opened, first_plain, hand}
-use Rattle.gc_worker.specs.History.Legal.{after_all, call, last_flip}
+use Rattle.gc_worker.specs.History.Legal.{after_all, call, calls_of, last_flip}
+use Rattle.ael_threads.specs.Began.{BeginsAt, FlippedSinceBegun, flips_of}
 use Rattle.ael_threads.specs.Seats.{ActsBy, Extends, IsShown, LiveWhereTold, Seated, ShowsSeen, first_number, first_own, plain_seen}
 
 -- a caller's call that came to this
@@ -29,19 +34,59 @@ call_by a task did = call (first_number a.knows.hands) task did
 abbrev pub WinsMore : Seated → Seated → Type 0
 WinsMore a b = (more : List Claim) × (b.knows.claims ≡ more ++ a.knows.claims)
 
--- What the seat knows is as it was, but for the state of its own worker, pages won and what it has heard.
+-- What the seat knows is as it was, but for the state of its own worker, pages won and more that it has heard of.
 pub record Rests (a b : Seated) : Type 0 where
   pub plan : b.knows.plan ≡ a.knows.plan
   pub number : first_number b.knows.hands ≡ first_number a.knows.hands
   pub own : first_own b.knows.hands ≡ first_own a.knows.hands
   pub others : drop 1 b.knows.hands ≡ drop 1 a.knows.hands
   pub seen : b.knows.seen ≡ a.knows.seen
+  pub heard : IsPrefix a.knows.heard b.knows.heard
   pub claims : WinsMore a b
 
 -- a caller of which nothing was heard since it began a task
 pub record Waits (a : Seated) (task : Task) (b : Seated) : Type 0 where
   pub asks : b.worker.task ≡ Some task
   pub rests : Rests a b
+
+-- It has begun the task in this call: by a look at which the history began with all that was known before the call, with no call of the
+-- caller since; in an epoch not before the one in which it was then.
+pub record HasBegun (a : Seated) (task : Task) (b : Seated) : Type 0 where
+  pub began : List Entry
+  pub look : BeginsAt a.knows.plan (first_number a.knows.hands) task began
+  pub seen : IsPrefix a.knows.seen began
+  pub heard : IsPrefix a.knows.heard began
+  pub calls : calls_of (first_number a.knows.hands) began ≡ first_own a.knows.hands
+  pub hears : IsPrefix began b.knows.heard
+  pub flips : flips_of a.knows.plan began ≡ b.worker.begun
+  pub epoch : a.worker.epoch ≤ b.worker.begun
+
+-- a caller that waits; where it is past the look it has begun the task in this call
+pub record IsUnderWay (a : Seated) (task : Task) (b : Seated) : Type 0 where
+  pub waits : Waits a task b
+  pub epoch : (b.worker.epoch ≡ a.worker.epoch) ⊎ (a.worker.epoch ≤ flips_of a.knows.plan b.knows.heard)
+  pub begun : IsInCall b.worker.stage → HasBegun a task b
+
+-- ---- a full heap
+
+-- A flip came since the caller began the task, in this call: the history at the look that began it begins with all that was known before
+-- the call. So the caller is of a later epoch than before, or of the last.
+pub record FlippedInCall (a : Seated) (task : Task) (log : List Entry) (b : Seated) : Type 0 where
+  pub since : FlippedSinceBegun a.knows.plan (first_number a.knows.hands) task log
+  pub seen : IsPrefix a.knows.seen since.began
+  pub heard : IsPrefix a.knows.heard since.began
+  pub rises : (a.worker.epoch < b.worker.epoch) ⊎ (b.worker.epoch ≡ 2 ^ 32 - 1)
+
+-- where the call ends with heap full
+abbrev pub FlippedByEnd : Seated → Task → List Entry → Seated → End → Type 0
+FlippedByEnd a task log b (HeapFull asked room live) = FlippedInCall a task log b
+FlippedByEnd a task log b end = ⊤
+
+abbrev pub FlippedByOutcome : Seated → Task → List Entry → Seated → Did → Type 0
+FlippedByOutcome a task log b Done = ⊤
+FlippedByOutcome a task log b (Trap end) = FlippedByEnd a task log b end
+
+-- ---- a call
 
 -- the end that the mutator then has
 abbrev pub end_of : Did → Option End
@@ -58,8 +103,8 @@ IsDone (Trap end) = ⊥
 -- answers the task in the epoch that the caller then has. Where the task was executed, each pointer in the registers leads to a record's
 -- header in the space of that epoch, by the words after that act, and two registers hold one word exactly where the plain ones hold one
 -- value; where the heap is told to be full it was, by the words that the act found, and what is told as live was live at the last flip,
--- which came since the caller's last call if the epoch is not the last one: with records made since then, or being made by the others, it
--- fills the space.
+-- which came since the look that began the task in this call if the epoch is not the last one: with records made since then, or being made
+-- by the others, it fills the space.
 pub record Called (a : Seated) (task : Task) (did : Did) (b : Seated) : Type 0 where
   pub rests : b.worker.task ≡ None
   pub ends : b.worker.account.end ≡ end_of did
@@ -74,6 +119,8 @@ pub record Called (a : Seated) (task : Task) (did : Did) (b : Seated) : Type 0 w
   pub stepped : Stepped
   pub acts : ActsBy last reply stepped b
   pub answers : told last.worker reply ≡ Answers task did
+  pub heard : IsPrefix a.knows.heard b.knows.heard
+  pub flipped : FlippedByOutcome a task (a.knows.seen ++ history.between) b did
   pub epoch : b.worker.epoch ≡ last.worker.epoch
   pub comes : ComesTo (after_all (first_plain a.knows.plan) (a.knows.seen ++ history.between)) (first_number a.knows.hands) task did
   pub full : FullByOutcome a.knows.plan.spaces.pages acts.knows.before last.worker did
@@ -85,7 +132,7 @@ pub record Called (a : Seated) (task : Task) (did : Did) (b : Seated) : Type 0 w
 -- what some acts came to: the call, or the caller still waits for it
 abbrev pub Tries : Seated → Task → Option Did → Seated → Type 0
 Tries a task (Some did) b = Called a task did b
-Tries a task None b = Waits a task b
+Tries a task None b = IsUnderWay a task b
 
 -- the seat knows its worker as the code holds it
 abbrev pub KnowsWorker : Seated → Type 0

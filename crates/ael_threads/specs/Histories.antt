@@ -1,9 +1,11 @@
 -- What is said of each element of a list, and the workers whose calls a history has.
 use Rattle.std.specs.Prelude.{◌≡◌, ◌≢◌, ℕ, zero, suc, ◌+◌, ⊤, List, [], ◌∷◌}
+use Rattle.std.specs.List.{Contains}
 use Rattle.plain_state.specs.State.{Plain}
 use Rattle.heap_laws.specs.Opening.{opening_plain}
 use Rattle.gc_worker.specs.declared.call.Call.{Call}
 use Rattle.gc_worker.specs.declared.entry.Entry.{Entry}
+use Rattle.gc_worker.specs.declared.entry.Entry.TheVariants.{Exchanged, Made}
 use Rattle.gc_worker.specs.Between.{fresh_worker}
 use Rattle.gc_worker.specs.Held.{Held}
 use Rattle.gc_worker.specs.History.Legal.{calls_of}
@@ -44,6 +46,12 @@ number h = h.number
 -- the calls that these made are all that the history has of them
 abbrev pub HasOwn : List Entry → List Hand → Type 0
 HasOwn log hands = Each (λ (h : Hand). calls_of h.number log ≡ h.own) hands
+
+-- each call of the history was made by one of these
+abbrev pub AreBy : List ℕ → List Entry → Type 0
+AreBy numbers [] = ⊤
+AreBy numbers (Made c ∷ es) = Contains numbers c.by × AreBy numbers es
+AreBy numbers (Exchanged by asked ∷ es) = AreBy numbers es
 
 -- worker k before its first step
 abbrev pub first_held : Plan → ℕ → Held

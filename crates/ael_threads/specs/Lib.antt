@@ -1,6 +1,7 @@
 pub mod Histories
 pub mod Rule
 pub mod Seats
+pub mod Began
 pub mod Readers
 pub mod Calls
 pub mod Opened

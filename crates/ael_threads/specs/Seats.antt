@@ -41,7 +41,7 @@ use Rattle.ael_threads.specs.declared.view.Plan.{Plan}
 use Rattle.ael_threads.specs.declared.view.View.{View}
 use Rattle.gc_worker.specs.History.Large.{HasNoFullCall, IsLargeFor}
 use Rattle.gc_worker.specs.History.Tally.{EachEntry, EntryIs, IsTallied, Tasks, tasks_held, tally}
-use Rattle.ael_threads.specs.Histories.{opened, Each, IsOnce, HasOwn, first_held, first_plain, hand, number}
+use Rattle.ael_threads.specs.Histories.{AreBy, opened, Each, IsOnce, HasOwn, first_held, first_plain, hand, number}
 use Rattle.gc_worker.specs.History.Legal.{IsLegal, after_all, call, calls_of, extra, last_flip, own_after}
 use Rattle.ael_threads.specs.Rule.{StandsAs, crew, heap_of, view}
 
@@ -140,16 +140,16 @@ pub record StandWith (plan : Plan) (m : ℕ) (x : Held) (seen : List Entry) (wor
 
 -- A step of worker m, whose code holds x and takes r. It is the step that x wants, on the words before it, and r is what that step
 -- replies; with the words before and after it the workers stand for histories of which the latter has what the step tells besides, and no
--- other worker has changed. A flip, and nothing else, raises the epoch by one, for the pages that the worker's task asks for. Where the
--- heap is told to be full it was by the words before, and what is told as live was live at the last flip. If the worker is then a mutator
--- that runs, as after each effect, each pointer in its registers leads to a record's header in the words after, and two registers hold
--- one word exactly where the plain ones hold one value.
+-- other worker has changed. The history before it begins with all that the seat had heard of, and has just the calls that the worker
+-- made; the seat hears of the one after it. A flip, and nothing else, raises the epoch by one, for the pages that the worker's task asks
+-- for. Where the heap is told to be full it was by the words before, and what is told as live was live at the last flip. If the worker is
+-- then a mutator that runs, as after each effect, each pointer in its registers leads to a record's header in the words after, and two
+-- registers hold one word exactly where the plain ones hold one value.
 pub record Moves (v : View) (m : ℕ) (x : Held) (r : Reply) (w : View) : Type 0 where
   pub takes : Takes x r
   pub fits : Fits v.plan.spaces.pages v.plan.mutators m (turned x r)
   pub hands : w.hands ≡ hand m (uncounted (turned x r)) (own_after m (first_own v.hands) (told x r)) ∷ drop 1 v.hands
   pub plan : w.plan ≡ v.plan
-  pub heard : w.heard ≡ v.heard
   pub claims : w.claims ≡ with_claim v.claims (won x r)
   pub seen : Sees v m (told x r) w
   pub mine : IsMine w
@@ -163,6 +163,9 @@ pub record Moves (v : View) (m : ℕ) (x : Held) (r : Reply) (w : View) : Type 0
   pub found : StandWith v.plan m x v.seen before
   pub stands : StandWith v.plan m (turned x r) w.seen after
   pub grows : stands.log ≡ found.log ++ extra m (told x r)
+  pub heard : IsPrefix v.heard found.log
+  pub own : calls_of m found.log ≡ first_own v.hands
+  pub hears : w.heard ≡ stands.log
   pub sees : w.seen ≡ seen_after v.seen stands.log (told x r)
   pub others : (j : ℕ) → j ≢ m → get_elem? stands.workers j ≡ get_elem? found.workers j
   pub flips : FlipsWhereTold v.plan.spaces.pages before after x (told x r)
@@ -236,13 +239,14 @@ new_callers t plan from (suc n) = new_callers t plan from n ++ new_seated t plan
 abbrev pub both_of : View → View → View
 both_of v w = view v.plan (v.hands ++ w.hands) v.seen w.seen (v.claims ++ w.claims)
 
--- the whole history was seen, of which both lists are beginnings, and in which these workers' calls stand, each once
+-- the whole history was seen and heard of, of which both lists are beginnings, and in which these workers' calls stand, each once
 pub record Learned (v w : View) : Type 0 where
   pub plan : w.plan ≡ v.plan
   pub hands : w.hands ≡ v.hands
   pub claims : w.claims ≡ v.claims
   pub seen : IsPrefix v.seen w.seen
   pub heard : IsPrefix v.heard w.seen
+  pub hears : w.heard ≡ w.seen
   pub own : HasOwn w.seen w.hands
   pub apart : IsOnce (map number w.hands)
   pub once : IsOnce w.claims
@@ -262,6 +266,7 @@ pub record Absorbs (v u w : View) : Type 0 where
   pub claims : w.claims ≡ v.claims ++ u.claims
   pub mine : IsPrefix v.seen w.seen
   pub other : IsPrefix u.seen w.seen
+  pub hears : w.heard ≡ w.seen
   pub own : HasOwn w.seen w.hands
   pub apart : IsOnce (map number w.hands)
   pub once : IsOnce w.claims
@@ -297,7 +302,8 @@ pub record Stays (workers : List Held) (log : List Entry) (h : Hand) : Type 0 wh
 -- was live at the last flip of the history; the gate's epoch is the number of its flips; each flip was for a record, and where a call told
 -- the heap to be full what was live at the flip before it filled the space, with records made since then or being made, by the history or
 -- else by the tasks that mutators have begun, so a heap that is as large as the history needs is never full; no mutator asked for two
--- flips between two of its calls; no worker stands twice, and no page was won twice in one epoch.
+-- flips between two of its calls; if all workers are there the history has no other calls; no worker stands twice, and no page was won
+-- twice in one epoch.
 pub record Closes (plan : Plan) (all : List Seated) (words : List ℕ) : Type 0 where
   pub log : List Entry
   pub workers : List Held
@@ -310,5 +316,6 @@ pub record Closes (plan : Plan) (all : List Seated) (words : List ℕ) : Type 0 
   pub large : IsLargeFor plan.spaces.pages (tasks_held workers) (opened plan) log → HasNoFullCall log
   pub seen : Each (λ (s : Seated). IsPrefix s.knows.seen log) all
   pub hands : Each (Stays workers log) (all_hands all)
+  pub others : length (all_hands all) ≡ crew plan → AreBy (map number (all_hands all)) log
   pub apart : IsOnce (map number (all_hands all))
   pub once : IsOnce (all_claims all)

@@ -3,6 +3,7 @@
 ghost use Rattle.std.specs.Prelude.{◌≡◌, ◌<◌, [], Some, None};
 ghost use Rattle.gc_worker.specs.declared.task.Task.TheVariants.{Calls, Stops};
 ghost use Rattle.gc_worker.specs.Between.{IsIdle, with_task};
+ghost use Rattle.gc_worker.specs.Cycles.{IsInCall};
 ghost use Rattle.gc_worker.specs.Fits.{MayBegin, MayStop};
 ghost use Rattle.gc_worker.specs.Held.{Held};
 ghost use Rattle.gc_worker.specs.Wanted.{wanted};
@@ -44,6 +45,7 @@ impl Caller {
         requires idle { IsIdle self.old.worker }
         requires may_begin { MayBegin self.old.worker.account self.old.worker.registers (Some (Calls instr.now)) }
         ensures begun { self.new.worker ≡ with_task self.old.worker (Calls instr.now) }
+        ensures looks_first { IsInCall self.new.worker.stage → ⊥ }
         ensures same { (self.new.table ≡ self.old.table) × (self.new.knows ≡ self.old.knows) }
     {
         self.worker.begin(instr);
@@ -54,6 +56,7 @@ impl Caller {
         requires idle { IsIdle self.old.worker }
         requires may_stop { MayStop end }
         ensures begun { self.new.worker ≡ with_task self.old.worker (Stops end) }
+        ensures looks_first { IsInCall self.new.worker.stage → ⊥ }
         ensures same { (self.new.table ≡ self.old.table) × (self.new.knows ≡ self.old.knows) }
     {
         self.worker.begin_end(end);

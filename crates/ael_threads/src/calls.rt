@@ -6,7 +6,7 @@ ghost use Rattle.gc_worker.specs.declared.stage.Stage.TheVariants.{Gone};
 ghost use Rattle.gc_worker.specs.declared.task.Task.{Task};
 ghost use Rattle.gc_worker.specs.declared.task.Task.TheVariants.{Calls};
 ghost use Rattle.gc_worker.specs.Fits.{MayBegin};
-ghost use Rattle.ael_threads.specs.Calls.{Called, Halts, IsQuiet, Tries, Waits};
+ghost use Rattle.ael_threads.specs.Calls.{Called, Halts, IsQuiet, IsUnderWay, Tries};
 ghost use Rattle.ael_threads.specs.Seats.{Seated};
 
 use crate::mutator::Mutator;
@@ -38,7 +38,7 @@ impl Mutator {
     pub(crate) fn comes_to<R: Wait>(&mut self, rt: &R, h: &Shared) -> Did
         requires table { self.old.table ≡ h.now.table.shared.table_id }
         ensures table { self.new.table ≡ self.old.table }
-        ensures called { (a : Seated) (task : Task) → Waits a task self.old → Called a task result self.new }
+        ensures called { (a : Seated) (task : Task) → IsUnderWay a task self.old → Called a task result self.new }
     {
         let backoff = Backoff::new();
         for _ in rt.forever() {
@@ -54,7 +54,7 @@ impl Mutator {
     fn tries(&mut self, h: &Shared) -> Option<Did>
         requires table { self.old.table ≡ h.now.table.shared.table_id }
         ensures table { self.new.table ≡ self.old.table }
-        ensures tries { (a : Seated) (task : Task) → Waits a task self.old → Tries a task result self.new }
+        ensures tries { (a : Seated) (task : Task) → IsUnderWay a task self.old → Tries a task result self.new }
     {
         for _ in 0..ACTS {
             match self.act(h) {

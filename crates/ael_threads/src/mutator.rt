@@ -6,6 +6,7 @@ ghost use Rattle.plain_state.specs.declared.sizes.TheConstants.{REGISTERS};
 ghost use Rattle.gc_worker.specs.declared.stage.Stage.TheVariants.{Gone};
 ghost use Rattle.gc_worker.specs.declared.task.Task.TheVariants.{Calls, Stops};
 ghost use Rattle.gc_worker.specs.Between.{with_task};
+ghost use Rattle.gc_worker.specs.Cycles.{IsInCall};
 ghost use Rattle.gc_worker.specs.Fits.{MayBegin, MayStop};
 ghost use Rattle.gc_worker.specs.Stepped.{header_kept, place_kept};
 ghost use Rattle.ael_threads.specs.Readers.{IsReg, IsThere};
@@ -54,6 +55,7 @@ impl Mutator {
         requires no_task { self.old.worker.task ≡ None }
         requires may_begin { MayBegin self.old.worker.account self.old.worker.registers (Some (Calls instr.now)) }
         ensures begun { self.new.worker ≡ with_task self.old.worker (Calls instr.now) }
+        ensures looks_first { IsInCall self.new.worker.stage → ⊥ }
         ensures same { (self.new.table ≡ self.old.table) × (self.new.knows ≡ self.old.knows) }
     {
         self.caller.begin(instr);
@@ -65,6 +67,7 @@ impl Mutator {
         requires no_task { self.old.worker.task ≡ None }
         requires may_stop { MayStop end }
         ensures begun { self.new.worker ≡ with_task self.old.worker (Stops end) }
+        ensures looks_first { IsInCall self.new.worker.stage → ⊥ }
         ensures same { (self.new.table ≡ self.old.table) × (self.new.knows ≡ self.old.knows) }
     {
         self.caller.begin_end(end);

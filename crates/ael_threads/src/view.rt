@@ -25,8 +25,8 @@ pub struct Claim {
     pub epoch: usize,
 }
 
-/// The seat's workers, its own first and then those that it absorbed; the history that it has seen, one that it was told of, and the
-/// pages that it has won.
+/// The seat's workers, its own first and then those that it absorbed; the history that it has seen, which ends with its own latest call,
+/// the one that it has heard of, as it was after its latest step, and the pages that it has won.
 pub struct View {
     pub plan: Plan,
     pub hands: LinkedList<Hand>,

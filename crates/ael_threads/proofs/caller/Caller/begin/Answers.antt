@@ -4,7 +4,9 @@ use Rattle.gc_worker.specs.declared.task.Task.TheVariants.{Calls}
 use Rattle.gc_worker.specs.Between.{IsIdle, with_task}
 use Rattle.gc_worker.specs.Held.{Held}
 use Rattle.gc_worker.specs.Fits.{MayBegin}
-use Rattle.ael_threads.specs.Seats.{Seated}
+use Rattle.ael_threads.specs.Seats.{Seated, first_number}
+use Rattle.ael_threads.proofs.Acting.{heads_fit}
+use Rattle.ael_threads.proofs.Began.{given_none}
 use Rattle.ael_threads.proofs.Readying.{begins, begun_shows}
 use Rattle.ael_threads.proofs.caller.Caller.begin.Goals as goal
 
@@ -18,3 +20,11 @@ invariant_of-self c =
       c.self.invariant.3,
       begun_shows worker c.begin.new.self (Calls c.args.instr.now) c.self.inside.seat.me.0 begun c.self.invariant.4,
     )
+
+pub returns-clause-looks_first : goal.returns-clause-looks_first
+returns-clause-looks_first c call =
+    let seat = c.self.inside.seat in
+    let worker : Held = padded_value c.self.inside.worker in
+    let begun = c.begin.ensures ∙ ap (λ (w : Held). with_task w (Calls c.args.instr.now)) c.deref_mut.ensures.value in
+    let idle = subst (λ (z : Seated). IsIdle z.worker) (sym c.self.view_is) c.requires.idle in
+    given_none seat.me.0.plan.spaces.pages seat.me.0.plan.mutators (first_number seat.me.0.hands) worker c.begin.new.self (Calls c.args.instr.now) (heads_fit seat.me.0.plan worker seat.me.0.hands c.self.invariant.1) idle.no_task begun call

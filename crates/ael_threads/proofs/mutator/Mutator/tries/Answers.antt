@@ -1,5 +1,5 @@
 use Rattle.std.proofs.Common.{◌∙◌}
-use Rattle.ael_threads.proofs.Calling.{ended, executed, waits_more}
+use Rattle.ael_threads.proofs.Calling.{ended, executed, way_more}
 use Rattle.ael_threads.proofs.mutator.Mutator.tries.Goals as goal
 
 pub returns-in-Effect-clause-tries : goal.returns-in-Effect-clause-tries
@@ -11,5 +11,5 @@ returns-in-Ended-clause-tries c a task w = ended a c.loop.self c.act.new.self ta
 pub loop-preserved : goal.loop-preserved
 loop-preserved c = (
   c.act.ensures.table ∙ c.loop.invariant.0,
-  λ a task w. waits_more a c.loop.self c.act.new.self task c.act.result (c.loop.invariant.1 a task w) c.act.ensures.act (λ m e. c.in_default.not-Effect m e) (λ m end e. c.in_default.not-Ended m end e),
+  λ a task w. way_more a c.loop.self c.act.new.self task c.act.result (c.loop.invariant.1 a task w) c.act.ensures.act (λ m e. c.in_default.not-Effect m e) (λ m end e. c.in_default.not-Ended m end e),
 )

@@ -1,0 +1,113 @@
+-- Who is in a call has begun it by a look.
+use Rattle.std.proofs.Common.{◌≡◌, ℕ, None, refl, sym, ◌∙◌, ap, subst}
+use Rattle.atom_store.specs.declared.reply.Reply.{Reply}
+use Rattle.atom_store.specs.declared.turn.Turn.{Turn}
+use Rattle.atom_store.specs.declared.turn.Turn.TheVariants.{Finished, More}
+use Rattle.gate_core.specs.declared.passage.Passage.{Passage}
+use Rattle.gate_core.specs.declared.passage.Passage.TheVariants.{Attach, Forwarded, Leave, Look, Park, Request, Resume}
+use Rattle.gate_core.specs.declared.passed.Passed.{Passed}
+use Rattle.gate_core.specs.declared.passed.Passed.TheVariants as passed
+use Rattle.gate_core.specs.Gate as gate
+use Rattle.gc_worker.specs.declared.after.After.{After}
+use Rattle.gc_worker.specs.declared.after.After.TheVariants as afters
+use Rattle.gc_worker.specs.declared.back.Back.{Back}
+use Rattle.gc_worker.specs.declared.back.Back.TheVariants.{ToAccess, ToPlace, ToScanner}
+use Rattle.gc_worker.specs.declared.did.Did.{Did}
+use Rattle.gc_worker.specs.declared.stage.Stage.{Stage}
+use Rattle.gc_worker.specs.declared.stage.Stage.TheVariants.{Accesses, Evacuates, Flips, Forwards, Gone, Looks, Opens, Passes, Places, Scans, Serves}
+use Rattle.gc_worker.specs.declared.task.Task.{Task}
+use Rattle.gc_worker.specs.Begun.{IsPastAfter, IsPastBack, IsPastLook}
+use Rattle.gc_worker.specs.Cycles.{IsInCall, IsInPassage}
+use Rattle.gc_worker.specs.Fits.{Fits, FitsTask, FitsTaskAfter, FitsTaskBack, FitsTaskBefore}
+use Rattle.gc_worker.specs.Held.{Held}
+use Rattle.gc_worker.specs.Turned.{Answers, passed_by, told_at, turned, turned_at, turned_gate}
+use Rattle.gc_worker.specs.Between.{with_task}
+
+-- ---- who has no task is in no call
+
+module _ (x : Held) (none : x.task ≡ None) where
+  none_after : (after : After) → FitsTaskAfter x after → IsPastAfter after → ⊥
+  none_after afters.Looks f call = call
+  none_after afters.Places f call = let some = f.executes.task_is in let never = sym none ∙ some in cc
+
+  none_before : (passage : Passage) (after : After) → FitsTaskBefore x passage after → IsInPassage passage after → ⊥
+  none_before Look after f call = call
+  none_before Attach after f call = call
+  none_before Leave after f call = call
+  none_before Park after f call = none_after after f call
+  none_before Request after f call = let some = f.0.executes.task_is in let never = sym none ∙ some in cc
+  none_before (Resume epoch) after f call = none_after after f call
+  none_before Forwarded after f call = none_after after f call
+
+  none_back : (back : Back) → FitsTaskBack x back → IsPastBack back → ⊥
+  none_back (ToAccess a) f call = let some = f.executes.task_is in let never = sym none ∙ some in cc
+  none_back ToPlace f call = let some = f.executes.task_is in let never = sym none ∙ some in cc
+  none_back ToScanner f call = call
+
+  none_at : (stage : Stage) → FitsTask x stage → IsInCall stage → ⊥
+  none_at Looks f call = call
+  none_at (Passes g after) f call = none_before g.passage after f call
+  none_at (Flips g) f call = let some = f.0.executes.task_is in let never = sym none ∙ some in cc
+  none_at (Forwards w) f call = none_after w.after f call
+  none_at (Accesses a) f call = let some = f.executes.task_is in let never = sym none ∙ some in cc
+  none_at (Places p) f call = let some = f.0.executes.task_is in let never = sym none ∙ some in cc
+  none_at (Serves d back) f call = none_back back f call
+  none_at (Scans s back) f call = none_back back f call
+  none_at (Evacuates v s back) f call = none_back back f call
+  none_at (Opens o s back) f call = none_back back f call
+  none_at Gone f call = call
+
+-- nor has it begun a task that it is given
+pub given_none : (n mutators m : ℕ) (x now : Held) (task : Task) → Fits n mutators m x → x.task ≡ None → now ≡ with_task x task → IsInCall now.stage → ⊥
+given_none n mutators m x now task fits none is call = none_at x none x.stage fits.task (subst IsInCall (ap (λ (z : Held). z.stage) is) call)
+
+-- ---- who answers is in a call, or looks
+
+pub answers_in_call : (x : Held) (reply : Reply) (task : Task) (did : Did) (stage : Stage) → told_at x stage reply ≡ Answers task did → IsPastLook stage → IsInCall stage
+answers_in_call x reply task did Looks e past = past
+answers_in_call x reply task did (Passes g after) e past = absurd (let e = e in cc)
+answers_in_call x reply task did (Flips g) e past = tt
+answers_in_call x reply task did (Forwards w) e past = past
+answers_in_call x reply task did (Accesses a) e past = tt
+answers_in_call x reply task did (Places p) e past = tt
+answers_in_call x reply task did (Serves d back) e past = past
+answers_in_call x reply task did (Scans s back) e past = past
+answers_in_call x reply task did (Evacuates v s back) e past = past
+answers_in_call x reply task did (Opens o s back) e past = past
+answers_in_call x reply task did Gone e past = past
+
+-- ---- who is in a call was in it before, unless it looked
+
+module _ (x : Held) where
+  passed_in : (after : After) (passage : Passage) (result : Passed) → FitsTaskBefore x passage after → IsPastAfter after → (IsInCall x.stage → IsInPassage passage after)
+      → IsInCall (passed_by x after passage result).stage → IsInPassage passage after
+  passed_in after Look result task past own call = absurd task
+  passed_in after Attach (passed.Went word) task past own call = call
+  passed_in after Attach (passed.NotYet word) task past own call = call
+  passed_in after Leave (passed.Went word) task past own call = call
+  passed_in after Leave (passed.NotYet word) task past own call = own call
+  passed_in after Park result task past own call = past
+  passed_in after Request result task past own call = past
+  passed_in after (Resume epoch) result task past own call = past
+  passed_in after Forwarded result task past own call = past
+
+  gate_in : (g : gate.Passing) (after : After) (turn : Turn Passed) → FitsTaskBefore x g.passage after → IsPastAfter after → (IsInCall x.stage → IsInPassage g.passage after)
+      → IsInCall (turned_gate x g after turn).stage → IsInPassage g.passage after
+  gate_in g after More task past own call = call
+  gate_in g after (Finished result) task past own call = passed_in after g.passage result task past own call
+
+  in_call_at : (reply : Reply) (stage : Stage) → x.stage ≡ stage → FitsTask x stage → IsPastLook stage → IsInCall (turned_at x stage reply).stage → IsInCall stage
+  in_call_at reply Looks is task past call = past
+  in_call_at reply (Passes g after) is task past call = gate_in (gate.taken g reply) after (gate.told (gate.taken g reply)) task past (λ own. subst IsInCall is own) call
+  in_call_at reply (Flips f) is task past call = tt
+  in_call_at reply (Forwards w) is task past call = past
+  in_call_at reply (Accesses a) is task past call = tt
+  in_call_at reply (Places p) is task past call = tt
+  in_call_at reply (Serves d back) is task past call = past
+  in_call_at reply (Scans s back) is task past call = past
+  in_call_at reply (Evacuates v s back) is task past call = past
+  in_call_at reply (Opens o s back) is task past call = past
+  in_call_at reply Gone is task past call = past
+
+pub was_in_call : (n mutators m : ℕ) (x : Held) (reply : Reply) → Fits n mutators m x → IsPastLook x.stage → IsInCall (turned x reply).stage → IsInCall x.stage
+was_in_call n mutators m x reply fits past call = in_call_at x reply x.stage refl fits.task past call
