@@ -44,7 +44,7 @@ module _ (x : Held) (none : x.task ≡ None) where
   none_back ToPlace f call = let some = f.executes.task_is in let never = sym none ∙ some in cc
   none_back ToScanner f call = call
 
-  none_at : (stage : Stage) → FitsTask x stage → IsInCall stage → ⊥
+  pub none_at : (stage : Stage) → FitsTask x stage → IsInCall stage → ⊥
   none_at Looks f call = call
   none_at (Passes g after) f call = none_before g.passage after f call
   none_at (Flips g) f call = let some = f.0.executes.task_is in let never = sym none ∙ some in cc

@@ -7,6 +7,7 @@ use Rattle.heap_laws.specs.Opening.{opening_entries}
 use Rattle.heap_state.specs.Entries.{written}
 use Rattle.space_map.specs.Spaces.{IsPageCount}
 use Rattle.gc_worker.specs.Between.{fresh_mutator, fresh_scanner, fresh_worker, fresh_workers}
+use Rattle.gc_worker.specs.Cycles.{IsInCall}
 use Rattle.gc_worker.specs.Held.{Held}
 use Rattle.gc_worker.specs.Stepped.{uncounted}
 use Rattle.gc_worker.proofs.Between.Opening.{heaps_open}
@@ -62,6 +63,20 @@ apart : (plan : Plan) (from count : ℕ) → IsOnce (map number (new_hands plan 
 apart plan from zero = tt
 apart plan from (suc count) = (later plan from (from + 1) count (omega arith), apart plan (from + 1) count)
 
+-- no new worker is in a call
+new_looks : (n mutators k : ℕ) → IsInCall (fresh_worker n mutators k).stage → ⊥
+new_looks n mutators k = by_side (nat_lt k mutators)
+  where
+    by_side : (b : Bool) → IsInCall (if b then fresh_mutator n mutators k else fresh_scanner n mutators k).stage → ⊥
+    by_side true call = call
+    by_side false call = call
+
+fresh_looks : (n mutators from count m : ℕ) (x : Held) → get_elem? (fresh_workers n mutators from count) m ≡ some x → IsInCall x.stage → ⊥
+unfolding fresh_workers
+fresh_looks n mutators from zero m x is call = absurd (some-ne-none x (sym is))
+fresh_looks n mutators from (suc count) zero x is call = new_looks n mutators from (subst (λ (y : Held). IsInCall y.stage) (sym (some-injective (fresh_worker n mutators from) x is)) call)
+fresh_looks n mutators from (suc count) (suc m) x is call = fresh_looks n mutators (from + 1) count m x is call
+
 pub opens_kept : (plan : Plan) → IsPageCount plan.spaces.pages → plan.mutators ≤ 16 → crew plan ≤ 24 → Kept plan (table.opening {S = ℕ} (first_words plan) [] (first_view plan))
 opens_kept plan size few all = record {
   log = [];
@@ -72,6 +87,8 @@ opens_kept plan size few all = record {
   legal = tt;
   stands = heaps_open plan.spaces.pages plan.mutators plan.scanners size few all;
   tallied = opening_tallied plan.spaces.pages plan.mutators plan.scanners size few all (first_plain plan);
+  begun = λ m x is call. absurd (fresh_looks plan.spaces.pages plan.mutators 0 (crew plan) m x is call);
+  flipped = tt;
   seats = λ id v at. one id v at;
 }
   where

@@ -83,6 +83,8 @@ by_hands plan id v [] e s b at =
       legal = b.legal;
       stands = b.stands;
       tallied = b.tallied;
+      begun = b.begun;
+      flipped = b.flipped;
       seats = λ j u at'. ⊎_elim
           (λ (was : get_elem? (set s.views id new) j ≡ some u).
           ⊎_elim (λ (t : (j ≡ id) × (new ≡ u)). subst (λ (z : ℕ × View). FitsView plan s.words b.workers b.log b.owner b.winner z.0 z.1) (λ i. (sym t.0 i, t.1 i))
@@ -107,6 +109,8 @@ by_hands plan id v (d ∷ ds) e s b at =
       legal = b.legal;
       stands = b.stands;
       tallied = b.tallied;
+      begun = b.begun;
+      flipped = b.flipped;
       seats = λ j u at'. ⊎_elim
           (λ (was : get_elem? (set s.views id left) j ≡ some u).
           ⊎_elim (λ (t : (j ≡ id) × (left ≡ u)). subst (λ (z : ℕ × View). FitsView plan s.words b.workers b.log owner' b.winner z.0 z.1) (λ i. (sym t.0 i, t.1 i))

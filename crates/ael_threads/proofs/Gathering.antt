@@ -65,6 +65,7 @@ closes plan id t all one words xs g end =
       epoch = subst (λ (z : List ℕ). epoch_of plan.spaces.pages z ≡ (tally (opened plan) b.log).flips) end.2 b.tallied.counts.epoch;
       entries = b.tallied.entries;
       large = large_has_no_full plan.spaces.pages (tasks_held b.workers) (opened plan) b.log b.tallied.entries;
+      flipped = b.flipped;
       seen = each_map (λ (c : Seated). IsPrefix c.knows.seen one.knows.seen) (λ (c : Seated). IsPrefix c.knows.seen b.log) (λ c h. prefix_trans c.knows.seen one.knows.seen b.log h f.seen) all g.seen;
       hands = hands;
       others = λ many. all_by plan b.workers b.log (all_hands all) b.count b.legal hands apart many;

@@ -15,6 +15,7 @@ use Rattle.ael_threads.specs.declared.view.View.{View}
 use Rattle.gc_worker.specs.History.Tally.{EachEntry, EntryIs, IsTallied, tasks_held}
 use Rattle.ael_threads.specs.Histories.{opened, Each, IsOnce, first_plain, number}
 use Rattle.gc_worker.specs.History.Legal.{IsLegal, after_all, calls_of, last_flip}
+use Rattle.ael_threads.specs.Began.{EachAfter, FlippedIfFull}
 use Rattle.ael_threads.specs.Rule.{FitsView, Has, Kept, Won, heap_of, spent_view, view}
 use Rattle.ael_threads.specs.Seats.{Learns, Me, both_of}
 use Rattle.ael_threads.proofs.Places.{at_set, set_else}
@@ -102,6 +103,8 @@ joins plan id v other u s b at apart at' =
       legal = b.legal;
       stands = b.stands;
       tallied = b.tallied;
+      begun = b.begun;
+      flipped = b.flipped;
       seats = λ j w at''. ⊎_elim
           (λ (t : (j ≡ other) × (spent_view ≡ w)). subst (FitsView plan s.words b.workers b.log owner' winner' j) t.1
           (record { same = λ none. absurd (omega arith); seen = (b.log, refl); heard = (b.log, refl); hands = tt; apart = tt; claims = tt; once = tt }))
@@ -140,6 +143,8 @@ learns plan slots id me st live s b homes at small =
         legal = b.legal;
         stands = subst (λ (z : List ℕ). WorkersStand (heap_of plan z b.workers) (after_all (first_plain plan) b.log) (last_flip (first_plain plan) b.log)) (sym (set-get_or s.words 0 0)) b.stands;
         tallied = subst (λ (z : List ℕ). IsTallied (heap_of plan z b.workers) (opened plan) b.log) (sym (set-get_or s.words 0 0)) b.tallied;
+        begun = b.begun;
+        flipped = b.flipped;
         seats = λ j u at'. subst (λ (z : List ℕ). FitsView plan z b.workers b.log b.owner b.winner j u) (sym (set-get_or s.words 0 0))
             (⊎_elim (λ (t : (j ≡ id) × (w ≡ u)). subst (λ (z : ℕ × View). FitsView plan s.words b.workers b.log b.owner b.winner z.0 z.1) (λ i. (sym t.0 i, t.1 i)) fit)
             (λ (t : (j ≢ id) × (get_elem? s.views j ≡ some u)). b.seats j u t.1)
@@ -160,6 +165,7 @@ learns plan slots id me st live s b homes at small =
           legal = subst (λ (z : Plan). IsLegal (first_plain z) b.log) (sym (f.same live)) b.legal;
           tasks = tasks_held b.workers;
           entries = subst (λ (z : Plan). EachEntry (EntryIs z.spaces.pages (tasks_held b.workers)) (opened z) b.log) (sym (f.same live)) b.tallied.entries;
+          flipped = subst (λ (z : Plan). EachAfter (FlippedIfFull z) [] b.log) (sym (f.same live)) b.flipped;
         },
       ),
     )

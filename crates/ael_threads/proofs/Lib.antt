@@ -6,6 +6,7 @@ pub mod Seating
 pub mod Showing
 pub mod Epochs
 pub mod Began
+pub mod Looks
 pub mod Flipping
 pub mod Turning
 pub mod Allowing

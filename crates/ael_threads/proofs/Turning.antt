@@ -1,5 +1,5 @@
 -- A step keeps the rule.
-use Rattle.std.proofs.Common.{◌≡◌, ◌≢◌, ℕ, ◌<◌, inl, inr, Option, Some, None, List, [], ◌∷◌, ◌++◌, length, slice_get, slice_set, set, refl, sym, ◌∙◌, ap, subst, length-set, arith, get_or-set_same}
+use Rattle.std.proofs.Common.{◌≡◌, ◌≢◌, ℕ, ◌<◌, inl, inr, ⊎_elim, Option, Some, None, List, [], ◌∷◌, ◌++◌, length, slice_get, slice_set, set, refl, sym, ◌∙◌, ap, subst, length-set, arith, get_or-set_same}
 use mathlib.Core.Option.{some}
 use mathlib.Core.List.{IsPrefix}
 use lib.ListN.{get_elem?}
@@ -12,7 +12,8 @@ use Rattle.plain_state.specs.State.{Mutator, Plain}
 use Rattle.gc_worker.specs.declared.stage.Stage.TheVariants.{Looks}
 use Rattle.gc_worker.specs.declared.task.Task.{Task}
 use Rattle.gc_worker.specs.Answer.{ComesTo, IsAnswered, after_told}
-use Rattle.gc_worker.specs.Between.{Begins, AreAlike, GoesOn, IsAsPlain, IsSo, Lands, Readies, Shows}
+use Rattle.gc_worker.specs.Between.{Begins, AreAlike, GoesOn, IsAsPlain, IsSo, Lands, Readies, Shows, with_task}
+use Rattle.gc_worker.specs.Cycles.{IsInCall}
 use Rattle.gc_worker.specs.Counted.{CountsApart, counted, count_after}
 use Rattle.gc_worker.specs.Fits.{Fits}
 use Rattle.gc_worker.specs.Full.{FullWhereTold}
@@ -39,11 +40,14 @@ use Rattle.ael_threads.specs.Histories.{opened, HasOwn, first_plain, hand}
 use Rattle.gc_worker.specs.History.Legal.{IsLegal, after_all, call, calls_of, extra, last_flip, own_after}
 use Rattle.ael_threads.specs.Rule.{FitsView, Has, Kept, crew, heap_of, view}
 use Rattle.ael_threads.specs.Seats.{Follows, IsRunning, IsShown, Moves, Sees, ShowsSeen, StandWith, plain_seen, seen_after, with_claim, LiveByEnd, LiveWhereTold}
-use Rattle.ael_threads.proofs.Places.{at_inside, get_of, set_else, set_here}
+use Rattle.ael_threads.specs.Began.{EachAfter, HasLooked, FlippedIfFull}
+use Rattle.ael_threads.proofs.Began.{given_none}
+use Rattle.ael_threads.proofs.Looks.{flipped_more, looked}
+use Rattle.ael_threads.proofs.Places.{at_inside, at_set, get_of, set_else, set_here}
 use Rattle.ael_threads.proofs.Elements.{each_map, prefix_more, prefix_self}
 use Rattle.gc_worker.proofs.History.Steps.{step_tallied}
 use Rattle.ael_threads.proofs.Flipping.{flips_by}
-use Rattle.gc_worker.proofs.History.Extensions.{Agrees, after_more, calls_more, flip_more, legal_more, seen_keeps}
+use Rattle.gc_worker.proofs.History.Extensions.{Agrees, after_more, calls_more, calls_other, flip_more, legal_more, seen_keeps}
 use Rattle.ael_threads.proofs.Showing.{alike_by, ends_with, full_by, lands_by, live_by, mutator_at, no_end, runs_aside, shown_by}
 use Rattle.gc_worker.proofs.History.Tallies.{tally_flip, tally_now}
 use Rattle.gc_worker.proofs.History.Tasks.{task_tallied}
@@ -293,6 +297,46 @@ module _ (plan : Plan) (id : ℕ) (was : Hand) (x : Held) (others : List Hand) (
   count2 : length workers2 ≡ crew plan
   count2 = length-set workers1 m (turned y r) ∙ count1
 
+  -- ---- who is in a call
+
+  stage_kept : IsInCall x.stage → HasLooked plan m y b.log
+  stage_kept call = ⊎_elim as_it_was given follows.begins
+    where
+      as_it_was : x ≡ was.worker → HasLooked plan m y b.log
+      as_it_was same =
+          let its : x ≡ uncounted old = same ∙ sym has.state.shown in
+          let l = b.begun m old has.state.is (subst IsInCall (ap (λ (w : Held). w.stage) its) call) in record {
+            task = l.task;
+            task_is = ap (λ (w : Held). w.task) its ∙ l.task_is;
+            began = l.began;
+            look = l.look;
+            begins = l.begins;
+            calls = l.calls;
+            flips = l.flips ∙ sym (ap (λ (w : Held). w.begun) its);
+          }
+
+      given : (task : Task) × (was.worker.task ≡ None) × (x ≡ with_task was.worker task) → HasLooked plan m y b.log
+      given g =
+          let fits_was = (counted_fit n plan.mutators m count was.worker).0 (subst (Fits n plan.mutators m) old_is (b.stands.fit m inside)) in
+          absurd (given_none n plan.mutators m was.worker x g.0 fits_was g.1 g.2 call)
+
+  abbrev at_y : get_elem? workers1 m ≡ some y
+  at_y = set_here b.workers m y inside
+
+  begun' : (j : ℕ) (w : Held) → get_elem? workers2 j ≡ some w → IsInCall w.stage → HasLooked plan j w log'
+  begun' j w is call = ⊎_elim
+      (λ (here : (j ≡ m) × (turned y r ≡ w)). subst (λ (v : ℕ × Held). HasLooked plan v.0 v.1 log') (λ i. (sym here.0 i, here.1 i))
+      (subst (λ (u : Told). HasLooked plan m (turned y r) (b.log ++ extra m u)) tells
+      (looked plan m y q s.words workers1 b.log at_y (apart.wants ∙ want) readied readied_tallied stage_kept law.fits law.full (subst (λ (v : Held). IsInCall v.stage) (sym here.1) call))))
+      (λ (there : (j ≢ m) × (get_elem? workers1 j ≡ some w)).
+      let l = b.begun j w (sym (set_else b.workers m j y there.0) ∙ there.1) call in
+      record { task = l.task; task_is = l.task_is; began = l.began; look = l.look; begins = prefix_more l.began b.log (extra m t) l.begins; calls = l.calls ∙ sym (calls_other j b.log m t there.0); flips = l.flips })
+      (at_set workers1 m j (turned y r) w is)
+
+  flipped' : EachAfter (FlippedIfFull plan) [] log'
+  flipped' = subst (λ (u : Told). EachAfter (FlippedIfFull plan) [] (b.log ++ extra m u)) tells
+      (flipped_more plan m y q s.words workers1 b.log at_y (apart.wants ∙ want) readied readied_tallied stage_kept law.fits law.full b.flipped)
+
   kept' : Kept plan (record { words = later; homes = s.homes; views = slice_set s.views id v' })
   kept' = record {
     log = log';
@@ -303,6 +347,8 @@ module _ (plan : Plan) (id : ℕ) (was : Hand) (x : Held) (others : List Hand) (
     legal = legal';
     stands = stands';
     tallied = tallied';
+    begun = begun';
+    flipped = flipped';
     seats = all_fit plan s.words later b.workers workers2 b.log t b.owner b.winner id m (won x r) keeps same has.owns s.views v' b.seats fit;
   }
 

@@ -49,8 +49,8 @@ pub record Waits (a : Seated) (task : Task) (b : Seated) : Type 0 where
   pub asks : b.worker.task ≡ Some task
   pub rests : Rests a b
 
--- It has begun the task in this call: by a look at which the history began with all that was known before the call, with no call of the
--- caller since; in an epoch not before the one in which it was then.
+-- It has begun the task in this call: by a look at which the history began with all that was known before the call, and had just the
+-- calls that the caller had made; in an epoch not before the one in which the caller was before the call.
 pub record HasBegun (a : Seated) (task : Task) (b : Seated) : Type 0 where
   pub began : List Entry
   pub look : BeginsAt a.knows.plan (first_number a.knows.hands) task began

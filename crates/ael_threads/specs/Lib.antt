@@ -1,7 +1,8 @@
 pub mod Histories
+pub mod Workers
+pub mod Began
 pub mod Rule
 pub mod Seats
-pub mod Began
 pub mod Readers
 pub mod Calls
 pub mod Opened

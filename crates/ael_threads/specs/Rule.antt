@@ -1,12 +1,12 @@
 -- The rule of the table: what is so of the words, of all workers and of what each seat knows, between any two steps.
-use Rattle.std.specs.Prelude.{◌≡◌, ℕ, ◌+◌, ◌<◌, List, [], map, length}
+use Rattle.std.specs.Prelude.{◌≡◌, ℕ, ◌<◌, List, [], map, length}
 use mathlib.Core.Option.{some}
 use mathlib.Core.List.{IsPrefix}
 use lib.ListN.{get_elem?}
 use Rattle.atomic_table.specs.Table as table
 use Rattle.gc_worker.specs.Held.{Held}
-use Rattle.gc_worker.specs.Law.{Heap, IsOut, WorkersStand}
-use Rattle.gc_worker.specs.Stepped.{uncounted}
+use Rattle.gc_worker.specs.Cycles.{IsInCall}
+use Rattle.gc_worker.specs.Law.{IsOut, WorkersStand}
 use Rattle.gc_worker.specs.Turned.{PageWon}
 use Rattle.ael_threads.specs.declared.view.Claim.{Claim}
 use Rattle.gc_worker.specs.declared.entry.Entry.{Entry}
@@ -16,15 +16,13 @@ use Rattle.ael_threads.specs.declared.view.View.{View}
 use Rattle.gc_worker.specs.History.Tally.{IsTallied}
 use Rattle.ael_threads.specs.Histories.{opened, Each, IsOnce, first_plain, new_hands, number}
 use Rattle.gc_worker.specs.History.Legal.{IsLegal, after_all, calls_of, last_flip}
+use Rattle.ael_threads.specs.Began.{EachAfter, HasLooked, FlippedIfFull}
+pub use Rattle.ael_threads.specs.Workers.{StandsAs, crew, heap_of}
 
 -- ---- views
 
 abbrev pub view : Plan → List Hand → (seen heard : List Entry) → List Claim → View
 view plan hands seen heard claims = record { plan = plan; hands = hands; seen = seen; heard = heard; claims = claims }
-
--- the number of workers
-abbrev pub crew : Plan → ℕ
-crew plan = plan.mutators + plan.scanners
 
 -- the first seat has all workers
 abbrev pub first_view : Plan → View
@@ -41,12 +39,6 @@ spent_view = view no_plan [] [] [] []
 
 abbrev pub won_page : Claim → PageWon
 won_page c = record { page = c.page; epoch = c.epoch }
-
--- A worker stands in the list with its count of instructions, which its code doesn't hold.
-pub record StandsAs (workers : List Held) (n : ℕ) (x : Held) : Type 0 where
-  pub held : Held
-  pub is : get_elem? workers n ≡ some held
-  pub shown : uncounted held ≡ x
 
 -- the seat id has this worker, whose code holds this, and the calls that it made
 pub record Has (workers : List Held) (log : List Entry) (owner : ℕ → ℕ) (id : ℕ) (h : Hand) : Type 0 where
@@ -69,11 +61,10 @@ pub record FitsView (plan : Plan) (words : List ℕ) (workers : List Held) (log 
   pub claims : Each (Won plan.spaces.pages words winner id) v.claims
   pub once : IsOnce v.claims
 
-abbrev pub heap_of : Plan → (words : List ℕ) → (workers : List Held) → Heap
-heap_of plan words workers = record { pages = plan.spaces.pages; words = words; mutators = plan.mutators; workers = workers }
-
 -- THE RULE: with what all workers hold the words stand for the plain state after one legal history, and keep what a cycle keeps that
--- began at its last flip; what is counted along the history fits the words and the workers; what each seat knows fits these.
+-- began at its last flip; what is counted along the history fits the words and the workers; each worker that is in a call began it by a
+-- look at a beginning of the history, and each full heap of the history was found after a flip since such a look, or in the last epoch;
+-- what each seat knows fits these.
 pub record Kept (plan : Plan) (s : table.State ℕ View) : Type 0 where
   pub log : List Entry
   pub workers : List Held
@@ -83,4 +74,6 @@ pub record Kept (plan : Plan) (s : table.State ℕ View) : Type 0 where
   pub legal : IsLegal (first_plain plan) log
   pub stands : WorkersStand (heap_of plan s.words workers) (after_all (first_plain plan) log) (last_flip (first_plain plan) log)
   pub tallied : IsTallied (heap_of plan s.words workers) (opened plan) log
+  pub begun : (m : ℕ) (x : Held) → get_elem? workers m ≡ some x → IsInCall x.stage → HasLooked plan m x log
+  pub flipped : EachAfter (FlippedIfFull plan) [] log
   pub seats : (id : ℕ) (v : View) → get_elem? s.views id ≡ some v → FitsView plan s.words workers log owner winner id v

@@ -43,6 +43,7 @@ use Rattle.gc_worker.specs.History.Large.{HasNoFullCall, IsLargeFor}
 use Rattle.gc_worker.specs.History.Tally.{EachEntry, EntryIs, IsTallied, Tasks, tasks_held, tally}
 use Rattle.ael_threads.specs.Histories.{AreBy, opened, Each, IsOnce, HasOwn, first_held, first_plain, hand, number}
 use Rattle.gc_worker.specs.History.Legal.{IsLegal, after_all, call, calls_of, extra, last_flip, own_after}
+use Rattle.ael_threads.specs.Began.{EachAfter, FlippedIfFull}
 use Rattle.ael_threads.specs.Rule.{StandsAs, crew, heap_of, view}
 
 -- ---- a step by the word that it finds
@@ -253,13 +254,14 @@ pub record Learned (v w : View) : Type 0 where
   pub legal : IsLegal (first_plain w.plan) w.seen
   pub tasks : Tasks
   pub entries : EachEntry (EntryIs w.plan.spaces.pages tasks) (opened w.plan) w.seen
+  pub flipped : EachAfter (FlippedIfFull w.plan) [] w.seen
 
 abbrev pub Learns : table.Step ℕ → Me → ℕ → Me → Type 0
 Learns st me found later = (later.1 ≡ me.1) × Learned me.0 later.0
 
 -- THE CLAUSE OF ABSORB: one history for both callers, with just the calls that both made; no worker of both, and no page won by both in
 -- one epoch. There are tasks, one a worker at most, by which, where the history has no later call of a worker, each full heap of it was
--- filled and each of its flips was asked for.
+-- filled and each of its flips was asked for; and each full heap was found after a flip since the call began, or in the last epoch.
 pub record Absorbs (v u w : View) : Type 0 where
   pub plan : w.plan ≡ v.plan
   pub hands : w.hands ≡ v.hands ++ u.hands
@@ -273,6 +275,7 @@ pub record Absorbs (v u w : View) : Type 0 where
   pub legal : IsLegal (first_plain w.plan) w.seen
   pub tasks : Tasks
   pub entries : EachEntry (EntryIs w.plan.spaces.pages tasks) (opened w.plan) w.seen
+  pub flipped : EachAfter (FlippedIfFull w.plan) [] w.seen
 
 -- ---- the end
 
@@ -300,10 +303,10 @@ pub record Stays (workers : List Held) (log : List Entry) (h : Hand) : Type 0 wh
 -- THE CLAUSE OF CLOSE: the calls of all these callers stand in one legal history, each once, of which what each has seen is a
 -- beginning; with what their codes hold the words stand for the plain state after it; what was copied in an epoch that is traced is what
 -- was live at the last flip of the history; the gate's epoch is the number of its flips; each flip was for a record, and where a call told
--- the heap to be full what was live at the flip before it filled the space, with records made since then or being made, by the history or
--- else by the tasks that mutators have begun, so a heap that is as large as the history needs is never full; no mutator asked for two
--- flips between two of its calls; if all workers are there the history has no other calls; no worker stands twice, and no page was won
--- twice in one epoch.
+-- the heap to be full, what was live at the flip before it, which came since the look that began the call if it is not the last that there
+-- can be, filled the space, with records made since then or being made, by the history or else by the tasks that mutators have begun, so
+-- a heap that is as large as the history needs is never full; no mutator asked for two flips between two of its calls; if all workers are
+-- there the history has no other calls; no worker stands twice, and no page was won twice in one epoch.
 pub record Closes (plan : Plan) (all : List Seated) (words : List ℕ) : Type 0 where
   pub log : List Entry
   pub workers : List Held
@@ -314,6 +317,7 @@ pub record Closes (plan : Plan) (all : List Seated) (words : List ℕ) : Type 0 
   pub epoch : epoch_of plan.spaces.pages words ≡ (tally (opened plan) log).flips
   pub entries : EachEntry (EntryIs plan.spaces.pages (tasks_held workers)) (opened plan) log
   pub large : IsLargeFor plan.spaces.pages (tasks_held workers) (opened plan) log → HasNoFullCall log
+  pub flipped : EachAfter (FlippedIfFull plan) [] log
   pub seen : Each (λ (s : Seated). IsPrefix s.knows.seen log) all
   pub hands : Each (Stays workers log) (all_hands all)
   pub others : length (all_hands all) ≡ crew plan → AreBy (map number (all_hands all)) log
