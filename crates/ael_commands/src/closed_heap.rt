@@ -53,7 +53,7 @@ impl Report for ClosedHeap {
     }
 
     fn places(&self) -> usize {
-        self.spaces.table_len()
+        self.outputs.words.len()
     }
 
     fn printed(&self, m: u8) -> &[u64] {
