@@ -3,6 +3,7 @@ pub mod Stepping
 pub mod Owning
 pub mod Outcomes
 pub mod Calls
+pub mod Records
 pub mod Named
 pub mod Alike
 pub mod Counting

@@ -3,6 +3,7 @@ pub mod Call
 pub mod Outcome
 pub mod Step
 pub mod Calls
+pub mod Records
 pub mod Memory
 pub mod Order
 pub mod Print

@@ -2,6 +2,7 @@
 
 ghost use Rattle.plain_heap.specs.Calls.{CallLeavesOthers, CallKeepsCount, CallMakesNewRecord, NewRecordIsMade, ElseNoneIsMade, AsksForNewRecord};
 ghost use Rattle.plain_heap.specs.Consistent.{OpensConsistent, MarksKeepConsistent, RunsStayConsistent};
+ghost use Rattle.plain_heap.specs.Records.{LoadsTakeTheWord, OnlyStoresChangeWords, ShapesStay};
 ghost use Rattle.plain_heap.specs.Order.{StoryIsPlain, StoryHasOpening, StoryHasLastFlip};
 ghost use Rattle.plain_heap.specs.Alone.{AlwaysTheSame, EndsAlone};
 
@@ -43,4 +44,17 @@ pub fn call_makes_the_new_record()
     ensures no_other { NewRecordIsMade }
     ensures else_none { ElseNoneIsMade }
     ensures asked { AsksForNewRecord }
+{}
+
+/// An instruction changes a word of a record by a store to it alone: any other, also one that makes
+/// a record, leaves each word as it is read. A load takes the word into its register, and changes
+/// nothing else. A word that isn't there is read as the number 0, as a new record has it.
+pub fn only_stores_change_words()
+    ensures stores { OnlyStoresChangeWords }
+    ensures loads { LoadsTakeTheWord }
+{}
+
+/// An instruction leaves each record there, with its kind and its length.
+pub fn shapes_stay()
+    ensures { ShapesStay }
 {}

@@ -23,7 +23,8 @@ mod values;
 pub use action::Action;
 pub use laws::{
     alone_mutators_are_independent, call_leaves_the_others, call_makes_the_new_record,
-    reached_states_are_consistent, stories_keep_the_last_flip,
+    only_stores_change_words, reached_states_are_consistent, shapes_stay,
+    stories_keep_the_last_flip,
 };
 pub use mark::Mark;
 pub use order::plain_run;

@@ -1,0 +1,5 @@
+use Rattle.plain_heap.proofs.Records.{shapes_stay}
+use Rattle.plain_heap.proofs.laws.shapes_stay.Goals as goal
+
+pub returns : goal.returns
+returns c = shapes_stay
