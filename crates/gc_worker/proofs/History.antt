@@ -11,3 +11,4 @@ pub mod Orders
 pub mod Needs
 pub mod Lone
 pub mod Large
+pub mod Loads

@@ -3,3 +3,4 @@ pub mod Tally
 pub mod Order
 pub mod Needs
 pub mod Large
+pub mod Loads

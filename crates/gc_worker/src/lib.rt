@@ -21,6 +21,7 @@ mod due;
 mod entry;
 mod field_access;
 mod forwarding_register;
+mod history_laws;
 mod instructions;
 mod laws;
 mod looking;
@@ -52,6 +53,7 @@ pub use did::Did;
 pub use entry::Entry;
 pub use field_access::{FieldAccess, FieldUse, Role};
 pub use forwarding_register::ForwardingRegister;
+pub use history_laws::{loads_get_the_last_store, records_keep_their_shape};
 pub use laws::{
     accesses_are_worked_out, accesses_go_on, answers_leave_the_others, beginnings_are_kept,
     claims_are_for_records, counts_are_apart, exchanges_of_past_epochs_are_lost, flips_are_first,
