@@ -17,7 +17,7 @@ use Rattle.gc_worker.specs.Answer.{IsAnswered}
 use Rattle.gc_worker.specs.Held.{Held}
 use Rattle.gc_worker.specs.History.Legal.{IsLegal, after_all, extra}
 use Rattle.gc_worker.specs.Between.{IsSo}
-use Rattle.gc_worker.specs.History.Needs.{EachFullIs, EachMayCome, opened}
+use Rattle.gc_worker.specs.History.Needs.{EachFullIs, EachMayCome, made_since, opened}
 use Rattle.gc_worker.specs.History.Order.{AreFetched, entry_mark, order_of}
 use Rattle.gc_worker.specs.History.Tally.{IsTallied, Tally, first_tally, tally, tasks_held}
 use Rattle.gc_worker.specs.Law.{Heap, StepKeeps, WorkersStand, held_at, moved, nobody}
@@ -32,7 +32,7 @@ use Rattle.gc_worker.proofs.Between.Readying.{readying_stands}
 use Rattle.gc_worker.proofs.Between.Standing.{what_stands_is_so}
 use Rattle.gc_worker.proofs.Between.Wanting.{workers_want}
 use Rattle.gc_worker.proofs.History.Extensions.{legal_more}
-use Rattle.gc_worker.proofs.History.Needs.{IsNext, orders_fill}
+use Rattle.gc_worker.proofs.History.Needs.{IsNext, order_makes, orders_fill}
 use Rattle.gc_worker.proofs.History.Orders.{fetched_append}
 use Rattle.gc_worker.proofs.History.Steps.{step_tallied}
 use Rattle.gc_worker.proofs.History.Tallies.{tally_append, tally_more-flip, tally_more-now, tally_now}
@@ -212,6 +212,10 @@ module _ (s : CoreState) (log : List Entry) (h : HasHistory s log) where
   history_fills =
       orders_fill s.code s.turns (tasks_held s.heap.workers) s.heap.pages (first s) 0 (λ j. false) log h.legal (plain_count s.code s.turns []) h.fetched are_next h.tallied.entries
       (omega arith) (λ m e. e)
+
+  -- no more pages were made than its order tells
+  pub history_made : (tally (first s) log).made ≤ made_since s.code s.turns (order_of log)
+  history_made = order_makes s.code s.turns (tasks_held s.heap.workers) (first s) 0 log h.legal (plain_count s.code s.turns []) h.fetched (omega arith)
 
 -- ---- a run
 

@@ -1,7 +1,8 @@
 -- A run, one event at a time.
-use Rattle.std.proofs.Common.{◌≡◌, ℕ, ◌+◌, ◌-◌, ◌<◌, ◌≤◌, List, [], ◌++◌, true, false, refl, sym, ◌∙◌, append_assoc, append-nil, arith, zero, suc}
+use Rattle.std.proofs.Common.{◌≡◌, ℕ, ◌+◌, ◌-◌, ◌<◌, ◌≤◌, Bool, List, [], ◌∷◌, ◌++◌, Option, Some, None, true, false, refl, ap, subst, sym, ◌∙◌, append_assoc, append-nil, arith, zero, suc}
 use Rattle.std.specs.Option.{option_to_list}
 use Rattle.plain_heap.specs.declared.mark.Mark.{Mark}
+use Rattle.gc_worker.specs.declared.stepped.Stepped.{Stepped}
 use Rattle.gc_worker.specs.Marks.{mark_of}
 use Rattle.gc_core.specs.Core.{CoreState}
 use Rattle.gc_core.specs.Event.{event_of, core_after}
@@ -61,3 +62,65 @@ pub came_out_order : (schedule : ℕ → ℕ) (at steps : ℕ) (s : CoreState) (
     → ComesToOrder schedule at steps s marks all → marks ≡ all.order
 came_out_order schedule at steps s marks all done h =
     let none : steps - at ≡ 0 = omega arith in sym (append-nil marks) ∙ (rw (run_out schedule at (steps - at) s none) at h.order)
+
+-- ---- the step that a mark comes from
+
+-- after so many steps the run has come to this front of its order, and its next event has the mark behind it
+pub record IsReached (schedule : ℕ → ℕ) (at n : ℕ) (s : CoreState) (front : List Mark) (mark : Mark) : Type 0 where
+  pub steps : ℕ
+  pub within : steps < n
+  pub front_is : (run_from schedule at steps s).order ≡ front
+  pub mark_is : mark_of (event_of (run_from schedule at steps s).last (schedule (at + steps))).told ≡ Some mark
+
+no_marks : (front rest : List Mark) (mark : Mark) → [] ≡ front ++ mark ∷ rest → ⊥
+no_marks [] rest mark is = cc
+no_marks (x ∷ front) rest mark is = cc
+
+module _ (schedule : ℕ → ℕ) (at n : ℕ) (s : CoreState) (running : all_ended s ≡ false) where
+  abbrev told : Stepped
+  told = (event_of s (schedule at)).told
+
+  abbrev next : CoreState
+  next = core_after s (schedule at)
+
+  -- the first event has it
+  its_first : (mark : Mark) → mark_of told ≡ Some mark → IsReached schedule at (suc n) s [] mark
+  unfolding run_from
+  its_first mark is = record {
+    steps = 0;
+    within = omega arith;
+    front_is = refl;
+    mark_is = (let e : at + 0 ≡ at = omega arith in ap (λ (k : ℕ). mark_of (event_of s (schedule k)).told) e ∙ is);
+  }
+
+  -- a later one has it
+  later : (front : List Mark) (mark : Mark) → IsReached schedule (at + 1) n next front mark → IsReached schedule at (suc n) s (option_to_list (mark_of told) ++ front) mark
+  unfolding run_from
+  later front mark r = record {
+    steps = suc r.steps;
+    within = (let l = r.within in omega (arith, l));
+    front_is = rw running (ap (λ (marks : List Mark). option_to_list (mark_of told) ++ marks) r.front_is);
+    mark_is = rw running (let e : at + suc r.steps ≡ at + 1 + r.steps = omega arith in ap (λ (k : ℕ). mark_of (event_of (run_from schedule (at + 1) r.steps next).last (schedule k)).told) e ∙ r.mark_is);
+  }
+
+  by_front : (o : Option Mark) → mark_of told ≡ o → (front rest : List Mark) (mark : Mark) → option_to_list o ++ (run_from schedule (at + 1) n next).order ≡ front ++ mark ∷ rest
+      → ((front rest : List Mark) → (run_from schedule (at + 1) n next).order ≡ front ++ mark ∷ rest → IsReached schedule (at + 1) n next front mark) → IsReached schedule at (suc n) s front mark
+  by_front None none front rest mark is on = subst (λ (o : Option Mark). IsReached schedule at (suc n) s (option_to_list o ++ front) mark) none (later front mark (on front rest is))
+  by_front (Some first) some [] rest mark is on = its_first mark (some ∙ cc)
+  by_front (Some first) some (x ∷ front) rest mark is on =
+      let same : first ≡ x = cc in
+      let tail : (run_from schedule (at + 1) n next).order ≡ front ++ mark ∷ rest = cc in
+      subst (λ (o : Option Mark). IsReached schedule at (suc n) s (option_to_list o ++ front) mark) (some ∙ ap (λ (m : Mark). Some m) same) (later front mark (on front rest tail))
+
+-- each mark of its order comes from a step
+pub mark_is_reached : (schedule : ℕ → ℕ) (at n : ℕ) (s : CoreState) (front rest : List Mark) (mark : Mark) → (run_from schedule at n s).order ≡ front ++ mark ∷ rest
+    → IsReached schedule at n s front mark
+unfolding run_from
+mark_is_reached schedule at zero s front rest mark is = absurd (no_marks front rest mark is)
+mark_is_reached schedule at (suc n) s front rest mark is = by_ended (all_ended s) refl (λ front rest e. mark_is_reached schedule (at + 1) n (core_after s (schedule at)) front rest mark e)
+  where
+    by_ended : (b : Bool) → all_ended s ≡ b
+        → ((front rest : List Mark) → (run_from schedule (at + 1) n (core_after s (schedule at))).order ≡ front ++ mark ∷ rest → IsReached schedule (at + 1) n (core_after s (schedule at)) front mark)
+        → IsReached schedule at (suc n) s front mark
+    by_ended true ended on = absurd (no_marks front rest mark (rw ended at is))
+    by_ended false running on = by_front schedule at n s running (mark_of (event_of s (schedule at)).told) refl front rest mark (rw running at is) on

@@ -2,11 +2,15 @@
 use Rattle.std.specs.Prelude.{◌≡◌, ℕ, ◌+◌, ◌*◌, ◌<◌, ◌≤◌, ◌-◌, ◌^◌, List, ◌∷◌, ◌++◌, length}
 use Rattle.plain_state.specs.declared.end.End.TheVariants as ends
 use Rattle.plain_state.specs.declared.sizes.TheConstants.{PAGE_WORDS}
+use Rattle.mutator_asm.specs.declared.instr.Instr.{Instr}
 use Rattle.plain_heap.specs.declared.mark.Mark.{Mark}
 use Rattle.plain_heap.specs.declared.mark.Mark.TheVariants.{Full}
+use Rattle.plain_heap.specs.Order.{story}
+use Rattle.gc_worker.specs.declared.config.Config.{Config}
 use Rattle.gc_worker.specs.declared.stepped.Stepped.TheVariants.{Ended}
 use Rattle.gc_worker.specs.History.Needs.{EachFullIs, EndsWithFlip, HasNoFull, IsEnoughForOne, IsLargeEnough, being_made, flips_in, made_since, opened}
-use Rattle.gc_core.specs.Cycles.{story_of, claims_of}
+use Rattle.gc_worker.specs.History.Tally.{aside_in}
+use Rattle.gc_core.specs.Cycles.{FillsTheSpace, story_of, claims_of}
 use Rattle.gc_core.specs.Event.{event_of}
 use Rattle.gc_core.specs.Run.{InEveryRun, run_of}
 
@@ -16,6 +20,30 @@ ClaimsAreForRecords = InEveryRun (λ code config schedule n. (w m asked room liv
     → (event_of (run_of code config schedule n).last w).told ≡ Ended m (ends.HeapFull asked room live)
     → claims_of code config schedule n
     ≤ PAGE_WORDS * (made_since code config.turns (run_of code config schedule n).order + being_made code config.turns (story_of code config schedule n).now m))
+
+-- the words claimed since the last flip are those of the pages of records made since then, or are set aside for records that workers make
+abbrev pub ClaimsAreMadeOrSetAside : Type 0
+ClaimsAreMadeOrSetAside = InEveryRun (λ code config schedule n.
+    claims_of code config schedule n ≤ PAGE_WORDS * made_since code config.turns (run_of code config schedule n).order + aside_in (run_of code config schedule n).last.heap)
+
+-- In a run of n steps, behind these marks of its order, mutator m tells the heap to be full: by the event that follows so many steps. The
+-- words that the run has claimed by then, since the last flip, fill the space with what was live at that flip and the room that is left.
+-- They are those of the pages of records made since then, or are set aside for records that workers make.
+pub record IsFilledByClaims (code : List (List Instr)) (config : Config) (schedule : ℕ → ℕ) (n : ℕ) (front : List Mark) (m asked room live : ℕ) : Type 0 where
+  pub steps : ℕ
+  pub within : steps < n
+  pub reached : (run_of code config schedule steps).order ≡ front
+  pub told : (event_of (run_of code config schedule steps).last (schedule steps)).told ≡ Ended m (ends.HeapFull asked room live)
+  pub fills : FillsTheSpace config.pages (story code config.turns front).flip (claims_of code config schedule steps) asked room live
+  pub for_records : claims_of code config schedule steps ≤ PAGE_WORDS * made_since code config.turns front + aside_in (run_of code config schedule steps).last.heap
+
+-- so is each full heap of the order
+abbrev pub AreFilledByClaims : List (List Instr) → Config → (ℕ → ℕ) → (n : ℕ) → List Mark → Type 0
+AreFilledByClaims code config schedule n order = (front rest : List Mark) (m asked room live : ℕ) → order ≡ front ++ Full m asked room live ∷ rest
+    → IsFilledByClaims code config schedule n front m asked room live
+
+abbrev pub OrdersAreFilledByClaims : Type 0
+OrdersAreFilledByClaims = InEveryRun (λ code config schedule n. AreFilledByClaims code config schedule n (run_of code config schedule n).order)
 
 -- at a full heap of an order the space is filled by what was live at the last flip and by records made since
 abbrev pub OrdersFillTheSpace : Type 0

@@ -2,7 +2,7 @@
 
 ghost use Rattle.gc_core.specs.Cycles.{CyclesKeepWhatIsLive, FullHeapsAreFilled, InstructionsFlipOnce};
 ghost use Rattle.gc_core.specs.Law.{EventsMeet, IsLawful};
-ghost use Rattle.gc_core.specs.Needs.{ClaimsAreForRecords, LargeHeapsAreNeverFull, LoneFullsFollowTheirFlips, LoneHeapsAreNeverFull, OrdersFillTheSpace};
+ghost use Rattle.gc_core.specs.Needs.{ClaimsAreForRecords, ClaimsAreMadeOrSetAside, LargeHeapsAreNeverFull, LoneFullsFollowTheirFlips, LoneHeapsAreNeverFull, OrdersAreFilledByClaims, OrdersFillTheSpace};
 ghost use Rattle.gc_core.specs.Told.{WhatStandsIsTold};
 ghost use Rattle.gc_core.specs.Whole.{CopiedPagesAreWonOnce, FlipsAreOfTracedCores, FullsFollowFlips, MissingWorkersAreIdle, NoPageIsWonTwice, RunsArePlainRuns, RunsFollow};
 
@@ -58,11 +58,19 @@ pub fn cycles_keep_what_is_live()
 {}
 
 /// Where a run tells that the heap is full, what was live at the last flip, the words claimed since then and the room that is left are all
-/// words of the space; and what was claimed are pages of records made since then, or of such that other mutators are making.
+/// words of the space; and what was claimed are pages of records made since then, or of such that other mutators are making. Each mark of
+/// the order that tells the heap to be full comes so, from a step of the run before which just these words were claimed.
 pub fn full_heaps_are_filled()
     ensures filled { FullHeapsAreFilled }
     ensures for_records { ClaimsAreForRecords }
     ensures orders { OrdersFillTheSpace }
+    ensures by_claims { OrdersAreFilledByClaims }
+{}
+
+/// At any time of a run, what was claimed since the last flip is no more than the pages of the records made since then and those set aside
+/// for records that workers are making: for each of them room was found, and it doesn't stand yet.
+pub fn claims_are_made_or_set_aside()
+    ensures { ClaimsAreMadeOrSetAside }
 {}
 
 /// In a run a mutator flips at most once for an instruction; and with one mutator the heap is full right after a flip, or in the last epoch.

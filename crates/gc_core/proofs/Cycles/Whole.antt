@@ -1,5 +1,5 @@
 -- What cycles keep in every run, from its history.
-use Rattle.std.proofs.Common.{◌≡◌, ℕ, ◌+◌, ◌*◌, ◌≤◌, false, List, [], ◌∷◌, ◌++◌, length, refl, ap, subst, ◌∙◌, arith}
+use Rattle.std.proofs.Common.{◌≡◌, ℕ, ◌+◌, ◌*◌, ◌≤◌, false, List, [], ◌∷◌, ◌++◌, length, Some, refl, ap, subst, ◌∙◌, arith}
 use Rattle.std.specs.Prelude.{IsTrue}
 use Rattle.std.specs.Option.{option_to_list}
 use Rattle.std.proofs.lemmas.List.{map-append}
@@ -10,14 +10,14 @@ use Rattle.mutator_asm.specs.declared.item.Item.{Item}
 use Rattle.mutator_asm.specs.Program.{IsWellFormed}
 use Rattle.plain_heap.specs.declared.mark.Mark.{Mark}
 use Rattle.plain_heap.specs.declared.mark.Mark.TheVariants.{Full}
-use Rattle.plain_heap.specs.Order.{Story, opening}
+use Rattle.plain_heap.specs.Order.{Story, opening, story}
 use Rattle.gc_worker.specs.declared.config.Config.{Config}
 use Rattle.gc_worker.specs.declared.entry.Entry.{Entry}
 use Rattle.gc_worker.specs.declared.stepped.Stepped.{Stepped}
-use Rattle.gc_worker.specs.declared.stepped.Stepped.TheVariants.{Ended}
+use Rattle.gc_worker.specs.declared.stepped.Stepped.TheVariants.{Idle, Moved, Effect, Flipped, Ended}
 use Rattle.gc_worker.specs.History.Needs.{EachFullIs, EachMayCome, IsFullAt, being_made, made_since, opened}
 use Rattle.gc_worker.specs.History.Order.{entry_mark, order_of}
-use Rattle.gc_worker.specs.History.Tally.{tally}
+use Rattle.gc_worker.specs.History.Tally.{aside_in, tally}
 use Rattle.gc_worker.specs.Law.{WorkersStand}
 use Rattle.gc_worker.specs.Marks.{EachActs, mark_of}
 use Rattle.gc_worker.proofs.Between.Copied.{copied_was_live}
@@ -29,15 +29,16 @@ use Rattle.gc_core.specs.Core.{CoreState, is_size, opening_core}
 use Rattle.gc_core.specs.Cycles.{CyclesKeepWhatIsLive, FullHeapsAreFilled, InstructionsFlipOnce, FillsTheSpace, claims_next, claims_of, flips_next, story_of}
 use Rattle.gc_core.specs.Event.{core_after, event_of}
 use Rattle.gc_core.specs.Law.{IsSteady, IsTold}
-use Rattle.gc_core.specs.Needs.{ClaimsAreForRecords, LargeHeapsAreNeverFull, LoneFullsFollowTheirFlips, LoneHeapsAreNeverFull, OrdersFillTheSpace}
+use Rattle.gc_core.specs.Needs.{ClaimsAreForRecords, ClaimsAreMadeOrSetAside, LargeHeapsAreNeverFull, LoneFullsFollowTheirFlips, LoneHeapsAreNeverFull, OrdersAreFilledByClaims, OrdersFillTheSpace}
 use Rattle.gc_core.specs.Run.{run_of, Ran}
 use Rattle.gc_core.specs.Whole.{FullsFollowFlips}
 use Rattle.gc_core.proofs.Begun.{opening_stands, opening_steady, size_fits}
 use Rattle.gc_core.proofs.Cycles.Filling.{Fills, event_fills, full_is_filled}
 use Rattle.gc_core.proofs.Cycles.Flips.{FlippedOnce, event_once}
 use Rattle.gc_core.proofs.Cycles.Kept.{keeps_what_is_live}
-use Rattle.gc_core.proofs.History.{HasHistory, adds, event_history, first, history_fills, holds_after, log_from, log_order, order_adds}
+use Rattle.gc_core.proofs.History.{HasHistory, adds, event_history, first, history_fills, history_made, holds_after, log_from, log_order, order_adds}
 use Rattle.gc_core.proofs.Running.{IsRunOf, run_acts, run_law}
+use Rattle.gc_core.proofs.Runs.{mark_is_reached}
 use Rattle.gc_core.proofs.Whole.{events_keep}
 
 module _ (code : List (List Instr)) (items : List Item) (config : Config) (schedule : ℕ → ℕ) (n : ℕ)
@@ -105,6 +106,22 @@ module _ (code : List (List Instr)) (items : List Item) (config : Config) (sched
   fulls_last : Fulls r.order
   fulls_last = subst Fulls (log_order schedule 0 n s) (fulls r.last log (claims_of code config schedule n) has_last)
 
+  -- ---- what was claimed for records
+
+  made : (tally (first r.last) log).made ≤ made_since code config.turns r.order
+  made = subst (λ (z : List (List Instr) × (ℕ × List Mark)). (tally (first r.last) log).made ≤ made_since z.0 z.1.0 z.1.1) (λ i. (has_last.0 i, (has_last.1 i, log_order schedule 0 n s i)))
+      (history_made r.last log has_last.2)
+
+  made_or_aside : claims_of code config schedule n ≤ PAGE_WORDS * made_since code config.turns r.order + aside_in r.last.heap
+  made_or_aside =
+      let counts = has_last.2.tallied.counts in
+      let low = counts.low in
+      let few = counts.for_records in
+      let same = has_last.3.low in
+      let pages = has_last.3.pages in
+      let made = made in
+      omega (arith, low, few, same, pages, made)
+
   -- ---- a full heap at its end
 
   module _ (w m asked room live : ℕ) (told : (event_of r.last w).told ≡ Ended m (ends.HeapFull asked room live)) where
@@ -128,6 +145,23 @@ module _ (code : List (List Instr)) (items : List Item) (config : Config) (sched
     for_records : claims_of code config schedule n ≤ PAGE_WORDS * (made_since code config.turns r.order + being_made code config.turns now.now m)
     for_records = let all = filled.filled in let same = full.filled in let most = full.for_records in omega (arith, all, same, most)
 
+-- a mark of a full heap is of an event that tells it
+told_full : (told : Stepped) (m asked room live : ℕ) → mark_of told ≡ Some (Full m asked room live) → told ≡ Ended m (ends.HeapFull asked room live)
+told_full Idle m asked room live e = cc
+told_full Moved m asked room live e = cc
+told_full (Effect j) m asked room live e = cc
+told_full (Flipped pages) m asked room live e = cc
+told_full (Ended j ends.Halt) m asked room live e = cc
+told_full (Ended j ends.NotPointer) m asked room live e = cc
+told_full (Ended j ends.NotNumber) m asked room live e = cc
+told_full (Ended j ends.OutOfRange) m asked room live e = cc
+told_full (Ended j ends.IntoRaw) m asked room live e = cc
+told_full (Ended j ends.ZeroDivisor) m asked room live e = cc
+told_full (Ended j ends.JumpOut) m asked room live e = cc
+told_full (Ended j ends.TurnsOut) m asked room live e = cc
+told_full (Ended j ends.OutputFull) m asked room live e = cc
+told_full (Ended j (ends.HeapFull pages left words)) m asked room live e = cc
+
 pub cycles_keep_what_is_live : CyclesKeepWhatIsLive
 cycles_keep_what_is_live code items config schedule n program size turns few =
     let law = law code items config schedule n program size turns few in
@@ -139,6 +173,26 @@ full_heaps_are_filled code items config schedule n program size turns few w m as
 
 pub claims_are_for_records : ClaimsAreForRecords
 claims_are_for_records code items config schedule n program size turns few w m asked room live told = for_records code items config schedule n program size turns few w m asked room live told
+
+pub claims_are_made_or_set_aside : ClaimsAreMadeOrSetAside
+claims_are_made_or_set_aside code items config schedule n program size turns few = made_or_aside code items config schedule n program size turns few
+
+pub orders_are_filled_by_claims : OrdersAreFilledByClaims
+orders_are_filled_by_claims code items config schedule n program size turns few front rest m asked room live is =
+    let at = mark_is_reached schedule 0 n (opening_core code config) front rest (Full m asked room live) is in
+    let place : 0 + at.steps ≡ at.steps = omega arith in
+    let told = told_full (event_of (run_of code config schedule at.steps).last (schedule at.steps)).told m asked room live
+    (subst (λ (k : ℕ). mark_of (event_of (run_of code config schedule at.steps).last (schedule k)).told ≡ Some (Full m asked room live)) place at.mark_is) in
+    record {
+      steps = at.steps;
+      within = at.within;
+      reached = at.front_is;
+      told = told;
+      fills = subst (λ (marks : List Mark). FillsTheSpace config.pages (story code config.turns marks).flip (claims_of code config schedule at.steps) asked room live) at.front_is
+          (filled code items config schedule at.steps program size turns few (schedule at.steps) m asked room live told);
+      for_records = subst (λ (marks : List Mark). claims_of code config schedule at.steps ≤ PAGE_WORDS * made_since code config.turns marks + aside_in (run_of code config schedule at.steps).last.heap) at.front_is
+          (made_or_aside code items config schedule at.steps program size turns few);
+    }
 
 pub instructions_flip_once : InstructionsFlipOnce
 instructions_flip_once code items config schedule n program size turns few m =

@@ -22,7 +22,7 @@ use Rattle.gc_worker.specs.declared.task.Task.TheVariants.{Calls, Stops}
 use Rattle.gc_worker.specs.History.Legal.{IsLegal, after_all, after_call}
 use Rattle.gc_worker.specs.History.Needs.{EachFullIs, EachMayCome, HasNoFull, IsFullAt, IsLargeEnough, MayCome, being_made, flips_by, flips_in, made_after, made_by, opened, pages_next, since_by, since_in}
 use Rattle.gc_worker.specs.History.Order.{AreFetched, mark_by, order_of}
-use Rattle.gc_worker.specs.History.Tally.{EachEntry, EntryIs, IsFilled, IsFilledBy, IsFilledByEnd, Tally, Tasks, after_entry, asked_by_task, asked_for, asked_if, made_next, made_if, next_task, pages_by_task}
+use Rattle.gc_worker.specs.History.Tally.{EachEntry, EntryIs, IsFilled, IsFilledBy, IsFilledByEnd, Tally, Tasks, after_entry, asked_by_task, asked_for, asked_if, made_next, made_if, next_task, pages_by_task, tally}
 use Rattle.gc_worker.specs.Marks.{end_mark, task_of}
 use Rattle.gc_worker.specs.Turned.{Answers}
 use Rattle.gc_worker.proofs.Between.Others.{answers_leave_the_others}
@@ -183,6 +183,32 @@ module _ (code : List (List Instr)) (turns : ℕ) (tasks : Tasks) where
   orders_fill n t made since (Exchanged by asked ∷ es) legal sections own last each covers has =
       let rest = orders_fill n (after_entry t (Exchanged by asked)) 0 (λ m. true) es legal sections own last each.1 (omega arith) (λ m e. refl) in
       ((tt, rest.0), (tt, rest.1))
+
+  -- ---- what it makes
+
+  call_made : (t : Tally) (made : ℕ) (c : Call) → length t.now.mutators ≡ length code → IsNext code turns t.now c.by (Some c.task) → t.made ≤ made
+      → t.made + made_if c.did (pages_by_task t.now c.by (Some c.task)) ≤ made_by code turns t.now made (mark_by c.by c.did)
+  call_made t made c sections its covers = by_did c.did
+    where
+      by_sort : (why : End) → Sort c.by why → t.made ≤ made_by code turns t.now made (end_mark c.by why)
+      by_sort why (IsStep is calls) = rw is (omega (arith, covers))
+      by_sort why (IsFull asked room live is) = rw is covers
+
+      by_did : (did : Did) → t.made + made_if did (pages_by_task t.now c.by (Some c.task)) ≤ made_by code turns t.now made (mark_by c.by did)
+      by_did Done = let most = pages_most t.now sections c.by (Some c.task) its in omega (arith, covers, most)
+      by_did (Trap why) = let most = by_sort why (sort c.by why) in omega (arith, most)
+
+  -- no more than its order tells
+  pub order_makes : (t : Tally) (made : ℕ) (log : List Entry) → IsLegal t.now log → length t.now.mutators ≡ length code → ((m : ℕ) → AreFetched code turns m t.now log) → t.made ≤ made
+      → (tally t log).made ≤ made_after code turns (record { flip = t.flip; now = t.now }) made (order_of log)
+  order_makes t made [] legal sections own covers = covers
+  order_makes t made (Made c ∷ es) legal sections own covers =
+      let more = made_by code turns t.now made (mark_by c.by c.did) in
+      let most = call_made t made c sections (λ task q is its none. sym (same_Some c.task task is) ∙ (own c.by).0 refl q its) covers in
+      subst (λ (s : Story). (tally (after_entry t (Made c)) es).made ≤ made_after code turns s more (order_of es))
+      (sym (call_turns code turns t.now t.flip c legal.0 sections ((own c.by).0 refl)))
+      (order_makes (after_entry t (Made c)) more es legal.1 (as_many t.now (Made c ∷ []) ∙ sections) (λ m. (own m).1) most)
+  order_makes t made (Exchanged by asked ∷ es) legal sections own covers = order_makes (after_entry t (Exchanged by asked)) 0 es legal sections own (omega arith)
 
 -- ---- a heap that is large enough
 
