@@ -5,6 +5,7 @@ use Rattle.mutator_asm.specs.declared.item.Item.{Item}
 use Rattle.gc_worker.specs.declared.config.Config.{Config}
 use Rattle.gc_core.specs.Core.{CoreState, opening_core, workers_of}
 use Rattle.gc_worker.specs.History.Needs.{EachFullIs, HasNoFull, IsLargeEnough, opened}
+use Rattle.gc_core.specs.Needs.{AreFilledByClaims}
 use Rattle.gc_core.specs.Run.{Ran, run_from, EachEvent}
 use Rattle.gc_core.specs.Whole.{IsFull}
 use Rattle.ael_commands.specs.declared.options.RunOptions.{RunOptions}
@@ -33,9 +34,11 @@ abbrev pub IsFullWithoutRoom : SimOptions → List (List Instr) → List Item �
 IsFullWithoutRoom options program items = EachEvent IsFull (scheduled options program items) 0 options.steps (core_of options program)
 
 -- This is the run of the program by its schedule. Heap full comes only without room: what was live at the last exchange of the spaces, and
--- records made since, fill the space; and a heap that is as large as the order needs is never full.
+-- records made since, fill the space; so do, with the room that is left, the words of the pages that the run claimed since. And a heap that
+-- is as large as the order needs is never full.
 pub record IsSimulated (options : SimOptions) (program : List (List Instr)) (items : List Item) (ran : Ran) : Type 0 where
   pub is : ran ≡ run_of options program items
   pub full : IsFullWithoutRoom options program items
   pub filled : EachFullIs options.run.pages program options.run.turns (opened program) 0 ran.order
+  pub claimed : AreFilledByClaims program (config options.run) (scheduled options program items) options.steps ran.order
   pub large : IsLargeEnough options.run.pages program options.run.turns ran.order → HasNoFull ran.order

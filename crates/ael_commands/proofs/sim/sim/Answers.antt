@@ -21,6 +21,7 @@ returns c =
         is = refl;
         full = follows.full;
         filled = c.full_heaps_are_filled.ensures.orders program items (config options.run) schedule options.steps formed pages turns scanners;
+        claimed = c.full_heaps_are_filled.ensures.by_claims program items (config options.run) schedule options.steps formed pages turns scanners;
         large = c.large_heaps_are_never_full.ensures.large program items (config options.run) schedule options.steps formed pages turns scanners;
       };
       acts = follows.acts;
