@@ -1,10 +1,8 @@
 -- Why an answer is what it is.
-use Rattle.std.proofs.Common.{◌≡◌, ◌≢◌, List, [], ℕ, true, Option, Some, refl, sym, ap, ◌∙◌, subst, inl, inr}
+use Rattle.std.proofs.Common.{◌≡◌, ◌≢◌, List, [], ℕ, true, Some, refl, sym, ap, ◌∙◌, subst, inl, inr}
 use Rattle.std.specs.Prelude.{◌⊎◌, Result, Ok, Err, IfOk, IfErr, IsErrAnd}
-use Rattle.std.specs.Result.{ForOk, MatchResult}
+use Rattle.std.specs.Result.{MatchResult}
 use Rattle.std.proofs.lemmas.Bool.{true≢false}
-use Rattle.simple_commands.specs.declared.parsing.WordsError.{WordsError}
-use Rattle.simple_commands.specs.declared.parsing.WordsError.TheVariants as words
 use Rattle.mutator_asm.specs.declared.instr.Instr.{Instr}
 use Rattle.mutator_asm.specs.declared.item.Item.{Item}
 use Rattle.mutator_asm.specs.Text.{IsText}
@@ -16,11 +14,11 @@ use Rattle.ael_commands.specs.declared.options.RunOptions.{RunOptions}
 use Rattle.ael_commands.specs.declared.options.SimOptions.{SimOptions}
 use Rattle.ael_commands.specs.declared.status.Status.{Status}
 use Rattle.ael_commands.specs.declared.status.Status.TheVariants.{Done, Text, Usage, Ended, StepsOut, ReadFault, WriteFault, NoMemory, TooLong}
-use Rattle.ael_commands.specs.Answer.{IsAsked, IsCaused, IsDrawnFor, Made, Refused, Unread, OutOfMemory}
+use Rattle.ael_commands.specs.Answer.{IsCaused, IsDrawnFor, Made, Refused, Unread, OutOfMemory}
 use Rattle.ael_commands.specs.Asm.{IsListed}
 use Rattle.ael_commands.specs.Bench.{bench_options}
 use Rattle.ael_commands.specs.Ends.{Drawn}
-use Rattle.ael_commands.specs.Jobs.{IsStill, is_waiting, task_of}
+use Rattle.ael_commands.specs.Jobs.{task_of}
 use Rattle.ael_commands.specs.ProgramTask.{IsMadeOf, IsTextIn, IsUnfit}
 use Rattle.ael_commands.specs.Runs.{IsRun, Scheduled, Threaded}
 use Rattle.ael_commands.specs.Status.{is_made}

@@ -1,6 +1,6 @@
 -- Bytes that were written in pieces.
-use Rattle.std.proofs.Common.{◌≤◌, ◌+◌, ◌≡◌, ℕ, List, [], ◌∷◌, ◌++◌, length, take, drop, refl, sym, ap, append_assoc, append-nil, ◌∙◌, subst, arith}
-use Rattle.std.specs.Prelude.{◌<◌, IfSome, Option, Some, None, Result, Ok, Err, OnOk}
+use Rattle.std.proofs.Common.{◌≤◌, ◌+◌, ◌≡◌, ℕ, List, ◌++◌, length, take, drop, sym, append_assoc, append-nil, subst, arith}
+use Rattle.std.specs.Prelude.{◌<◌, IfSome, Option, Some, None}
 use Rattle.std.proofs.lemmas.List.{take-append-drop, length-append, length-take}
 use Rattle.std.proofs.Math.Seq.{take-append_seam}
 use Rattle.ael_commands.specs.declared.reading.TheConstants.{MAX_INPUT}

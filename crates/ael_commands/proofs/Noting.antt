@@ -1,11 +1,11 @@
 -- A run with what is noted of its order.
-use Rattle.std.proofs.Common.{◌≡◌, ℕ, ◌+◌, ◌<◌, ◌≤◌, List, [], ◌++◌, true, false}
+use Rattle.std.proofs.Common.{◌≡◌, ℕ, ◌+◌, ◌<◌, ◌≤◌, List, ◌++◌, true, false}
 use Rattle.std.specs.Option.{option_to_list}
 use Rattle.plain_heap.specs.declared.mark.Mark.{Mark}
 use Rattle.gc_worker.specs.Marks.{mark_of}
 use Rattle.gc_core.specs.Core.{CoreState}
 use Rattle.gc_core.specs.Event.{event_of, core_after}
-use Rattle.gc_core.specs.Run.{Ran, all_ended, run_from}
+use Rattle.gc_core.specs.Run.{Ran, all_ended}
 use Rattle.gc_core.proofs.Runs.{ComesToOrder, came_out_order, came_over_order, comes_on_order}
 
 -- how far a run has come, where this holds of the marks that were noted
