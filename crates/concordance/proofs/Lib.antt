@@ -1,0 +1,6 @@
+pub mod LongWords
+pub mod Cuts
+pub mod Uniqueness
+pub mod Existence
+pub mod Entries
+pub mod Rests

@@ -1,0 +1,15 @@
+use Rattle.std.proofs.Common.{◌≡◌, ◌++◌, [], ◌∷◌, flat_map, length}
+use Rattle.concordance.specs.Words.{mentions_of}
+use Rattle.concordance.specs.Parts.{AreCutAtLineEnds, IsNumbered, bytes_of, mentions_of_part}
+use Rattle.concordance.proofs.part.parts.Given as goal
+
+-- the parts so far, and the rest
+abbrev pub invariant-loop-done : goal.invariant-loop-done
+invariant-loop-done l = record {
+  count : length l.parts.items ≡ l.done;
+  bytes : flat_map bytes_of l.parts.items ++ bytes_of l.rest ≡ l.text;
+  at_line_ends : AreCutAtLineEnds (l.parts.items ++ l.rest ∷ []);
+  mentions : flat_map mentions_of_part l.parts.items ++ mentions_of_part l.rest ≡ mentions_of l.text;
+  numbered : IsNumbered l.rest;
+  last : l.done ≡ l.count → bytes_of l.rest ≡ [];
+}

@@ -1,0 +1,5 @@
+pub mod Words
+pub mod Parts
+pub mod Rows
+pub mod Theorems
+pub mod Worked

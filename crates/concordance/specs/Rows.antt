@@ -1,0 +1,83 @@
+-- The concordance of a text.
+use Rattle.std.specs.Prelude.{◌≡◌, ◌⊎◌, ℕ, ◌+◌, ◌*◌, ◌<◌, ◌≤◌, List, [], ◌∷◌, ◌++◌, map, length, codes, decimal, Vec}
+use Rattle.std.specs.List.{AllByRecursion, flat_map, join_by, sum_by}
+use Rattle.std.specs.BTreeMap.{BTreeMap}
+use Rattle.std.specs.List.Sorted.{IsStrictlySortedBy}
+use Rattle.std.specs.Cmp.Lexicographic.{slice_cmp}
+use Rattle.std.specs.Ordering.{nat_cmp}
+use Rattle.plain_state.specs.declared.sizes.TheConstants.{PAGE_WORDS}
+use Rattle.concordance.specs.Words.{Mention, mentions_of}
+
+-- a word, and the numbers of the lines in which it stands
+pub record Row : Type 0 where
+  pub word : List ℕ
+  pub lines : List ℕ
+
+abbrev pub row : List ℕ → List ℕ → Row
+row word lines = record { word = word; lines = lines }
+
+-- it is an element of the list
+abbrev pub IsIn : {A : Type 0} → A → List A → Type 0
+IsIn x [] = ⊥
+IsIn x (y ∷ ys) = (x ≡ y) ⊎ IsIn x ys
+
+-- each word is before those after it, in the order of bytes
+abbrev pub AreInOrder : List Row → Type 0
+AreInOrder rows = IsStrictlySortedBy (slice_cmp nat_cmp) (map (λ (r : Row). r.word) rows)
+
+-- each number is below those after it
+abbrev pub IsRising : List ℕ → Type 0
+IsRising lines = IsStrictlySortedBy nat_cmp lines
+
+-- a row has the word and the line
+abbrev pub Tells : List Row → Mention → Type 0
+Tells [] m = ⊥
+Tells (r ∷ rs) m = ((m.word ≡ r.word) × IsIn m.line r.lines) ⊎ Tells rs m
+
+-- The rows for words in their lines: each word once, in the order of bytes, with the lines in which it stands and no others, each once and
+-- rising.
+pub record AreRowsOf (mentions : List Mention) (rows : List Row) : Type 0 where
+  pub ordered : AreInOrder rows
+  pub rising : AllByRecursion (λ (r : Row). IsRising r.lines) rows
+  pub some : AllByRecursion (λ (r : Row). 0 < length r.lines) rows
+  pub all : (m : Mention) → IsIn m mentions → Tells rows m
+  pub only : (m : Mention) → Tells rows m → IsIn m mentions
+
+-- a row as it is told
+abbrev pub row_text : Row → List ℕ
+row_text r = r.word ++ codes ": " ++ join_by decimal (codes ", ") r.lines ++ codes "\n"
+
+-- what is told is the text's concordance
+pub record IsConcordanceOf (text told : List ℕ) : Type 0 where
+  pub rows : List Row
+  pub are : AreRowsOf (mentions_of text) rows
+  pub told_is : told ≡ flat_map row_text rows
+
+-- ---- how much of a heap it fills
+
+-- the heap words for a row: a record of the letters and an entry of five fields, and for each line a record of two fields
+abbrev pub words_for : Row → ℕ
+words_for r = length r.word + 7 + 3 * length r.lines
+
+abbrev pub need : List Row → ℕ
+need rows = sum_by words_for rows
+
+-- The heap of one worker alone, with so many pages, is too small for the text: so many pages are asked for, and there is room for so many
+-- words.
+pub record IsTooSmall (pages : ℕ) (text : List ℕ) (asked room : ℕ) : Type 0 where
+  pub rows : List Row
+  pub are : AreRowsOf (mentions_of text) rows
+  pub few_pages : pages < 4 * length (mentions_of text) + 2
+  pub few_asked : asked ≤ 2
+  pub short : room < PAGE_WORDS * asked
+  pub filled : PAGE_WORDS * pages < room + need rows + 896
+
+-- ---- rows as they are kept, in a map by the order of bytes
+
+-- the rows of entries, each of a word and its lines
+abbrev pub rows_of_entries : {Y : Type 0} → List (Vec ℕ Y × Vec ℕ Y) → List Row
+rows_of_entries [] = []
+rows_of_entries (e ∷ es) = row e.0.items e.1.items ∷ rows_of_entries es
+
+abbrev pub rows_of : {Y : Type 0} → BTreeMap (Vec ℕ Y) (Vec ℕ Y) → List Row
+rows_of words = rows_of_entries words.entries

@@ -1,0 +1,16 @@
+-- What is proved of concordances.
+use Rattle.std.specs.Prelude.{◌≡◌, ℕ, List}
+use Rattle.concordance.specs.Words.{Mention}
+use Rattle.concordance.specs.Rows.{AreRowsOf, IsConcordanceOf, Row}
+
+-- words in their lines have at most one list of rows
+abbrev pub OneListOfRows : Type 0
+OneListOfRows = (mentions : List Mention) (rows others : List Row) → AreRowsOf mentions rows → AreRowsOf mentions others → rows ≡ others
+
+-- a text has at most one concordance
+abbrev pub OneConcordance : Type 0
+OneConcordance = (text told other : List ℕ) → IsConcordanceOf text told → IsConcordanceOf text other → told ≡ other
+
+-- each text has one
+abbrev pub SomeConcordance : Type 0
+SomeConcordance = (text : List ℕ) → (told : List ℕ) × IsConcordanceOf text told

@@ -1,0 +1,30 @@
+//! What holds of all concordances. Each function here does nothing: its contract is what is proved.
+
+ghost use Rattle.concordance.specs.Theorems.{OneConcordance, OneListOfRows, SomeConcordance};
+ghost use Rattle.concordance.specs.Worked.{CarriageReturnsSeparate, CasesAreOneWord, FirstLongLineIsTold, LastLineNeedsNoEnd, LongerWordIsTooLong, LongestWordIsShort, NeedIsCounted, NothingIsTold, OtherBytesSeparate, TwoWordsAreTold, WordsAreToldInOrder};
+
+/// A text has at most one concordance, and its words at most one list of rows.
+pub fn one_concordance()
+    ensures rows { OneListOfRows }
+    ensures told { OneConcordance }
+{}
+
+/// Each text has a concordance.
+pub fn some_concordance()
+    ensures { SomeConcordance }
+{}
+
+/// Texts worked out by hand: their words, their concordances, and lines with words that are too long.
+pub fn texts_are_worked_out()
+    ensures two_words_are_told { TwoWordsAreTold }
+    ensures nothing_is_told { NothingIsTold }
+    ensures words_are_told_in_order { WordsAreToldInOrder }
+    ensures carriage_returns_separate { CarriageReturnsSeparate }
+    ensures other_bytes_separate { OtherBytesSeparate }
+    ensures last_line_needs_no_end { LastLineNeedsNoEnd }
+    ensures cases_are_one_word { CasesAreOneWord }
+    ensures longest_word_is_short { LongestWordIsShort }
+    ensures longer_word_is_too_long { LongerWordIsTooLong }
+    ensures first_long_line_is_told { FirstLongLineIsTold }
+    ensures need_is_counted { NeedIsCounted }
+{}
