@@ -5,7 +5,8 @@ use Rattle.std.specs.List.{slice_split, onto_first}
 use Rattle.std.proofs.lemmas.List.Sums.{sum_by-append}
 use Rattle.std.proofs.lemmas.List.Splits.{length-slice_split}
 use Rattle.concordance.specs.Words.{ends_line, lines_of, mentions_from, mentions_in}
-use Rattle.concordance.specs.Parts.{EndsWithLine}
+use Rattle.concordance.specs.declared.part.Part.{Part}
+use Rattle.concordance.specs.Parts.{EndsWithLine, IsCut, bytes_of}
 
 onto_append : {X : Type 0} (x : X) (ps qs : List (List X)) → 0 < length ps → onto_first x (ps ++ qs) ≡ onto_first x ps ++ qs
 onto_append x [] qs some = absurd (omega arith)
@@ -50,3 +51,15 @@ mentions_cut number xs ys (inl (inr e)) =
 pub cut_there : (place : ℕ) (text xs ys : List ℕ) → xs ≡ take place text → ys ≡ drop place text → EndsWithLine (take place text) ⊎ (place ≡ length text) → EndsWithLine xs ⊎ (ys ≡ [])
 cut_there place text xs ys e f (inl h) = inl (subst EndsWithLine (sym e) h)
 cut_there place text xs ys e f (inr h) = inr (f ∙ drop_of_length-le text (omega arith))
+
+-- two parts in a row, if the second begins with the right line
+pub is_cut : (whole first rest : Part) → bytes_of first ++ bytes_of rest ≡ bytes_of whole → EndsWithLine (bytes_of first) ⊎ (bytes_of rest ≡ []) → first.line ≡ whole.line → rest.line ≡ whole.line + count_by ends_line (bytes_of first) → IsCut whole first rest
+is_cut whole first rest bytes there begins later = record {
+  bytes = bytes;
+  at_line_end = there;
+  begins = begins;
+  mentions =
+      ap₂ (λ n k. mentions_from n (lines_of (bytes_of first)) ++ mentions_from k (lines_of (bytes_of rest))) begins later
+      ∙ mentions_cut whole.line (bytes_of first) (bytes_of rest) there
+      ∙ ap (λ bs. mentions_from whole.line (lines_of bs)) bytes;
+}

@@ -63,13 +63,14 @@ impl<'t> Part<'t> {
     {
         let share = self.text.len() / parts;
         let (text, rest) = self.text.split_at(line_end(self.text, share));
+        let ended = line_ends(text) as u32;
         let first = Part {
             text,
             line: self.line,
         };
         let others = Part {
             text: rest,
-            line: self.line + line_ends(text) as u32,
+            line: self.line + ended,
         };
         (first, others)
     }

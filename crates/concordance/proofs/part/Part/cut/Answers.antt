@@ -1,7 +1,6 @@
-use Rattle.std.proofs.Common.{◌≡◌, ◌⊎◌, [], ◌+◌, ◌++◌, ◌∙◌, refl, ap, ap₂, take-append-drop}
-use Rattle.concordance.specs.Words.{lines_of, mentions_from}
+use Rattle.std.proofs.Common.{arith, ◌≡◌, ◌⊎◌, [], ◌++◌, ◌∙◌, refl, ap₂, take-append-drop}
 use Rattle.concordance.specs.Parts.{EndsWithLine}
-use Rattle.concordance.proofs.Cuts.{cut_there, mentions_cut}
+use Rattle.concordance.proofs.Cuts.{cut_there, is_cut}
 use Rattle.concordance.proofs.part.Part.cut.Goals as goal
 
 pub returns-clause-cut : goal.returns-clause-cut
@@ -10,13 +9,5 @@ returns-clause-cut c =
     let xs = c.split_at.result.0.now in
     let ys = c.split_at.result.1.now in
     let bytes : xs ++ ys ≡ text = ap₂ (λ a b. a ++ b) c.split_at.ensures.front c.split_at.ensures.back ∙ take-append-drop c.line_end.result text in
-    let line_end : EndsWithLine xs ⊎ (ys ≡ []) = cut_there c.line_end.result text xs ys c.split_at.ensures.front c.split_at.ensures.back c.line_end.ensures.at_line_end in
-    record {
-      bytes = bytes;
-      at_line_end = line_end;
-      begins = refl;
-      mentions =
-          ap (λ n. mentions_from c.args.self.line (lines_of xs) ++ mentions_from (c.args.self.line + n) (lines_of ys)) c.line_ends.ensures
-          ∙ mentions_cut c.args.self.line xs ys line_end
-          ∙ ap (λ bs. mentions_from c.args.self.line (lines_of bs)) bytes;
-    }
+    let there : EndsWithLine xs ⊎ (ys ≡ []) = cut_there c.line_end.result text xs ys c.split_at.ensures.front c.split_at.ensures.back c.line_end.ensures.at_line_end in
+    is_cut _ _ _ bytes there refl (omega arith)
