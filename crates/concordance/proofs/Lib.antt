@@ -4,3 +4,5 @@ pub mod Uniqueness
 pub mod Existence
 pub mod Entries
 pub mod Rests
+pub mod Pieces
+pub mod WordRuns

@@ -1,5 +1,6 @@
 pub mod Words
 pub mod Parts
 pub mod Rows
+pub mod Runs
 pub mod Theorems
 pub mod Worked

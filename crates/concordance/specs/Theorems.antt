@@ -1,7 +1,8 @@
 -- What is proved of concordances.
-use Rattle.std.specs.Prelude.{◌≡◌, ℕ, List}
-use Rattle.concordance.specs.Words.{Mention}
-use Rattle.concordance.specs.Rows.{AreRowsOf, IsConcordanceOf, Row}
+use Rattle.std.specs.Prelude.{◌≡◌, ◌↔◌, ℕ, List}
+use Rattle.concordance.specs.Words.{Mention, mentions_of}
+use Rattle.concordance.specs.Runs.{IsRun}
+use Rattle.concordance.specs.Rows.{AreRowsOf, IsConcordanceOf, IsIn, Row}
 
 -- words in their lines have at most one list of rows
 abbrev pub OneListOfRows : Type 0
@@ -14,3 +15,7 @@ OneConcordance = (text told other : List ℕ) → IsConcordanceOf text told → 
 -- each text has one
 abbrev pub SomeConcordance : Type 0
 SomeConcordance = (text : List ℕ) → (told : List ℕ) × IsConcordanceOf text told
+
+-- the words of a text are its longest runs of letters, each in its line
+abbrev pub WordsAreRuns : Type 0
+WordsAreRuns = (text : List ℕ) (m : Mention) → IsIn m (mentions_of text) ↔ IsRun text m

@@ -1,6 +1,6 @@
 //! What holds of all concordances. Each function here does nothing: its contract is what is proved.
 
-ghost use Rattle.concordance.specs.Theorems.{OneConcordance, OneListOfRows, SomeConcordance};
+ghost use Rattle.concordance.specs.Theorems.{OneConcordance, OneListOfRows, SomeConcordance, WordsAreRuns};
 ghost use Rattle.concordance.specs.Worked.{CarriageReturnsSeparate, CasesAreOneWord, FirstLongLineIsTold, LastLineNeedsNoEnd, LongerWordIsTooLong, LongestWordIsShort, NeedIsCounted, NothingIsTold, OtherBytesSeparate, TwoWordsAreTold, WordsAreToldInOrder};
 
 /// A text has at most one concordance, and its words at most one list of rows.
@@ -27,4 +27,9 @@ pub fn texts_are_worked_out()
     ensures longer_word_is_too_long { LongerWordIsTooLong }
     ensures first_long_line_is_told { FirstLongLineIsTold }
     ensures need_is_counted { NeedIsCounted }
+{}
+
+/// The words of a text are its longest runs of letters, lower-cased, each in the line behind those that ended before it.
+pub fn words_are_runs()
+    ensures { WordsAreRuns }
 {}

@@ -1,0 +1,28 @@
+-- The words of a text by its bytes alone.
+use Rattle.std.specs.Prelude.{◌≡◌, ⊤, ℕ, ◌+◌, ◌<◌, Bool, true, false, List, [], ◌∷◌, ◌++◌, length, count_by}
+use Rattle.std.specs.List.{AllByRecursion}
+use Rattle.concordance.specs.Words.{Mention, ends_line, lower_cased, separates}
+
+-- the first element, if there is one, passes the test
+abbrev pub BeginsWith : {X : Type 0} → (X → Bool) → List X → Type 0
+BeginsWith p [] = ⊤
+BeginsWith p (x ∷ xs) = p x ≡ true
+
+-- the last element, if there is one, passes the test
+abbrev pub EndsWith : {X : Type 0} → (X → Bool) → List X → Type 0
+EndsWith p [] = ⊤
+EndsWith p (x ∷ []) = p x ≡ true
+EndsWith p (x ∷ y ∷ ys) = EndsWith p (y ∷ ys)
+
+-- The word is a run of letters, lower-cased, with no letter before it or behind it; its line is the one after those that ended before it.
+pub record IsRun (text : List ℕ) (m : Mention) : Type 0 where
+  pub front : List ℕ
+  pub run : List ℕ
+  pub back : List ℕ
+  pub text_is : text ≡ front ++ (run ++ back)
+  pub some : 0 < length run
+  pub letters : AllByRecursion (λ byte. separates byte ≡ false) run
+  pub before : EndsWith separates front
+  pub behind : BeginsWith separates back
+  pub word_is : m.word ≡ lower_cased run
+  pub line_is : m.line ≡ count_by ends_line front + 1
