@@ -6,3 +6,4 @@ pub mod Entries
 pub mod Rests
 pub mod Pieces
 pub mod WordRuns
+pub mod LongRuns

@@ -23,17 +23,17 @@ in_either x [] ys h = inr h
 in_either x (y ∷ xs) ys (inl e) = inl (inl e)
 in_either x (y ∷ xs) ys (inr h) = ⊎_elim (λ k. inl (inr k)) (λ k. inr k) (in_either x xs ys h)
 
-in_map : {X Y : Type 0} (f : X → Y) (x : X) (xs : List X) → IsIn x xs → IsIn (f x) (map f xs)
+pub in_map : {X Y : Type 0} (f : X → Y) (x : X) (xs : List X) → IsIn x xs → IsIn (f x) (map f xs)
 in_map f x [] h = absurd h
 in_map f x (y ∷ ys) (inl e) = inl (ap f e)
 in_map f x (y ∷ ys) (inr h) = inr (in_map f x ys h)
 
-record Of {X Y : Type 0} (f : X → Y) (xs : List X) (y : Y) : Type 0 where
-  item : X
-  is : IsIn item xs
-  gives : y ≡ f item
+pub record Of {X Y : Type 0} (f : X → Y) (xs : List X) (y : Y) : Type 0 where
+  pub item : X
+  pub is : IsIn item xs
+  pub gives : y ≡ f item
 
-of_map : {X Y : Type 0} (f : X → Y) (y : Y) (xs : List X) → IsIn y (map f xs) → Of f xs y
+pub of_map : {X Y : Type 0} (f : X → Y) (y : Y) (xs : List X) → IsIn y (map f xs) → Of f xs y
 of_map f y [] h = absurd h
 of_map f y (x ∷ xs) (inl e) = record { item = x; is = inl refl; gives = e }
 of_map f y (x ∷ xs) (inr h) = let o = of_map f y xs h in record { item = o.item; is = inr o.is; gives = o.gives }
@@ -73,11 +73,11 @@ in_at (y ∷ ys) x (inr h) = let p = in_at ys x h in record { place = suc p.plac
 
 -- ---- the words of lines
 
-record InLine (number : ℕ) (lines : List (List ℕ)) (m : Mention) : Type 0 where
-  place : ℕ
-  line : List ℕ
-  at : At lines place line
-  is : IsIn m (mentions_in (number + place) line)
+pub record InLine (number : ℕ) (lines : List (List ℕ)) (m : Mention) : Type 0 where
+  pub place : ℕ
+  pub line : List ℕ
+  pub at : At lines place line
+  pub is : IsIn m (mentions_in (number + place) line)
 
 of_lines_by : (number : ℕ) (line : List ℕ) (lines : List (List ℕ)) (m : Mention) → (IsIn m (mentions_from (number + 1) lines) → InLine (number + 1) lines m) → IsIn m (mentions_in number line) ⊎ IsIn m (mentions_from (number + 1) lines) → InLine number (line ∷ lines) m
 of_lines_by number line lines m later (inl h) = record { place = 0; line = line; at = refl; is = let e : number ≡ number + 0 = omega arith in subst (λ n. IsIn m (mentions_in n line)) e h }
@@ -86,11 +86,11 @@ of_lines_by number line lines m later (inr h) =
     let e : number + 1 + l.place ≡ number + suc l.place = omega arith in
     record { place = suc l.place; line = l.line; at = l.at; is = subst (λ n. IsIn m (mentions_in n l.line)) e l.is }
 
-of_lines : (number : ℕ) (lines : List (List ℕ)) (m : Mention) → IsIn m (mentions_from number lines) → InLine number lines m
+pub of_lines : (number : ℕ) (lines : List (List ℕ)) (m : Mention) → IsIn m (mentions_from number lines) → InLine number lines m
 of_lines number [] m h = absurd h
 of_lines number (line ∷ lines) m h = of_lines_by number line lines m (of_lines (number + 1) lines m) (in_either m (mentions_in number line) _ h)
 
-in_lines : (number : ℕ) (lines : List (List ℕ)) (m : Mention) (place : ℕ) (line : List ℕ) → At lines place line → IsIn m (mentions_in (number + place) line) → IsIn m (mentions_from number lines)
+pub in_lines : (number : ℕ) (lines : List (List ℕ)) (m : Mention) (place : ℕ) (line : List ℕ) → At lines place line → IsIn m (mentions_in (number + place) line) → IsIn m (mentions_from number lines)
 in_lines number [] m place line at h = absurd at
 in_lines number (l ∷ ls) m zero line at h =
     let e : number + 0 ≡ number = omega arith in

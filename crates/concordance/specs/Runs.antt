@@ -1,6 +1,7 @@
 -- The words of a text by its bytes alone.
-use Rattle.std.specs.Prelude.{◌≡◌, ⊤, ℕ, ◌+◌, ◌<◌, Bool, true, false, List, [], ◌∷◌, ◌++◌, length, count_by}
+use Rattle.std.specs.Prelude.{◌≡◌, ⊤, ℕ, ◌+◌, ◌<◌, ◌≤◌, Bool, true, false, List, [], ◌∷◌, ◌++◌, length, count_by}
 use Rattle.std.specs.List.{AllByRecursion}
+use Rattle.concordance.specs.declared.letters.TheConstants.{MOST_LETTERS}
 use Rattle.concordance.specs.Words.{Mention, ends_line, lower_cased, separates}
 
 -- the first element, if there is one, passes the test
@@ -26,3 +27,11 @@ pub record IsRun (text : List ℕ) (m : Mention) : Type 0 where
   pub behind : BeginsWith separates back
   pub word_is : m.word ≡ lower_cased run
   pub line_is : m.line ≡ count_by ends_line front + 1
+
+-- A run with more letters than a word may have is in the line with this number, and none is in a line before it.
+pub record IsFirstLongRun (text : List ℕ) (number : ℕ) : Type 0 where
+  pub found : Mention
+  pub is : IsRun text found
+  pub long : MOST_LETTERS < length found.word
+  pub here : found.line ≡ number
+  pub none_before : (m : Mention) → IsRun text m → MOST_LETTERS < length m.word → number ≤ m.line

@@ -1,7 +1,7 @@
 -- What is proved of concordances.
 use Rattle.std.specs.Prelude.{◌≡◌, ◌↔◌, ℕ, List}
-use Rattle.concordance.specs.Words.{Mention, mentions_of}
-use Rattle.concordance.specs.Runs.{IsRun}
+use Rattle.concordance.specs.Words.{IsFirstTooLong, Mention, mentions_of}
+use Rattle.concordance.specs.Runs.{IsFirstLongRun, IsRun}
 use Rattle.concordance.specs.Rows.{AreRowsOf, IsConcordanceOf, IsIn, Row}
 
 -- words in their lines have at most one list of rows
@@ -19,3 +19,7 @@ SomeConcordance = (text : List ℕ) → (told : List ℕ) × IsConcordanceOf tex
 -- the words of a text are its longest runs of letters, each in its line
 abbrev pub WordsAreRuns : Type 0
 WordsAreRuns = (text : List ℕ) (m : Mention) → IsIn m (mentions_of text) ↔ IsRun text m
+
+-- the first line with a word that is too long is the first with such a run
+abbrev pub LongWordsAreRuns : Type 0
+LongWordsAreRuns = (text : List ℕ) (number : ℕ) → IsFirstTooLong text number ↔ IsFirstLongRun text number

@@ -1,6 +1,6 @@
 //! What holds of all concordances. Each function here does nothing: its contract is what is proved.
 
-ghost use Rattle.concordance.specs.Theorems.{OneConcordance, OneListOfRows, SomeConcordance, WordsAreRuns};
+ghost use Rattle.concordance.specs.Theorems.{LongWordsAreRuns, OneConcordance, OneListOfRows, SomeConcordance, WordsAreRuns};
 ghost use Rattle.concordance.specs.Worked.{CarriageReturnsSeparate, CasesAreOneWord, FirstLongLineIsTold, LastLineNeedsNoEnd, LongerWordIsTooLong, LongestWordIsShort, NeedIsCounted, NothingIsTold, OtherBytesSeparate, TwoWordsAreTold, WordsAreToldInOrder};
 
 /// A text has at most one concordance, and its words at most one list of rows.
@@ -30,6 +30,9 @@ pub fn texts_are_worked_out()
 {}
 
 /// The words of a text are its longest runs of letters, lower-cased, each in the line behind those that ended before it.
+///
+/// So the first line with a word that is too long is the first that has such a run of more than 64 letters.
 pub fn words_are_runs()
-    ensures { WordsAreRuns }
+    ensures words { WordsAreRuns }
+    ensures too_long { LongWordsAreRuns }
 {}
