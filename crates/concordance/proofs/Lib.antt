@@ -7,3 +7,4 @@ pub mod Rests
 pub mod Pieces
 pub mod WordRuns
 pub mod LongRuns
+pub mod Additions

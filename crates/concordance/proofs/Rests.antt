@@ -1,7 +1,12 @@
 -- Parts of a text, and the rest that is cut next.
 use Rattle.std.proofs.Common.{◌≡◌, ◌⊎◌, ⊎_elim, inl, inr, List, [], ◌∷◌, ◌++◌, flat_map, refl, sym, ap, ◌∙◌, append_assoc, append-nil}
+use Rattle.std.specs.List.{AllByRecursion}
 use Rattle.concordance.specs.declared.part.Part.{Part}
 use Rattle.concordance.specs.Parts.{AreCutAtLineEnds, EndsWithLine, bytes_of}
+
+pub all_push : {A : Type 0} (P : A → Type 0) (xs : List A) (y : A) → AllByRecursion P xs → P y → AllByRecursion P (xs ++ y ∷ [])
+all_push P [] y all last = (last, tt)
+all_push P (x ∷ xs) y all last = (all.0, all_push P xs y all.1 last)
 
 pub flat_map_last : {A X : Type 0} (f : A → List X) (xs : List A) (y : A) (zs : List X) → flat_map f (xs ++ y ∷ []) ++ zs ≡ flat_map f xs ++ (f y ++ zs)
 flat_map_last f [] y zs = ap (λ l. l ++ zs) (append-nil (f y))

@@ -4,7 +4,7 @@ use Rattle.std.specs.List.{AllByRecursion, flat_map, join_by, sum_by}
 use Rattle.std.specs.BTreeMap.{BTreeMap}
 use Rattle.std.specs.List.Sorted.{IsStrictlySortedBy}
 use Rattle.std.specs.Cmp.Lexicographic.{slice_cmp}
-use Rattle.std.specs.Ordering.{nat_cmp}
+use Rattle.std.specs.Ordering.{match_ordering, nat_cmp}
 use Rattle.plain_state.specs.declared.sizes.TheConstants.{PAGE_WORDS}
 use Rattle.concordance.specs.Words.{Mention, mentions_of}
 
@@ -81,3 +81,8 @@ rows_of_entries (e ∷ es) = row e.0.items e.1.items ∷ rows_of_entries es
 
 abbrev pub rows_of : {Y : Type 0} → BTreeMap (Vec ℕ Y) (Vec ℕ Y) → List Row
 rows_of words = rows_of_entries words.entries
+
+-- rows with more lines of a word, behind those that it has
+abbrev pub with_lines : List ℕ → List ℕ → List Row → List Row
+with_lines word lines [] = row word lines ∷ []
+with_lines word lines (r ∷ rs) = match_ordering (slice_cmp nat_cmp word r.word) (row word lines ∷ r ∷ rs) (row r.word (r.lines ++ lines) ∷ rs) (r ∷ with_lines word lines rs)

@@ -9,6 +9,6 @@ mod part;
 
 pub use laws::{one_concordance, some_concordance, texts_are_worked_out, words_are_runs};
 pub use letters::{Letters, MOST_LETTERS, lower_cased, separates};
-pub use listing::{Words, told};
+pub use listing::{Words, add_lines, told};
 pub use long_words::first_too_long;
 pub use part::{MOST_PARTS, Part, Parts, parts};

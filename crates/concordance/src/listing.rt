@@ -3,7 +3,7 @@
 ghost use Rattle.std.specs.Prelude.{◌≡◌, ◌++◌, List, ℕ, IfOk, OnOk, codes, decimal, flat_map};
 ghost use Rattle.std.specs.List.{join_by};
 ghost use Rattle.concordance.specs.Words.{mentions_of};
-ghost use Rattle.concordance.specs.Rows.{AreInOrder, AreRowsOf, IsConcordanceOf, row, row_text, rows_of};
+ghost use Rattle.concordance.specs.Rows.{AreInOrder, AreRowsOf, IsConcordanceOf, row, row_text, rows_of, with_lines};
 
 use itoa::Buffer;
 use std::alloc::{AllocError, Global};
@@ -11,6 +11,22 @@ use std::collections::BTreeMap;
 
 /// The words of a text in the order of bytes, each with its lines.
 pub type Words = BTreeMap<Vec<u8>, Vec<u32>>;
+
+/// Adds lines of a word, behind those that it has.
+pub fn add_lines(words: &mut Words, word: Vec<u8>, lines: Vec<u32>) -> Result<(), AllocError>
+    ensures { OnOk result (rows_of words.new ≡ with_lines word.items lines.items (rows_of words.old)) }
+{
+    match words.get_mut(word.as_slice()) {
+        Some(before) => {
+            let mut more = lines;
+            before.append(&mut more)?;
+        }
+        None => {
+            words.insert(word, lines)?;
+        }
+    }
+    Ok(())
+}
 
 /// The text of a concordance: a line for each word, with the numbers of the lines in which it stands.
 pub fn told(alloc: Global, words: &Words) -> Result<Vec<u8>, AllocError>

@@ -1,6 +1,7 @@
 //! The parts of a text.
 
 ghost use Rattle.std.specs.Prelude.{◌≡◌, ◌≤◌, ◌<◌, ◌/◌, ◌^◌, ◌⊎◌, [], count_by, flat_map, length, take};
+ghost use Rattle.std.specs.List.{AllByRecursion};
 ghost use Rattle.concordance.specs.Words.{ends_line, mentions_of};
 ghost use Rattle.concordance.specs.Parts.{AreCutAtLineEnds, EndsWithLine, IsCut, IsNumbered, bytes_of, mentions_of_part};
 
@@ -20,6 +21,7 @@ pub fn parts<'t>(text: &'t [u8], count: usize) -> Parts<'t>
     ensures count { length result.items ≡ count }
     ensures bytes { flat_map bytes_of result.items ≡ text.now }
     ensures at_line_ends { AreCutAtLineEnds result.items }
+    ensures numbered { AllByRecursion IsNumbered result.items }
     ensures mentions { flat_map mentions_of_part result.items ≡ mentions_of text.now }
 {
     let mut parts = Parts::new();
@@ -58,7 +60,8 @@ impl<'t> Part<'t> {
         requires numbered { IsNumbered self }
         ensures cut { IsCut self.entry result.0 result.1 }
         ensures last { parts ≡ 1 → bytes_of result.1 ≡ [] }
-        ensures numbered { IsNumbered result.1 }
+        ensures first_numbered { IsNumbered result.0 }
+        ensures rest_numbered { IsNumbered result.1 }
         ensures share { length (bytes_of self.entry) / parts ≤ length (bytes_of result.0) }
     {
         let share = self.text.len() / parts;

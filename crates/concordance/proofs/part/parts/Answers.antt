@@ -1,6 +1,6 @@
 use Rattle.std.proofs.Common.{arith, ◌++◌, [], ◌∷◌, flat_map, length, length-append, ap, ◌∙◌}
-use Rattle.concordance.specs.Parts.{bytes_of, mentions_of_part}
-use Rattle.concordance.proofs.Rests.{cut_once_more, flat_map_last, without_rest}
+use Rattle.concordance.specs.Parts.{IsNumbered, bytes_of, mentions_of_part}
+use Rattle.concordance.proofs.Rests.{all_push, cut_once_more, flat_map_last, without_rest}
 use Rattle.concordance.proofs.part.parts.Goals as goal
 
 pub loop-done-preserved : goal.loop-done-preserved
@@ -13,7 +13,8 @@ loop-done-preserved c =
       bytes = rw c.push.ensures.items (flat_map_last bytes_of ps p (bytes_of q) ∙ ap (λ bs. flat_map bytes_of ps ++ bs) c.cut.ensures.cut.bytes ∙ c.loop-done.invariant.bytes);
       at_line_ends = rw c.push.ensures.items (cut_once_more ps c.loop-done.rest p q c.cut.ensures.cut.bytes c.cut.ensures.cut.at_line_end c.loop-done.invariant.at_line_ends);
       mentions = rw c.push.ensures.items (flat_map_last mentions_of_part ps p (mentions_of_part q) ∙ ap (λ ms. flat_map mentions_of_part ps ++ ms) c.cut.ensures.cut.mentions ∙ c.loop-done.invariant.mentions);
-      numbered = c.cut.ensures.numbered;
+      numbered = rw c.push.ensures.items (all_push IsNumbered ps p c.loop-done.invariant.numbered c.cut.ensures.first_numbered);
+      rest_numbered = c.cut.ensures.rest_numbered;
       last = λ e. c.cut.ensures.last (omega arith);
     }
 

@@ -1,4 +1,5 @@
 use Rattle.std.proofs.Common.{◌≡◌, ◌++◌, [], ◌∷◌, flat_map, length}
+use Rattle.std.specs.List.{AllByRecursion}
 use Rattle.concordance.specs.Words.{mentions_of}
 use Rattle.concordance.specs.Parts.{AreCutAtLineEnds, IsNumbered, bytes_of, mentions_of_part}
 use Rattle.concordance.proofs.part.parts.Given as goal
@@ -10,6 +11,7 @@ invariant-loop-done l = record {
   bytes : flat_map bytes_of l.parts.items ++ bytes_of l.rest ≡ l.text;
   at_line_ends : AreCutAtLineEnds (l.parts.items ++ l.rest ∷ []);
   mentions : flat_map mentions_of_part l.parts.items ++ mentions_of_part l.rest ≡ mentions_of l.text;
-  numbered : IsNumbered l.rest;
+  numbered : AllByRecursion IsNumbered l.parts.items;
+  rest_numbered : IsNumbered l.rest;
   last : l.done ≡ l.count → bytes_of l.rest ≡ [];
 }
