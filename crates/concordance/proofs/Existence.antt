@@ -12,7 +12,7 @@ use Rattle.concordance.specs.Rows.{AreRowsOf, IsIn, IsRising, Row, Tells, row}
 
 -- ---- one more element of a list in order
 
-abbrev placed : {K : Type 0} → (K → K → Ordering) → K → List K → List K
+abbrev pub placed : {K : Type 0} → (K → K → Ordering) → K → List K → List K
 placed R x [] = x ∷ []
 placed R x (y ∷ ys) = match_ordering (R x y) (x ∷ y ∷ ys) (y ∷ ys) (y ∷ placed R x ys)
 
@@ -36,7 +36,7 @@ sorted_by o x y ys Less e sorted later = ((e, all_below o x y ys e sorted.0), so
 sorted_by o x y ys Equal e sorted later = sorted
 sorted_by {R = R} o x y ys Greater e sorted later = (all_placed (λ z. R y z ≡ Less) R x ys (o.antisymm y x ∙ ap ordering_reverse e) sorted.0, later)
 
-sorted_placed : {K : Type 0} {R : K → K → Ordering} → IsTotalOrder R → (x : K) (ys : List K) → IsStrictlySortedBy R ys → IsStrictlySortedBy R (placed R x ys)
+pub sorted_placed : {K : Type 0} {R : K → K → Ordering} → IsTotalOrder R → (x : K) (ys : List K) → IsStrictlySortedBy R ys → IsStrictlySortedBy R (placed R x ys)
 unfolding IsStrictlySortedBy
 sorted_placed o x [] sorted = (tt, tt)
 sorted_placed {R = R} o x (y ∷ ys) sorted = sorted_by o x y ys (R x y) refl sorted (sorted_placed o x ys sorted.1)
@@ -81,7 +81,7 @@ abbrev noted : List ℕ → ℕ → List Row → List Row
 noted w n [] = row w (n ∷ []) ∷ []
 noted w n (r ∷ rs) = match_ordering (slice_cmp nat_cmp w r.word) (row w (n ∷ []) ∷ r ∷ rs) (row r.word (placed nat_cmp n r.lines) ∷ rs) (r ∷ noted w n rs)
 
-abbrev word_of : Row → List ℕ
+abbrev pub word_of : Row → List ℕ
 word_of r = r.word
 
 words_by : (w : List ℕ) (n : ℕ) (r : Row) (rs more : List Row) (ws : List (List ℕ)) (o : Ordering) → map word_of more ≡ ws

@@ -8,3 +8,4 @@ pub mod Pieces
 pub mod WordRuns
 pub mod LongRuns
 pub mod Additions
+pub mod MoreLines

@@ -1,8 +1,9 @@
 -- What is proved of concordances.
-use Rattle.std.specs.Prelude.{◌≡◌, ◌↔◌, ℕ, List}
-use Rattle.concordance.specs.Words.{IsFirstTooLong, Mention, mentions_of}
+use Rattle.std.specs.Prelude.{◌≡◌, ◌↔◌, ℕ, ◌<◌, List, ◌++◌, map, length}
+use Rattle.std.specs.List.{AllByRecursion}
+use Rattle.concordance.specs.Words.{IsFirstTooLong, Mention, mention, mentions_of}
 use Rattle.concordance.specs.Runs.{IsFirstLongRun, IsRun}
-use Rattle.concordance.specs.Rows.{AreRowsOf, IsConcordanceOf, IsIn, Row}
+use Rattle.concordance.specs.Rows.{AreRowsOf, IsConcordanceOf, IsIn, IsRising, Row, with_lines}
 
 -- words in their lines have at most one list of rows
 abbrev pub OneListOfRows : Type 0
@@ -23,3 +24,9 @@ WordsAreRuns = (text : List ℕ) (m : Mention) → IsIn m (mentions_of text) ↔
 -- the first line with a word that is too long is the first with such a run
 abbrev pub LongWordsAreRuns : Type 0
 LongWordsAreRuns = (text : List ℕ) (number : ℕ) → IsFirstTooLong text number ↔ IsFirstLongRun text number
+
+-- if lines of a word are added, all of which are behind those that it has, the rows are those of the words before and these
+abbrev pub LinesAreAdded : Type 0
+LinesAreAdded = (mentions : List Mention) (rows : List Row) (word lines : List ℕ) → AreRowsOf mentions rows → 0 < length lines → IsRising lines
+    → ((m : Mention) → IsIn m mentions → m.word ≡ word → AllByRecursion (λ n. m.line < n) lines)
+    → AreRowsOf (mentions ++ map (mention word) lines) (with_lines word lines rows)

@@ -1,6 +1,6 @@
 //! What holds of all concordances. Each function here does nothing: its contract is what is proved.
 
-ghost use Rattle.concordance.specs.Theorems.{LongWordsAreRuns, OneConcordance, OneListOfRows, SomeConcordance, WordsAreRuns};
+ghost use Rattle.concordance.specs.Theorems.{LinesAreAdded, LongWordsAreRuns, OneConcordance, OneListOfRows, SomeConcordance, WordsAreRuns};
 ghost use Rattle.concordance.specs.Worked.{CarriageReturnsSeparate, CasesAreOneWord, FirstLongLineIsTold, LastLineNeedsNoEnd, LongerWordIsTooLong, LongestWordIsShort, NeedIsCounted, NothingIsTold, OtherBytesSeparate, TwoWordsAreTold, WordsAreToldInOrder};
 
 /// A text has at most one concordance, and its words at most one list of rows.
@@ -12,6 +12,11 @@ pub fn one_concordance()
 /// Each text has a concordance.
 pub fn some_concordance()
     ensures { SomeConcordance }
+{}
+
+/// If lines of a word are added to rows, all of which are behind those that it has, the rows are those of the words before and these.
+pub fn lines_are_added()
+    ensures { LinesAreAdded }
 {}
 
 /// Texts worked out by hand: their words, their concordances, and lines with words that are too long.

@@ -7,7 +7,9 @@ mod listing;
 mod long_words;
 mod part;
 
-pub use laws::{one_concordance, some_concordance, texts_are_worked_out, words_are_runs};
+pub use laws::{
+    lines_are_added, one_concordance, some_concordance, texts_are_worked_out, words_are_runs,
+};
 pub use letters::{Letters, MOST_LETTERS, lower_cased, separates};
 pub use listing::{Words, add_lines, told};
 pub use long_words::first_too_long;

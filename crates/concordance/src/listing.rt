@@ -13,6 +13,8 @@ use std::collections::BTreeMap;
 pub type Words = BTreeMap<Vec<u8>, Vec<u32>>;
 
 /// Adds lines of a word, behind those that it has.
+///
+/// Where memory is out, nothing is said of what `words` then has.
 pub fn add_lines(words: &mut Words, word: Vec<u8>, lines: Vec<u32>) -> Result<(), AllocError>
     ensures { OnOk result (rows_of words.new ≡ with_lines word.items lines.items (rows_of words.old)) }
 {
