@@ -1,7 +1,7 @@
-//! Tests of the crates below the core, over what each offers: words and their formats, the assembler, the plain machine, and
-//! machines over plain words. They are a crate of their own, since a crate with tests is proved twice. A machine whose `take`
-//! asks what only the heap's invariant knows of a word can't be driven by a proved test; the worked rows of its crate are
-//! proved in its place.
+//! Tests of the crates below the core, over what each offers: words and their formats, the assembler, the plain machine, the
+//! text part of a concordance, and machines over plain words. They are a crate of their own, since a crate with tests is proved
+//! twice. A machine whose `take` asks what only the heap's invariant knows of a word can't be driven by a proved test; the worked
+//! rows of its crate are proved in its place.
 #![tactic(auto)]
 
 #[cfg(test)]
@@ -12,6 +12,8 @@ mod asserting;
 mod atomic_steps;
 #[cfg(test)]
 mod claiming;
+#[cfg(test)]
+mod concordances;
 #[cfg(test)]
 mod copying;
 #[cfg(test)]
