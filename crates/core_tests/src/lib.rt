@@ -13,6 +13,8 @@ mod faults;
 #[cfg(test)]
 mod pace;
 #[cfg(test)]
+mod requests;
+#[cfg(test)]
 mod rows;
 #[cfg(test)]
 mod sleeping;

@@ -1,0 +1,154 @@
+use crate::asserting::assert_same;
+use crate::stepping::{alone_to_the_end, executes, open, printed, program, step, want, word};
+use atom_store::Step::{self, Exchange, Load, Store};
+use gc_core::Core;
+use gc_core::Stepped::{self, Flipped, Moved};
+use plain_heap::End;
+use std::process::Abort;
+use std::test::Fail;
+
+/// Each mutator fills half of the space, and then makes a record for which there is no room.
+const LINES: &str = "/.mutator/raw r0 127/li r0 0/raw r0 63/halt\
+    /.mutator/raw r0 127/li r0 0/raw r0 63/halt/";
+
+const GATE: usize = 0;
+
+const TRACED: usize = 2;
+
+/// The areas of both spaces.
+const AREA_0: usize = 4;
+
+const AREA_1: usize = 5;
+
+/// The gate's word before the flip: both run, one of them has asked for it and stopped, and the other has parked.
+const BOTH_RUN: u64 = 0x0000_0202_0000_0000;
+
+const ONE_ASKS: u64 = 0x0100_0102_0000_0000;
+
+const BOTH_STAND: u64 = 0x0100_0002_0000_0000;
+
+/// After it: both have their registers to forward, one has, and none; one runs on, and both do.
+const BOTH_BEHIND: u64 = 0x0002_0002_0000_0001;
+
+const ONE_BEHIND: u64 = 0x0001_0002_0000_0001;
+
+const NONE_BEHIND: u64 = 0x0000_0002_0000_0001;
+
+const ONE_RUNS_ON: u64 = 0x0000_0102_0000_0001;
+
+const BOTH_RUN_ON: u64 = 0x0000_0202_0000_0001;
+
+/// FRONT is 0, LOW is 256, and 256 words are owed.
+const ALL_OWED: u64 = 0x0000_1000_0400_0000;
+
+/// The mutator that makes a step, the step that it wants, what that tells, and the gate's word after it.
+type Event = (u8, Step, Stepped, u64);
+
+/// Both ask for a flip, and mutator 0 is first.
+const EVENTS: [Event; 32] = [
+    // The looks that begin the records. No words are free, and nothing is left to copy.
+    (0, Load(GATE), Moved, BOTH_RUN),
+    (0, Load(TRACED), Moved, BOTH_RUN),
+    (0, Load(AREA_0), Moved, BOTH_RUN),
+    (1, Load(GATE), Moved, BOTH_RUN),
+    (1, Load(TRACED), Moved, BOTH_RUN),
+    (1, Load(AREA_0), Moved, BOTH_RUN),
+    // Both find that nobody has asked. The exchange of mutator 1 is lost.
+    (0, Load(GATE), Moved, BOTH_RUN),
+    (1, Load(GATE), Moved, BOTH_RUN),
+    (0, Exchange(GATE, BOTH_RUN, ONE_ASKS), Moved, ONE_ASKS),
+    (1, Exchange(GATE, BOTH_RUN, ONE_ASKS), Moved, ONE_ASKS),
+    // It is refused, since mutator 0 has asked, which in turn can't flip as long as mutator 1 runs.
+    (1, Load(GATE), Moved, ONE_ASKS),
+    (0, Load(GATE), Moved, ONE_ASKS),
+    // Mutator 1 parks, and can't run on yet.
+    (1, Load(GATE), Moved, ONE_ASKS),
+    (1, Exchange(GATE, ONE_ASKS, BOTH_STAND), Moved, BOTH_STAND),
+    (1, Load(GATE), Moved, BOTH_STAND),
+    // Mutator 0 flips.
+    (0, Load(GATE), Moved, BOTH_STAND),
+    (0, Load(AREA_0), Moved, BOTH_STAND),
+    (0, Store(AREA_1, ALL_OWED), Moved, BOTH_STAND),
+    (
+        0,
+        Exchange(GATE, BOTH_STAND, BOTH_BEHIND),
+        Flipped(1),
+        BOTH_BEHIND,
+    ),
+    // Each sees the new epoch. There are no pointers in their registers.
+    (1, Load(GATE), Moved, BOTH_BEHIND),
+    (0, Load(GATE), Moved, BOTH_BEHIND),
+    (1, Load(GATE), Moved, BOTH_BEHIND),
+    (
+        1,
+        Exchange(GATE, BOTH_BEHIND, ONE_BEHIND),
+        Moved,
+        ONE_BEHIND,
+    ),
+    // Mutator 1 can't run on before mutator 0 is no more behind.
+    (1, Load(GATE), Moved, ONE_BEHIND),
+    (0, Load(GATE), Moved, ONE_BEHIND),
+    (
+        0,
+        Exchange(GATE, ONE_BEHIND, NONE_BEHIND),
+        Moved,
+        NONE_BEHIND,
+    ),
+    // Both run on, and are about to allocate their records.
+    (0, Load(GATE), Moved, NONE_BEHIND),
+    (
+        0,
+        Exchange(GATE, NONE_BEHIND, ONE_RUNS_ON),
+        Moved,
+        ONE_RUNS_ON,
+    ),
+    (1, Load(GATE), Moved, ONE_RUNS_ON),
+    (
+        1,
+        Exchange(GATE, ONE_RUNS_ON, BOTH_RUN_ON),
+        Moved,
+        BOTH_RUN_ON,
+    ),
+    (0, Load(TRACED), Moved, BOTH_RUN_ON),
+    (1, Load(TRACED), Moved, BOTH_RUN_ON),
+];
+
+/// The events come to pass, one after another.
+fn check_events(rt: &impl Abort, core: &mut Core<'_>) {
+    for (number, event) in EVENTS.iter().enumerate() {
+        let (worker, wanted, told, gate) = *event;
+        let wants = want(rt, core, worker);
+        let tells = step(rt, core, worker);
+        assert_same(
+            rt,
+            &(number, wants, tells, word(core, GATE)),
+            &(number, Some(wanted), told, gate),
+        );
+    }
+}
+
+/// Both make their records, though no other makes a step meanwhile, and halt. The spaces were exchanged once.
+fn check_both_get_on(rt: &impl Abort, core: &mut Core<'_>) {
+    for m in 0..2 {
+        executes(rt, core, m, 1);
+    }
+    for m in 0..2 {
+        alone_to_the_end(rt, core, m);
+        assert_same(rt, &printed(rt, core, m), &(&[][..], Some(End::Halt)));
+    }
+    assert_same(rt, &core.cycles(), &1);
+}
+
+/// A mutator whose request is refused, since another was first, parks for that one's flip. Else the two would wait for each
+/// other for ever.
+#[test]
+fn of_two_that_ask_for_a_flip_both_get_on(rt: HostRuntime) -> Result<(), Fail> {
+    let program = program(rt.alloc(), LINES)?;
+    let mut core = open(rt.alloc(), &program, 4, 0)?;
+    for m in 0..2 {
+        executes(&rt, &mut core, m, 2);
+    }
+    check_events(&rt, &mut core);
+    check_both_get_on(&rt, &mut core);
+    Ok(())
+}
