@@ -1,6 +1,7 @@
 //! How a mutator executes a program on its thread, and what a scanner does meanwhile.
 
-ghost use Rattle.std.specs.Prelude.{◌≡◌, ℕ, None};
+ghost use Rattle.std.specs.Prelude.{◌≡◌, ◌<◌, ℕ, None};
+ghost use Rattle.space_map.specs.declared.spaces.TheConstants.{MOST_MUTATORS};
 ghost use Rattle.gc_worker.specs.declared.task.Task.TheVariants.{Stops};
 ghost use Rattle.gc_worker.specs.Fits.{MayStop};
 ghost use Rattle.ael_threads.specs.Calls.{Called};
@@ -18,6 +19,7 @@ use std::sync::Wait;
 impl Mutator {
     /// Executes its section of the program to its end, and leaves.
     pub(crate) fn runs<R: Wait, P: Pace>(&mut self, job: &Job<R, P>, m: u8)
+        requires few { m < MOST_MUTATORS }
         requires executing { Executing job.now m 0 self.old }
         ensures { HasRun job.now m self.new }
     {
@@ -27,6 +29,7 @@ impl Mutator {
 
     /// Executes its section of the program to its end, which comes after as many instructions as it may execute or before.
     fn executes<R: Wait, P: Pace>(&mut self, job: &Job<R, P>, m: u8)
+        requires few { m < MOST_MUTATORS }
         requires executing { Executing job.now m 0 self.old }
         ensures { Executed job.now m self.new }
     {

@@ -1,12 +1,17 @@
 //! Who watches the workers of a run.
 
+ghost use Rattle.std.specs.Prelude.{◌≤◌, ◌<◌};
+ghost use Rattle.space_map.specs.declared.spaces.TheConstants.{MOST_MUTATORS};
+
 use crate::scanner::Scanner;
 use std::marker::Sync;
 
 /// Sees each worker of a run before it goes on, and may hold it there. A run tells nothing of when its workers come to its calls.
 pub trait Pace: Sync {
     /// A mutator, by its number, is about to execute its `n`th instruction, counted from 1.
-    fn pass(&self, worker: u8, n: u64);
+    fn pass(&self, worker: u8, n: u64)
+        requires mutator { worker < MOST_MUTATORS }
+        requires counted { 1 ≤ n };
 
     /// A scanner is about to make its next act.
     fn scan(&self, scanner: &Scanner);

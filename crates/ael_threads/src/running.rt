@@ -2,7 +2,7 @@
 
 ghost use Rattle.std.specs.Prelude.{◌≡◌, ◌+◌, ◌<◌, ◌≤◌, ◌↔◌, ℕ, length, vec_len, IfOk, IsErrOf, IsTrue, not};
 ghost use Rattle.std.specs.Thread.{IsSync};
-ghost use Rattle.space_map.specs.declared.spaces.TheConstants.{MOST_SCANNERS};
+ghost use Rattle.space_map.specs.declared.spaces.TheConstants.{MOST_MUTATORS, MOST_SCANNERS};
 ghost use Rattle.space_map.specs.Spaces.{is_size};
 ghost use Rattle.space_map.specs.Table.{table_length};
 ghost use Rattle.gc_worker.specs.declared.config.TheConstants.{MOST_TURNS};
@@ -69,7 +69,7 @@ fn run_workers<R: Threads + Wait + Sync, P: Pace>(
     scanners: &mut [Scanner],
     mutators: &mut [Mutator],
 )
-    requires few { from + length mutators.old ≤ 16 }
+    requires few { from + length mutators.old ≤ MOST_MUTATORS }
     requires mutators { AreReady job.now from mutators.old }
     requires scanners { AreScanning job.now job.now.plan.mutators scanners.old }
     ensures mutators { HaveRun job.now from mutators.new }
@@ -83,13 +83,13 @@ fn run_workers<R: Threads + Wait + Sync, P: Pace>(
     join_mut(
         job.rt,
         &mut ||
-            requires { IsSync R.row × IsSync P.row × (from + 1 + length rest.now ≤ 16) × AreReady job.now (from + 1) rest.now × AreScanning job.now job.now.plan.mutators scanners.now }
+            requires { IsSync R.row × IsSync P.row × (from + 1 + length rest.now ≤ MOST_MUTATORS) × AreReady job.now (from + 1) rest.now × AreScanning job.now job.now.plan.mutators scanners.now }
             ensures mutators { HaveRun job.entry.now (from + 1) rest.exit.now }
             ensures scanners { HaveScanned job.entry.now job.entry.now.plan.mutators scanners.exit.now }
             ensures as_many { (length rest.exit.now ≡ length rest.entry.now) × (length scanners.exit.now ≡ length scanners.entry.now) }
         { run_workers(job, from + 1, scanners, rest) },
         &mut ||
-            requires { Executing job.now from 0 first.now }
+            requires { (from < MOST_MUTATORS) × Executing job.now from 0 first.now }
             ensures { HasRun job.entry.now from first.exit.now }
         { first.runs(job, from) },
     );
