@@ -7,6 +7,8 @@ mod asserting;
 #[cfg(test)]
 mod calling;
 #[cfg(test)]
+mod gathering;
+#[cfg(test)]
 mod programs;
 #[cfg(test)]
 mod turns;

@@ -15,7 +15,7 @@ use std::thread;
 const LOOKS: u32 = 1_000_000_000;
 
 /// The program whose lines are separated by slashes.
-fn program(alloc: Global, lines: &str) -> Result<Program, Fail> {
+pub fn program(alloc: Global, lines: &str) -> Result<Program, Fail> {
     let text = lines.replace(alloc, '/', "\n")?;
     if text.len() >= 1 << 31 {
         return Err("it is too long".into());
@@ -80,9 +80,9 @@ impl Pace for Meeting {
     }
 }
 
-/// Two mutators have printed 5 and halted.
-fn check_both_print(rt: &impl Abort, told: &Outputs) {
-    assert_same(rt, &told.mutators.len(), &2);
+/// So many mutators have printed 5 and halted.
+pub fn check_printed(rt: &impl Abort, told: &Outputs, mutators: usize) {
+    assert_same(rt, &told.mutators.len(), &mutators);
     for one in &told.mutators {
         assert_same(
             rt,
@@ -105,7 +105,7 @@ fn all_workers_run_at_once(rt: HostRuntime) -> Result<(), Fail> {
         let pace = Meeting::new(scanners);
         let told = run(&rt, rt.alloc(), &program, &config, &pace)?;
         assert_same(&rt, &pace.gave_up.load(Ordering::SeqCst), &0);
-        check_both_print(&rt, &told);
+        check_printed(&rt, &told, 2);
     }
     Ok(())
 }
