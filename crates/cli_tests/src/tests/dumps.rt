@@ -5,8 +5,13 @@ use super::{AMPLE, FIRST};
 use std::alloc::Global;
 use std::test::Fail;
 
+/// The gate's word where one mutator is alive and runs, and where one has left.
+pub const RUNNING: &str = "0000010100000000";
+
+const LEFT: &str = "0200000000000000";
+
 /// The lines of the dump that aren't a word 0, by their numbers from 1.
-fn dump_line(number: usize) -> &'static str {
+fn dump_line(number: usize, gate: &'static str) -> &'static str {
     match number {
         1 => "dump 4 1 1",
         2 => {
@@ -15,8 +20,7 @@ fn dump_line(number: usize) -> &'static str {
         }
         // What the mutator keeps.
         3 => "0000000000000000 0000000000000000",
-        // The gate: one mutator is alive, and it runs.
-        4 => "0000010100000000",
+        4 => gate,
         // Epoch 0 is traced.
         6 => "0000000000000001",
         // The areas of both spaces.
@@ -31,33 +35,46 @@ fn dump_line(number: usize) -> &'static str {
     }
 }
 
-/// The lines of the dump.
-pub fn dump_lines(alloc: Global) -> Result<String, Fail> {
+/// The lines of the dump, with this word of the gate.
+pub fn dump_lines(alloc: Global, gate: &'static str) -> Result<String, Fail> {
     let mut lines = String::new(alloc);
     for number in 1..=636 {
-        lines.push_str(dump_line(number))?;
+        lines.push_str(dump_line(number, gate))?;
         lines.push('\n')?;
     }
     Ok(lines)
 }
 
 /// What is printed, and the dump.
-fn printed(alloc: Global) -> Result<String, Fail> {
+fn printed(alloc: Global, gate: &'static str) -> Result<String, Fail> {
     let mut printed = String::from_str(alloc, "0: 7\n0: halt\n")?;
-    printed.push_str(&dump_lines(alloc)?)?;
+    printed.push_str(&dump_lines(alloc, gate)?)?;
     Ok(printed)
 }
 
+/// On threads a run goes on until all have left.
+const ROWS: [(&str, &str, &str); 2] = [
+    ("a dump", "sim --pages 4 --scanners 0 --dump", RUNNING),
+    (
+        "a dump on threads",
+        "run --pages 4 --scanners 0 --dump",
+        LEFT,
+    ),
+];
+
 #[test]
 fn a_dump_has_each_word(rt: HostRuntime) -> Result<(), Fail> {
-    let out = printed(rt.alloc())?;
-    let row = Row {
-        name: "a dump",
-        words: "sim --pages 4 --scanners 0 --dump",
-        text: FIRST,
-        out: &out,
-        err: "",
-        status: 0,
-    };
-    row.check(&rt, rt.alloc(), AMPLE)
+    for (name, words, gate) in ROWS {
+        let out = printed(rt.alloc(), gate)?;
+        let row = Row {
+            name,
+            words,
+            text: FIRST,
+            out: &out,
+            err: "",
+            status: 0,
+        };
+        row.check(&rt, rt.alloc(), AMPLE)?;
+    }
+    Ok(())
 }

@@ -1,5 +1,6 @@
 //! Which worker makes which step, and when a run stops. A mutator attaches in two steps; an instruction
-//! that touches neither a record nor the board is one step.
+//! that touches neither a record nor the board is one step. A swap is four: the look, the loads of the board's page word and of the
+//! word, and the exchange.
 
 pub const ROWS: &str = "\
 turns that run out|sim --turns 3|.mutator/out r0/jr r0/|0: 0/0: 0/0: turns out/||3
@@ -22,4 +23,5 @@ and the third even one|sim --seed 1234567 --steps 10|.mutator/halt/|0: halt/||0
 two scanners, one step too few|sim --seed 1 --scanners 2 --steps 8|.mutator/out r0/out r0/halt/|0: 0/0: 0/0: stopped/|ael: steps out/|4
 two scanners|sim --seed 1 --scanners 2 --steps 9|.mutator/out r0/out r0/halt/|0: 0/0: 0/0: halt/||0
 the greatest seed, one step too few|sim --seed 18446744073709551615 --scanners 2 --steps 17|.mutator/out r0/out r0/halt/|0: 0/0: 0/0: stopped/|ael: steps out/|4
-the greatest seed|sim --seed 18446744073709551615 --scanners 2 --steps 18|.mutator/out r0/out r0/halt/|0: 0/0: 0/0: halt/||0";
+the greatest seed|sim --seed 18446744073709551615 --scanners 2 --steps 18|.mutator/out r0/out r0/halt/|0: 0/0: 0/0: halt/||0
+an exchange that is lost finds the new word when it is tried again|sim --scanners 0 --steps 100 --order|.schedule 0*6 1*8 0*20/.mutator/li r1 1/swap r1 0/out r1/halt/.mutator/li r1 2/swap r1 0/out r1/halt/|0: 2/0: halt/1: 0/1: halt/order 0 1 1 1 0 0 0 1/||0";
