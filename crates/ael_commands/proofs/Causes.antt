@@ -18,7 +18,7 @@ use Rattle.ael_commands.specs.Answer.{IsCaused, IsDrawnFor, Made, Refused, Unrea
 use Rattle.ael_commands.specs.Asm.{IsListed}
 use Rattle.ael_commands.specs.Bench.{bench_options}
 use Rattle.ael_commands.specs.Ends.{Drawn}
-use Rattle.ael_commands.specs.Jobs.{task_of}
+use Rattle.ael_commands.specs.Jobs.{job_task}
 use Rattle.ael_commands.specs.ProgramTask.{IsMadeOf, IsTextIn, IsUnfit}
 use Rattle.ael_commands.specs.Runs.{IsRun, Scheduled, Threaded}
 use Rattle.ael_commands.specs.Status.{is_made}
@@ -47,7 +47,7 @@ none_made job source (Ok x) r is = subst (λ r. IfErr r (IsCaused job source [])
 none_made job source (Err e) r is = subst (λ r. IfErr r (IsCaused job source [])) (sym is) (OutOfMemory refl refl)
 
 -- the answer to a job on a program that is read, where there is none
-pub unfit : (job : Job) (source : Drawn) (status : Status) → (task_of job).reads ≡ Everything → IsUnfit source status → IsCaused job source [] status
+pub unfit : (job : Job) (source : Drawn) (status : Status) → (job_task job).reads ≡ Everything → IsUnfit source status → IsCaused job source [] status
 unfit (Bench operands) source status reads u = cc
 unfit Asm source (Text number line) reads u = Refused u.bytes u.input u.fault refl
 unfit (Sim options) source (Text number line) reads u = Refused u.bytes u.input u.fault refl
@@ -66,32 +66,32 @@ unfit job source StepsOut reads u = absurd u
 unfit job source WriteFault reads u = absurd u
 
 -- each job but the benchmark reads its program
-pub reads_all : (job : Job) → ((operands : BenchOperands) → job ≢ Bench operands) → (task_of job).reads ≡ Everything
+pub reads_all : (job : Job) → ((operands : BenchOperands) → job ≢ Bench operands) → (job_task job).reads ≡ Everything
 reads_all (Bench operands) not = absurd (not operands refl)
 reads_all Asm not = refl
 reads_all (Sim options) not = refl
 reads_all (Run options) not = refl
 
 -- and with it as much as a program
-pub drawn_for : (job : Job) (source : Drawn) → (task_of job).reads ≡ Everything → IsDrawn Everything source → IsDrawnFor (Some job) source
+pub drawn_for : (job : Job) (source : Drawn) → (job_task job).reads ≡ Everything → IsDrawn Everything source → IsDrawnFor (Some job) source
 drawn_for job source reads drawn = rw reads drawn
 
 -- what is made of a program that is read
-pub of_program : (job : Job) (source : Drawn) (program : List (List Instr)) (items : List Item) (output : List ℕ) (status : Status) → (task_of job).reads ≡ Everything
-    → IsTextIn source program items → ((bytes : List ℕ) → IsText bytes program items → (task_of job).Makes bytes output status) → IsCaused job source output status
+pub of_program : (job : Job) (source : Drawn) (program : List (List Instr)) (items : List Item) (output : List ℕ) (status : Status) → (job_task job).reads ≡ Everything
+    → IsTextIn source program items → ((bytes : List ℕ) → IsText bytes program items → (job_task job).Makes bytes output status) → IsCaused job source output status
 of_program job source program items output status reads t makes = Made t.bytes (rw reads t.input) (makes t.bytes t.text)
 
 -- `asm` lists it
 pub lists : (job : Job) (program : List (List Instr)) (items : List Item) (output : List ℕ) (status : Status) → job ≡ Asm → IsListed program items output status
-    → (bytes : List ℕ) → IsText bytes program items → (task_of job).Makes bytes output status
+    → (bytes : List ℕ) → IsText bytes program items → (job_task job).Makes bytes output status
 lists job program items output status is made bytes text =
-    subst (λ j. (task_of j).Makes bytes output status) (sym is) (record { program = program; items = items; text = text; made = made })
+    subst (λ j. (job_task j).Makes bytes output status) (sym is) (record { program = program; items = items; text = text; made = made })
 
 -- `sim` runs it by a schedule
 pub simulates : (job : Job) (options : SimOptions) (program : List (List Instr)) (items : List Item) (output : List ℕ) (status : Status) → job ≡ Sim options
-    → IsRun (Scheduled options) program items output status → (bytes : List ℕ) → IsText bytes program items → (task_of job).Makes bytes output status
+    → IsRun (Scheduled options) program items output status → (bytes : List ℕ) → IsText bytes program items → (job_task job).Makes bytes output status
 simulates job options program items output status is made bytes text =
-    subst (λ j. (task_of j).Makes bytes output status) (sym is) (record { program = program; items = items; text = text; made = made })
+    subst (λ j. (job_task j).Makes bytes output status) (sym is) (record { program = program; items = items; text = text; made = made })
 
 -- a program that is run on threads
 pub threaded : (options : RunOptions) (source : Drawn) (program : List (List Instr)) (items : List Item) (output : List ℕ) (status : Status)

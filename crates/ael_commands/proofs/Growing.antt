@@ -3,7 +3,7 @@ use Rattle.std.proofs.Common.{◌≤◌, ◌+◌, ◌≡◌, ℕ, List, ◌++◌
 use Rattle.std.specs.Prelude.{◌<◌, IfSome, Option, Some, None}
 use Rattle.std.proofs.lemmas.List.{take-append-drop, length-append, length-take}
 use Rattle.std.proofs.Math.Seq.{take-append_seam}
-use Rattle.ael_commands.specs.declared.reading.TheConstants.{MAX_INPUT}
+use Rattle.ael_commands.specs.declared.reading.TheConstants.{LONGEST_INPUT}
 use Rattle.ael_commands.specs.Input.{IsPastLimit, IsReadToEnd}
 use Rattle.ael_commands.specs.Stream.{Gives, Grows, GrowsByPrefix, IsFront}
 
@@ -46,6 +46,6 @@ all_came old None bytes front ended = rw front tt
 all_came old (Some rest) bytes front ended = rw (front, ended) (sym (append-nil bytes))
 
 -- where more came than an input may have, more were to come
-pub past_limit : (old new : Option (List ℕ)) (bytes : List ℕ) → IsFront old bytes new → MAX_INPUT < length bytes → IsPastLimit old
+pub past_limit : (old new : Option (List ℕ)) (bytes : List ℕ) → IsFront old bytes new → LONGEST_INPUT < length bytes → IsPastLimit old
 past_limit old None bytes front long = rw front tt
 past_limit old (Some rest) bytes front long = rw front (simp length-append (omega (arith, long)))

@@ -20,14 +20,14 @@ use Rattle.ael_commands.specs.Bench.{bench_options}
 use Rattle.ael_commands.specs.Call.{Call}
 use Rattle.ael_commands.specs.Emits.{Emits, AllWritten, OutFailed, BothFailed, ErrFailed}
 use Rattle.ael_commands.specs.Ends.{Drawn, Filled, IsFaultless}
-use Rattle.ael_commands.specs.Headline.{Holds, IsAlwaysTheSame, IsAnswered, IsComplete, IsDone, PrintsListing, PrintsPlainly}
-use Rattle.ael_commands.specs.Jobs.{run_by, task_of, text_of}
+use Rattle.ael_commands.specs.Headline.{HeadlineHolds, IsAlwaysTheSame, CallIsAnswered, IsComplete, IsDone, PrintsListing, PrintsPlainly}
+use Rattle.ael_commands.specs.Jobs.{run_by, job_task, job_text}
 use Rattle.ael_commands.specs.ProgramTask.{HasFault, IsMadeOf, IsProgram}
 use Rattle.ael_commands.specs.Runs.{IsRun, Manner, Scheduled, Threaded, options_by}
-use Rattle.ael_commands.specs.Status.{code_of}
+use Rattle.ael_commands.specs.Status.{status_code}
 use Rattle.ael_commands.specs.Stream.{Grows}
 use Rattle.ael_commands.specs.Success.{Succeeds}
-use Rattle.ael_commands.specs.Task.{Reads, Nothing, Everything, IsGiven, IsInput, IsUnread}
+use Rattle.ael_commands.specs.Task.{NeededInput, Nothing, Everything, IsGiven, IsInput, IsUnread}
 use Rattle.ael_commands.specs.Words.{job_of}
 use Rattle.plain_heap.specs.Order.{plain}
 use Rattle.plain_heap.proofs.Staying.{plain_count}
@@ -35,12 +35,12 @@ use Rattle.plain_heap.proofs.Staying.{plain_count}
 -- ---- the input
 
 -- the input is what the source tells
-input_is : (reads : Reads) (source : Drawn) (bytes own : List ℕ) → IsGiven reads source bytes → IsInput reads source own → own ≡ bytes
+input_is : (reads : NeededInput) (source : Drawn) (bytes own : List ℕ) → IsGiven reads source bytes → IsInput reads source own → own ≡ bytes
 input_is Nothing source bytes own given input = input ∙ sym given
 input_is Everything source bytes own given input = rw given.0 at input.all
 
 -- an input that is told, where no read fails, is read
-is_read : {A : Type 0} (reads : Reads) (source : Drawn) (bytes : List ℕ) (status : Status) → IsGiven reads source bytes → IsFaultless source.before source.after
+is_read : {A : Type 0} (reads : NeededInput) (source : Drawn) (bytes : List ℕ) (status : Status) → IsGiven reads source bytes → IsFaultless source.before source.after
     → IsUnread reads source status → A
 is_read Nothing source bytes status given sound unread = absurd unread
 is_read Everything source bytes ReadFault given sound unread = absurd (sound unread)
@@ -66,7 +66,7 @@ not_refused no_fault bytes NoMemory right fault = absurd fault
 not_refused no_fault bytes TooLong right fault = absurd fault
 
 -- a right input is not refused
-is_taken : {A : Type 0} → HasNoFault → (job : Job) (bytes : List ℕ) (status : Status) → (task_of job).IsRight bytes → (task_of job).Refuses bytes status → A
+is_taken : {A : Type 0} → HasNoFault → (job : Job) (bytes : List ℕ) (status : Status) → (job_task job).IsRight bytes → (job_task job).Refuses bytes status → A
 is_taken no_fault (Bench operands) bytes status right fault = absurd fault
 is_taken no_fault Asm bytes status right fault = not_refused no_fault bytes status right fault
 is_taken no_fault (Sim options) bytes status right fault = not_refused no_fault bytes status right fault
@@ -95,7 +95,7 @@ of_program {Makes} one bytes program items output status text made =
 
 -- what a job makes is a run of its program, in this manner
 record RunsIn (job : Job) (manner : Manner) : Type 0 where
-  is_run : (bytes output : List ℕ) (status : Status) → (task_of job).Makes bytes output status → IsMadeOf (IsRun manner) (text_of job bytes) output status
+  is_run : (bytes output : List ℕ) (status : Status) → (job_task job).Makes bytes output status → IsMadeOf (IsRun manner) (job_text job bytes) output status
 
 -- what is a run in one manner is one in the same
 run_in : (own manner : Manner) (bytes output : List ℕ) (status : Status) → Some own ≡ Some manner → IsMadeOf (IsRun own) bytes output status → IsMadeOf (IsRun manner) bytes output status
@@ -121,7 +121,7 @@ runs_in (Bench operands) manner runs = bench_runs_in operands manner runs
 runs_in (Sim options) manner runs = sim_runs_in options manner runs
 runs_in (Run options) manner runs = run_runs_in options manner runs
 
-module _ (one : MeansOneProgram) (no_fault : HasNoFault) (call : Call) (a : IsAnswered call) where
+module _ (one : MeansOneProgram) (no_fault : HasNoFault) (call : Call) (a : CallIsAnswered call) where
   -- the job is done, or there was no memory
   pub is_complete : IsComplete call
   is_complete job bytes well = by (written a.output a.status a.emitted.final call.out call.err well.printed well.told a.emitted.emitted)
@@ -131,15 +131,15 @@ module _ (one : MeansOneProgram) (no_fault : HasNoFault) (call : Call) (a : IsAn
       by all (Made own input made) = inl (record {
         output = a.output;
         status = a.status;
-        made = subst (λ bs. (task_of job).Makes bs a.output a.status) (input_is (task_of job).reads call.source bytes own well.given input) made;
+        made = subst (λ bs. (job_task job).Makes bs a.output a.status) (input_is (job_task job).reads call.source bytes own well.given input) made;
         printed = all.1;
-        code_is = a.emitted.code_is ∙ ap code_of all.0;
+        code_is = a.emitted.code_is ∙ ap status_code all.0;
       })
       by all (Refused own input refused silent) =
-          let its = subst (λ bs. (task_of job).Refuses bs a.status) (input_is (task_of job).reads call.source bytes own well.given input) refused in
+          let its = subst (λ bs. (job_task job).Refuses bs a.status) (input_is (job_task job).reads call.source bytes own well.given input) refused in
           is_taken no_fault job bytes a.status well.right its
-      by all (Unread unread silent) = is_read (task_of job).reads call.source bytes a.status well.given well.read unread
-      by all (OutOfMemory wanting silent) = inr (a.emitted.code_is ∙ ap code_of (all.0 ∙ wanting))
+      by all (Unread unread silent) = is_read (job_task job).reads call.source bytes a.status well.given well.read unread
+      by all (OutOfMemory wanting silent) = inr (a.emitted.code_is ∙ ap status_code (all.0 ∙ wanting))
 
   -- where memory was not wanting, it is done
   done : (job : Job) (program : List (List Instr)) (items : List Item) (s : Succeeds call job program items) → IsDone call job s.bytes
@@ -150,7 +150,7 @@ module _ (one : MeansOneProgram) (no_fault : HasNoFault) (call : Call) (a : IsAn
       → ((d : IsDone call job s.bytes) × IsRun manner program items d.output d.status)
   ran job manner program items runs s =
       let d = done job program items s in
-      (d, of_program one (text_of job s.bytes) program items d.output d.status s.text ((runs_in job manner runs).is_run s.bytes d.output d.status d.made))
+      (d, of_program one (job_text job s.bytes) program items d.output d.status s.text ((runs_in job manner runs).is_run s.bytes d.output d.status d.made))
 
   pub prints_plainly : PrintsPlainly call
   prints_plainly job manner program items runs s =
@@ -180,7 +180,7 @@ module _ (one : MeansOneProgram) (no_fault : HasNoFault) (call : Call) (a : IsAn
       }
 
 -- all that holds of a call
-pub holds : MeansOneProgram → HasNoFault → MeansWellFormed → ListsText → AlwaysTheSame → (call : Call) → IsAnswered call → Holds call
+pub holds : MeansOneProgram → HasNoFault → MeansWellFormed → ListsText → AlwaysTheSame → (call : Call) → CallIsAnswered call → HeadlineHolds call
 holds one no_fault well_formed lists same call a = record {
   answered = a;
   complete = is_complete one no_fault call a;

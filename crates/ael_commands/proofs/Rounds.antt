@@ -10,7 +10,7 @@ use Rattle.std.proofs.Math.ListN.{drop_of_length-le}
 use Rattle.std.proofs.Math.Seq.{drop-cons}
 use Rattle.mutator_asm.specs.declared.item.Item.{Item}
 use Rattle.mutator_asm.specs.Program.{is_item}
-use Rattle.ael_commands.specs.Coming.{Round, listed_from, then_repeated}
+use Rattle.ael_commands.specs.Coming.{ListedRound, listed_from, then_repeated}
 use Rattle.ael_commands.specs.Schedule.{repeated, steps_listed}
 
 -- a list's own element, and past its end the other list from its start
@@ -36,7 +36,7 @@ abbrev pub rest_of : Item → ℕ → List Item → List ℕ
 rest_of now next items = replicate now.times now.worker ++ steps_listed (drop next items)
 
 -- an item at hand that has a step left, and with it the workers to come are those that there were
-pub record IsReady (now : Item) (next : ℕ) (items : List Item) (before : Round) : Type 0 where
+pub record HasItemAtHand (now : Item) (next : ℕ) (items : List Item) (before : ListedRound) : Type 0 where
   pub some : 0 < now.times
   pub same : (at : ℕ) → then_repeated (rest_of now next items) (steps_listed items) at ≡ listed_from before at
 
@@ -49,10 +49,10 @@ names_later : (times worker : ℕ) (rest steps : List ℕ) → 0 < times
 names_later zero worker rest steps some at = absurd (omega (arith, some))
 names_later (suc times) worker rest steps some at = let less : suc times - 1 ≡ times = omega arith in rw (less, add-one)
 
-pub ready_names : (now : Item) (next : ℕ) (items : List Item) (before : Round) → IsReady now next items before → now.worker ≡ listed_from before 0
+pub ready_names : (now : Item) (next : ℕ) (items : List Item) (before : ListedRound) → HasItemAtHand now next items before → now.worker ≡ listed_from before 0
 ready_names now next items before ready = names_first now.times now.worker _ (steps_listed items) ready.some ∙ ready.same 0
 
-pub ready_later : (now : Item) (next : ℕ) (items : List Item) (before : Round) → IsReady now next items before
+pub ready_later : (now : Item) (next : ℕ) (items : List Item) (before : ListedRound) → HasItemAtHand now next items before
     → (at : ℕ) → then_repeated (rest_of (record now { times = now.times - 1 }) next items) (steps_listed items) at ≡ listed_from before (at + 1)
 ready_later now next items before ready at = names_later now.times now.worker _ (steps_listed items) ready.some at ∙ ready.same (at + 1)
 
@@ -76,17 +76,17 @@ pub first_round : (items : List Item) → 0 < length items → (at : ℕ) → th
 first_round items some at = rw (whole_round items some) (once_more (steps_listed items) at)
 
 -- it has steps left
-pub ready_now : (now : Item) (next : ℕ) (items : List Item) → now.times ≢ 0 → IsReady now next items (record { rest = rest_of now next items; steps = steps_listed items })
+pub ready_now : (now : Item) (next : ℕ) (items : List Item) → now.times ≢ 0 → HasItemAtHand now next items (record { rest = rest_of now next items; steps = steps_listed items })
 ready_now now next items some = record { some = omega (arith, some); same = λ at. refl }
 
 -- it is the next one
 pub ready_next : (now : Item) (next : ℕ) (items : List Item) → now.times ≡ 0 → next < length items → IsTrue (list_all is_item items)
-    → IsReady (get_or items next default) (next + 1) items (record { rest = rest_of now next items; steps = steps_listed items })
+    → HasItemAtHand (get_or items next default) (next + 1) items (record { rest = rest_of now next items; steps = steps_listed items })
 ready_next now next items none within valid = record { some = some_times items next within valid; same = λ at. rw (none, drop-cons items next default within, add-one) }
 
 -- it is the first one again
 pub ready_again : (now : Item) (next : ℕ) (items : List Item) → now.times ≡ 0 → length items ≤ next → 0 < length items → IsTrue (list_all is_item items)
-    → IsReady (get_or items 0 default) 1 items (record { rest = rest_of now next items; steps = steps_listed items })
+    → HasItemAtHand (get_or items 0 default) 1 items (record { rest = rest_of now next items; steps = steps_listed items })
 ready_again now next items none past some valid = record {
   some = some_times items 0 some valid;
   same = λ at. rw (none, drop_of_length-le items past) (first_round items some at);

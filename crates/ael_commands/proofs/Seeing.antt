@@ -4,7 +4,7 @@ use Rattle.std.specs.List.{flat_map, list_all}
 use Rattle.std.specs.Option.{option_map}
 use Rattle.std.proofs.lemmas.Option.{same_Some}
 use Rattle.plain_state.specs.declared.end.End.{End}
-use Rattle.plain_heap.specs.Print.{Seen, lines_of, lines_seen}
+use Rattle.plain_heap.specs.Print.{Seen, printed_lines, lines_seen}
 use Rattle.ael_commands.specs.declared.status.Status.TheVariants.{Done, Ended, StepsOut}
 use Rattle.ael_commands.specs.Seen.{is_halt, has_ended, has_halted, status_seen}
 
@@ -24,10 +24,10 @@ found-end (x ∷ xs) (suc m) h = found-end xs m (omega (arith, h))
 -- ---- a text for each
 
 -- the texts told so far and those still to come are all
-pub record Told {A : Type 0} (text : A → List ℕ) (told : List ℕ) (m : ℕ) (xs : List A) (all : List ℕ) : Type 0 where
+pub record TextsToldSoFar {A : Type 0} (text : A → List ℕ) (told : List ℕ) (m : ℕ) (xs : List A) (all : List ℕ) : Type 0 where
   pub rest : told ++ flat_map text (drop m xs) ≡ all
 
-pub told_more : {A : Type 0} (text : A → List ℕ) (told all : List ℕ) (m : ℕ) (xs : List A) (x : A) → slice_get xs m ≡ Some x → Told text told m xs all → Told text (told ++ text x) (m + 1) xs all
+pub told_more : {A : Type 0} (text : A → List ℕ) (told all : List ℕ) (m : ℕ) (xs : List A) (x : A) → slice_get xs m ≡ Some x → TextsToldSoFar text told m xs all → TextsToldSoFar text (told ++ text x) (m + 1) xs all
 told_more text told all m xs x is h = record { rest = rw append_assoc (rw (found-next xs m x is) at h.rest) }
 
 -- ---- mutators
@@ -38,15 +38,15 @@ seen_is None printed end is_printed is_end = cc
 seen_is (Some k) printed end is_printed is_end = rw (← same_Some k.printed printed is_printed, ← same_Some k.end end is_end) refl
 
 -- the lines told so far and those still to come are all
-pub record Tells (told : List ℕ) (m : ℕ) (ks : List Seen) (all : List ℕ) : Type 0 where
+pub record LinesToldSoFar (told : List ℕ) (m : ℕ) (ks : List Seen) (all : List ℕ) : Type 0 where
   pub rest : told ++ lines_seen m (drop m ks) ≡ all
 
 pub tells_more : (told all : List ℕ) (m : ℕ) (ks : List Seen) (printed : List ℕ) (end : Option End) → option_map (λ k. k.printed) (slice_get ks m) ≡ Some printed
-    → option_map (λ k. k.end) (slice_get ks m) ≡ Some end → Tells told m ks all → Tells (told ++ lines_of m printed end) (m + 1) ks all
+    → option_map (λ k. k.end) (slice_get ks m) ≡ Some end → LinesToldSoFar told m ks all → LinesToldSoFar (told ++ printed_lines m printed end) (m + 1) ks all
 tells_more told all m ks printed end is_printed is_end h =
     record { rest = rw append_assoc (rw (found-next ks m (record { printed = printed; end = end }) (seen_is (slice_get ks m) printed end is_printed is_end)) at h.rest) }
 
-pub tells_all : (told all : List ℕ) (m : ℕ) (ks : List Seen) → length ks ≤ m → Tells told m ks all → told ≡ all
+pub tells_all : (told all : List ℕ) (m : ℕ) (ks : List Seen) → length ks ≤ m → LinesToldSoFar told m ks all → told ≡ all
 tells_all told all m ks past h = sym (append-nil told) ∙ (rw (found-end ks m past) at h.rest)
 
 end_is : (o : Option Seen) (end : Option End) → option_map (λ k. k.end) o ≡ Some end → (k : Seen) × (o ≡ Some k) × (k.end ≡ end)

@@ -12,7 +12,7 @@ use Rattle.ael_commands.specs.declared.options.SimOptions.{SimOptions}
 use Rattle.ael_commands.specs.declared.status.Status.{Status}
 use Rattle.ael_commands.specs.Runs.{IsRun, IsRunOf, Scheduled}
 use Rattle.ael_commands.specs.Seen.{status_seen}
-use Rattle.ael_commands.specs.Simulation.{run_of}
+use Rattle.ael_commands.specs.Simulation.{simulated_run}
 use Rattle.ael_commands.specs.Told.{heap_lines, told_of}
 
 -- the order is needed only where it is printed
@@ -21,14 +21,14 @@ line_if true order marks same = ap order_line (same refl)
 line_if false order marks same = refl
 
 pub simulated : (options : SimOptions) (program : List (List Instr)) (items : List Item) (last : CoreState) (order : List Mark) (output : List ℕ) (status : Status)
-    → IsRunOf (Scheduled options) program items (run_of options program items)
-    → seen_of (run_of options program items).last ≡ plain_seen (plain program options.run.turns (run_of options program items).order)
-    → last ≡ (run_of options program items).last → (options.order ≡ true → order ≡ (run_of options program items).order)
+    → IsRunOf (Scheduled options) program items (simulated_run options program items)
+    → seen_of (simulated_run options program items).last ≡ plain_seen (plain program options.run.turns (simulated_run options program items).order)
+    → last ≡ (simulated_run options program items).last → (options.order ≡ true → order ≡ (simulated_run options program items).order)
     → output ≡ (lines_seen 0 (seen_of last) ++ cond options.order (order_line order) []) ++ heap_lines options.run (told_of last)
     → status ≡ status_seen (seen_of last)
     → IsRun (Scheduled options) program items output status
 simulated options program items last order output status is seen_is is_last kept printed went =
-    let ran : Ran = run_of options program items in
+    let ran : Ran = simulated_run options program items in
     let seen : seen_of last ≡ plain_seen (plain program options.run.turns ran.order) = ap seen_of is_last ∙ seen_is in
     let line = line_if options.order order ran.order kept in
     let lines : heap_lines options.run (told_of last) ≡ heap_lines options.run (told_of ran.last) = ap (λ (s : CoreState). heap_lines options.run (told_of s)) is_last in

@@ -26,12 +26,12 @@ use Rattle.gc_worker.specs.History.Order.{order_of}
 use Rattle.ael_threads.specs.Rule.{heap_of}
 use Rattle.ael_commands.specs.declared.options.RunOptions.{RunOptions}
 use Rattle.ael_commands.specs.declared.status.Status.{Status}
-use Rattle.ael_commands.specs.ClosedHeap.{HasClosed, IsWhole, told_by}
+use Rattle.ael_commands.specs.ClosedHeap.{HasClosed, IsWholeHeap, told_by}
 use Rattle.ael_commands.specs.Runs.{IsRun, Threaded}
 use Rattle.ael_commands.specs.Seen.{has_ended, status_seen}
 use Rattle.ael_commands.specs.Simulation.{config}
 use Rattle.ael_commands.specs.Threads.{IsThreaded}
-use Rattle.ael_commands.specs.Told.{Told, heap_lines, told_of}
+use Rattle.ael_commands.specs.Told.{RunReport, heap_lines, told_of}
 
 -- ---- what is read of it
 
@@ -99,7 +99,7 @@ module _ (law : WhatStandsIsTold) (options : RunOptions) (program : List (List I
       sym (length-map outputs.kept.items as_kept) ∙ ap length r.tells.kept
       ∙ length-map (map knows r.workers) (λ (w : Worker). kept_by w.copy) ∙ length-map r.workers knows
 
-  pub is_whole : IsWellFormed program items → options.scanners ≤ 8 → IsWhole options.pages outputs
+  pub is_whole : IsWellFormed program items → options.scanners ≤ 8 → IsWholeHeap options.pages outputs
   is_whole formed few =
       let sections = formed.few_sections in
       let count : length r.workers ≡ length program + options.scanners = r.count in
@@ -114,7 +114,7 @@ module _ (law : WhatStandsIsTold) (options : RunOptions) (program : List (List I
 
 -- ---- what is printed
 
-pub run_is : (options : RunOptions) (program : List (List Instr)) (items : List Item) (told : Told) (output : List ℕ) (status : Status)
+pub run_is : (options : RunOptions) (program : List (List Instr)) (items : List Item) (told : RunReport) (output : List ℕ) (status : Status)
     → HasClosed options program items told
     → output ≡ lines_seen 0 told.seen ++ heap_lines options told
     → status ≡ status_seen told.seen

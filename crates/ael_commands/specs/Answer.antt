@@ -6,7 +6,7 @@ use Rattle.ael_commands.specs.declared.job.Job.{Job}
 use Rattle.ael_commands.specs.declared.status.Status.{Status}
 use Rattle.ael_commands.specs.declared.status.Status.TheVariants.{NoMemory, ReadFault, Usage}
 use Rattle.ael_commands.specs.Ends.{Drawn}
-use Rattle.ael_commands.specs.Jobs.{task_of}
+use Rattle.ael_commands.specs.Jobs.{job_task}
 use Rattle.ael_commands.specs.Task.{IsDrawn, IsInput, IsUnread}
 
 -- what was read of words that ask for a job, or for none
@@ -18,9 +18,9 @@ IsAsked asked (Err words.NoMemory) = ⊤
 -- The answer to a job has one of four causes: it is what the job makes of its input; or the input is
 -- wrong, or could not be read, or memory was wanting, and then there is no output.
 pub data IsCaused (job : Job) (source : Drawn) (output : List ℕ) (status : Status) : Type 0 where
-  Made : (bytes : List ℕ) (input : IsInput (task_of job).reads source bytes) (made : (task_of job).Makes bytes output status) → IsCaused job source output status
-  Refused : (bytes : List ℕ) (input : IsInput (task_of job).reads source bytes) (refused : (task_of job).Refuses bytes status) (silent : output ≡ []) → IsCaused job source output status
-  Unread : (unread : IsUnread (task_of job).reads source status) (silent : output ≡ []) → IsCaused job source output status
+  Made : (bytes : List ℕ) (input : IsInput (job_task job).reads source bytes) (made : (job_task job).Makes bytes output status) → IsCaused job source output status
+  Refused : (bytes : List ℕ) (input : IsInput (job_task job).reads source bytes) (refused : (job_task job).Refuses bytes status) (silent : output ≡ []) → IsCaused job source output status
+  Unread : (unread : IsUnread (job_task job).reads source status) (silent : output ≡ []) → IsCaused job source output status
   OutOfMemory : (wanting : status ≡ NoMemory) (silent : output ≡ []) → IsCaused job source output status
 
 -- the answer to the words; where they are no command it is the usage, or there was no memory to read them
@@ -31,7 +31,7 @@ IsAnswer (Some job) source output status = IsCaused job source output status
 -- how much is read for the words: nothing where they are no command
 abbrev pub IsDrawnFor : Option Job → Drawn → Type 0
 IsDrawnFor None source = source.rest ≡ source.left
-IsDrawnFor (Some job) source = IsDrawn (task_of job).reads source
+IsDrawnFor (Some job) source = IsDrawn (job_task job).reads source
 
 -- the words have this answer with its cause, and a read that failed is never passed over
 pub record IsAnswerTo (asked : Option Job) (source : Drawn) (output : List ℕ) (status : Status) : Type 0 where

@@ -10,10 +10,10 @@ use Rattle.ael_threads.specs.declared.outputs.Outputs.{Outputs}
 use Rattle.ael_threads.specs.Outputs.{as_kept, printed_by}
 use Rattle.ael_commands.specs.declared.options.RunOptions.{RunOptions}
 use Rattle.ael_commands.specs.Runs.{IsRunOf, Threaded}
-use Rattle.ael_commands.specs.Told.{Told, told_of}
+use Rattle.ael_commands.specs.Told.{RunReport, told_of}
 
 -- what is told of it, by the pages of a space and what the run told
-abbrev pub told_by : ℕ → Outputs → Told
+abbrev pub told_by : ℕ → Outputs → RunReport
 told_by pages outputs = record {
   seen = map printed_by outputs.mutators.items;
   cycles = outputs.cycles;
@@ -22,14 +22,14 @@ told_by pages outputs = record {
 }
 
 -- it tells the registers of each mutator and all words of the table, and there are no more workers than there may be
-pub record IsWhole (pages : ℕ) (outputs : Outputs) : Type 0 where
+pub record IsWholeHeap (pages : ℕ) (outputs : Outputs) : Type 0 where
   pub registers : length outputs.regs.items ≡ length outputs.mutators.items
   pub mutators : length outputs.mutators.items ≤ 16
   pub workers : length outputs.kept.items ≤ 24
   pub words : length outputs.words ≡ table_length pages
 
 -- a run of the program on threads came to this, and this is what it tells: of the mutators what is seen of those of the plain machine
-pub record HasClosed (options : RunOptions) (program : List (List Instr)) (items : List Item) (told : Told) : Type 0 where
+pub record HasClosed (options : RunOptions) (program : List (List Instr)) (items : List Item) (told : RunReport) : Type 0 where
   pub ran : Ran
   pub is : IsRunOf (Threaded options) program items ran
   pub tells : told ≡ told_of ran.last

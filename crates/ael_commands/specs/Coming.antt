@@ -12,7 +12,7 @@ abbrev pub in_turn_from : Turn → ℕ → ℕ
 in_turn_from turn at = (turn.next + at) % turn.workers
 
 -- listed workers: those still to come of this round, and those of every later one
-pub record Round : Type 0 where
+pub record ListedRound : Type 0 where
   pub rest : List ℕ
   pub steps : List ℕ
 
@@ -23,7 +23,7 @@ then_repeated (worker ∷ rest) steps zero = worker
 then_repeated (worker ∷ rest) steps (suc at) = then_repeated rest steps at
 
 -- the rest of the round comes first
-abbrev pub listed_from : Round → ℕ → ℕ
+abbrev pub listed_from : ListedRound → ℕ → ℕ
 listed_from round at = then_repeated round.rest round.steps at
 
 -- workers by a seed: the generator's state, and how many there are

@@ -19,8 +19,8 @@ pub record Filled : Type 0 where
   pub after : ℕ
 
 -- what a call draws from a source, and what it fills into a sink, by the values before and after it
-abbrev pub drawn : {S : Type 0} → sources.Ghosts S → S → S → Drawn
-drawn g old new = record { left = g.left old; rest = g.left new; before = g.faults old; after = g.faults new }
+abbrev pub drawn_and_filled : {S : Type 0} → sources.Ghosts S → S → S → Drawn
+drawn_and_filled g old new = record { left = g.left old; rest = g.left new; before = g.faults old; after = g.faults new }
 
 abbrev pub filled : {K : Type 0} → sinks.Ghosts K → K → K → Filled
 filled g old new = record { held = g.held old; holds = g.held new; before = g.faults old; after = g.faults new }

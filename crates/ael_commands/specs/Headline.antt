@@ -16,16 +16,16 @@ use Rattle.ael_commands.specs.declared.status.Status.TheVariants.{NoMemory}
 use Rattle.ael_commands.specs.Answer.{IsAnswerTo}
 use Rattle.ael_commands.specs.Call.{Call}
 use Rattle.ael_commands.specs.Emits.{IsEmitted}
-use Rattle.ael_commands.specs.Jobs.{run_by, task_of}
+use Rattle.ael_commands.specs.Jobs.{run_by, job_task}
 use Rattle.ael_commands.specs.Runs.{IsRunOf, Manner, flag_lines, options_by}
-use Rattle.ael_commands.specs.Status.{code_of}
+use Rattle.ael_commands.specs.Status.{status_code}
 use Rattle.ael_commands.specs.Stream.{Grows}
 use Rattle.ael_commands.specs.Success.{GoesWell, Succeeds}
 use Rattle.ael_commands.specs.Words.{job_of}
 
 -- The words and the input have an answer with its cause; that is what is written, and the exit status
 -- is its code.
-pub record IsAnswered (call : Call) : Type 0 where
+pub record CallIsAnswered (call : Call) : Type 0 where
   pub output : List ℕ
   pub status : Status
   pub answer : IsAnswerTo (job_of call.words) call.source output status
@@ -41,9 +41,9 @@ pub record IsOutOfMemory (call : Call) : Type 0 where
 pub record IsDone (call : Call) (job : Job) (bytes : List ℕ) : Type 0 where
   pub output : List ℕ
   pub status : Status
-  pub made : (task_of job).Makes bytes output status
+  pub made : (job_task job).Makes bytes output status
   pub printed : Grows call.out.held output call.out.holds
-  pub code_is : call.code ≡ code_of status
+  pub code_is : call.code ≡ status_code status
 
 -- completeness: where nothing fails the job is done, or there was no memory
 abbrev pub IsComplete : Call → Type 0
@@ -83,8 +83,8 @@ IsAlwaysTheSame call = (job : Job) (manner : Manner) (program : List (List Instr
     → IsTrue (shares_nothing program) → IsPrintedAsAlone call manner program items
 
 -- all of it
-pub record Holds (call : Call) : Type 0 where
-  pub answered : IsAnswered call
+pub record HeadlineHolds (call : Call) : Type 0 where
+  pub answered : CallIsAnswered call
   pub complete : IsComplete call
   pub prints : PrintsPlainly call
   pub lists : PrintsListing call

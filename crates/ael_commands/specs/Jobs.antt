@@ -9,26 +9,26 @@ use Rattle.ael_commands.specs.Bench.{bench_options, bench_task}
 use Rattle.ael_commands.specs.Runs.{Manner, Scheduled, Threaded, run_task, sim_task}
 use Rattle.ael_commands.specs.Task.{Task}
 
-abbrev pub task_of : Job → Task
-task_of Asm = asm_task
-task_of (Bench operands) = bench_task operands
-task_of (Sim options) = sim_task options
-task_of (Run options) = run_task options
+abbrev pub job_task : Job → Task
+job_task Asm = asm_task
+job_task (Bench operands) = bench_task operands
+job_task (Sim options) = sim_task options
+job_task (Run options) = run_task options
 
 -- the job waits for nobody
 abbrev pub IsStill : Job → Type 0
-IsStill job = (task_of job).waits ≡ false
+IsStill job = (job_task job).waits ≡ false
 
 -- whether a job that was asked for waits for other threads
 abbrev pub is_waiting : Option Job → Bool
-is_waiting asked = option_map_or (λ job. (task_of job).waits) asked false
+is_waiting asked = option_map_or (λ job. (job_task job).waits) asked false
 
 -- the text whose program a job is about: its input, or that of the benchmark
-abbrev pub text_of : Job → List ℕ → List ℕ
-text_of Asm input = input
-text_of (Bench operands) input = bench_text operands.depth operands.seed
-text_of (Sim options) input = input
-text_of (Run options) input = input
+abbrev pub job_text : Job → List ℕ → List ℕ
+job_text Asm input = input
+job_text (Bench operands) input = bench_text operands.depth operands.seed
+job_text (Sim options) input = input
+job_text (Run options) input = input
 
 -- how a job runs that program, if it runs it
 abbrev pub run_by : Job → Option Manner

@@ -1,7 +1,7 @@
 -- The options of runs, and the operands of the benchmark, by the rows of what was given.
 use Rattle.std.specs.Prelude.{ℕ, ◌≤◌, IsTrue, List, [], ◌∷◌, codes, unwrap_or}
 use Rattle.clap.specs.Walk.{Row, Text}
-use Rattle.space_map.specs.declared.spaces.TheConstants.{MAX_PAGES, MIN_PAGES, MOST_SCANNERS}
+use Rattle.space_map.specs.declared.spaces.TheConstants.{MOST_PAGES, FEWEST_PAGES, MOST_SCANNERS}
 use Rattle.space_map.specs.Spaces.{is_size}
 use Rattle.gc_worker.specs.declared.config.TheConstants.{MOST_TURNS}
 use Rattle.simple_commands.specs.Options.{number_given}
@@ -13,7 +13,7 @@ use Rattle.ael_commands.specs.declared.options.SimOptions.{SimOptions}
 
 -- `--pages`
 abbrev pub pages_option : Text × Numbers
-pages_option = (codes "pages", record { least = MIN_PAGES; most = MAX_PAGES; default = 256 })
+pages_option = (codes "pages", record { least = FEWEST_PAGES; most = MOST_PAGES; default = 256 })
 
 -- `--scanners`
 abbrev pub scanners_option : Text × Numbers

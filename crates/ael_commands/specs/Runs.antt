@@ -34,15 +34,15 @@ tells_order (Threaded options) = false
 -- ---- what it comes to
 
 -- it was made in this manner
-abbrev pub IsMade : Manner → List (List Instr) → List Item → Ran → Type 0
-IsMade (Scheduled options) program items ran = IsSimulated options program items ran
-IsMade (Threaded options) program items ran = IsThreaded options program ran
+abbrev pub IsMadeInManner : Manner → List (List Instr) → List Item → Ran → Type 0
+IsMadeInManner (Scheduled options) program items ran = IsSimulated options program items ran
+IsMadeInManner (Threaded options) program items ran = IsThreaded options program ran
 
 -- This is what a run of the program came to. Each mark of its order acts: each mutator's marks execute its program from the start, none
 -- skipped and none twice. A dump represents what the plain machine comes to that executes the order. What was copied in a traced epoch,
 -- and is told as live, was live at the last exchange of the spaces.
 pub record IsRunOf (manner : Manner) (program : List (List Instr)) (items : List Item) (ran : Ran) : Type 0 where
-  pub made : IsMade manner program items ran
+  pub made : IsMadeInManner manner program items ran
   pub acts : EachActs program (options_by manner).turns (opening program) ran.order
   pub dump : IsTrueDump ran.last (plain program (options_by manner).turns ran.order)
   pub live : KeepsWhatIsLive ran.last (story program (options_by manner).turns ran.order).flip

@@ -20,7 +20,7 @@ repeated steps at = slice_index_or steps (at % length steps) 0
 
 -- A seed has it, or else the items that the text lists, or else the workers have their turns. A
 -- position may name a worker that isn't there; then nothing happens, and a step is counted.
-abbrev pub schedule_of : Option ℕ → List Item → ℕ → ℕ → ℕ
-schedule_of (Some seed) items workers = drawn seed workers
-schedule_of None [] workers = in_turn workers
-schedule_of None (item ∷ items) workers = repeated (steps_listed (item ∷ items))
+abbrev pub scheduled_by : Option ℕ → List Item → ℕ → ℕ → ℕ
+scheduled_by (Some seed) items workers = drawn seed workers
+scheduled_by None [] workers = in_turn workers
+scheduled_by None (item ∷ items) workers = repeated (steps_listed (item ∷ items))

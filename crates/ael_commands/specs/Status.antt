@@ -38,11 +38,11 @@ telling WriteFault = fixed 6 (codes "ael: write fault")
 telling NoMemory = fixed 7 (codes "ael: out of memory")
 telling TooLong = fixed 8 (codes "ael: input too long")
 
-abbrev pub code_of : Status → ℕ
-code_of status = (telling status).code
+abbrev pub status_code : Status → ℕ
+status_code status = (telling status).code
 
-abbrev pub line_of : Status → List ℕ
-line_of status = (telling status).line
+abbrev pub status_line : Status → List ℕ
+status_line status = (telling status).line
 
 abbrev pub is_made : Status → Bool
 is_made status = (telling status).is_made

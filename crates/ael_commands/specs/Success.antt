@@ -6,7 +6,7 @@ use Rattle.mutator_asm.specs.Text.{IsText}
 use Rattle.ael_commands.specs.declared.job.Job.{Job}
 use Rattle.ael_commands.specs.Call.{Call}
 use Rattle.ael_commands.specs.Ends.{IsFaultless}
-use Rattle.ael_commands.specs.Jobs.{task_of, text_of}
+use Rattle.ael_commands.specs.Jobs.{job_task, job_text}
 use Rattle.ael_commands.specs.Task.{IsGiven}
 use Rattle.ael_commands.specs.Words.{job_of}
 
@@ -14,8 +14,8 @@ use Rattle.ael_commands.specs.Words.{job_of}
 -- count of faults rose.
 pub record GoesWell (call : Call) (job : Job) (bytes : List ℕ) : Type 0 where
   pub asked : job_of call.words ≡ Some job
-  pub given : IsGiven (task_of job).reads call.source bytes
-  pub right : (task_of job).IsRight bytes
+  pub given : IsGiven (job_task job).reads call.source bytes
+  pub right : (job_task job).IsRight bytes
   pub read : IsFaultless call.source.before call.source.after
   pub printed : IsFaultless call.out.before call.out.after
   pub told : IsFaultless call.err.before call.err.after
@@ -23,6 +23,6 @@ pub record GoesWell (call : Call) (job : Job) (bytes : List ℕ) : Type 0 where
 -- nothing fails in a call that asks for this job, whose text is that of this program, and memory is not wanting
 pub record Succeeds (call : Call) (job : Job) (program : List (List Instr)) (items : List Item) : Type 0 where
   pub bytes : List ℕ
-  pub text : IsText (text_of job bytes) program items
+  pub text : IsText (job_text job bytes) program items
   pub well : GoesWell call job bytes
   pub memory : call.code ≢ 7

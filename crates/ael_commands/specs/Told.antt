@@ -11,14 +11,14 @@ use Rattle.ael_commands.specs.declared.options.RunOptions.{RunOptions}
 
 -- what is seen of each mutator; how often the spaces were exchanged, and the words that were copied since, where all are; and what a dump
 -- tells
-pub record Told : Type 0 where
+pub record RunReport : Type 0 where
   pub seen : List Seen
   pub cycles : ℕ
   pub live : Option ℕ
   pub dump : Dumped
 
 -- of a core
-abbrev pub told_of : CoreState → Told
+abbrev pub told_of : CoreState → RunReport
 told_of s = record { seen = seen_of s; cycles = cycles_of s; live = live_of s; dump = dumped s }
 
 -- what the dump of a core tells, read by itself, represents a plain state
@@ -31,9 +31,9 @@ abbrev pub live_text : Option ℕ → List ℕ
 live_text None = codes "-"
 live_text (Some words) = decimal words
 
-abbrev pub cycles_line : Told → List ℕ
+abbrev pub cycles_line : RunReport → List ℕ
 cycles_line told = codes "cycles " ++ decimal told.cycles ++ codes " live " ++ live_text told.live ++ codes "\n"
 
 -- the lines that are asked for of the heap
-abbrev pub heap_lines : RunOptions → Told → List ℕ
+abbrev pub heap_lines : RunOptions → RunReport → List ℕ
 heap_lines options told = (if options.cycles then cycles_line told else []) ++ (if options.dump then dump_text told.dump else [])

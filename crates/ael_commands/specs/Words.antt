@@ -31,8 +31,8 @@ IsKnown p =
     ⊎ ((p.0 ≡ codes "bench") × HoldOptions bench_numbers bench_wide p.1)))
 
 -- the numbers of a job are in their ranges
-abbrev pub IsInRange : Job → Type 0
-IsInRange Asm = ⊤
-IsInRange (Bench operands) = IsDepth operands.depth
-IsInRange (Sim options) = AreInRange options.run
-IsInRange (Run options) = AreInRange options
+abbrev pub NumbersAreInRange : Job → Type 0
+NumbersAreInRange Asm = ⊤
+NumbersAreInRange (Bench operands) = IsDepth operands.depth
+NumbersAreInRange (Sim options) = AreInRange options.run
+NumbersAreInRange (Run options) = AreInRange options

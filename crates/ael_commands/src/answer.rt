@@ -2,7 +2,7 @@
 
 ghost use Rattle.std.specs.Prelude.{◌≡◌, ◌⊎◌, [], IfOk, OnErr, true};
 ghost use Rattle.std.specs.Cow.{cow_str_bytes};
-ghost use Rattle.ael_commands.specs.Status.{is_made, line_of};
+ghost use Rattle.ael_commands.specs.Status.{is_made, status_line};
 
 use crate::status::{NO_MEMORY, Status};
 use plain_heap::NoMemory;
@@ -16,7 +16,7 @@ pub struct Answer {
     pub status: Status,
     /// What standard error gets.
     pub line: CowStr<'static, Global>,
-    ghost line_is: { cow_str_bytes line ≡ line_of status },
+    ghost line_is: { cow_str_bytes line ≡ status_line status },
 }
 
 impl Answer {

@@ -7,12 +7,12 @@ ghost use Rattle.ael_commands.specs.declared.job.Job.{Job};
 ghost use Rattle.ael_commands.specs.declared.job.Job.TheVariants.{Run};
 ghost use Rattle.ael_commands.specs.declared.status.Status.TheVariants.{NoMemory, ReadFault};
 ghost use Rattle.ael_commands.specs.Answer.{IsAnswer, IsAsked, IsCaused, IsDrawnFor};
-ghost use Rattle.ael_commands.specs.Ends.{drawn};
-ghost use Rattle.ael_commands.specs.Jobs.{IsStill, is_waiting, task_of};
+ghost use Rattle.ael_commands.specs.Ends.{drawn_and_filled};
+ghost use Rattle.ael_commands.specs.Jobs.{IsStill, is_waiting, job_task};
 ghost use Rattle.ael_commands.specs.Options.{AreInRange};
 ghost use Rattle.ael_commands.specs.ProgramTask.{IsTextIn, IsUnfit};
 ghost use Rattle.ael_commands.specs.Task.{Everything, IsDrawn};
-ghost use Rattle.ael_commands.specs.Words.{IsInRange};
+ghost use Rattle.ael_commands.specs.Words.{NumbersAreInRange};
 
 use crate::answer::Answer;
 use crate::asm::asm;
@@ -38,9 +38,9 @@ pub fn answer<R: Threads + Wait + Sync, S: Source>(
     asked: Result<Job, WordsError>,
     src: &mut S,
 ) -> Answer
-    requires { ForOk asked IsInRange }
-    ensures answer { (words : Option Job) → IsAsked words asked → IsAnswer words (drawn S.Source src.old src.new) result.output.items result.status }
-    ensures drawn { (words : Option Job) → IsAsked words asked → IsDrawnFor words (drawn S.Source src.old src.new) }
+    requires { ForOk asked NumbersAreInRange }
+    ensures answer { (words : Option Job) → IsAsked words asked → IsAnswer words (drawn_and_filled S.Source src.old src.new) result.output.items result.status }
+    ensures drawn { (words : Option Job) → IsAsked words asked → IsDrawnFor words (drawn_and_filled S.Source src.old src.new) }
     ensures counted { result.status ≢ ReadFault → S.faults src.new ≡ S.faults src.old }
 {
     match asked {
@@ -54,10 +54,10 @@ pub fn answer<R: Threads + Wait + Sync, S: Source>(
 
 /// The answer to what was asked for, where that waits for nobody.
 pub fn answer_still<S: Source>(alloc: Global, asked: Result<Job, WordsError>, src: &mut S) -> Answer
-    requires range { ForOk asked IsInRange }
+    requires range { ForOk asked NumbersAreInRange }
     requires still { ForOk asked IsStill }
-    ensures answer { (words : Option Job) → IsAsked words asked → IsAnswer words (drawn S.Source src.old src.new) result.output.items result.status }
-    ensures drawn { (words : Option Job) → IsAsked words asked → IsDrawnFor words (drawn S.Source src.old src.new) }
+    ensures answer { (words : Option Job) → IsAsked words asked → IsAnswer words (drawn_and_filled S.Source src.old src.new) result.output.items result.status }
+    ensures drawn { (words : Option Job) → IsAsked words asked → IsDrawnFor words (drawn_and_filled S.Source src.old src.new) }
     ensures counted { result.status ≢ ReadFault → S.faults src.new ≡ S.faults src.old }
     ensures wanting { (words : Option Job) → IsAsked words asked → is_waiting words ≡ true → (result.output.items ≡ []) × (result.status ≡ NoMemory) × (src.new ≡ src.old) }
 {
@@ -80,9 +80,9 @@ fn wait_for<R: Threads + Wait + Sync, S: Source>(
     src: &mut S,
 ) -> Result<Answer, Status>
     requires { AreInRange options }
-    ensures ok { IfOk result (λ answer. IsCaused (Run options) (drawn S.Source src.old src.new) answer.output.items answer.status) }
-    ensures err { IfErr result (IsCaused (Run options) (drawn S.Source src.old src.new) []) }
-    ensures drawn { IsDrawnFor (Some (Run options)) (drawn S.Source src.old src.new) }
+    ensures ok { IfOk result (λ answer. IsCaused (Run options) (drawn_and_filled S.Source src.old src.new) answer.output.items answer.status) }
+    ensures err { IfErr result (IsCaused (Run options) (drawn_and_filled S.Source src.old src.new) []) }
+    ensures drawn { IsDrawnFor (Some (Run options)) (drawn_and_filled S.Source src.old src.new) }
     ensures counted { result ≢ Err ReadFault → S.faults src.new ≡ S.faults src.old }
 {
     or_no_memory(run(rt, alloc, &read_program(alloc, src)?, options))
@@ -90,11 +90,11 @@ fn wait_for<R: Threads + Wait + Sync, S: Source>(
 
 /// The answer to a job that waits for nobody.
 fn work<S: Source>(alloc: Global, job: Job, src: &mut S) -> Result<Answer, Status>
-    requires range { IsInRange job }
+    requires range { NumbersAreInRange job }
     requires still { IsStill job }
-    ensures ok { IfOk result (λ answer. IsCaused job (drawn S.Source src.old src.new) answer.output.items answer.status) }
-    ensures err { IfErr result (IsCaused job (drawn S.Source src.old src.new) []) }
-    ensures drawn { IsDrawnFor (Some job) (drawn S.Source src.old src.new) }
+    ensures ok { IfOk result (λ answer. IsCaused job (drawn_and_filled S.Source src.old src.new) answer.output.items answer.status) }
+    ensures err { IfErr result (IsCaused job (drawn_and_filled S.Source src.old src.new) []) }
+    ensures drawn { IsDrawnFor (Some job) (drawn_and_filled S.Source src.old src.new) }
     ensures counted { result ≢ Err ReadFault → S.faults src.new ≡ S.faults src.old }
 {
     match job {
@@ -105,11 +105,11 @@ fn work<S: Source>(alloc: Global, job: Job, src: &mut S) -> Result<Answer, Statu
 
 /// What a job that waits for nobody makes of its program.
 fn make(alloc: Global, program: &Program, job: Job) -> Result<Answer, plain_heap::NoMemory>
-    requires range { IsInRange job }
+    requires range { NumbersAreInRange job }
     requires still { IsStill job }
-    requires reads { (task_of job).reads ≡ Everything }
+    requires reads { (job_task job).reads ≡ Everything }
     ensures { IfOk result (λ answer. (bytes : List ℕ) → IsText bytes program.now.code program.now.schedule
-        → (task_of job).Makes bytes answer.output.items answer.status) }
+        → (job_task job).Makes bytes answer.output.items answer.status) }
 {
     match job {
         Job::Asm => asm(alloc, program),
@@ -128,9 +128,9 @@ fn or_no_memory(made: Result<Answer, plain_heap::NoMemory>) -> Result<Answer, St
 
 /// The program whose text is the input.
 fn read_program<S: Source>(alloc: Global, src: &mut S) -> Result<Program, Status>
-    ensures ok { IfOk result (λ program. IsTextIn (drawn S.Source src.old src.new) program.code program.schedule) }
-    ensures err { IfErr result (IsUnfit (drawn S.Source src.old src.new)) }
-    ensures drawn { IsDrawn Everything (drawn S.Source src.old src.new) }
+    ensures ok { IfOk result (λ program. IsTextIn (drawn_and_filled S.Source src.old src.new) program.code program.schedule) }
+    ensures err { IfErr result (IsUnfit (drawn_and_filled S.Source src.old src.new)) }
+    ensures drawn { IsDrawn Everything (drawn_and_filled S.Source src.old src.new) }
     ensures counted { result ≢ Err ReadFault → S.faults src.new ≡ S.faults src.old }
 {
     let text = read_all(alloc, src)?;

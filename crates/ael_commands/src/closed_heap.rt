@@ -15,22 +15,22 @@ pub struct ClosedHeap {
 }
 
 impl Model for ClosedHeap {
-    ghost use Rattle.ael_commands.specs.ClosedHeap.{IsWhole, told_by};
-    ghost use Rattle.ael_commands.specs.Told.{Told};
+    ghost use Rattle.ael_commands.specs.ClosedHeap.{IsWholeHeap, told_by};
+    ghost use Rattle.ael_commands.specs.Told.{RunReport};
 
-    ghost Value = { Told };
+    ghost Value = { RunReport };
 
     ghost view = { λ c. told_by c.spaces.pages c.outputs };
 
-    ghost invariant = { λ c. IsWhole c.spaces.pages c.outputs };
+    ghost invariant = { λ c. IsWholeHeap c.spaces.pages c.outputs };
 }
 
 impl ClosedHeap {
     ghost use Rattle.std.specs.Prelude.{◌≡◌};
-    ghost use Rattle.ael_commands.specs.ClosedHeap.{IsWhole, told_by};
+    ghost use Rattle.ael_commands.specs.ClosedHeap.{IsWholeHeap, told_by};
 
     pub fn new(spaces: Spaces, outputs: Outputs) -> ClosedHeap
-        requires { IsWhole spaces.pages outputs }
+        requires { IsWholeHeap spaces.pages outputs }
         ensures { result ≡ told_by spaces.pages outputs }
     {
         ClosedHeap { spaces, outputs }

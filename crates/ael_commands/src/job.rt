@@ -18,11 +18,11 @@ pub enum Job {
 
 impl Job {
     ghost use Rattle.std.specs.Prelude.{◌≡◌};
-    ghost use Rattle.ael_commands.specs.Jobs.{task_of};
+    ghost use Rattle.ael_commands.specs.Jobs.{job_task};
 
     /// Whether it waits for other threads.
     pub fn waits(self) -> bool
-        ensures { result ≡ (task_of self).waits }
+        ensures { result ≡ (job_task self).waits }
     {
         match self {
             Job::Asm | Job::Bench(_) | Job::Sim(_) => false,

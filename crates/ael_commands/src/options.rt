@@ -4,14 +4,14 @@ use clap::ArgMatches;
 use gc_core::Config;
 use gc_worker::MOST_TURNS;
 use simple_commands::{Numbers, is_given, number_of, wide_number};
-use space_map::{MAX_PAGES, MIN_PAGES, MOST_SCANNERS};
+use space_map::{MOST_PAGES, FEWEST_PAGES, MOST_SCANNERS};
 
 /// The pages of a space.
 pub const PAGES: (&str, Numbers) = (
     "pages",
     Numbers {
-        least: MIN_PAGES,
-        most: MAX_PAGES,
+        least: FEWEST_PAGES,
+        most: MOST_PAGES,
         default: 256,
     },
 );

@@ -3,13 +3,13 @@
 ghost use Rattle.std.specs.Prelude.{◌≡◌, ◌≢◌, ◌<◌, ◌≤◌, IfOk, Err, length};
 ghost use Rattle.ael_commands.specs.Stream.{Rose};
 ghost use Rattle.ael_commands.specs.declared.reading.ReadError.TheVariants.{Fault, TooLong, NoMemory};
-ghost use Rattle.ael_commands.specs.Input.{IsWhole, IsPastLimit, IsBounded};
+ghost use Rattle.ael_commands.specs.Input.{IsWholeInput, IsPastLimit, IsBounded};
 
 use crate::source::{Got, Source};
 use std::alloc::{AllocError, Global};
 
 /// The most bytes of an input.
-pub const MAX_INPUT: usize = 1_048_576;
+pub const LONGEST_INPUT: usize = 1_048_576;
 
 /// Why an input was not read.
 #[derive(Clone, Copy, Debug, PartialEq, Eq)]
@@ -35,7 +35,7 @@ impl From<AllocError> for ReadError {
 
 /// Reads all that a source gives, or at most one byte more than an input may have.
 pub fn read_all<S: Source>(alloc: Global, src: &mut S) -> Result<Vec<u8>, ReadError>
-    ensures whole { IfOk result (λ bytes. IsWhole (S.left src.old) (S.left src.new) bytes.items) }
+    ensures whole { IfOk result (λ bytes. IsWholeInput (S.left src.old) (S.left src.new) bytes.items) }
     ensures too_long { result ≡ Err TooLong → IsPastLimit (S.left src.old) }
     ensures bounded { IsBounded (S.left src.old) (S.left src.new) }
     ensures never_falls { S.faults src.old ≤ S.faults src.new }
@@ -44,8 +44,8 @@ pub fn read_all<S: Source>(alloc: Global, src: &mut S) -> Result<Vec<u8>, ReadEr
 {
     let mut bytes = Vec::new(alloc);
     let mut buf = [0u8; 4096];
-    while bytes.len() <= MAX_INPUT {
-        let room = buf.len().min(MAX_INPUT + 1 - bytes.len());
+    while bytes.len() <= LONGEST_INPUT {
+        let room = buf.len().min(LONGEST_INPUT + 1 - bytes.len());
         match src.read(&mut buf[..room]) {
             Got::Bytes(count) => bytes.extend_from_slice(&buf[..count])?,
             Got::End => return Ok(bytes),

@@ -3,7 +3,7 @@
 ghost use Rattle.std.specs.Prelude.{◌≡◌, ◌<◌, Some, length, option_map, slice_get};
 ghost use Rattle.std.specs.List.{list_all};
 ghost use Rattle.ael_commands.specs.Seen.{has_ended};
-ghost use Rattle.ael_commands.specs.Told.{Told};
+ghost use Rattle.ael_commands.specs.Told.{RunReport};
 
 use gc_core::Core;
 use plain_heap::End;
@@ -12,7 +12,7 @@ use plain_state::REGISTERS;
 /// Tells of a heap and its workers. Mutators and workers are told of by their numbers, which begin with 0.
 pub trait Report {
     /// All that it tells.
-    ghost told: { Self → Told };
+    ghost told: { Self → RunReport };
 
     /// The pages of a space.
     fn pages(&self) -> u32

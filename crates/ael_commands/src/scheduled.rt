@@ -7,7 +7,7 @@ ghost use Rattle.mutator_asm.specs.Program.{is_item};
 ghost use Rattle.gc_core.specs.Core.{workers_of};
 ghost use Rattle.gc_core.specs.Event.{event_of, core_after};
 ghost use Rattle.gc_core.specs.Run.{all_ended, run_from};
-ghost use Rattle.ael_commands.specs.Schedule.{schedule_of};
+ghost use Rattle.ael_commands.specs.Schedule.{scheduled_by};
 
 use crate::notes::{Notes, Unnoted};
 use crate::options::SimOptions;
@@ -102,9 +102,9 @@ pub fn run_by_schedule(
 ) -> Result<Vec<Mark>, AllocError>
     requires some { 0 < workers_of core.old }
     requires items { IsTrue (list_all is_item items.now) }
-    ensures core { OnOk result (core.new ≡ (run_from (schedule_of options.seed items.now (workers_of core.old)) 0 options.steps core.old).last) }
+    ensures core { OnOk result (core.new ≡ (run_from (scheduled_by options.seed items.now (workers_of core.old)) 0 options.steps core.old).last) }
     ensures order { IfOk result (λ order. options.order ≡ true
-        → order.items ≡ (run_from (schedule_of options.seed items.now (workers_of core.old)) 0 options.steps core.old).order) }
+        → order.items ≡ (run_from (scheduled_by options.seed items.now (workers_of core.old)) 0 options.steps core.old).order) }
 {
     let workers = core.workers();
     match options.seed {

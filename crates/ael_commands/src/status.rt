@@ -41,11 +41,11 @@ pub enum Status {
 impl Status {
     ghost use Rattle.std.specs.Prelude.{◌≡◌, IfOk, OnErr, true};
     ghost use Rattle.std.specs.Cow.{cow_str_bytes};
-    ghost use Rattle.ael_commands.specs.Status.{code_of, is_made, line_of};
+    ghost use Rattle.ael_commands.specs.Status.{status_code, is_made, status_line};
 
     /// The program's exit status.
     pub fn code(self) -> u8
-        ensures { result ≡ code_of self }
+        ensures { result ≡ status_code self }
     {
         match self {
             Status::Done => 0,
@@ -63,7 +63,7 @@ impl Status {
     /// The line that standard error gets, empty where it gets none. Only one that is made from numbers
     /// takes memory.
     pub fn line(self, alloc: Global) -> Result<CowStr<'static, Global>, NoMemory>
-        ensures line { IfOk result (λ line. cow_str_bytes line ≡ line_of self) }
+        ensures line { IfOk result (λ line. cow_str_bytes line ≡ status_line self) }
         ensures spends { OnErr result (is_made self ≡ true) }
     {
         let line = match self {

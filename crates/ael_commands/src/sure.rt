@@ -2,9 +2,9 @@
 
 ghost use Rattle.std.specs.Prelude.{◌≡◌, ◌<◌, ◌≤◌, ◌⊎◌, None, Some, length, map, string_bytes};
 ghost use Rattle.ael_commands.specs.declared.job.Job.{Job};
-ghost use Rattle.ael_commands.specs.declared.reading.TheConstants.{MAX_INPUT};
+ghost use Rattle.ael_commands.specs.declared.reading.TheConstants.{LONGEST_INPUT};
 ghost use Rattle.ael_commands.specs.declared.sink.Put.TheVariants as put;
-ghost use Rattle.ael_commands.specs.Jobs.{task_of};
+ghost use Rattle.ael_commands.specs.Jobs.{job_task};
 ghost use Rattle.ael_commands.specs.Sure.{GoesAs};
 ghost use Rattle.ael_commands.specs.Words.{job_of};
 
@@ -82,8 +82,8 @@ pub fn sure_status<R: Threads + Wait + Sync>(
     words: &[String],
     input: Vec<u8>,
 ) -> u8
-    ensures { (job : Job) → job_of (map string_bytes words.now) ≡ Some job → length input.items ≤ MAX_INPUT → (task_of job).IsRight input.items
-        → GoesAs (task_of job) input.items result ⊎ (result ≡ 7) }
+    ensures { (job : Job) → job_of (map string_bytes words.now) ≡ Some job → length input.items ≤ LONGEST_INPUT → (job_task job).IsRight input.items
+        → GoesAs (job_task job) input.items result ⊎ (result ≡ 7) }
 {
     let mut src = SureSource::new(input);
     ael(rt, alloc, words, &mut src, &mut SureSink, &mut SureSink)

@@ -5,7 +5,7 @@ ghost use Rattle.ael_commands.specs.Answer.{IsAnswerTo};
 ghost use Rattle.ael_commands.specs.Call.{call_of, call_with};
 ghost use Rattle.ael_commands.specs.Emits.{IsEmitted};
 ghost use Rattle.ael_commands.specs.Ends.{Drawn, filled};
-ghost use Rattle.ael_commands.specs.Headline.{Holds, IsAlwaysTheSame, IsAnswered, IsComplete, IsOutOfMemory, PrintsListing, PrintsPlainly};
+ghost use Rattle.ael_commands.specs.Headline.{HeadlineHolds, IsAlwaysTheSame, CallIsAnswered, IsComplete, IsOutOfMemory, PrintsListing, PrintsPlainly};
 ghost use Rattle.ael_commands.specs.Jobs.{is_waiting};
 ghost use Rattle.ael_commands.specs.Words.{job_of};
 
@@ -32,7 +32,7 @@ pub fn ael<R: Threads + Wait + Sync, S: Source, O: Sink, E: Sink>(
     out: &mut O,
     err: &mut E,
 ) -> u8
-    ensures headline { IsAnswered (call_of S.Source O.Sink E.Sink words.now src.old src.new out.old out.new err.old err.new result) }
+    ensures headline { CallIsAnswered (call_of S.Source O.Sink E.Sink words.now src.old src.new out.old out.new err.old err.new result) }
     ensures complete { IsComplete (call_of S.Source O.Sink E.Sink words.now src.old src.new out.old out.new err.old err.new result) }
     ensures prints { PrintsPlainly (call_of S.Source O.Sink E.Sink words.now src.old src.new out.old out.new err.old err.new result) }
     ensures lists { PrintsListing (call_of S.Source O.Sink E.Sink words.now src.old src.new out.old out.new err.old err.new result) }
@@ -56,7 +56,7 @@ pub fn ael_still<S: Source, O: Sink, E: Sink>(
     out: &mut O,
     err: &mut E,
 ) -> Option<u8>
-    ensures holds { IfSome result (λ code. Holds (call_of S.Source O.Sink E.Sink words.now src.old src.new out.old out.new err.old err.new code)) }
+    ensures holds { IfSome result (λ code. HeadlineHolds (call_of S.Source O.Sink E.Sink words.now src.old src.new out.old out.new err.old err.new code)) }
     ensures none_only_for_what_waits { result ≡ None → is_waiting (job_of (map string_bytes words.now)) ≡ true }
     ensures some_for_what_waits_only_without_memory { is_waiting (job_of (map string_bytes words.now)) ≡ true
         → IfSome result (λ code. IsOutOfMemory (call_of S.Source O.Sink E.Sink words.now src.old src.new out.old out.new err.old err.new code)) }
@@ -72,7 +72,7 @@ pub fn ael_still<S: Source, O: Sink, E: Sink>(
 fn finish<O: Sink, E: Sink>(answer: &Answer, out: &mut O, err: &mut E) -> u8
     ensures emitted { IsEmitted answer.now.output.items answer.now.status (filled O.Sink out.old out.new) (filled E.Sink err.old err.new) result }
     ensures holds { (words : List (List ℕ)) (source : Drawn) → IsAnswerTo (job_of words) source answer.now.output.items answer.now.status
-        → Holds (call_with words source (filled O.Sink out.old out.new) (filled E.Sink err.old err.new) result) }
+        → HeadlineHolds (call_with words source (filled O.Sink out.old out.new) (filled E.Sink err.old err.new) result) }
 {
     // The theorems that the proof takes.
     one_program();

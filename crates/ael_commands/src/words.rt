@@ -7,7 +7,7 @@ ghost use Rattle.clap.specs.Takes.{takes};
 ghost use Rattle.clap.specs.Walk.{rows_of};
 ghost use Rattle.simple_commands.specs.declared.parsing.WordsError.TheVariants.{Refused};
 ghost use Rattle.ael_commands.specs.CommandLine.{ael_app};
-ghost use Rattle.ael_commands.specs.Words.{job_from, job_of, IsInRange, IsKnown};
+ghost use Rattle.ael_commands.specs.Words.{job_from, job_of, NumbersAreInRange, IsKnown};
 ghost use Rattle.ael_commands.specs.Answer.{IsAsked};
 
 use crate::command_line::command;
@@ -22,7 +22,7 @@ use std::alloc::Global;
 fn job_named(name: &str, given: &ArgMatches) -> Option<Job>
     requires { IsKnown (name.now, rows_of (found_of given.now)) }
     ensures value { result ≡ Some (job_from (name.now, rows_of (found_of given.now))) }
-    ensures range { IfSome result IsInRange }
+    ensures range { IfSome result NumbersAreInRange }
 {
     match name {
         "asm" => Some(Job::Asm),
@@ -37,7 +37,7 @@ fn job_named(name: &str, given: &ArgMatches) -> Option<Job>
 fn job_in(matches: &ArgMatches) -> Option<Job>
     requires { IfSome (subcommand_rows_of matches.now) IsKnown }
     ensures value { result ≡ option_map job_from (subcommand_rows_of matches.now) }
-    ensures range { IfSome result IsInRange }
+    ensures range { IfSome result NumbersAreInRange }
 {
     let (name, given) = matches.subcommand()?;
     job_named(name, given)
@@ -60,7 +60,7 @@ fn parsed<'a>(alloc: Global, words: &'a [String]) -> Result<ArgMatches<'a>, Word
 /// them or they name no subcommand; want of memory can come at any words.
 pub fn read_words(alloc: Global, words: &[String]) -> Result<Job, WordsError>
     ensures asked { IsAsked (job_of (map string_bytes words.now)) result }
-    ensures range { IfOk result IsInRange }
+    ensures range { IfOk result NumbersAreInRange }
 {
     job_in(&parsed(alloc, words)?).ok_or(WordsError::Refused)
 }

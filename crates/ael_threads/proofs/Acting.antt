@@ -24,7 +24,7 @@ use Rattle.ael_threads.specs.declared.view.Hand.{Hand}
 use Rattle.ael_threads.specs.declared.view.Plan.{Plan}
 use Rattle.ael_threads.specs.Histories.{first_plain}
 use Rattle.ael_threads.specs.Readers.{IsThere}
-use Rattle.ael_threads.specs.Seats.{Acts, ActsBy, Heads, Moves, Seated, first_number, plain_seen}
+use Rattle.ael_threads.specs.Seats.{Acts, ActsBy, Heads, Moves, Seated, first_number, plain_after_seen}
 use Rattle.gc_worker.proofs.History.Extensions.{as_many}
 
 pub heads_fit : (plan : Plan) (x : Held) (hs : List Hand) → Heads plan x hs → Fits plan.spaces.pages plan.mutators (first_number hs) x
@@ -38,7 +38,7 @@ pub is_there : (a : Seated) → Heads a.knows.plan a.worker a.knows.hands → a.
 is_there a heads below =
     let f = heads_fit a.knows.plan a.worker a.knows.hands heads in
     let beside : a.worker.mutators ≡ a.knows.plan.mutators = f.beside in
-    let many : length (plain_seen a.knows).mutators ≡ a.knows.plan.mutators = as_many (first_plain a.knows.plan) a.knows.seen ∙ length-replicate a.knows.plan.mutators opening_mutator in (
+    let many : length (plain_after_seen a.knows).mutators ≡ a.knows.plan.mutators = as_many (first_plain a.knows.plan) a.knows.seen ∙ length-replicate a.knows.plan.mutators opening_mutator in (
       sym f.number,
       omega (arith, below, beside, many),
     )

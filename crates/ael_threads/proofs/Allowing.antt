@@ -16,7 +16,7 @@ use Rattle.ael_threads.specs.declared.view.Hand.{Hand}
 use Rattle.ael_threads.specs.declared.view.Plan.{Plan}
 use Rattle.ael_threads.specs.declared.view.View.{View}
 use Rattle.gc_worker.specs.History.Legal.{calls_of}
-use Rattle.ael_threads.specs.Rule.{Kept, view}
+use Rattle.ael_threads.specs.Rule.{RuleHolds, view}
 use Rattle.ael_threads.specs.Seats.{Follows, Heads, IsMine, Me, Moves, Plays, ShowsSeen, first_number, first_own, reply_to}
 use Rattle.ael_threads.proofs.Turning.{Came, TableState, moves}
 
@@ -49,7 +49,7 @@ comes : (plan : Plan) (id : ℕ) (v v' : View) (x : Held) (q : Step) (s : TableS
 comes plan id v v' x q s same h =
     subst (λ (z : View × (List ℕ × Reply)). Came plan id z.0 (first_number z.0.hands) x z.1.1 s z.1.0) (λ i. (same i, (words_are s.words q i, reply_is s.words q i))) h
 
-turns : (plan : Plan) (id : ℕ) (v : View) (x : Held) (q : Step) (hs : List Hand) → v.hands ≡ hs → Heads v.plan x hs → 0 < v.plan.spaces.pages → IsMine v → ShowsSeen x v → wanted x ≡ Some q → (s : TableState) → Kept plan s
+turns : (plan : Plan) (id : ℕ) (v : View) (x : Held) (q : Step) (hs : List Hand) → v.hands ≡ hs → Heads v.plan x hs → 0 < v.plan.spaces.pages → IsMine v → ShowsSeen x v → wanted x ≡ Some q → (s : TableState) → RuleHolds plan s
     → get_elem? s.views id ≡ some v
     → Came plan id v (first_number v.hands) x (reply_to q (get_or s.words (place_in q) 0)) s (set s.words (place_in q) (word_after q (get_or s.words (place_in q) 0)))
 turns plan id v x q [] e heads live mine shows want s b at = absurd heads
@@ -64,7 +64,7 @@ turns plan id v x q (was ∷ others) e heads live mine shows want s b at =
 
 -- the same as the table asks it, for any way in which the step tells what it found
 pub allows : (plan : Plan) (slots id : ℕ) (me : Me) (x : Held) (q : Step) → Heads me.0.plan x me.0.hands → 0 < me.0.plan.spaces.pages → IsMine me.0 → ShowsSeen x me.0 → wanted x ≡ Some q → (st : table.Step ℕ) (says : ℕ → ℕ)
-    → ((found : ℕ) → reply_to q (says found) ≡ reply_to q found) → table.Allows (Kept plan) slots id me (place_in q) (word_after q) (λ found later. Plays x st me (says found) later)
+    → ((found : ℕ) → reply_to q (says found) ≡ reply_to q found) → table.Allows (RuleHolds plan) slots id me (place_in q) (word_after q) (λ found later. Plays x st me (says found) later)
 allows plan slots id me x q heads live mine shows want st says same s b homes at small =
     let t = turns plan id me.0 x q me.0.hands refl heads live mine shows want s b at in
     let found : ℕ = get_or s.words (place_in q) 0 in (

@@ -22,13 +22,13 @@ use Rattle.gc_worker.specs.declared.did.Did.{Did}
 use Rattle.gc_worker.specs.declared.did.Did.TheVariants.{Done, Trap}
 use Rattle.gc_worker.specs.declared.entry.Entry.{Entry}
 use Rattle.ael_threads.specs.declared.view.Plan.{Plan}
-use Rattle.ael_threads.specs.Calls.{Called, IsQuiet, KnowsWorker, call_by}
-use Rattle.gc_worker.specs.History.Legal.{IsLegal, after_all, call, calls_of, extra, last_flip}
-use Rattle.ael_threads.specs.Histories.{HasOwn, first_plain, hand}
-use Rattle.ael_threads.specs.Programs.{HasExecuted, count_after, fetched_at}
+use Rattle.ael_threads.specs.Calls.{Called, StaysSilent, KnowsWorker, call_by}
+use Rattle.gc_worker.specs.History.Legal.{IsLegal, after_all, worker_call, calls_of, extra, last_flip}
+use Rattle.ael_threads.specs.Histories.{HasOwnCalls, first_plain, hand}
+use Rattle.ael_threads.specs.Programs.{HasExecuted, count_after_call, fetched_at}
 use Rattle.ael_threads.specs.Rule.{StandsAs, heap_of}
-use Rattle.ael_threads.specs.Running.{Executed, Executing, FoundFull, FullByEnd, HasRun, IsScanning, Work}
-use Rattle.ael_threads.specs.Seats.{Acts, IsMine, IsShown, Seated, ShowsSeen, first_number, first_own, plain_seen, seen_after}
+use Rattle.ael_threads.specs.Running.{Executed, Executing, FoundFull, EndFoundFull, HasRun, RunsAsScanner, Work}
+use Rattle.ael_threads.specs.Seats.{Acts, IsMine, IsShown, Seated, ShowsSeen, first_number, first_own, plain_after_seen, seen_after}
 use Rattle.ael_threads.specs.Began.{FlippedSinceBegun}
 use Rattle.ael_threads.proofs.Calling.{found_is, quiet_first, quiet_more}
 use Rattle.gc_worker.proofs.History.Extensions.{legal_last}
@@ -54,7 +54,7 @@ is_done Done not = refl
 is_done (Trap end) not = absurd (not end refl)
 
 -- a seat that has its worker alone, of which nothing is heard
-still_alone : (m : ℕ) (own : List Call) (a b : Seated) → a.knows.hands ≡ hand m a.worker own ∷ [] → IsQuiet a b → b.knows.hands ≡ hand m b.worker own ∷ []
+still_alone : (m : ℕ) (own : List Call) (a b : Seated) → a.knows.hands ≡ hand m a.worker own ∷ [] → StaysSilent a b → b.knows.hands ≡ hand m b.worker own ∷ []
 still_alone m own a b is q =
     let known : KnowsWorker a = is ∙ (λ i. hand (first_number (sym is i)) a.worker (first_own (sym is i)) ∷ drop 1 (sym is i)) in
     q.known known ∙ (λ i. hand ((q.rests.number ∙ ap first_number is) i) b.worker ((q.rests.own ∙ ap first_own is) i) ∷ (q.rests.others ∙ ap (drop 1) is) i)
@@ -79,12 +79,12 @@ module _ (w : Work) (m count : ℕ) (a : Seated) (h : Executing w m count a) whe
 
   -- its next call is of the task that it fetches
   abbrev IsNext : Task → Type 0
-  IsNext task = (q : Mutator) → slice_get (plain_seen a.knows).mutators (first_number a.knows.hands) ≡ Some q → task ≡ task_of (fetch w.code w.turns (first_number a.knows.hands) q)
+  IsNext task = (q : Mutator) → slice_get (plain_after_seen a.knows).mutators (first_number a.knows.hands) ≡ Some q → task ≡ task_of (fetch w.code w.turns (first_number a.knows.hands) q)
 
   -- which is read off its worker
   pub read_off : (task : Task) → ShowsSeen a.worker a.knows → task ≡ next w m a.worker.account.counter count → IsNext task
   read_off task shows is q its = is ∙ ((λ i. task_of (fetched_at w.code w.turns (sym number_is i) a.worker.account.counter count))
-      ∙ ap task_of (sym (fetches_shown w.code w.turns (first_number a.knows.hands) count (plain_seen a.knows).heap a.worker q (shows q its) (h.executed.counts.executed q its))))
+      ∙ ap task_of (sym (fetches_shown w.code w.turns (first_number a.knows.hands) count (plain_after_seen a.knows).heap a.worker q (shows q its) (h.executed.counts.executed q its))))
 
   -- where no turns are left that is their end
   pub out_of_turns : w.turns ≤ count → IsNext (Stops TurnsOut)
@@ -94,13 +94,13 @@ module _ (w : Work) (m count : ℕ) (a : Seated) (h : Executing w m count a) whe
     legal_after : IsLegal (first_plain w.plan) b.knows.seen
     legal_after = subst (λ (plan : Plan). IsLegal (first_plain plan) b.knows.seen) h.plan c.history.legal
 
-    hands_after : b.knows.hands ≡ hand m b.worker (h.own ++ call m task did ∷ []) ∷ []
-    hands_after = c.hands ∙ (λ i. hand (number_is i) b.worker (first_own (h.hands i) ++ call (number_is i) task did ∷ []) ∷ drop 1 (h.hands i))
+    hands_after : b.knows.hands ≡ hand m b.worker (h.own ++ worker_call m task did ∷ []) ∷ []
+    hands_after = c.hands ∙ (λ i. hand (number_is i) b.worker (first_own (h.hands i) ++ worker_call (number_is i) task did ∷ []) ∷ drop 1 (h.hands i))
 
     mine_after : IsMine b.knows
-    mine_after = let own = (subst (HasOwn b.knows.seen) hands_after c.history.own).0 in (λ i. calls_of (first_number (hands_after i)) b.knows.seen) ∙ (own ∙ sym (ap first_own hands_after))
+    mine_after = let own = (subst (HasOwnCalls b.knows.seen) hands_after c.history.own).0 in (λ i. calls_of (first_number (hands_after i)) b.knows.seen) ∙ (own ∙ sym (ap first_own hands_after))
 
-    executed_after : IsNext task → HasExecuted w.code w.turns (count_after did count) b
+    executed_after : IsNext task → HasExecuted w.code w.turns (count_after_call did count) b
     executed_after own = executed_more w.code w.turns count a b task did h.mine h.executed c own
 
   -- after a call that was executed
@@ -108,7 +108,7 @@ module _ (w : Work) (m count : ℕ) (a : Seated) (h : Executing w m count a) whe
   executing_more b task same own c = record {
     table = same ∙ h.table;
     plan = c.plan ∙ h.plan;
-    own = h.own ++ call m task Done ∷ [];
+    own = h.own ++ worker_call m task Done ∷ [];
     hands = hands_after b task Done c;
     mine = mine_after b task Done c;
     task = c.rests;
@@ -135,7 +135,7 @@ module _ (w : Work) (m count : ℕ) (a : Seated) (h : Executing w m count a) whe
         flipped = subst (λ (v : Plan × (ℕ × List Entry)). FlippedSinceBegun v.0 v.1.0 task v.1.1) (λ i. (h.plan i, (number_is i, found_is a b task (Trap (HeapFull asked room live)) c i))) c.flipped.since;
       }
 
-  full_by : (b : Seated) (task : Task) (end : End) → Called a task (Trap end) b → FullByEnd w.plan m b.knows.seen end
+  full_by : (b : Seated) (task : Task) (end : End) → Called a task (Trap end) b → EndFoundFull w.plan m b.knows.seen end
   full_by b task (HeapFull asked room live) c = found b task asked room live c
   full_by b task Halt c = tt
   full_by b task NotPointer c = tt
@@ -152,7 +152,7 @@ module _ (w : Work) (m count : ℕ) (a : Seated) (h : Executing w m count a) whe
   executing_ends b task end same own c = record {
     table = same ∙ h.table;
     plan = c.plan ∙ h.plan;
-    own = h.own ++ call m task (Trap end) ∷ [];
+    own = h.own ++ worker_call m task (Trap end) ∷ [];
     hands = hands_after b task (Trap end) c;
     mine = mine_after b task (Trap end) c;
     task = c.rests;
@@ -166,7 +166,7 @@ module _ (w : Work) (m count : ℕ) (a : Seated) (h : Executing w m count a) whe
   }
 
 -- nothing is heard of it as it leaves
-pub left : (w : Work) (m : ℕ) (a b : Seated) → Executed w m a → IsQuiet a b → b.table ≡ a.table → b.worker.stage ≡ Gone → HasRun w m b
+pub left : (w : Work) (m : ℕ) (a b : Seated) → Executed w m a → StaysSilent a b → b.table ≡ a.table → b.worker.stage ≡ Gone → HasRun w m b
 left w m a b h q same gone = record {
   executed = record {
     table = same ∙ h.table;
@@ -179,18 +179,18 @@ left w m a b h q same gone = record {
     ended = q.ended h.end h.ended;
     shows = subst (λ (z : Plain × ℕ). (p : Mutator) → slice_get z.0.mutators z.1 ≡ Some p → IsShown z.0.heap z.1 b.worker p)
         (λ i. (after_all (first_plain (sym q.rests.plan i)) (sym q.rests.seen i), sym q.rests.number i))
-        (λ p its. q.shown h.end h.ended (plain_seen a.knows).heap (first_number a.knows.hands) p (h.shows p its));
+        (λ p its. q.shown h.end h.ended (plain_after_seen a.knows).heap (first_number a.knows.hands) p (h.shows p its));
     legal = subst (IsLegal (first_plain w.plan)) (sym q.rests.seen) h.legal;
     count = h.count;
     executed = executed_rests w.code w.turns h.count a b q.rests h.executed;
-    full = subst (λ (log : List Entry). FullByEnd w.plan m log h.end) (sym q.rests.seen) h.full;
+    full = subst (λ (log : List Entry). EndFoundFull w.plan m log h.end) (sym q.rests.seen) h.full;
   };
   gone = gone;
 }
 
 -- ---- a scanner
 
-pub scanning_more : (w : Work) (k : ℕ) (a b : Seated) (s : Stepped) → IsScanning w k a → Acts a s b → b.table ≡ a.table → IsScanning w k b
+pub scanning_more : (w : Work) (k : ℕ) (a b : Seated) (s : Stepped) → RunsAsScanner w k a → Acts a s b → b.table ≡ a.table → RunsAsScanner w k b
 scanning_more w k a b s h acts same =
     let q = quiet_more a a b s (quiet_first a h.task) acts in record {
       table = same ∙ h.table;

@@ -15,8 +15,8 @@ use Rattle.std.specs.Prelude.{if◌then◌else◌}
 use Rattle.ael_threads.specs.declared.view.Hand.{Hand}
 use Rattle.ael_threads.specs.declared.view.Plan.{Plan}
 use Rattle.ael_threads.specs.declared.view.View.{View}
-use Rattle.ael_threads.specs.Histories.{Each, IsOnce, first_held, first_plain, hand, new_hands, number}
-use Rattle.ael_threads.specs.Rule.{FitsView, Has, Kept, StandsAs, crew, first_view}
+use Rattle.ael_threads.specs.Histories.{Each, IsOnce, first_held, first_plain, hand, new_hands, hand_number}
+use Rattle.ael_threads.specs.Rule.{FitsView, HasHand, RuleHolds, StandsAs, crew, first_view}
 use Rattle.ael_threads.proofs.Elements.{prefix_self}
 use Rattle.gc_worker.proofs.History.Opening.{opening_tallied}
 
@@ -55,11 +55,11 @@ each_new plan P from (suc count) h = let e : from + 0 ≡ from = omega arith in 
   each_new plan P (from + 1) count (λ k less. let f : from + suc k ≡ from + 1 + k = omega arith in subst (λ (j : ℕ). P (hand j (first_held plan j) [])) f (h (suc k) (omega arith))),
 )
 
-later : (plan : Plan) (a from count : ℕ) → a < from → Each (λ d. d ≢ a) (map number (new_hands plan from count))
+later : (plan : Plan) (a from count : ℕ) → a < from → Each (λ d. d ≢ a) (map hand_number (new_hands plan from count))
 later plan a from zero h = tt
 later plan a from (suc count) h = ((λ e. omega arith), later plan a (from + 1) count (omega arith))
 
-apart : (plan : Plan) (from count : ℕ) → IsOnce (map number (new_hands plan from count))
+apart : (plan : Plan) (from count : ℕ) → IsOnce (map hand_number (new_hands plan from count))
 apart plan from zero = tt
 apart plan from (suc count) = (later plan from (from + 1) count (omega arith), apart plan (from + 1) count)
 
@@ -77,7 +77,7 @@ fresh_looks n mutators from zero m x is call = absurd (some-ne-none x (sym is))
 fresh_looks n mutators from (suc count) zero x is call = new_looks n mutators from (subst (λ (y : Held). IsInCall y.stage) (sym (some-injective (fresh_worker n mutators from) x is)) call)
 fresh_looks n mutators from (suc count) (suc m) x is call = fresh_looks n mutators (from + 1) count m x is call
 
-pub opens_kept : (plan : Plan) → IsPageCount plan.spaces.pages → plan.mutators ≤ 16 → crew plan ≤ 24 → Kept plan (table.opening {S = ℕ} (first_words plan) [] (first_view plan))
+pub opens_kept : (plan : Plan) → IsPageCount plan.spaces.pages → plan.mutators ≤ 16 → crew plan ≤ 24 → RuleHolds plan (table.opening {S = ℕ} (first_words plan) [] (first_view plan))
 opens_kept plan size few all = record {
   log = [];
   workers = first_workers plan;
@@ -104,7 +104,7 @@ opens_kept plan size few all = record {
       same = λ h. refl;
       seen = prefix_self [];
       heard = prefix_self [];
-      hands = each_new plan (Has (first_workers plan) [] (λ n. 0) 0) 0 (crew plan) (λ k less. record { owns = refl; state = state k less; calls = refl });
+      hands = each_new plan (HasHand (first_workers plan) [] (λ n. 0) 0) 0 (crew plan) (λ k less. record { owns = refl; state = state k less; calls = refl });
       apart = apart plan 0 (crew plan);
       claims = tt;
       once = tt;

@@ -23,13 +23,13 @@ use Rattle.gc_worker.specs.declared.task.Task.TheVariants.{Calls}
 use Rattle.gc_worker.specs.Fits.{FitsCall, Fits, FitsEnd}
 use Rattle.plain_heap.specs.Action as plain_action
 use Rattle.gc_worker.specs.Answer.{ComesTo}
-use Rattle.gc_worker.specs.Between.{AreAlike, IsNoAnswer, Lands, with_task, RestsAfter, Shows}
+use Rattle.gc_worker.specs.Between.{AreAlike, IsNoAnswer, RegistersLand, with_task, RestsAfter, ShowsRegisters}
 use Rattle.gc_worker.specs.Full.{FullWhereTold}
 use Rattle.gc_worker.specs.Held.{Held}
 use Rattle.gc_worker.specs.Stepped.{stepped_by, uncounted}
 use Rattle.gc_worker.specs.Turned.{Told, Silent, Answers, Marks, told, turned, PageWon, won}
 use Rattle.gc_worker.specs.declared.call.Call.{Call}
-use Rattle.ael_threads.specs.declared.view.Claim.{Claim}
+use Rattle.ael_threads.specs.declared.view.WonClaim.{WonClaim}
 use Rattle.gc_worker.specs.declared.did.Did.{Did}
 use Rattle.gc_worker.specs.declared.did.Did.TheVariants.{Done, Trap}
 use Rattle.gc_worker.specs.declared.entry.Entry.{Entry}
@@ -37,20 +37,20 @@ use Rattle.gc_worker.specs.declared.entry.Entry.TheVariants.{Made}
 use Rattle.ael_threads.specs.declared.view.Hand.{Hand}
 use Rattle.ael_threads.specs.declared.view.Plan.{Plan}
 use Rattle.ael_threads.specs.declared.view.View.{View}
-use Rattle.ael_threads.specs.Calls.{Called, Departs, end_of, FlippedByOutcome, IsDone, IsQuiet, IsUnderWay, KnowsWorker, Rests, Waits, WinsMore, call_by}
+use Rattle.ael_threads.specs.Calls.{Called, Departs, end_by_did, FlippedByOutcome, WasExecuted, StaysSilent, IsUnderWay, KnowsWorker, Rests, Waits, WinsMore, call_by}
 use Rattle.gc_worker.specs.History.Tally.{EachEntry, EntryIs, IsFilledBy, Tasks, tally, tasks_held}
-use Rattle.ael_threads.specs.Histories.{opened, hand, first_plain}
-use Rattle.gc_worker.specs.History.Legal.{IsLegal, after_all, call, extra, own_after, last_flip}
-use Rattle.ael_threads.specs.Seats.{Acts, ActsBy, Extends, IsRunning, Seated, Sees, ShowsSeen, first_number, first_own, plain_seen, seen_after, LiveWhereTold, claim_of, with_claim}
+use Rattle.ael_threads.specs.Histories.{opening_tally, hand, first_plain}
+use Rattle.gc_worker.specs.History.Legal.{IsLegal, after_all, worker_call, extra, own_after, last_flip}
+use Rattle.ael_threads.specs.Seats.{Acts, ActsBy, Extends, IsRunning, Seated, Sees, ShowsSeen, first_number, first_own, plain_after_seen, seen_after, LiveWhereTold, claim_by_win, with_claim}
 
 -- ---- pages won
 
 wins_more : (a b c : Seated) → WinsMore a b → WinsMore b c → WinsMore a c
-wins_more a b c r s = (s.0 ++ r.0, s.1 ∙ (ap (λ (cs : List Claim). s.0 ++ cs) r.1 ∙ sym (append_assoc s.0 r.0 a.knows.claims)))
+wins_more a b c r s = (s.0 ++ r.0, s.1 ∙ (ap (λ (cs : List WonClaim). s.0 ++ cs) r.1 ∙ sym (append_assoc s.0 r.0 a.knows.claims)))
 
-with_claims : (cs : List Claim) (o : Option PageWon) → (more : List Claim) × (with_claim cs o ≡ more ++ cs)
+with_claims : (cs : List WonClaim) (o : Option PageWon) → (more : List WonClaim) × (with_claim cs o ≡ more ++ cs)
 with_claims cs None = ([], refl)
-with_claims cs (Some w) = (claim_of w ∷ [], refl)
+with_claims cs (Some w) = (claim_by_win w ∷ [], refl)
 
 wins_by : (b c : Seated) (r : Reply) (s : Stepped) → ActsBy b r s c → WinsMore b c
 wins_by b c r s h = let more = with_claims b.knows.claims (won b.worker r) in (more.0, h.knows.claims ∙ more.1)
@@ -144,12 +144,12 @@ way_more a b c task (stepped.Ended m end) u h no_effect no_end = absurd (no_end 
 
 -- ---- the step that answers
 
-ends_by : (n mutators m : ℕ) (was z : Held) (did : Did) → RestsAfter was z did → Fits n mutators m z → z.account.end ≡ end_of did
+ends_by : (n mutators m : ℕ) (was z : Held) (did : Did) → RestsAfter was z did → Fits n mutators m z → z.account.end ≡ end_by_did did
 ends_by n mutators m was z Done looks f = none_of z.account.end (subst (λ (stage : Stage). FitsEnd stage (is_some z.account.end)) looks f.end)
 ends_by n mutators m was z (Trap end) after f = ap (λ (a : Account). a.end) after.0
 
 -- who executed its task runs
-done_runs : (n mutators m : ℕ) (was z : Held) (did : Did) → IsDone did → RestsAfter was z did → Fits n mutators m z → IsRunning z
+done_runs : (n mutators m : ℕ) (was z : Held) (did : Did) → WasExecuted did → RestsAfter was z did → Fits n mutators m z → IsRunning z
 done_runs n mutators m was z Done done looks f = looks_run n mutators m z f looks
 done_runs n mutators m was z (Trap end) done after f = absurd done
 
@@ -160,11 +160,11 @@ comes_last a task did hands later h = legal_last (first_plain a.knows.plan) (a.k
 
 -- and where it tells the heap to be full it is filled
 filled_last : (a : Seated) (task : Task) (did : Did) (tasks : Tasks) (before : List Entry)
-    → EachEntry (EntryIs a.knows.plan.spaces.pages tasks) (opened a.knows.plan) (before ++ Made (call_by a task did) ∷ [])
-    → IsFilledBy a.knows.plan.spaces.pages tasks (tally (opened a.knows.plan) before) (first_number a.knows.hands) task did []
-filled_last a task did tasks before h = entry_at (EntryIs a.knows.plan.spaces.pages tasks) (opened a.knows.plan) before (Made (call_by a task did)) [] h
+    → EachEntry (EntryIs a.knows.plan.spaces.pages tasks) (opening_tally a.knows.plan) (before ++ Made (call_by a task did) ∷ [])
+    → IsFilledBy a.knows.plan.spaces.pages tasks (tally (opening_tally a.knows.plan) before) (first_number a.knows.hands) task did []
+filled_last a task did tasks before h = entry_at (EntryIs a.knows.plan.spaces.pages tasks) (opening_tally a.knows.plan) before (Made (call_by a task did)) [] h
 
-lands_uncounted : (n : ℕ) (words : List ℕ) (z : Held) → Lands n words z → Lands n words (uncounted z)
+lands_uncounted : (n : ℕ) (words : List ℕ) (z : Held) → RegistersLand n words z → RegistersLand n words (uncounted z)
 lands_uncounted n words z l = record { in_space = l.in_space; header = l.header }
 
 calls : (a b c : Seated) (task : Task) (r : Reply) (s : Stepped) (did : Did) → IsUnderWay a task b → ActsBy b r s c → (other : Task) → told b.worker r ≡ Answers other did → Called a task did c
@@ -174,10 +174,10 @@ calls a b c task r s did u h other is =
     let k = h.knows in
     let answer = h.goes_on.answers other did is in
     let same : other ≡ task = same_Some other task (sym answer.asked ∙ w.asks) in
-    let runs : IsDone did → IsRunning (turned b.worker r) =
+    let runs : WasExecuted did → IsRunning (turned b.worker r) =
     (λ yes. done_runs b.knows.plan.spaces.pages b.knows.plan.mutators m b.worker (turned b.worker r) did yes answer.after k.fits) in
     let answers : told b.worker r ≡ Answers task did = is ∙ (λ j. Answers (same j) did) in
-    let call_is : call m other did ≡ call_by a task did = (λ i. call (w.rests.number i) (same i) did) in
+    let call_is : worker_call m other did ≡ call_by a task did = (λ i. worker_call (w.rests.number i) (same i) did) in
     let pages : b.knows.plan.spaces.pages ≡ a.knows.plan.spaces.pages = ap (λ (p : Plan). p.spaces.pages) w.rests.plan in
     let history : Extends a.knows.plan c.knows.hands a.knows.seen (call_by a task did) c.knows.seen =
     subst (λ (z : Plan × (List Entry × Call)). Extends z.0 c.knows.hands z.1.0 z.1.1 c.knows.seen) (λ i. (w.rests.plan i, (w.rests.seen i, call_is i)))
@@ -207,11 +207,11 @@ calls a b c task r s did u h other is =
       full = subst (λ (z : ℕ × Told). FullWhereTold z.0 k.before b.worker z.1) (λ i. (pages i, is i)) k.full;
       live = subst (λ (z : Plan × Told). LiveWhereTold (last_flip (first_plain z.0) c.knows.seen) z.1) (λ i. (w.rests.plan i, answers i)) k.live;
       filled = filled_last a task did (tasks_held k.stands.workers) (a.knows.seen ++ history.between)
-          (subst (λ (z : Plan × List Entry). EachEntry (EntryIs z.0.spaces.pages (tasks_held k.stands.workers)) (opened z.0) z.1) (λ i. (w.rests.plan i, ends i)) k.stands.tallied.entries);
-      lands = λ yes. subst (λ (z : ℕ × Held). Lands z.0 k.after z.1) (λ i. (pages i, sym h.worker i))
+          (subst (λ (z : Plan × List Entry). EachEntry (EntryIs z.0.spaces.pages (tasks_held k.stands.workers)) (opening_tally z.0) z.1) (λ i. (w.rests.plan i, ends i)) k.stands.tallied.entries);
+      lands = λ yes. subst (λ (z : ℕ × Held). RegistersLand z.0 k.after z.1) (λ i. (pages i, sym h.worker i))
           (lands_uncounted b.knows.plan.spaces.pages k.after (turned b.worker r) (k.lands (runs yes)));
       alike = λ yes q its. subst (λ (x : Held). AreAlike x.registers q) (sym h.worker)
-          (k.alike (runs yes) q (ap (λ (j : ℕ). slice_get (plain_seen c.knows).mutators j) w.rests.number ∙ its));
+          (k.alike (runs yes) q (ap (λ (j : ℕ). slice_get (plain_after_seen c.knows).mutators j) w.rests.number ∙ its));
     }
 
 by_effect : (a b c : Seated) (task : Task) (r : Reply) (m : ℕ) → IsUnderWay a task b → ActsBy b r (stepped.Effect m) c → (t : Told) → told b.worker r ≡ t → stepped.Effect m ≡ stepped_by b.worker.number t → Called a task Done c
@@ -247,10 +247,10 @@ knows_by : (b c : Seated) (r : Reply) (s : Stepped) → ActsBy b r s c → Knows
 knows_by b c r s h = let k = h.knows in
     k.hands ∙ (λ i. hand (sym (ap first_number k.hands) i) (sym h.worker i) (sym (ap first_own k.hands) i) ∷ sym (ap (drop 1) k.hands) i)
 
-quiet_by : (a b c : Seated) (r : Reply) (s : Stepped) → IsQuiet a b → ActsBy b r s c → IsQuiet a c
+quiet_by : (a b c : Seated) (r : Reply) (s : Stepped) → StaysSilent a b → ActsBy b r s c → StaysSilent a c
 quiet_by a b c r s q h = by_told (told b.worker r) refl
   where
-    by_none : IsNoAnswer (told b.worker r) → IsQuiet a c
+    by_none : IsNoAnswer (told b.worker r) → StaysSilent a c
     by_none none = record {
       none = ap (λ (x : Held). x.task) h.worker ∙ (h.goes_on.kept none ∙ q.none);
       rests = rests_more a b c q.rests (rests_by b c r s h none);
@@ -262,27 +262,27 @@ quiet_by a b c r s q h = by_told (told b.worker r) refl
             printed = ap (λ (x : Held). x.account.printed) h.worker ∙ (ap (λ (k : Account). k.printed) g.0 ∙ old.printed);
             end = ap (λ (x : Held). x.account.end) h.worker ∙ (ap (λ (k : Account). k.end) g.0 ∙ old.end);
             serial = ap (λ (x : Held). x.account.serial) h.worker ∙ (ap (λ (k : Account). k.serial) g.0 ∙ old.serial);
-            registers = subst (λ (registers : List ℕ). Shows registers p) (sym (ap (λ (x : Held). x.registers) h.worker ∙ g.1)) old.registers;
+            registers = subst (λ (registers : List ℕ). ShowsRegisters registers p) (sym (ap (λ (x : Held). x.registers) h.worker ∙ g.1)) old.registers;
           };
       known = λ was. knows_by b c r s h;
     }
 
-    by_told : (t : Told) → told b.worker r ≡ t → IsQuiet a c
+    by_told : (t : Told) → told b.worker r ≡ t → StaysSilent a c
     by_told Silent is = by_none (subst IsNoAnswer (sym is) tt)
     by_told (Answers task outcome) is = absurd (let some = (h.goes_on.answers task outcome is).asked in let none = q.none in cc)
     by_told (Marks asked) is = by_none (subst IsNoAnswer (sym is) tt)
 
-pub quiet_first : (a : Seated) → a.worker.task ≡ None → IsQuiet a a
+pub quiet_first : (a : Seated) → a.worker.task ≡ None → StaysSilent a a
 quiet_first a none = record { none = none; rests = rests_same a a refl; ended = λ end is. is; shown = λ end is records m p was. was; known = λ was. was }
 
-pub quiet_more : (a b c : Seated) (s : Stepped) → IsQuiet a b → Acts b s c → IsQuiet a c
-quiet_more a b c stepped.Idle q h = subst (IsQuiet a) (sym h.0) q
+pub quiet_more : (a b c : Seated) (s : Stepped) → StaysSilent a b → Acts b s c → StaysSilent a c
+quiet_more a b c stepped.Idle q h = subst (StaysSilent a) (sym h.0) q
 quiet_more a b c stepped.Moved q h = quiet_by a b c h.0 stepped.Moved q h.1
 quiet_more a b c (stepped.Effect m) q h = quiet_by a b c h.0 (stepped.Effect m) q h.1
 quiet_more a b c (stepped.Flipped n) q h = quiet_by a b c h.0 (stepped.Flipped n) q h.1
 quiet_more a b c (stepped.Ended m end) q h = quiet_by a b c h.0 (stepped.Ended m end) q h.1
 
-quiet_all : (a b c : Seated) → IsQuiet a b → IsQuiet b c → IsQuiet a c
+quiet_all : (a b c : Seated) → StaysSilent a b → StaysSilent b c → StaysSilent a c
 quiet_all a b c q r = record {
   none = r.none;
   rests = rests_more a b c q.rests r.rests;
@@ -291,7 +291,7 @@ quiet_all a b c q r = record {
   known = λ was. r.known (q.known was);
 }
 
-pub departs_more : (a b c : Seated) → Departs a b → IsQuiet b c → Departs a c
+pub departs_more : (a b c : Seated) → Departs a b → StaysSilent b c → Departs a c
 departs_more a b c d q = record {
   none = q.none;
   ended = λ end is. quiet_all a b c (d.ended end is) q;

@@ -4,13 +4,13 @@ use mathlib.Core.Option.{some}
 use lib.ListN.{get_elem?}
 use Rattle.atomic_table.specs.Table as table
 use Rattle.gc_worker.specs.Held.{Held}
-use Rattle.ael_threads.specs.declared.view.Claim.{Claim}
+use Rattle.ael_threads.specs.declared.view.WonClaim.{WonClaim}
 use Rattle.gc_worker.specs.declared.entry.Entry.{Entry}
 use Rattle.ael_threads.specs.declared.view.Hand.{Hand}
 use Rattle.ael_threads.specs.declared.view.Plan.{Plan}
 use Rattle.ael_threads.specs.declared.view.View.{View}
-use Rattle.ael_threads.specs.Histories.{Each, first_held, hand, new_hands, number}
-use Rattle.ael_threads.specs.Rule.{FitsView, Has, Kept, view}
+use Rattle.ael_threads.specs.Histories.{Each, first_held, hand, new_hands, hand_number}
+use Rattle.ael_threads.specs.Rule.{FitsView, HasHand, RuleHolds, view}
 use Rattle.ael_threads.specs.Seats.{first_of, others_of}
 use Rattle.ael_threads.proofs.Places.{at_end, at_set}
 use Rattle.ael_threads.proofs.Elements.{each_both, each_map, each_of_map}
@@ -25,9 +25,9 @@ still owner m id n other = ap (λ (b : Bool). cond b id (owner n)) (ne_eqb n m o
 now : (owner : ℕ → ℕ) (m id : ℕ) → given owner m id m ≡ id
 now owner m id = ap (λ (b : Bool). cond b id (owner m)) (eq-eqb m m refl)
 
-module _ (plan : Plan) (words : List ℕ) (workers : List Held) (log : List Entry) (owner : ℕ → ℕ) (winner : Claim → ℕ) where
-  has_still : (m new j : ℕ) (hs : List Hand) → Each (λ (h : Hand). Has workers log owner j h × (h.number ≢ m)) hs → Each (Has workers log (given owner m new) j) hs
-  has_still m new j = each_map (λ (h : Hand). Has workers log owner j h × (h.number ≢ m)) (Has workers log (given owner m new) j)
+module _ (plan : Plan) (words : List ℕ) (workers : List Held) (log : List Entry) (owner : ℕ → ℕ) (winner : WonClaim → ℕ) where
+  has_still : (m new j : ℕ) (hs : List Hand) → Each (λ (h : Hand). HasHand workers log owner j h × (h.number ≢ m)) hs → Each (HasHand workers log (given owner m new) j) hs
+  has_still m new j = each_map (λ (h : Hand). HasHand workers log owner j h × (h.number ≢ m)) (HasHand workers log (given owner m new) j)
       (λ h t. record { owns = still owner m new h.number t.1 ∙ t.0.owns; state = t.0.state; calls = t.0.calls })
 
   -- a seat without workers
@@ -39,25 +39,25 @@ module _ (plan : Plan) (words : List ℕ) (workers : List Held) (log : List Entr
     same = f.same;
     seen = f.seen;
     heard = f.heard;
-    hands = has_still m new j u.hands (each_map (Has workers log owner j) (λ (h : Hand). Has workers log owner j h × (h.number ≢ m)) (λ h t. (t, λ e. other (sym t.owns ∙ (ap owner e ∙ mine)))) u.hands f.hands);
+    hands = has_still m new j u.hands (each_map (HasHand workers log owner j) (λ (h : Hand). HasHand workers log owner j h × (h.number ≢ m)) (λ h t. (t, λ e. other (sym t.owns ∙ (ap owner e ∙ mine)))) u.hands f.hands);
     apart = f.apart;
     claims = f.claims;
     once = f.once;
   }
 
-  left_fits : (id new : ℕ) (p : Plan) (d : Hand) (ds : List Hand) (seen heard : List Entry) (claims : List Claim) → FitsView plan words workers log owner winner id (view p (d ∷ ds) seen heard claims)
+  left_fits : (id new : ℕ) (p : Plan) (d : Hand) (ds : List Hand) (seen heard : List Entry) (claims : List WonClaim) → FitsView plan words workers log owner winner id (view p (d ∷ ds) seen heard claims)
       → FitsView plan words workers log (given owner d.number new) winner id (view p ds seen heard claims)
   left_fits id new p d ds seen heard claims f = record {
     same = f.same;
     seen = f.seen;
     heard = f.heard;
-    hands = has_still d.number new id ds (each_both (Has workers log owner id) (λ (h : Hand). h.number ≢ d.number) ds f.hands.1 (each_of_map (λ n. n ≢ d.number) number ds f.apart.0));
+    hands = has_still d.number new id ds (each_both (HasHand workers log owner id) (λ (h : Hand). h.number ≢ d.number) ds f.hands.1 (each_of_map (λ n. n ≢ d.number) hand_number ds f.apart.0));
     apart = f.apart.1;
     claims = f.claims;
     once = f.once;
   }
 
-  right_fits : (id new : ℕ) (p : Plan) (d : Hand) (ds : List Hand) (seen heard : List Entry) (claims : List Claim) → FitsView plan words workers log owner winner id (view p (d ∷ ds) seen heard claims)
+  right_fits : (id new : ℕ) (p : Plan) (d : Hand) (ds : List Hand) (seen heard : List Entry) (claims : List WonClaim) → FitsView plan words workers log owner winner id (view p (d ∷ ds) seen heard claims)
       → FitsView plan words workers log (given owner d.number new) winner new (view p (d ∷ []) seen heard [])
   right_fits id new p d ds seen heard claims f = record {
     same = f.same;
@@ -70,8 +70,8 @@ module _ (plan : Plan) (words : List ℕ) (workers : List Held) (log : List Entr
   }
 
 -- the seat's first worker goes to a new seat
-by_hands : (plan : Plan) (id : ℕ) (v : View) (hs : List Hand) → v.hands ≡ hs → (s : table.State ℕ View) → Kept plan s → get_elem? s.views id ≡ some v
-    → Kept plan (record { words = s.words; homes = s.homes; views = slice_set s.views id (view v.plan (drop 1 hs) v.seen v.heard v.claims) ++ view v.plan (take 1 hs) v.seen v.heard [] ∷ [] })
+by_hands : (plan : Plan) (id : ℕ) (v : View) (hs : List Hand) → v.hands ≡ hs → (s : table.State ℕ View) → RuleHolds plan s → get_elem? s.views id ≡ some v
+    → RuleHolds plan (record { words = s.words; homes = s.homes; views = slice_set s.views id (view v.plan (drop 1 hs) v.seen v.heard v.claims) ++ view v.plan (take 1 hs) v.seen v.heard [] ∷ [] })
 by_hands plan id v [] e s b at =
     let f = b.seats id v at in
     let new : View = view v.plan [] v.seen v.heard v.claims in record {
@@ -122,7 +122,7 @@ by_hands plan id v (d ∷ ds) e s b at =
           (at_end (set s.views id left) right u j at');
     }
 
-pub deals : (plan : Plan) (id : ℕ) (v : View) → table.Splits (Kept plan) id v (others_of v) (first_of v)
+pub deals : (plan : Plan) (id : ℕ) (v : View) → table.Splits (RuleHolds plan) id v (others_of v) (first_of v)
 deals plan id v s b at = by_hands plan id v v.hands refl s b at
 
 next_hands : (plan : Plan) (i m : ℕ) → i < m → new_hands plan i (m - i) ≡ hand i (first_held plan i) [] ∷ new_hands plan (i + 1) (m - (i + 1))

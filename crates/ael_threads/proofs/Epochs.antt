@@ -16,14 +16,14 @@ use Rattle.gc_worker.specs.Held.{Held}
 use Rattle.gc_worker.specs.History.Tally.{Tally, after_entry, tally}
 use Rattle.gc_worker.specs.Knows.{epoch_in, post_in}
 use Rattle.gc_worker.specs.Law.{Heap, WorkersStand, epoch_of, held_at, read}
-use Rattle.gc_worker.specs.Turned.{epoch_in as epoch_in_gate}
+use Rattle.gc_worker.specs.Turned.{epoch_in_gate}
 use Rattle.gc_worker.proofs.Between.Standing.{what_stands_is_so}
 use Rattle.gc_worker.proofs.Gate.Words.{gate_says}
 use Rattle.gc_worker.proofs.History.Tallies.{tally_append}
 use Rattle.gc_worker.proofs.Members.{member}
 use Rattle.ael_threads.specs.declared.view.Plan.{Plan}
 use Rattle.ael_threads.specs.Began.{HasFlipped, flips_of}
-use Rattle.ael_threads.specs.Histories.{opened}
+use Rattle.ael_threads.specs.Histories.{opening_tally}
 use Rattle.ael_threads.proofs.Showing.{mutator_at, runs_aside}
 
 -- ---- a worker's epoch
@@ -91,9 +91,9 @@ more_flips t (Exchanged by asked ∷ es) = let more = more_flips (after_entry t 
 
 pub flips_rise : (plan : Plan) (early late : List Entry) → IsPrefix early late → flips_of plan early ≤ flips_of plan late
 flips_rise plan early late h =
-    let all : flips_of plan late ≡ (tally (tally (opened plan) early) h.0).flips =
-    ap (λ (log : List Entry). flips_of plan log) (sym h.1) ∙ ap (λ (t : Tally). t.flips) (tally_append (opened plan) early h.0) in
-    let more = more_flips (tally (opened plan) early) h.0 in
+    let all : flips_of plan late ≡ (tally (tally (opening_tally plan) early) h.0).flips =
+    ap (λ (log : List Entry). flips_of plan log) (sym h.1) ∙ ap (λ (t : Tally). t.flips) (tally_append (opening_tally plan) early h.0) in
+    let more = more_flips (tally (opening_tally plan) early) h.0 in
     omega (arith, all, more)
 
 -- where there are more flips one stands in what came since
@@ -111,7 +111,7 @@ is_more t (Exchanged by asked ∷ es) h = record { between = []; by = by; asked 
 
 pub has_flipped : (plan : Plan) (early late : List Entry) → IsPrefix early late → flips_of plan early < flips_of plan late → HasFlipped early late
 has_flipped plan early late h fewer =
-    let all : flips_of plan late ≡ (tally (tally (opened plan) early) h.0).flips =
-    ap (λ (log : List Entry). flips_of plan log) (sym h.1) ∙ ap (λ (t : Tally). t.flips) (tally_append (opened plan) early h.0) in
-    let f = is_more (tally (opened plan) early) h.0 (omega (arith, all, fewer)) in
+    let all : flips_of plan late ≡ (tally (tally (opening_tally plan) early) h.0).flips =
+    ap (λ (log : List Entry). flips_of plan log) (sym h.1) ∙ ap (λ (t : Tally). t.flips) (tally_append (opening_tally plan) early h.0) in
+    let f = is_more (tally (opening_tally plan) early) h.0 (omega (arith, all, fewer)) in
     record { between = f.between; by = f.by; asked = f.asked; rest = f.rest; is = sym h.1 ∙ ap (λ (z : List Entry). early ++ z) f.is }

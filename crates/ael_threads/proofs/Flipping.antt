@@ -31,12 +31,12 @@ use Rattle.gc_worker.specs.declared.task.Task.TheVariants.{Calls, Stops}
 use Rattle.gc_worker.specs.Access as access
 use Rattle.gc_worker.specs.Counted.{counted}
 use Rattle.gc_worker.specs.Fits.{Fits, FitsTask}
-use Rattle.gc_worker.specs.Held.{Held, asked_by, at_stage, making_for}
+use Rattle.gc_worker.specs.Held.{Held, pages_needed, at_stage, making_for}
 use Rattle.gc_worker.specs.Law.{FlipsWhereTold}
 use Rattle.gc_worker.specs.declared.allocating.Making.{Making}
 use Rattle.gc_worker.specs.Seen.{seen}
 use Rattle.gc_worker.specs.declared.did.Did.{Did}
-use Rattle.gc_worker.specs.Turned.{Told, Silent, Answers, Marks, acted, acts, begins, end_of, ended, full_by, is_full, looked_by, passes, started, told, told_access, told_acted, told_action, told_at, told_effect, told_end, told_flip, told_full, told_gate, told_look, told_place, told_start, turned, turned_access, turned_at, turned_flip, turned_look, turned_place, with_record}
+use Rattle.gc_worker.specs.Turned.{Told, Silent, Answers, Marks, acted, acts, begins, end_by_shortage, ended, full_by, finds_full, looked_by, passes, started, told, told_access, told_acted, told_action, told_at, told_effect, told_end, told_flip, told_full, told_gate, told_look, told_place, told_start, turned, turned_access, turned_at, turned_flip, turned_look, turned_place, with_record}
 use Rattle.gc_worker.proofs.Between.Claims.{flips_at}
 use Rattle.gc_worker.proofs.Counting.{counted_fit}
 
@@ -44,7 +44,7 @@ use Rattle.gc_worker.proofs.Counting.{counted_fit}
 
 module _ (n mutators m count : ℕ) (x : Held) (reply : Reply) (fits : Fits n mutators m x) (words later : List ℕ) where
   -- with any count it asks for as many
-  same_asked : (asked : ℕ) → told x reply ≡ Marks asked → asked_by (counted count x) ≡ asked_by x
+  same_asked : (asked : ℕ) → told x reply ≡ Marks asked → pages_needed (counted count x) ≡ pages_needed x
   same_asked asked e =
       let at = flips_at x reply asked x.stage e in
       let own = (subst (FitsTask x) at.1 fits.task).1 in
@@ -130,7 +130,7 @@ module _ (x : Held) where
 
   shortage_stays : (s : Shortage) (traced : Bool) → Stays x (full_by x s traced) (told_full x s traced)
   shortage_stays s false = tt
-  shortage_stays s true = full_stays (is_full x) (end_of s) _
+  shortage_stays s true = full_stays (finds_full x) (end_by_shortage s) _
 
   placed_stays : (run : Run) (at : ℕ) (made : Option Making) → Stays x (with_record x run at made) (told_effect x.task)
   placed_stays run at (Some m) = effect_stays (with_record x run at (Some m)) refl x.task

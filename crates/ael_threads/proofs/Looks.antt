@@ -20,7 +20,7 @@ use Rattle.gc_worker.specs.declared.stage.Stage.{Stage}
 use Rattle.gc_worker.specs.declared.stage.Stage.TheVariants.{Accesses, Evacuates, Flips, Forwards, Gone, Looks, Opens, Passes, Places, Scans, Serves}
 use Rattle.gc_worker.specs.declared.task.Task.{Task}
 use Rattle.gc_worker.specs.Begun.{IsPastLook}
-use Rattle.gc_worker.specs.Between.{GoesOn, IsNoAnswer}
+use Rattle.gc_worker.specs.Between.{KeepsToTask, IsNoAnswer}
 use Rattle.gc_worker.specs.Cycles.{IsInCall, IsInPassage}
 use Rattle.gc_worker.specs.Fits.{Fits, FitsEnd, IsEndBefore}
 use Rattle.gc_worker.specs.Full.{FindsNoRoom, FullWhereTold}
@@ -29,7 +29,7 @@ use Rattle.gc_worker.specs.History.Legal.{after_all, calls_of, extra, last_flip}
 use Rattle.gc_worker.specs.History.Tally.{IsTallied}
 use Rattle.gc_worker.specs.Knows.{post_in}
 use Rattle.gc_worker.specs.Law.{Heap, WorkersStand, epoch_of, held_at, nobody}
-use Rattle.gc_worker.specs.Turned.{Answers, Marks, Silent, Told, epoch_in, told, turned}
+use Rattle.gc_worker.specs.Turned.{Answers, Marks, Silent, Told, epoch_in_gate, told, turned}
 use Rattle.gc_worker.specs.Wanted.{wanted}
 use Rattle.gc_worker.proofs.Between.Begun.{beginnings_are_kept, full_is_found_later}
 use Rattle.gc_worker.proofs.Between.GoingOn.{workers_go_on}
@@ -37,7 +37,7 @@ use Rattle.gc_worker.proofs.History.Extensions.{calls_append}
 use Rattle.gc_worker.proofs.History.FullHeaps.{past_look}
 use Rattle.ael_threads.specs.declared.view.Plan.{Plan}
 use Rattle.ael_threads.specs.Began.{BeginsAt, EachAfter, FlippedSinceBegun, HasLooked, FlippedIfFull, FlippedSinceByEnd, flips_of}
-use Rattle.ael_threads.specs.Histories.{first_plain, opened}
+use Rattle.ael_threads.specs.Histories.{first_plain, opening_tally}
 use Rattle.ael_threads.specs.Workers.{heap_of}
 use Rattle.ael_threads.proofs.Began.{answers_in_call, none_at, was_in_call}
 use Rattle.ael_threads.proofs.Elements.{prefix_more}
@@ -82,7 +82,7 @@ ended_out Gone e call = call
 -- ---- the step of worker m, which holds y
 
 module _ (plan : Plan) (m : ℕ) (y : Held) (q : Step) (words : List ℕ) (workers : List Held) (log : List Entry) (at : get_elem? workers m ≡ some y) (want : wanted y ≡ Some q)
-    (st : WorkersStand (heap_of plan words workers) (after_all (first_plain plan) log) (last_flip (first_plain plan) log)) (tallied : IsTallied (heap_of plan words workers) (opened plan) log)
+    (st : WorkersStand (heap_of plan words workers) (after_all (first_plain plan) log) (last_flip (first_plain plan) log)) (tallied : IsTallied (heap_of plan words workers) (opening_tally plan) log)
     (was : IsInCall y.stage → HasLooked plan m y log) (fits_z : Fits plan.spaces.pages plan.mutators m (turned y (reply_of q words)))
     (full : FullWhereTold plan.spaces.pages words y (told y (reply_of q words))) where
   abbrev n : ℕ
@@ -109,7 +109,7 @@ module _ (plan : Plan) (m : ℕ) (y : Held) (q : Step) (words : List ℕ) (worke
   fits_y : Fits n plan.mutators m y
   fits_y = subst (Fits n plan.mutators m) holds (st.fit m below)
 
-  goes : GoesOn y r
+  goes : KeepsToTask y r
   goes = workers_go_on n plan.mutators m y r fits_y
 
   gate_flips : epoch_of n words ≡ flips_of plan log
@@ -179,7 +179,7 @@ module _ (plan : Plan) (m : ℕ) (y : Held) (q : Step) (words : List ℕ) (worke
       let w = was (answers_in_call y r task (Trap (HeapFull asked room live)) y.stage e past) in
       let same : w.task ≡ task = same_Some w.task task (sym w.task_is ∙ (goes.answers task (Trap (HeapFull asked room live)) e).asked) in
       let finds : FindsNoRoom n words y asked room live = subst (FullWhereTold n words y) e full in
-      let gate : epoch_of n words ≡ y.epoch = ap (λ (o : Option GateWord). epoch_in 0 o) finds.gate_is ∙ finds.epoch in
+      let gate : epoch_of n words ≡ y.epoch = ap (λ (o : Option GateWord). epoch_in_gate 0 o) finds.gate_is ∙ finds.epoch in
       let now : flips_of plan log ≡ y.epoch = sym gate_flips ∙ gate in
       let then = w.flips in record {
         began = w.began;

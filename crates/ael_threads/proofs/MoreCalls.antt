@@ -36,7 +36,7 @@ use Rattle.ael_threads.specs.declared.view.Hand.{Hand}
 use Rattle.ael_threads.specs.declared.view.Plan.{Plan}
 use Rattle.gc_worker.specs.History.Legal.{IsLegal, after_all, after_call, calls_of}
 use Rattle.gc_worker.specs.History.Order.{AreFetched, AreShort, IsShort}
-use Rattle.ael_threads.specs.Programs.{Counts, Executes, count_after, fetched_at}
+use Rattle.ael_threads.specs.Programs.{HasCount, Executes, count_after_call, fetched_at}
 use Rattle.ael_threads.specs.Seats.{Extends, IsShown}
 use Rattle.gc_worker.proofs.History.Orders.{fetched_append, fetched_none, short_append, short_none}
 use Rattle.gc_worker.proofs.History.Extensions.{legal_last, no_more, Agrees, after_append, calls_append, seen_keeps}
@@ -105,7 +105,7 @@ module _ (m : ℕ) (seen log : List Entry) (begins : IsPrefix seen log) (same : 
   agrees_all : (p : Plain) → Agrees m (after_all p seen) (after_all p log)
   agrees_all p = seen_keeps p seen log m (calls_of m seen) begins refl same
 
-  pub counts_all : (p : Plain) (count : ℕ) → Counts (after_all p seen) m count → Counts (after_all p log) m count
+  pub counts_all : (p : Plain) (count : ℕ) → HasCount (after_all p seen) m count → HasCount (after_all p log) m count
   counts_all p count h =
       let few = h.serial in
       let kept = h.kept in
@@ -119,7 +119,7 @@ module _ (m : ℕ) (seen log : List Entry) (begins : IsPrefix seen log) (same : 
 
 -- ---- counts
 
-pub counts_first : (n m : ℕ) → m < n → Counts (opening_plain n) m 0
+pub counts_first : (n m : ℕ) → m < n → HasCount (opening_plain n) m 0
 counts_first n m below = record {
   executed = λ q is. ap (λ (k : Mutator). k.executed) (slice_get-replicate n m opening_mutator q is);
   serial = let e : serial_of (opening_plain n).heap m ≡ 0 = ap length (get_or-replicate n m [] [] below) in omega (arith, e);
@@ -127,8 +127,8 @@ counts_first n m below = record {
 }
 
 -- a call that is executed counts, and an end doesn't
-counts_outcome : (p : Plain) (m count : ℕ) (q : Mutator) (task : Task) (did : Did) → slice_get p.mutators m ≡ Some q → MayCome m p.heap q task did → Counts p m count
-    → Counts (after_outcome p m q task did) m (count_after did count)
+counts_outcome : (p : Plain) (m count : ℕ) (q : Mutator) (task : Task) (did : Did) → slice_get p.mutators m ≡ Some q → MayCome m p.heap q task did → HasCount p m count
+    → HasCount (after_outcome p m q task did) m (count_after_call did count)
 counts_outcome p m count q task did is may h = by_task task did may
   where
     within : m < length p.mutators
@@ -138,11 +138,11 @@ counts_outcome p m count q task did is may h = by_task task did may
     written : (k l : Mutator) → slice_get (slice_set p.mutators m k) m ≡ Some l → l.executed ≡ k.executed
     written k l its = ap (λ (z : Mutator). z.executed) (same_Some l k (sym its ∙ slice_get-set_same p.mutators m k within))
 
-    by_end : (why : End) → Counts (ended p m q why) m count
+    by_end : (why : End) → HasCount (ended p m q why) m count
     by_end why = record { executed = λ l its. written (record q { end = Some why }) l its ∙ h.executed q is; serial = h.serial; kept = h.kept }
 
     by_call : (r : Result After End) → IfOk r (λ a. Went q a.mutator) → IfOk r (λ a. serial_of a.heap m ≤ serial_of p.heap m + 1) → IfOk r (λ a. length a.heap.records ≡ length p.heap.records) → IsOk r
-        → Counts (settled p m q r) m (count + 1)
+        → HasCount (settled p m q r) m (count + 1)
     by_call (Ok a) went counted same ok =
         let was = h.executed q is in
         let more = went.executed in
@@ -154,7 +154,7 @@ counts_outcome p m count q task did is may h = by_task task did may
         }
     by_call (Err why) went counted same ok = absurd (cc)
 
-    by_task : (task : Task) (did : Did) → MayCome m p.heap q task did → Counts (after_outcome p m q task did) m (count_after did count)
+    by_task : (task : Task) (did : Did) → MayCome m p.heap q task did → HasCount (after_outcome p m q task did) m (count_after_call did count)
     by_task (Calls instr) Done may = by_call (call m p.heap q instr) (call-went m p.heap q instr) (call-counted m p.heap q h.kept instr) (call-makers m p.heap q instr) may
     by_task (Calls instr) (Trap why) may = by_end why
     by_task (Stops end) Done may = absurd may
@@ -209,10 +209,10 @@ module _ (seen later : List Entry) (c : Call) (h : OneMore seen c later) where
   after_task p legal = after_is p ∙ ap (after_answer (after_all p front) c.by c.task c.did) (comes_to p legal).is
 
   -- a call that is executed is one more
-  pub counted_more : (p : Plain) (count : ℕ) → IsLegal p later → Counts (after_all p seen) c.by count → Counts (after_all p later) c.by (count_after c.did count)
+  pub counted_more : (p : Plain) (count : ℕ) → IsLegal p later → HasCount (after_all p seen) c.by count → HasCount (after_all p later) c.by (count_after_call c.did count)
   counted_more p count legal k =
       let t = comes_to p legal in
-      subst (λ (z : Plain). Counts z c.by (count_after c.did count)) (sym (after_task p legal)) (counts_outcome (after_all p front) c.by count t.mutator c.task c.did t.is t.may (counts_all c.by seen front begins no_others p count k))
+      subst (λ (z : Plain). HasCount z c.by (count_after_call c.did count)) (sym (after_task p legal)) (counts_outcome (after_all p front) c.by count t.mutator c.task c.did t.is t.may (counts_all c.by seen front begins no_others p count k))
 
 -- ---- all of it
 
@@ -221,7 +221,7 @@ executes_first code turns n m below = record { fetched = tt; short = tt; counts 
 
 -- one more call of what mutator m fetches
 pub executes_more : (code : List (List Instr)) (turns : ℕ) (p : Plain) (seen later : List Entry) (c : Call) (count : ℕ) → OneMore seen c later → IsLegal p later → Executes code turns p c.by count seen
-    → ((q : Mutator) → slice_get (after_all p seen).mutators c.by ≡ Some q → c.task ≡ task_of (fetch code turns c.by q)) → IsShort c.did → Executes code turns p c.by (count_after c.did count) later
+    → ((q : Mutator) → slice_get (after_all p seen).mutators c.by ≡ Some q → c.task ≡ task_of (fetch code turns c.by q)) → IsShort c.did → Executes code turns p c.by (count_after_call c.did count) later
 executes_more code turns p seen later c count more legal h task short = record {
   fetched = fetched_more seen later c more code turns p h.fetched task;
   short = short_more seen later c more h.short short;

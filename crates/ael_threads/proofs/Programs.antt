@@ -21,11 +21,11 @@ use Rattle.gc_worker.specs.declared.entry.Entry.{Entry}
 use Rattle.ael_threads.specs.declared.view.Plan.{Plan}
 use Rattle.ael_threads.specs.Calls.{Called, Rests, call_by}
 use Rattle.gc_worker.specs.History.Legal.{after_all, calls_of}
-use Rattle.ael_threads.specs.Histories.{HasOwn, first_plain}
+use Rattle.ael_threads.specs.Histories.{HasOwnCalls, first_plain}
 use Rattle.gc_worker.specs.History.Order.{IsShort}
-use Rattle.ael_threads.specs.Programs.{Executes, HasExecuted, count_after}
+use Rattle.ael_threads.specs.Programs.{Executes, HasExecuted, count_after_call}
 use Rattle.ael_threads.specs.Readers.{IsThere}
-use Rattle.ael_threads.specs.Seats.{IsMine, IsShown, Seated, ShowsSeen, first_number, first_own, new_seated, plain_seen}
+use Rattle.ael_threads.specs.Seats.{IsMine, IsShown, Seated, ShowsSeen, first_number, first_own, new_seated, plain_after_seen}
 use Rattle.ael_threads.proofs.MoreCalls.{OneMore, executes_all, executes_first, executes_more, one_more}
 use Rattle.gc_worker.proofs.History.Extensions.{seen_keeps}
 use Rattle.ael_threads.proofs.Showing.{mutator_at}
@@ -84,7 +84,7 @@ pub call_may_begin : (code : List (List Instr)) (turns count : ℕ) (a : Seated)
 call_may_begin code turns count a instr h shows there valid few =
     let here = there.0 in
     let below = there.1 in
-    let w = mutator_at (plain_seen a.knows).mutators (first_number a.knows.hands) (omega (arith, here, below)) in
+    let w = mutator_at (plain_after_seen a.knows).mutators (first_number a.knows.hands) (omega (arith, here, below)) in
     let made = (shows w.0 w.1).serial in
     let least = h.counts.serial in
     record { valid = valid; serial = λ making is. omega (arith, made, least, few) }
@@ -92,17 +92,17 @@ call_may_begin code turns count a instr h shows there valid few =
 -- what it called is one more
 called_more : (a b : Seated) (task : Task) (did : Did) → IsMine a.knows → Called a task did b → OneMore a.knows.seen (call_by a task did) b.knows.seen
 called_more a b task did mine h =
-    let own : calls_of (first_number a.knows.hands) b.knows.seen ≡ first_own a.knows.hands ++ call_by a task did ∷ [] = (subst (HasOwn b.knows.seen) h.hands h.history.own).0 in
+    let own : calls_of (first_number a.knows.hands) b.knows.seen ≡ first_own a.knows.hands ++ call_by a task did ∷ [] = (subst (HasOwnCalls b.knows.seen) h.hands h.history.own).0 in
     one_more a.knows.plan b.knows.hands a.knows.seen b.knows.seen (call_by a task did) (first_own a.knows.hands) h.history mine own
 
 -- It called what it fetches.
 pub executed_more : (code : List (List Instr)) (turns count : ℕ) (a b : Seated) (task : Task) (did : Did) → IsMine a.knows → HasExecuted code turns count a → Called a task did b
-    → ((q : Mutator) → slice_get (plain_seen a.knows).mutators (first_number a.knows.hands) ≡ Some q → task ≡ task_of (fetch code turns (first_number a.knows.hands) q))
-    → HasExecuted code turns (count_after did count) b
+    → ((q : Mutator) → slice_get (plain_after_seen a.knows).mutators (first_number a.knows.hands) ≡ Some q → task ≡ task_of (fetch code turns (first_number a.knows.hands) q))
+    → HasExecuted code turns (count_after_call did count) b
 executed_more code turns count a b task did mine was h own =
     let m : ℕ = first_number a.knows.hands in
     let c : Call = call_by a task did in
-    let now : Executes code turns (first_plain a.knows.plan) m (count_after c.did count) b.knows.seen =
+    let now : Executes code turns (first_plain a.knows.plan) m (count_after_call c.did count) b.knows.seen =
     executes_more code turns (first_plain a.knows.plan) a.knows.seen b.knows.seen c count (called_more a b task did mine h) h.history.legal was own
     (short_by a.knows.plan.spaces.pages h.acts.knows.before h.last.worker did h.full) in
-    seen_as code turns (count_after did count) a b m h.plan (ap first_number h.hands) now
+    seen_as code turns (count_after_call did count) a b m h.plan (ap first_number h.hands) now

@@ -8,7 +8,7 @@ use Rattle.plain_state.specs.State.{Mutator}
 use Rattle.space_map.specs.Spaces.{IsPageCount}
 use Rattle.space_map.specs.Table.{table_length}
 use Rattle.gc_worker.specs.declared.task.Task.{Task}
-use Rattle.gc_worker.specs.Between.{Begins, IsAsPlain, IsIdle, fresh_mutator, fresh_scanner, opening, with_task}
+use Rattle.gc_worker.specs.Between.{Begins, IsAsPlain, IsIdle, fresh_mutator, fresh_scanner, opening_heap, with_task}
 use Rattle.gc_worker.specs.Counted.{counted}
 use Rattle.gc_worker.specs.Fits.{Fits, MayBegin}
 use Rattle.gc_worker.specs.Held.{Held}
@@ -24,9 +24,9 @@ use Rattle.ael_threads.specs.declared.view.Hand.{Hand}
 use Rattle.ael_threads.specs.declared.view.Plan.{Plan}
 use Rattle.ael_threads.specs.declared.view.View.{View}
 use Rattle.gc_worker.specs.History.Legal.{after_all, calls_of}
-use Rattle.ael_threads.specs.Histories.{HasOwn, first_held, first_plain, hand}
+use Rattle.ael_threads.specs.Histories.{HasOwnCalls, first_held, first_plain, hand}
 use Rattle.ael_threads.specs.Rule.{crew, view}
-use Rattle.ael_threads.specs.Seats.{Follows, Heads, IsLive, IsMine, IsShown, Learned, Moves, Seated, ShowsSeen, both_of, first_number, first_own}
+use Rattle.ael_threads.specs.Seats.{Follows, Heads, IsSeatOf, IsMine, IsShown, Learned, Moves, Seated, ShowsSeen, both_of, first_number, first_own}
 use Rattle.ael_threads.proofs.Places.{get_of}
 use Rattle.gc_worker.proofs.History.Extensions.{seen_keeps}
 use Rattle.ael_threads.proofs.Beginning.{uncounted_first, worker_at}
@@ -78,7 +78,7 @@ pub sound_by : (n mutators k : ℕ) (x : Held) → Fits n mutators k x → IsSou
 sound_by n mutators k x f = subst (λ (j : ℕ). Fits x.layout.pages x.mutators j x) (sym f.number)
     (subst (λ (m : ℕ). Fits x.layout.pages m k x) (sym f.beside) (subst (λ (pages : ℕ). Fits pages mutators k x) (sym f.pages) f))
 
-pub still_live : (t u : TableId) (v w : View) → t ≡ u → w.plan ≡ v.plan → IsLive u v → IsLive t w
+pub still_live : (t u : TableId) (v w : View) → t ≡ u → w.plan ≡ v.plan → IsSeatOf u v → IsSeatOf t w
 still_live t u v w e f live = subst (λ (z : TableId × Plan). (0 < z.1.spaces.pages) × (z.0.words ≡ table_length z.1.spaces.pages)) (λ i. (sym e i, sym f i)) live
 
 -- ---- a new caller
@@ -106,7 +106,7 @@ fresh_shown : (plan : Plan) (k : ℕ) → IsPageCount plan.spaces.pages → plan
     → IsShown (first_plain plan).heap k (first_held plan k) q
 fresh_shown plan k size few all below q its =
     let n = plan.spaces.pages in
-    let h : Heap = opening n plan.mutators plan.scanners in
+    let h : Heap = opening_heap n plan.mutators plan.scanners in
     let so = what_stands_is_so h (first_plain plan) (first_plain plan) (heaps_open n plan.mutators plan.scanners size few all) in
     let same : 0 + k ≡ k = omega arith in
     let held : held_at h k ≡ counted 0 (first_held plan k) = get_of h.workers k (first_held plan (0 + k)) nobody (worker_at n plan.mutators 0 (crew plan) k below) ∙ (ap (first_held plan) same ∙ sym (uncounted_first n plan.mutators k)) in
@@ -132,7 +132,7 @@ absorbed_heads v u y w x h e l =
     (more_heads v.plan x v.hands u.hands h)
 
 -- the first worker's calls stand in the whole history
-first_mine : (plan : Plan) (x : Held) (hs gs : List Hand) (log : List Entry) → Heads plan x hs → HasOwn log (hs ++ gs) → (first_number (hs ++ gs) ≡ first_number hs) × (first_own (hs ++ gs) ≡ first_own hs) × (calls_of (first_number hs) log ≡ first_own hs)
+first_mine : (plan : Plan) (x : Held) (hs gs : List Hand) (log : List Entry) → Heads plan x hs → HasOwnCalls log (hs ++ gs) → (first_number (hs ++ gs) ≡ first_number hs) × (first_own (hs ++ gs) ≡ first_own hs) × (calls_of (first_number hs) log ≡ first_own hs)
 first_mine plan x [] gs log h own = absurd h
 first_mine plan x (was ∷ others) gs log h own = (refl, refl, own.0)
 
@@ -140,7 +140,7 @@ first_mine plan x (was ∷ others) gs log h own = (refl, refl, own.0)
 pub absorbed : (v u y w : View) (x : Held) → Heads v.plan x v.hands → IsMine v → ShowsSeen x v → y ≡ both_of v u → Learned y w → IsMine w × ShowsSeen x w
 absorbed v u y w x h mine shows e l =
     let hands : w.hands ≡ v.hands ++ u.hands = l.hands ∙ ap (λ (b : View). b.hands) e in
-    let f = first_mine v.plan x v.hands u.hands w.seen h (subst (HasOwn w.seen) hands l.own) in
+    let f = first_mine v.plan x v.hands u.hands w.seen h (subst (HasOwnCalls w.seen) hands l.own) in
     let number_is : first_number w.hands ≡ first_number v.hands = ap first_number hands ∙ f.0 in
     let own_is : first_own w.hands ≡ first_own v.hands = ap first_own hands ∙ f.1 in
     let pre : IsPrefix v.seen w.seen = subst (λ (b : View). IsPrefix b.seen w.seen) e l.seen in

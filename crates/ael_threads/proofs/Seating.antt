@@ -7,7 +7,7 @@ use Rattle.gc_worker.specs.Held.{Held}
 use Rattle.ael_threads.specs.declared.view.Plan.{Plan}
 use Rattle.ael_threads.specs.Histories.{first_held, new_hands}
 use Rattle.ael_threads.specs.Opened.{new_scanners}
-use Rattle.ael_threads.specs.Readers.{Scanning}
+use Rattle.ael_threads.specs.Readers.{SeatedScanner}
 use Rattle.ael_threads.specs.Rule.{crew, first_view, view}
 use Rattle.ael_threads.specs.Seats.{Me, Seated, new_callers, new_seated}
 
@@ -50,13 +50,13 @@ module _ (t : TableId) (plan : Plan) where
   pub mutators_all : (k : ℕ) (made : List Seated) → plan.mutators ≤ k → k ≤ plan.mutators → made ≡ new_callers t plan 0 k → made ≡ new_callers t plan 0 plan.mutators
   mutators_all k made past upto so_far = let is : k ≡ plan.mutators = omega (arith, past, upto) in so_far ∙ ap (new_callers t plan 0) is
 
-  abbrev unmoved : Seated → Scanning
+  abbrev unmoved : Seated → SeatedScanner
   unmoved s = record { seated = s; steps = 0 }
 
   -- one scanner more
-  pub scanners_more : (from k : ℕ) (made later : List Scanning) (s : Seated) → made ≡ new_scanners t plan from k → s ≡ new_seated t plan (from + k) → later ≡ made ++ unmoved s ∷ [] → later ≡ new_scanners t plan from (k + 1)
+  pub scanners_more : (from k : ℕ) (made later : List SeatedScanner) (s : Seated) → made ≡ new_scanners t plan from k → s ≡ new_seated t plan (from + k) → later ≡ made ++ unmoved s ∷ [] → later ≡ new_scanners t plan from (k + 1)
   scanners_more from k made later s so_far is grown = rw (add-one k) (grown ∙ (λ i. so_far i ++ unmoved (is i) ∷ []))
 
   -- once there are as many as the plan has
-  pub scanners_all : (from k : ℕ) (made : List Scanning) → plan.scanners ≤ k → k ≤ plan.scanners → made ≡ new_scanners t plan from k → made ≡ new_scanners t plan from plan.scanners
+  pub scanners_all : (from k : ℕ) (made : List SeatedScanner) → plan.scanners ≤ k → k ≤ plan.scanners → made ≡ new_scanners t plan from k → made ≡ new_scanners t plan from plan.scanners
   scanners_all from k made past upto so_far = let is : k ≡ plan.scanners = omega (arith, past, upto) in so_far ∙ ap (new_scanners t plan from) is

@@ -14,7 +14,7 @@ use Rattle.gc_worker.specs.declared.stage.Stage.TheVariants.{Accesses, Evacuates
 use Rattle.gc_worker.specs.declared.task.Task.{Task}
 use Rattle.gc_worker.specs.declared.task.Task.TheVariants.{Calls, Stops}
 use Rattle.gc_worker.specs.Answer.{after_answer, after_told}
-use Rattle.gc_worker.specs.Between.{AreAlike, IsAsPlain, Lands, Shows}
+use Rattle.gc_worker.specs.Between.{AreAlike, IsAsPlain, RegistersLand, ShowsRegisters}
 use Rattle.gc_worker.specs.Counted.{counted}
 use Rattle.gc_worker.specs.Fits.{Fits, FitsEnd, IsOnSide, IsOnSideBack}
 use Rattle.gc_worker.specs.Full.{FullByEnd, FullWhereTold}
@@ -27,7 +27,7 @@ use Rattle.gc_worker.specs.declared.did.Did.TheVariants.{Done, Trap}
 use Rattle.gc_worker.specs.Turned.{Told, Silent, Answers, Marks}
 use Rattle.ael_threads.specs.Seats.{IsRunning, IsShown, LiveByEnd, LiveWhereTold}
 
-pub shown_by : (h : Heap) (p : Plain) (m count : ℕ) (z : Held) (q : Mutator) → IsAsPlain h p m (counted count z) q → Shows z.registers q → IsShown p.heap m (uncounted z) q
+pub shown_by : (h : Heap) (p : Plain) (m count : ℕ) (z : Held) (q : Mutator) → IsAsPlain h p m (counted count z) q → ShowsRegisters z.registers q → IsShown p.heap m (uncounted z) q
 shown_by h p m count z q a shows = record {
   counter = a.account.counter;
   printed = a.account.printed;
@@ -104,7 +104,7 @@ module _ (h : Heap) (p : Plain) (m count : ℕ) (z : Held) (q : Mutator) (a : Is
   counted_runs : is_running (post_in (counted count z) z.stage) ≡ true
   counted_runs = ap is_running (counted_post count z z.stage) ∙ r.1
 
-  pub lands_by : Lands h.pages h.words z
+  pub lands_by : RegistersLand h.pages h.words z
   lands_by = let l = a.lands unended counted_runs in record { in_space = l.in_space; header = l.header }
 
   pub alike_by : AreAlike z.registers q
@@ -158,11 +158,11 @@ module _ (p : Plain) (m : ℕ) (q : Mutator) (why : End) (its : slice_get p.muta
   ended_is (Stops end) = ap (λ (o : Option Mutator). slice_get (after_answer p m (Stops end) (Trap why) o).mutators m) its ∙ slice_get-set_same p.mutators m with_end (slice_get_within p.mutators m q its)
 
 pub ends_with : (p : Plain) (m : ℕ) (q : Mutator) (task : Task) (why : End) (w : Mutator) (registers : List ℕ) → slice_get p.mutators m ≡ Some q → slice_get (after_told p m (Answers task (Trap why))).mutators m ≡ Some w
-    → Shows registers q → Shows registers w
+    → ShowsRegisters registers q → ShowsRegisters registers w
 ends_with p m q task why w registers its was s =
     let new : Mutator = record q { end = Some why } in
     let same : new ≡ w = same_Some new w (sym (ended_is p m q why its task) ∙ was) in
-    subst (Shows registers) same (record { numbers = s.numbers; pointers = s.pointers })
+    subst (ShowsRegisters registers) same (record { numbers = s.numbers; pointers = s.pointers })
 
 -- ---- what is told as live
 

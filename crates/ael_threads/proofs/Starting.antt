@@ -9,8 +9,8 @@ use Rattle.ael_threads.specs.declared.view.Plan.{Plan}
 use Rattle.ael_threads.specs.Histories.{Each}
 use Rattle.ael_threads.specs.Opened.{new_scanner, new_scanners}
 use Rattle.ael_threads.specs.Outputs.{HasEnd}
-use Rattle.ael_threads.specs.Readers.{Scanning}
-use Rattle.ael_threads.specs.Running.{AreReady, AreScanning, EachFrom, Executing, HasScanned, HaveRun, HaveScanned, IsScanning, Work}
+use Rattle.ael_threads.specs.Readers.{SeatedScanner}
+use Rattle.ael_threads.specs.Running.{AreReady, AreScanning, EachFrom, Executing, HasSeenAllLeave, HaveRun, HaveScanned, RunsAsScanner, Work}
 use Rattle.ael_threads.specs.Seats.{Seated, new_callers, new_seated}
 use Rattle.ael_threads.proofs.Programs.{executed_first}
 use Rattle.ael_threads.proofs.Telling.{from_append}
@@ -52,7 +52,7 @@ module _ (code : List (List Instr)) (turns : ℕ) (t : TableId) (plan : Plan) wh
   all_ready (suc n) few =
       from_push (λ m s. Executing work m 0 s) 0 n (new_callers t plan 0 n) (new_seated t plan (0 + n)) (callers_length t plan 0 n) (all_ready n (omega (arith, few))) (ready (0 + n) (omega (arith, few)))
 
-  scanning : (k : ℕ) → IsScanning work k (new_seated t plan k)
+  scanning : (k : ℕ) → RunsAsScanner work k (new_seated t plan k)
   scanning k = record { table = refl; plan = refl; hands = refl; task = by_side (nat_lt k plan.mutators) }
     where
       by_side : (is_mutator : Bool) → (if is_mutator then fresh_mutator plan.spaces.pages plan.mutators k else fresh_scanner plan.spaces.pages plan.mutators k).task ≡ None
@@ -62,7 +62,7 @@ module _ (code : List (List Instr)) (turns : ℕ) (t : TableId) (plan : Plan) wh
   pub all_scanning : (from n : ℕ) → AreScanning work from (new_scanners t plan from n)
   all_scanning from zero = tt
   all_scanning from (suc n) =
-      from_push (λ k (s : Scanning). IsScanning work k s.seated) from n (new_scanners t plan from n) (new_scanner t plan (from + n)) (scanners_length t plan from n) (all_scanning from n) (scanning (from + n))
+      from_push (λ k (s : SeatedScanner). RunsAsScanner work k s.seated) from n (new_scanners t plan from n) (new_scanner t plan (from + n)) (scanners_length t plan from n) (all_scanning from n) (scanning (from + n))
 
 -- ---- after
 
@@ -75,17 +75,17 @@ module _ (w : Work) where
   all_ended n [] h = tt
   all_ended n (s ∷ ss) h = (subst IsSome (sym h.0.executed.ended) refl, all_ended (n + 1) ss h.1)
 
-  pub scanners_of : (n : ℕ) (ss : List Scanning) → AreScanning w n ss → Each (λ (s : Scanning). s.seated.table ≡ w.table) ss
+  pub scanners_of : (n : ℕ) (ss : List SeatedScanner) → AreScanning w n ss → Each (λ (s : SeatedScanner). s.seated.table ≡ w.table) ss
   scanners_of n [] h = tt
   scanners_of n (s ∷ ss) h = (h.0.table, scanners_of (n + 1) ss h.1)
 
-  pub were_scanning : (n : ℕ) (ss : List Scanning) → HaveScanned w n ss → AreScanning w n ss
+  pub were_scanning : (n : ℕ) (ss : List SeatedScanner) → HaveScanned w n ss → AreScanning w n ss
   were_scanning n [] h = tt
   were_scanning n (s ∷ ss) h = (h.0.scanning, were_scanning (n + 1) ss h.1)
 
   -- each of them, wherever it stands
-  pub each_scanned : (n : ℕ) (old new : List Scanning) → length new ≡ length old
-      → ((i : ℕ) (s : Scanning) → i < length old → (k : ℕ) → IsScanning w k (get_or old i s).seated → HasScanned w k (get_or new i s).seated) → AreScanning w n old → HaveScanned w n new
+  pub each_scanned : (n : ℕ) (old new : List SeatedScanner) → length new ≡ length old
+      → ((i : ℕ) (s : SeatedScanner) → i < length old → (k : ℕ) → RunsAsScanner w k (get_or old i s).seated → HasSeenAllLeave w k (get_or new i s).seated) → AreScanning w n old → HaveScanned w n new
   each_scanned n [] [] many scans h = tt
   each_scanned n [] (y ∷ ys) many scans h = absurd (omega (arith, many))
   each_scanned n (x ∷ xs) [] many scans h = absurd (omega (arith, many))

@@ -41,18 +41,18 @@ use Rattle.ael_threads.specs.declared.view.Plan.{Plan}
 use Rattle.gc_worker.specs.History.Legal.{IsLegal, after_all, calls_of, last_flip}
 use Rattle.ael_threads.specs.Histories.{Each, first_plain, hand}
 use Rattle.ael_threads.specs.Opened.{plan_of}
-use Rattle.ael_threads.specs.Outputs.{IsTold, Runs, Tells, TellsRegisters, as_kept, kept_by, registers_by, seen_by}
+use Rattle.ael_threads.specs.Outputs.{IsToldOnClose, Runs, Tells, TellsRegisters, as_kept, seat_kept, seat_registers, seat_seen}
 use Rattle.ael_threads.specs.Programs.{Executes}
-use Rattle.ael_threads.specs.Readers.{Scanning, seated}
+use Rattle.ael_threads.specs.Readers.{SeatedScanner, seated}
 use Rattle.ael_threads.specs.Rule.{StandsAs, heap_of}
-use Rattle.ael_threads.specs.Running.{EachFrom, FullByEnd, FullIn, HasRun, HaveRun, HaveScanned, Work}
+use Rattle.ael_threads.specs.Running.{EachFrom, EndFoundFull, FullIn, HasRun, HaveRun, HaveScanned, Work}
 use Rattle.ael_threads.specs.Seats.{Closes, Seated, Stays, all_hands, first_number, first_own}
 use Rattle.ael_threads.proofs.Elements.{each_apart, each_both}
 use Rattle.gc_worker.specs.History.Needs.{EachFullIs, EachMayCome}
 use Rattle.gc_worker.specs.History.Needs as needs
 use Rattle.gc_worker.specs.History.Order.{order_of}
 use Rattle.gc_worker.specs.History.Tally.{tasks_held}
-use Rattle.ael_threads.specs.Histories.{opened}
+use Rattle.ael_threads.specs.Histories.{opening_tally}
 use Rattle.gc_worker.proofs.History.Lone.{lone_is_never_full}
 use Rattle.gc_worker.proofs.History.Needs.{large_is_never_full, orders_fill}
 use Rattle.gc_worker.proofs.History.Orders.{IsProgramOrder, fetched_each, orders_program}
@@ -113,11 +113,11 @@ module _ (w : Work) (workers : List Held) (log : List Entry) where
   mutator_stands : (k : ℕ) (s : Seated) → RanHere k s → StandsHere workers k s
   mutator_stands k s h = (alone workers log s (hand k s.worker h.0.executed.own) h.0.executed.hands h.1).state
 
-  scanners_stand : (n : ℕ) (ss : List Scanning) → HaveScanned w n ss → Each (Known workers log) (map seated ss) → EachFrom (StandsHere workers) n (map seated ss)
+  scanners_stand : (n : ℕ) (ss : List SeatedScanner) → HaveScanned w n ss → Each (Known workers log) (map seated ss) → EachFrom (StandsHere workers) n (map seated ss)
   scanners_stand n [] h k = tt
   scanners_stand n (s ∷ ss) h k = ((alone workers log s.seated (hand n s.seated.worker []) h.0.scanning.hands k.0).state, scanners_stand (n + 1) ss h.1 k.1)
 
-  scanners_gone : (n : ℕ) (ss : List Scanning) → HaveScanned w n ss → EachFrom (λ k (s : Seated). s.worker.stage ≡ Gone) n (map seated ss)
+  scanners_gone : (n : ℕ) (ss : List SeatedScanner) → HaveScanned w n ss → EachFrom (λ k (s : Seated). s.worker.stage ≡ Gone) n (map seated ss)
   scanners_gone n [] h = tt
   scanners_gone n (s ∷ ss) h = (h.0.gone, scanners_gone (n + 1) ss h.1)
 
@@ -156,7 +156,7 @@ all_gone (x ∷ xs) (s ∷ ss) many h =
 
 -- ---- a program that was run
 
-module _ (code : List (List Instr)) (config : Config) (t : TableId) (ms : List Seated) (ss : List Scanning) (words : List ℕ) where
+module _ (code : List (List Instr)) (config : Config) (t : TableId) (ms : List Seated) (ss : List SeatedScanner) (words : List ℕ) where
   abbrev plan_here : Plan
   plan_here = plan_of (length code) config
 
@@ -200,15 +200,15 @@ module _ (code : List (List Instr)) (config : Config) (t : TableId) (ms : List S
     mutators_tell f g same = (λ i. map f (take (sym many i) c.workers))
         ∙ first_told f g c.workers ms (from_map Left (TellsIn f g c.workers) (λ k s l. (l.0.held, l.0.is, same l.0.held s l.0.shown)) 0 ms mutators_left)
 
-    seen_told : map seen_by ms ≡ seen_in h
-    seen_told = sym (mutators_tell (λ x. record { printed = x.account.printed; end = x.account.end }) seen_by
+    seen_told : map seat_seen ms ≡ seen_in h
+    seen_told = sym (mutators_tell (λ x. record { printed = x.account.printed; end = x.account.end }) seat_seen
         (λ x s e. ap (λ (z : Held). record { printed = z.account.printed; end = z.account.end }) e))
 
-    registers_told : map registers_by ms ≡ registers_in h
-    registers_told = sym (mutators_tell (λ x. x.registers) registers_by (λ x s e. ap (λ (z : Held). z.registers) e))
+    registers_told : map seat_registers ms ≡ registers_in h
+    registers_told = sym (mutators_tell (λ x. x.registers) seat_registers (λ x s e. ap (λ (z : Held). z.registers) e))
 
     -- who has left keeps nothing
-    kept_gone : (x : Held) (s : Seated) → uncounted x ≡ s.worker → s.worker.stage ≡ Gone → kept.kept_by (knows x).copy ≡ as_kept (kept_by s)
+    kept_gone : (x : Held) (s : Seated) → uncounted x ≡ s.worker → s.worker.stage ≡ Gone → kept.kept_by (knows x).copy ≡ as_kept (seat_kept s)
     kept_gone x s e gone =
         let own : x.stage ≡ Gone = ap (λ (z : Held). z.stage) e ∙ gone in
         ap (λ (stage : Stage). kept.kept_by (copy_in stage)) own ∙ sym (ap (λ (stage : Stage). as_kept (header_kept stage, place_kept stage)) gone)
@@ -223,13 +223,13 @@ module _ (code : List (List Instr)) (config : Config) (t : TableId) (ms : List S
     workers_left = all_gone c.workers seats many_workers
         (from_map Left (TellsIn (λ x. x.stage) (λ s. Gone) c.workers) (λ k s l. (l.0.held, l.0.is, ap (λ (z : Held). z.stage) l.0.shown ∙ l.1)) 0 seats all_left)
 
-    kept_told : map as_kept (map kept_by seats) ≡ kept_in h
+    kept_told : map as_kept (map seat_kept seats) ≡ kept_in h
     kept_told =
         let all : take (length seats) c.workers ≡ c.workers = take_all (length seats) c.workers (omega (arith, many_workers)) in
-        let told = first_told (λ x. kept.kept_by (knows x).copy) (λ s. as_kept (kept_by s)) c.workers seats
-        (from_map Left (TellsIn (λ x. kept.kept_by (knows x).copy) (λ s. as_kept (kept_by s)) c.workers) (λ k s l. (l.0.held, l.0.is, kept_gone l.0.held s l.0.shown l.1)) 0 seats
+        let told = first_told (λ x. kept.kept_by (knows x).copy) (λ s. as_kept (seat_kept s)) c.workers seats
+        (from_map Left (TellsIn (λ x. kept.kept_by (knows x).copy) (λ s. as_kept (seat_kept s)) c.workers) (λ k s l. (l.0.held, l.0.is, kept_gone l.0.held s l.0.shown l.1)) 0 seats
         all_left) in
-        map-map as_kept kept_by seats ∙ (sym told ∙ (ap (map (λ x. kept.kept_by (knows x).copy)) all ∙ sym (map-map (λ (x : Worker). kept.kept_by x.copy) knows c.workers)))
+        map-map as_kept seat_kept seats ∙ (sym told ∙ (ap (map (λ x. kept.kept_by (knows x).copy)) all ∙ sym (map-map (λ (x : Worker). kept.kept_by x.copy) knows c.workers)))
 
     -- ---- its order
 
@@ -277,10 +277,10 @@ module _ (code : List (List Instr)) (config : Config) (t : TableId) (ms : List S
         let s = found.0 in
         let r = found.2 in
         let same : r.0.executed.end ≡ end = same_Some r.0.executed.end end (sym found.3 ∙ e) in
-        record { upto = s.knows.seen; begins = r.1.1; full = subst (FullByEnd plan_here m s.knows.seen) same r.0.executed.full }
+        record { upto = s.knows.seen; begins = r.1.1; full = subst (EndFoundFull plan_here m s.knows.seen) same r.0.executed.full }
 
     -- what its registers show
-    shown_at : (m : ℕ) (q : Mutator) (told : Outputs) → told.regs.items ≡ map registers_by ms → slice_get (after_all p c.log).mutators m ≡ Some q → TellsRegisters told m q
+    shown_at : (m : ℕ) (q : Mutator) (told : Outputs) → told.regs.items ≡ map seat_registers ms → slice_get (after_all p c.log).mutators m ≡ Some q → TellsRegisters told m q
     shown_at m q told regs is =
         let found = ended_at m q is in
         let s = found.0 in
@@ -292,22 +292,22 @@ module _ (code : List (List Instr)) (config : Config) (t : TableId) (ms : List S
         let its : slice_get (after_all (first_plain s.knows.plan) c.log).mutators (first_number s.knows.hands) ≡ Some q = (λ i. slice_get (after_all (first_plain (r.plan i)) c.log).mutators (number i)) ∙ is in
         record {
           words = s.worker.registers;
-          is = ap (λ (items : List (List ℕ)). slice_get items m) regs ∙ (slice_get-map registers_by ms m ∙ ap (λ (o : Option Seated). option_map registers_by o) found.1);
+          is = ap (λ (items : List (List ℕ)). slice_get items m) regs ∙ (slice_get-map seat_registers ms m ∙ ap (λ (o : Option Seated). option_map seat_registers o) found.1);
           shows = (shown_all s c.log r.mine r.shows k.1 own q its).registers;
         }
 
     -- each full heap of its order
-    fulls : EachFullIs config.pages code config.turns (needs.opened code) 0 (order_of c.log) × EachMayCome (λ j. false) 0 (order_of c.log)
+    fulls : EachFullIs config.pages code config.turns (needs.first_story code) 0 (order_of c.log) × EachMayCome (λ j. false) 0 (order_of c.log)
     fulls =
         let sections : length p.mutators ≡ length code = length-replicate (length code) opening_mutator in
         subst (λ (z : Plain). EachFullIs config.pages code config.turns (record { flip = z; now = z }) 0 (order_of c.log) × EachMayCome (λ j. false) 0 (order_of c.log)) (opens_so code)
-        (orders_fill code config.turns (tasks_held c.workers) config.pages (opened plan_here) 0 (λ j. false) c.log c.legal sections
+        (orders_fill code config.turns (tasks_held c.workers) config.pages (opening_tally plan_here) 0 (λ j. false) c.log c.legal sections
         (fetched_each code config.turns p c.log c.legal (λ m below. (executes m (omega (arith, below, sections))).1.fetched))
         (λ j task q e its none. absurd (let ended = (ended_at j q its).3 in let never = sym none ∙ ended in cc))
         c.entries (omega arith) (λ m e. e))
 
     -- THE CLAUSE OF RUN
-    pub runs_so : (told : Outputs) → told.words ≡ words → length told.words ≡ table_length config.pages → told.regs.items ≡ map registers_by ms → Tells h told → Runs code config told
+    pub runs_so : (told : Outputs) → told.words ≡ words → length told.words ≡ table_length config.pages → told.regs.items ≡ map seat_registers ms → Tells h told → Runs code config told
     runs_so told same all regs tells =
         let from : p ≡ opening code = opens_so code in
         record {
@@ -336,7 +336,7 @@ module _ (code : List (List Instr)) (config : Config) (t : TableId) (ms : List S
         }
 
   -- by what `tell` tells
-  told_here : length ms ≡ length code → length ss ≡ config.scanners → HaveRun work 0 ms → HaveScanned work (length code) ss → (told : Outputs) → told.words ≡ words → IsTold plan_here ms ss told → Runs code config told
+  told_here : length ms ≡ length code → length ss ≡ config.scanners → HaveRun work 0 ms → HaveScanned work (length code) ss → (told : Outputs) → told.words ≡ words → IsToldOnClose plan_here ms ss told → Runs code config told
   told_here many few run scanned told same is =
       let c : Closes plan_here (map seated ss ++ ms) words = subst (Closes plan_here (map seated ss ++ ms)) same is.closes in
       let tells : Tells (heap_of plan_here told.words c.workers) told = record {
@@ -348,12 +348,12 @@ module _ (code : List (List Instr)) (config : Config) (t : TableId) (ms : List S
       } in
       runs_so many few run scanned c told same is.all_words is.registers (subst (λ (z : List ℕ). Tells (heap_of plan_here z c.workers) told) same tells)
 
-pub runs_told : (code : List (List Instr)) (config : Config) (t : TableId) (plan : Plan) (ms : List Seated) (ss : List Scanning) → plan ≡ plan_of (length code) config → length ms ≡ length code → length ss ≡ config.scanners
+pub runs_told : (code : List (List Instr)) (config : Config) (t : TableId) (plan : Plan) (ms : List Seated) (ss : List SeatedScanner) → plan ≡ plan_of (length code) config → length ms ≡ length code → length ss ≡ config.scanners
     → HaveRun (record { code = code; turns = config.turns; table = t; plan = plan }) 0 ms → HaveScanned (record { code = code; turns = config.turns; table = t; plan = plan }) plan.mutators ss
-    → (told : Outputs) → IsTold plan ms ss told → Runs code config told
+    → (told : Outputs) → IsToldOnClose plan ms ss told → Runs code config told
 runs_told code config t plan ms ss is many few =
     subst (λ (z : Plan). HaveRun (record { code = code; turns = config.turns; table = t; plan = z }) 0 ms → HaveScanned (record { code = code; turns = config.turns; table = t; plan = z }) z.mutators ss
-    → (told : Outputs) → IsTold z ms ss told → Runs code config told) (sym is) (λ run scanned told it. told_here code config t ms ss told.words many few run scanned told refl it)
+    → (told : Outputs) → IsToldOnClose z ms ss told → Runs code config told) (sym is) (λ run scanned told it. told_here code config t ms ss told.words many few run scanned told refl it)
 
 -- ---- words of the table
 

@@ -12,7 +12,7 @@ use Rattle.plain_state.specs.State.{Mutator, Plain}
 use Rattle.gc_worker.specs.declared.stage.Stage.TheVariants.{Looks}
 use Rattle.gc_worker.specs.declared.task.Task.{Task}
 use Rattle.gc_worker.specs.Answer.{ComesTo, IsAnswered, after_told}
-use Rattle.gc_worker.specs.Between.{Begins, AreAlike, GoesOn, IsAsPlain, IsSo, Lands, Readies, Shows, with_task}
+use Rattle.gc_worker.specs.Between.{Begins, AreAlike, KeepsToTask, IsAsPlain, IsSo, RegistersLand, Readies, ShowsRegisters, with_task}
 use Rattle.gc_worker.specs.Cycles.{IsInCall}
 use Rattle.gc_worker.specs.Counted.{CountsApart, counted, count_after}
 use Rattle.gc_worker.specs.Fits.{Fits}
@@ -29,17 +29,17 @@ use Rattle.gc_worker.proofs.Between.Standing.{what_stands_is_so}
 use Rattle.gc_worker.proofs.Counting.{counted_fit, counts_are_apart}
 use Rattle.gc_worker.proofs.Whole.{steps_keep}
 use Rattle.gc_worker.specs.declared.call.Call.{Call}
-use Rattle.ael_threads.specs.declared.view.Claim.{Claim}
+use Rattle.ael_threads.specs.declared.view.WonClaim.{WonClaim}
 use Rattle.gc_worker.specs.declared.entry.Entry.{Entry}
 use Rattle.gc_worker.specs.declared.entry.Entry.TheVariants.{Made, Exchanged}
 use Rattle.ael_threads.specs.declared.view.Hand.{Hand}
 use Rattle.ael_threads.specs.declared.view.Plan.{Plan}
 use Rattle.ael_threads.specs.declared.view.View.{View}
 use Rattle.gc_worker.specs.History.Tally.{IsTallied}
-use Rattle.ael_threads.specs.Histories.{opened, HasOwn, first_plain, hand}
-use Rattle.gc_worker.specs.History.Legal.{IsLegal, after_all, call, calls_of, extra, last_flip, own_after}
-use Rattle.ael_threads.specs.Rule.{FitsView, Has, Kept, crew, heap_of, view}
-use Rattle.ael_threads.specs.Seats.{Follows, IsRunning, IsShown, Moves, Sees, ShowsSeen, StandWith, plain_seen, seen_after, with_claim, LiveByEnd, LiveWhereTold}
+use Rattle.ael_threads.specs.Histories.{opening_tally, HasOwnCalls, first_plain, hand}
+use Rattle.gc_worker.specs.History.Legal.{IsLegal, after_all, worker_call, calls_of, extra, last_flip, own_after}
+use Rattle.ael_threads.specs.Rule.{FitsView, HasHand, RuleHolds, crew, heap_of, view}
+use Rattle.ael_threads.specs.Seats.{Follows, IsRunning, IsShown, Moves, Sees, ShowsSeen, StandWith, plain_after_seen, seen_after, with_claim, LiveByEnd, LiveWhereTold}
 use Rattle.ael_threads.specs.Began.{EachAfter, HasLooked, FlippedIfFull}
 use Rattle.ael_threads.proofs.Began.{given_none}
 use Rattle.ael_threads.proofs.Looks.{flipped_more, looked}
@@ -52,29 +52,29 @@ use Rattle.ael_threads.proofs.Showing.{alike_by, ends_with, full_by, lands_by, l
 use Rattle.gc_worker.proofs.History.Tallies.{tally_flip, tally_now}
 use Rattle.gc_worker.proofs.History.Tasks.{task_tallied}
 use Rattle.ael_threads.proofs.Views.{all_fit, my_fit}
-use Rattle.ael_threads.proofs.Winning.{Keeps, won_after}
+use Rattle.ael_threads.proofs.Winning.{KeepsPagesOut, won_after}
 
 abbrev pub TableState : Type 0
 TableState = table.State ℕ View
 
 -- what a step must come to
 abbrev pub Came : Plan → ℕ → View → ℕ → Held → Reply → TableState → List ℕ → Type 0
-Came plan id v m x r s later = (w : View) × Kept plan (record { words = later; homes = s.homes; views = slice_set s.views id w }) × Moves v m x r w
+Came plan id v m x r s later = (w : View) × RuleHolds plan (record { words = later; homes = s.homes; views = slice_set s.views id w }) × Moves v m x r w
 
 -- ---- what is seen after it
 
 seen_fits : (seen log : List Entry) (m : ℕ) (t : Told) → IsPrefix seen log → IsPrefix (seen_after seen (log ++ extra m t) t) (log ++ extra m t)
 seen_fits seen log m Silent h = prefix_more seen log [] h
-seen_fits seen log m (Answers task outcome) h = prefix_self (log ++ Made (call m task outcome) ∷ [])
+seen_fits seen log m (Answers task outcome) h = prefix_self (log ++ Made (worker_call m task outcome) ∷ [])
 seen_fits seen log m (Marks asked) h = prefix_more seen log (Exchanged m asked ∷ []) h
 
 sees : (v w : View) (log : List Entry) (m : ℕ) (t : Told) → IsPrefix v.seen log → w.seen ≡ seen_after v.seen (log ++ extra m t) t
-    → IsLegal (first_plain v.plan) (log ++ extra m t) → HasOwn (log ++ extra m t) w.hands → Sees v m t w
+    → IsLegal (first_plain v.plan) (log ++ extra m t) → HasOwnCalls (log ++ extra m t) w.hands → Sees v m t w
 sees v w log m Silent pre is legal own = is
 sees v w log m (Answers task outcome) pre is legal own = record {
   between = pre.0;
-  is = is ∙ ap (λ (z : List Entry). z ++ Made (call m task outcome) ∷ []) (sym pre.1);
-  own = subst (λ (z : List Entry). HasOwn z w.hands) (sym is) own;
+  is = is ∙ ap (λ (z : List Entry). z ++ Made (worker_call m task outcome) ∷ []) (sym pre.1);
+  own = subst (λ (z : List Entry). HasOwnCalls z w.hands) (sym is) own;
   legal = subst (IsLegal (first_plain v.plan)) (sym is) legal;
 }
 sees v w log m (Marks asked) pre is legal own = is
@@ -99,7 +99,7 @@ begins_counted count was now (inr given) = inr (given.0, given.1, ap (counted co
 
 -- ---- the step of the seat's own worker, which held was.worker after its last step, and whose code holds x now
 
-module _ (plan : Plan) (id : ℕ) (was : Hand) (x : Held) (others : List Hand) (seen heard : List Entry) (claims : List Claim) (q : Step) (s : TableState) (b : Kept plan s)
+module _ (plan : Plan) (id : ℕ) (was : Hand) (x : Held) (others : List Hand) (seen heard : List Entry) (claims : List WonClaim) (q : Step) (s : TableState) (b : RuleHolds plan s)
     (at : get_elem? s.views id ≡ some (view plan (was ∷ others) seen heard claims)) (follows : Follows plan was.number was.worker x) (is_mine : calls_of was.number seen ≡ was.own) (showed : ShowsSeen x (view plan (was ∷ others) seen heard claims))
     (want : wanted x ≡ Some q) where
   abbrev v : View
@@ -138,7 +138,7 @@ module _ (plan : Plan) (id : ℕ) (was : Hand) (x : Held) (others : List Hand) (
   abbrev fits_view : FitsView plan s.words b.workers b.log b.owner b.winner id v
   fits_view = b.seats id v at
 
-  abbrev has : Has b.workers b.log b.owner id was
+  abbrev has : HasHand b.workers b.log b.owner id was
   has = fits_view.hands.0
 
   -- as it stands in the list, and then as its code has it, with its count
@@ -169,8 +169,8 @@ module _ (plan : Plan) (id : ℕ) (was : Hand) (x : Held) (others : List Hand) (
   apart : CountsApart count x
   apart = counts_are_apart n plan.mutators m count x follows.fits
 
-  readied_tallied : IsTallied (heap_of plan s.words workers1) (opened plan) b.log
-  readied_tallied = task_tallied (heap_of plan s.words b.workers) m y inside (subst (λ (w : Held). Begins w y) (sym old_is) (begins_counted count was.worker x follows.begins)) (opened plan) b.log b.tallied
+  readied_tallied : IsTallied (heap_of plan s.words workers1) (opening_tally plan) b.log
+  readied_tallied = task_tallied (heap_of plan s.words b.workers) m y inside (subst (λ (w : Held). Begins w y) (sym old_is) (begins_counted count was.worker x follows.begins)) (opening_tally plan) b.log b.tallied
 
   law : StepKeeps (heap_of plan s.words workers1) p o m y q
   law = steps_keep (heap_of plan s.words workers1) p o m y q readied inside1 (get_or-set_same b.workers m y nobody inside) (apart.wants ∙ want)
@@ -200,10 +200,10 @@ module _ (plan : Plan) (id : ℕ) (was : Hand) (x : Held) (others : List Hand) (
   stands' = subst (λ (w : Plain × Plain). WorkersStand heap' w.0 w.1)
       (λ i. ((ap (after_told p m) tells ∙ sym (after_more (first_plain plan) b.log m t)) i, (ap (at_flip p o) tells ∙ sym (flip_more (first_plain plan) (first_plain plan) b.log m t)) i)) law.stands
 
-  tallied' : IsTallied heap' (opened plan) log'
-  tallied' = subst (λ (u : Told). IsTallied heap' (opened plan) (b.log ++ extra m u)) tells
-      (step_tallied (heap_of plan s.words workers1) m y q inside1 (get_or-set_same b.workers m y nobody inside) (apart.wants ∙ want) (opened plan) b.log readied_tallied
-      (subst (λ (w : Plain × Plain). WorkersStand (heap_of plan s.words workers1) w.0 w.1) (λ i. (sym (tally_now (opened plan) b.log) i, sym (tally_flip (opened plan) b.log) i)) readied))
+  tallied' : IsTallied heap' (opening_tally plan) log'
+  tallied' = subst (λ (u : Told). IsTallied heap' (opening_tally plan) (b.log ++ extra m u)) tells
+      (step_tallied (heap_of plan s.words workers1) m y q inside1 (get_or-set_same b.workers m y nobody inside) (apart.wants ∙ want) (opening_tally plan) b.log readied_tallied
+      (subst (λ (w : Plain × Plain). WorkersStand (heap_of plan s.words workers1) w.0 w.1) (λ i. (sym (tally_now (opening_tally plan) b.log) i, sym (tally_flip (opening_tally plan) b.log) i)) readied))
 
   so' : IsSo heap' p'
   so' = what_stands_is_so heap' p' (last_flip (first_plain plan) log') stands'
@@ -221,7 +221,7 @@ module _ (plan : Plan) (id : ℕ) (was : Hand) (x : Held) (others : List Hand) (
       let below = runs_aside n plan.mutators m z fits_z runs.1 in
       mutator_at p'.mutators m (omega (arith, many, below))
 
-  lands : IsRunning z → Lands n later z
+  lands : IsRunning z → RegistersLand n later z
   lands runs = let w = its_mutator runs in lands_by heap' p' m count' z w.0 (as_plain w.0 w.1) runs
 
   alike : IsRunning z → (w : Mutator) → slice_get p'.mutators m ≡ Some w → AreAlike z.registers w
@@ -230,20 +230,20 @@ module _ (plan : Plan) (id : ℕ) (was : Hand) (x : Held) (others : List Hand) (
   -- ---- its registers, also once it has its end
 
   -- what was shown before is shown of the whole history
-  agreed : Agrees m (plain_seen v) p
+  agreed : Agrees m (plain_after_seen v) p
   agreed = seen_keeps (first_plain plan) seen b.log m was.own fits_view.seen is_mine has.calls
 
-  showed_at : (w : Mutator) → slice_get p.mutators m ≡ Some w → IsShown (plain_seen v).heap m x w
+  showed_at : (w : Mutator) → slice_get p.mutators m ≡ Some w → IsShown (plain_after_seen v).heap m x w
   showed_at w its = showed w (sym agreed.mutator ∙ its)
 
-  goes : GoesOn x r
+  goes : KeepsToTask x r
   goes = workers_go_on n plan.mutators m x r follows.fits
 
   -- who had its end keeps its registers
-  stays_ended : (w : Mutator) (end : End) → slice_get p.mutators m ≡ Some w → w.end ≡ Some end → Shows z.registers w
-  stays_ended w end its e = let s = showed_at w its in subst (λ (registers : List ℕ). Shows registers w) (sym (goes.ended end (s.end ∙ e)).1) s.registers
+  stays_ended : (w : Mutator) (end : End) → slice_get p.mutators m ≡ Some w → w.end ≡ Some end → ShowsRegisters z.registers w
+  stays_ended w end its e = let s = showed_at w its in subst (λ (registers : List ℕ). ShowsRegisters registers w) (sym (goes.ended end (s.end ∙ e)).1) s.registers
 
-  shows_ended : (w : Mutator) (end : End) (u : Told) → t ≡ u → slice_get (after_told p m u).mutators m ≡ Some w → slice_get p'.mutators m ≡ Some w → w.end ≡ Some end → Shows z.registers w
+  shows_ended : (w : Mutator) (end : End) (u : Told) → t ≡ u → slice_get (after_told p m u).mutators m ≡ Some w → slice_get p'.mutators m ≡ Some w → w.end ≡ Some end → ShowsRegisters z.registers w
   shows_ended w end Silent is was_its its e = stays_ended w end was_its e
   shows_ended w end (Marks asked) is was_its its e = stays_ended w end was_its e
   shows_ended w end (Answers task Done) is was_its its e = (as_plain w its).shows (no_end heap' p' n plan.mutators m count' z w (as_plain w its) fits_z (looks task is))
@@ -251,12 +251,12 @@ module _ (plan : Plan) (id : ℕ) (was : Hand) (x : Held) (others : List Hand) (
       let comes : ComesTo p m task (Trap why) = subst (IsAnswered p m) is answered in
       let s = showed_at comes.mutator comes.is in
       let same = (goes.answers task (Trap why) is).after.1 in
-      ends_with p m comes.mutator task why w z.registers comes.is was_its (subst (λ (registers : List ℕ). Shows registers comes.mutator) (sym same) s.registers)
+      ends_with p m comes.mutator task why w z.registers comes.is was_its (subst (λ (registers : List ℕ). ShowsRegisters registers comes.mutator) (sym same) s.registers)
 
-  shows_registers : (w : Mutator) → slice_get p'.mutators m ≡ Some w → Shows z.registers w
+  shows_registers : (w : Mutator) → slice_get p'.mutators m ≡ Some w → ShowsRegisters z.registers w
   shows_registers w its = by_end w.end refl
     where
-      by_end : (end : Option End) → w.end ≡ end → Shows z.registers w
+      by_end : (end : Option End) → w.end ≡ end → ShowsRegisters z.registers w
       by_end None e = (as_plain w its).shows e
       by_end (Some end) e = shows_ended w end t refl (ap (λ (s : Plain). slice_get s.mutators m) (sym (after_more (first_plain plan) b.log m t)) ∙ its) its e
 
@@ -271,14 +271,14 @@ module _ (plan : Plan) (id : ℕ) (was : Hand) (x : Held) (others : List Hand) (
   abbrev v' : View
   v' = view plan (d ∷ others) seen' log' (with_claim claims (won x r))
 
-  has' : Has workers2 log' b.owner id d
+  has' : HasHand workers2 log' b.owner id d
   has' = record {
     owns = has.owns;
     state = record { held = turned y r; is = set_here workers1 m (turned y r) inside1; shown = ap uncounted becomes };
     calls = calls_more b.log m t was.own has.calls;
   }
 
-  keeps : Keeps n s.words later (won x r)
+  keeps : KeepsPagesOut n s.words later (won x r)
   keeps = record { kept = law.kept; wins = law.wins }
 
   same : (j : ℕ) → j ≢ m → get_elem? workers2 j ≡ get_elem? b.workers j
@@ -337,7 +337,7 @@ module _ (plan : Plan) (id : ℕ) (was : Hand) (x : Held) (others : List Hand) (
   flipped' = subst (λ (u : Told). EachAfter (FlippedIfFull plan) [] (b.log ++ extra m u)) tells
       (flipped_more plan m y q s.words workers1 b.log at_y (apart.wants ∙ want) readied readied_tallied stage_kept law.fits law.full b.flipped)
 
-  kept' : Kept plan (record { words = later; homes = s.homes; views = slice_set s.views id v' })
+  kept' : RuleHolds plan (record { words = later; homes = s.homes; views = slice_set s.views id v' })
   kept' = record {
     log = log';
     workers = workers2;
@@ -357,7 +357,7 @@ module _ (plan : Plan) (id : ℕ) (was : Hand) (x : Held) (others : List Hand) (
   mine' : calls_of m seen' ≡ own_after m was.own t
   mine' = mine_after seen b.log m was.own t is_mine has'.calls
 
-  agrees : Agrees m (plain_seen v') p'
+  agrees : Agrees m (plain_after_seen v') p'
   agrees = seen_keeps (first_plain plan) seen' log' m (own_after m was.own t) fit.seen mine' has'.calls
 
   shows' : ShowsSeen (uncounted z) v'
@@ -404,7 +404,7 @@ module _ (plan : Plan) (id : ℕ) (was : Hand) (x : Held) (others : List Hand) (
       hands = refl;
       plan = refl;
       claims = refl;
-      seen = sees v v' b.log m t fits_view.seen refl legal' (each_map (Has workers2 log' b.owner id) (λ (h : Hand). calls_of h.number log' ≡ h.own) (λ h k. k.calls) (d ∷ others) fit.hands);
+      seen = sees v v' b.log m t fits_view.seen refl legal' (each_map (HasHand workers2 log' b.owner id) (λ (h : Hand). calls_of h.number log' ≡ h.own) (λ h k. k.calls) (d ∷ others) fit.hands);
       mine = mine';
       shows = shows';
       step = q;

@@ -23,7 +23,7 @@ use Rattle.gc_worker.specs.History.Legal.{after_all, calls_of, extra, last_flip}
 use Rattle.gc_worker.specs.Knows.{post_in}
 use Rattle.gc_worker.specs.Law.{Heap, WorkersStand, epoch_of, held_at, nobody}
 use Rattle.gc_worker.specs.Stepped.{uncounted}
-use Rattle.gc_worker.specs.Turned.{Answers, epoch_in, told, turned}
+use Rattle.gc_worker.specs.Turned.{Answers, epoch_in_gate, told, turned}
 use Rattle.gc_worker.proofs.Between.Begun.{beginnings_are_kept, full_is_found_later}
 use Rattle.gc_worker.proofs.Counting.{counted_fit}
 use Rattle.gc_worker.proofs.History.FullHeaps.{past_look}
@@ -196,7 +196,7 @@ module _ (a b c : Seated) (task : Task) (r : Reply) (s : Stepped) (u : IsUnderWa
       let was = u.begun (answers_in_call x r other (Trap (HeapFull asked room live)) x.stage e past) in
       let finds : FindsNoRoom n k.before x asked room live = subst (FullWhereTold n k.before x) e k.full in
       let begins : IsPrefix was.began log = prefix_trans was.began b.knows.heard log was.hears k.heard in
-      let gate : epoch_of n k.before ≡ x.epoch = ap (λ (o : Option GateWord). epoch_in 0 o) finds.gate_is ∙ finds.epoch in
+      let gate : epoch_of n k.before ≡ x.epoch = ap (λ (o : Option GateWord). epoch_in_gate 0 o) finds.gate_is ∙ finds.epoch in
       let now : flips_of a.knows.plan log ≡ x.epoch = sym log_flips ∙ (sym gate_flips ∙ gate) in
       let then = was.flips in
       let first = was.epoch in

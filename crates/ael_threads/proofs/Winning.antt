@@ -3,19 +3,19 @@ use Rattle.std.proofs.Common.{◌≡◌, ◌≢◌, ℕ, Bool, true, false, cond
 use Rattle.std.proofs.lemmas.Bool.{cases_eq}
 use Rattle.gc_worker.specs.Law.{IsOut, WinsOne}
 use Rattle.gc_worker.specs.Turned.{PageWon}
-use Rattle.ael_threads.specs.declared.view.Claim.{Claim}
+use Rattle.ael_threads.specs.declared.view.WonClaim.{WonClaim}
 use Rattle.ael_threads.specs.Histories.{Each, IsOnce}
 use Rattle.ael_threads.specs.Rule.{Won, won_page}
-use Rattle.ael_threads.specs.Seats.{claim_of, with_claim}
+use Rattle.ael_threads.specs.Seats.{claim_by_win, with_claim}
 use Rattle.ael_threads.proofs.Elements.{each_map}
 
-abbrev same_page : Claim → Claim → Bool
+abbrev same_page : WonClaim → WonClaim → Bool
 same_page c d = (c.page == d.page) && (c.epoch == d.epoch)
 
-page_is : (c : Claim) → same_page c c ≡ true
+page_is : (c : WonClaim) → same_page c c ≡ true
 page_is c = rw (eq-eqb c.page c.page refl, eq-eqb c.epoch c.epoch refl) refl
 
-page_is_not : (c d : Claim) → c ≢ d → same_page c d ≡ false
+page_is_not : (c d : WonClaim) → c ≢ d → same_page c d ≡ false
 page_is_not c d other = ⊎_elim
     (λ (e : c.page ≡ d.page). ⊎_elim
     (λ (f : c.epoch ≡ d.epoch). absurd (other (λ i. record { page = e i; epoch = f i })))
@@ -29,29 +29,29 @@ page_is_not c d other = ⊎_elim
     and_false false = refl
 
 -- whose a page is once the seat id has won this one
-abbrev pub won_after : (Claim → ℕ) → ℕ → Option PageWon → Claim → ℕ
+abbrev pub won_after : (WonClaim → ℕ) → ℕ → Option PageWon → WonClaim → ℕ
 won_after winner id None c = winner c
-won_after winner id (Some w) c = cond (same_page c (claim_of w)) id (winner c)
+won_after winner id (Some w) c = cond (same_page c (claim_by_win w)) id (winner c)
 
 -- what a step does to the pages that are out
-pub record Keeps (n : ℕ) (words later : List ℕ) (w : Option PageWon) : Type 0 where
+pub record KeepsPagesOut (n : ℕ) (words later : List ℕ) (w : Option PageWon) : Type 0 where
   pub kept : (p : PageWon) → IsOut n words p → IsOut n later p
   pub wins : WinsOne n words later w
 
-module _ (n : ℕ) (words later : List ℕ) (winner : Claim → ℕ) (id : ℕ) where
+module _ (n : ℕ) (words later : List ℕ) (winner : WonClaim → ℕ) (id : ℕ) where
   -- a page that is out stays whose it is
-  won_kept : (w : Option PageWon) → Keeps n words later w → (c : Claim) → IsOut n words (won_page c) → won_after winner id w c ≡ winner c
+  won_kept : (w : Option PageWon) → KeepsPagesOut n words later w → (c : WonClaim) → IsOut n words (won_page c) → won_after winner id w c ≡ winner c
   won_kept None h c out = refl
-  won_kept (Some w) h c out = ap (λ (b : Bool). cond b id (winner c)) (page_is_not c (claim_of w) (λ e. h.wins.0 (subst (λ (z : Claim). IsOut n words (won_page z)) e out)))
+  won_kept (Some w) h c out = ap (λ (b : Bool). cond b id (winner c)) (page_is_not c (claim_by_win w) (λ e. h.wins.0 (subst (λ (z : WonClaim). IsOut n words (won_page z)) e out)))
 
-  pub claims_kept : (j : ℕ) (w : Option PageWon) → Keeps n words later w → (cs : List Claim) → Each (Won n words winner j) cs → Each (Won n later (won_after winner id w) j) cs
+  pub claims_kept : (j : ℕ) (w : Option PageWon) → KeepsPagesOut n words later w → (cs : List WonClaim) → Each (Won n words winner j) cs → Each (Won n later (won_after winner id w) j) cs
   claims_kept j w h = each_map (Won n words winner j) (Won n later (won_after winner id w) j)
       (λ c t. record { owns = won_kept w h c t.out ∙ t.owns; out = h.kept (won_page c) t.out })
 
-  pub claims_more : (w : Option PageWon) → Keeps n words later w → (cs : List Claim) → Each (Won n words winner id) cs → Each (Won n later (won_after winner id w) id) (with_claim cs w)
+  pub claims_more : (w : Option PageWon) → KeepsPagesOut n words later w → (cs : List WonClaim) → Each (Won n words winner id) cs → Each (Won n later (won_after winner id w) id) (with_claim cs w)
   claims_more None h cs k = claims_kept id None h cs k
-  claims_more (Some w) h cs k = (record { owns = ap (λ (b : Bool). cond b id (winner (claim_of w))) (page_is (claim_of w)); out = h.wins.1 }, claims_kept id (Some w) h cs k)
+  claims_more (Some w) h cs k = (record { owns = ap (λ (b : Bool). cond b id (winner (claim_by_win w))) (page_is (claim_by_win w)); out = h.wins.1 }, claims_kept id (Some w) h cs k)
 
-  pub once_more : (w : Option PageWon) → Keeps n words later w → (cs : List Claim) → Each (Won n words winner id) cs → IsOnce cs → IsOnce (with_claim cs w)
+  pub once_more : (w : Option PageWon) → KeepsPagesOut n words later w → (cs : List WonClaim) → Each (Won n words winner id) cs → IsOnce cs → IsOnce (with_claim cs w)
   once_more None h cs k o = o
-  once_more (Some w) h cs k o = (each_map (Won n words winner id) (λ c. c ≢ claim_of w) (λ c t e. h.wins.0 (subst (λ (z : Claim). IsOut n words (won_page z)) e t.out)) cs k, o)
+  once_more (Some w) h cs k o = (each_map (Won n words winner id) (λ c. c ≢ claim_by_win w) (λ c t e. h.wins.0 (subst (λ (z : WonClaim). IsOut n words (won_page z)) e t.out)) cs k, o)

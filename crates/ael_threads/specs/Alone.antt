@@ -2,7 +2,7 @@
 use Rattle.std.specs.Prelude.{◌≡◌, ℕ, ⊤, Bool, true, false, cond, List, [], ◌∷◌, map, Result, Ok, Err, slice_get, slice_index_or, IsTrue}
 use Rattle.plain_state.specs.declared.end.End.{End}
 use Rattle.plain_state.specs.State.{Heap, Mutator, Plain, made_by}
-use Rattle.plain_heap.specs.Alone.{is_full, leaves_board}
+use Rattle.plain_heap.specs.Alone.{is_heap_full, leaves_board}
 use Rattle.plain_heap.specs.Call as instruction
 use Rattle.plain_heap.specs.Order.{fresh}
 use Rattle.heap_laws.specs.Opening.{opening_plain}
@@ -30,7 +30,7 @@ LeavesBoard c = IsTrue (task_leaves_board c.task)
 -- what came of a call is that the heap is full
 abbrev pub is_full_did : Did → Bool
 is_full_did Done = false
-is_full_did (Trap end) = is_full end
+is_full_did (Trap end) = is_heap_full end
 
 -- the calls before the first that found the heap full
 abbrev pub before_full : List Call → List Call
@@ -53,8 +53,8 @@ replies_of calls = map (λ c. c.did) calls
 -- ---- alone
 
 -- the history that has these calls and nothing else
-abbrev pub alone : List Call → List Entry
-alone calls = map (λ c. Made c) calls
+abbrev pub alone_history : List Call → List Entry
+alone_history calls = map (λ c. Made c) calls
 
 -- what comes of an instruction on the plain heap, which is never full
 abbrev pub did_by : Result instruction.After End → Did
@@ -81,11 +81,11 @@ replies_alone p m (task ∷ tasks) = (replied p m task).did ∷ replies_alone (a
 -- the heap is full these are just the replies that the plain machine makes to the tasks, and where it is, no call follows. After
 -- the calls mutator m is as it is in another state, with the same records.
 pub record ComesToTheSame (from other : Plain) (m : ℕ) (calls : List Call) : Type 0 where
-  pub legal : IsLegal from (alone calls)
+  pub legal : IsLegal from (alone_history calls)
   pub replies : replies_alone from m (tasks_of (before_full calls)) ≡ replies_of (before_full calls)
   pub last : EndIsLast calls
-  pub mutator : slice_get (after_all from (alone calls)).mutators m ≡ slice_get other.mutators m
-  pub records : made_by (after_all from (alone calls)).heap m ≡ made_by other.heap m
+  pub mutator : slice_get (after_all from (alone_history calls)).mutators m ≡ slice_get other.mutators m
+  pub records : made_by (after_all from (alone_history calls)).heap m ≡ made_by other.heap m
 
 -- In a history, the calls of a mutator that names no word of the board come to what they come to alone on an empty plain heap, which
 -- has no records, whatever the others do: they may use the board, and share among themselves.

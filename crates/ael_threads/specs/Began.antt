@@ -20,12 +20,12 @@ use Rattle.gc_worker.specs.Wanted.{wanted}
 use Rattle.ael_threads.specs.declared.view.Plan.{Plan}
 use Rattle.gc_worker.specs.History.Legal.{after_all, calls_of, last_flip}
 use Rattle.gc_worker.specs.History.Tally.{tally}
-use Rattle.ael_threads.specs.Histories.{first_plain, opened}
+use Rattle.ael_threads.specs.Histories.{first_plain, opening_tally}
 use Rattle.ael_threads.specs.Workers.{StandsAs, heap_of}
 
 -- how many flips a history has
 abbrev pub flips_of : Plan → List Entry → ℕ
-flips_of plan log = (tally (opened plan) log).flips
+flips_of plan log = (tally (opening_tally plan) log).flips
 
 -- a flip is among the entries that the later history has more
 pub record HasFlipped (early late : List Entry) : Type 0 where

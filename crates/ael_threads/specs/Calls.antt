@@ -11,28 +11,28 @@ use Rattle.gc_worker.specs.declared.stepped.Stepped.{Stepped}
 use Rattle.gc_worker.specs.declared.task.Task.{Task}
 use Rattle.gc_worker.specs.declared.task.Task.TheVariants.{Calls}
 use Rattle.gc_worker.specs.Answer.{ComesTo}
-use Rattle.gc_worker.specs.Between.{AreAlike, Lands}
+use Rattle.gc_worker.specs.Between.{AreAlike, RegistersLand}
 use Rattle.gc_worker.specs.Cycles.{IsInCall}
 use Rattle.gc_worker.specs.Full.{FullByOutcome}
 use Rattle.gc_worker.specs.Turned.{Answers, told}
 use Rattle.gc_worker.specs.declared.call.Call.{Call}
 use Rattle.gc_worker.specs.declared.entry.Entry.{Entry}
-use Rattle.ael_threads.specs.declared.view.Claim.{Claim}
+use Rattle.ael_threads.specs.declared.view.WonClaim.{WonClaim}
 use Rattle.gc_worker.specs.declared.did.Did.{Did}
 use Rattle.gc_worker.specs.declared.did.Did.TheVariants.{Done, Trap}
 use Rattle.gc_worker.specs.History.Tally.{IsFilledBy, tally, tasks_held}
-use Rattle.ael_threads.specs.Histories.{opened, first_plain, hand}
-use Rattle.gc_worker.specs.History.Legal.{after_all, call, calls_of, last_flip}
+use Rattle.ael_threads.specs.Histories.{opening_tally, first_plain, hand}
+use Rattle.gc_worker.specs.History.Legal.{after_all, worker_call, calls_of, last_flip}
 use Rattle.ael_threads.specs.Began.{BeginsAt, FlippedSinceBegun, flips_of}
-use Rattle.ael_threads.specs.Seats.{ActsBy, Extends, IsShown, LiveWhereTold, Seated, ShowsSeen, first_number, first_own, plain_seen}
+use Rattle.ael_threads.specs.Seats.{ActsBy, Extends, IsShown, LiveWhereTold, Seated, ShowsSeen, first_number, first_own, plain_after_seen}
 
 -- a caller's call that came to this
 abbrev pub call_by : Seated → Task → Did → Call
-call_by a task did = call (first_number a.knows.hands) task did
+call_by a task did = worker_call (first_number a.knows.hands) task did
 
 -- these pages were won since
 abbrev pub WinsMore : Seated → Seated → Type 0
-WinsMore a b = (more : List Claim) × (b.knows.claims ≡ more ++ a.knows.claims)
+WinsMore a b = (more : List WonClaim) × (b.knows.claims ≡ more ++ a.knows.claims)
 
 -- What the seat knows is as it was, but for the state of its own worker, pages won and more that it has heard of.
 pub record Rests (a b : Seated) : Type 0 where
@@ -89,13 +89,13 @@ FlippedByOutcome a task log b (Trap end) = FlippedByEnd a task log b end
 -- ---- a call
 
 -- the end that the mutator then has
-abbrev pub end_of : Did → Option End
-end_of Done = None
-end_of (Trap end) = Some end
+abbrev pub end_by_did : Did → Option End
+end_by_did Done = None
+end_by_did (Trap end) = Some end
 
-abbrev pub IsDone : Did → Type 0
-IsDone Done = ⊤
-IsDone (Trap end) = ⊥
+abbrev pub WasExecuted : Did → Type 0
+WasExecuted Done = ⊤
+WasExecuted (Trap end) = ⊥
 
 -- THE CLAUSE OF EXEC: the call is one more of the caller's own, and the history that it has seen is legal, begins with all that it had
 -- seen before, and ends with the call, which comes to what the plain machine's may at that point; of the seat's workers it has just the
@@ -107,7 +107,7 @@ IsDone (Trap end) = ⊥
 -- by the others, it fills the space.
 pub record Called (a : Seated) (task : Task) (did : Did) (b : Seated) : Type 0 where
   pub rests : b.worker.task ≡ None
-  pub ends : b.worker.account.end ≡ end_of did
+  pub ends : b.worker.account.end ≡ end_by_did did
   pub plan : b.knows.plan ≡ a.knows.plan
   pub hands : b.knows.hands ≡ hand (first_number a.knows.hands) b.worker (first_own a.knows.hands ++ call_by a task did ∷ []) ∷ drop 1 a.knows.hands
   pub claims : WinsMore a b
@@ -125,9 +125,9 @@ pub record Called (a : Seated) (task : Task) (did : Did) (b : Seated) : Type 0 w
   pub comes : ComesTo (after_all (first_plain a.knows.plan) (a.knows.seen ++ history.between)) (first_number a.knows.hands) task did
   pub full : FullByOutcome a.knows.plan.spaces.pages acts.knows.before last.worker did
   pub live : LiveWhereTold (last_flip (first_plain a.knows.plan) b.knows.seen) (Answers task did)
-  pub filled : IsFilledBy a.knows.plan.spaces.pages (tasks_held acts.knows.stands.workers) (tally (opened a.knows.plan) (a.knows.seen ++ history.between)) (first_number a.knows.hands) task did []
-  pub lands : IsDone did → Lands a.knows.plan.spaces.pages acts.knows.after b.worker
-  pub alike : IsDone did → (q : Mutator) → slice_get (plain_seen b.knows).mutators (first_number a.knows.hands) ≡ Some q → AreAlike b.worker.registers q
+  pub filled : IsFilledBy a.knows.plan.spaces.pages (tasks_held acts.knows.stands.workers) (tally (opening_tally a.knows.plan) (a.knows.seen ++ history.between)) (first_number a.knows.hands) task did []
+  pub lands : WasExecuted did → RegistersLand a.knows.plan.spaces.pages acts.knows.after b.worker
+  pub alike : WasExecuted did → (q : Mutator) → slice_get (plain_after_seen b.knows).mutators (first_number a.knows.hands) ≡ Some q → AreAlike b.worker.registers q
 
 -- what some acts came to: the call, or the caller still waits for it
 abbrev pub Tries : Seated → Task → Option Did → Seated → Type 0
@@ -139,7 +139,7 @@ abbrev pub KnowsWorker : Seated → Type 0
 KnowsWorker s = s.knows.hands ≡ hand (first_number s.knows.hands) s.worker (first_own s.knows.hands) ∷ drop 1 s.knows.hands
 
 -- nothing is heard of a caller that has no task; one with an end keeps that, and shows what it showed
-pub record IsQuiet (a b : Seated) : Type 0 where
+pub record StaysSilent (a b : Seated) : Type 0 where
   pub none : b.worker.task ≡ None
   pub rests : Rests a b
   pub ended : (end : End) → a.worker.account.end ≡ Some end → b.worker.account.end ≡ Some end
@@ -151,10 +151,10 @@ pub record Halts (a b : Seated) : Type 0 where
   pub did : Did
   pub then : Seated
   pub called : Called a (Calls Halt) did then
-  pub quiet : IsQuiet then b
+  pub quiet : StaysSilent then b
 
 -- a caller that is about to leave
 pub record Departs (a b : Seated) : Type 0 where
   pub none : b.worker.task ≡ None
-  pub ended : (end : End) → a.worker.account.end ≡ Some end → IsQuiet a b
+  pub ended : (end : End) → a.worker.account.end ≡ Some end → StaysSilent a b
   pub halts : a.worker.account.end ≡ None → Halts a b

@@ -32,20 +32,20 @@ abbrev pub first_plain : Plan → Plain
 first_plain plan = opening_plain plan.mutators
 
 -- what is counted before it
-abbrev pub opened : Plan → Tally
-opened plan = first_tally (first_plain plan)
+abbrev pub opening_tally : Plan → Tally
+opening_tally plan = first_tally (first_plain plan)
 
 -- ---- whose calls they are
 
 abbrev pub hand : ℕ → Held → List Call → Hand
 hand n x own = record { number = n; worker = x; own = own }
 
-abbrev pub number : Hand → ℕ
-number h = h.number
+abbrev pub hand_number : Hand → ℕ
+hand_number h = h.number
 
 -- the calls that these made are all that the history has of them
-abbrev pub HasOwn : List Entry → List Hand → Type 0
-HasOwn log hands = Each (λ (h : Hand). calls_of h.number log ≡ h.own) hands
+abbrev pub HasOwnCalls : List Entry → List Hand → Type 0
+HasOwnCalls log hands = Each (λ (h : Hand). calls_of h.number log ≡ h.own) hands
 
 -- each call of the history was made by one of these
 abbrev pub AreBy : List ℕ → List Entry → Type 0

@@ -3,16 +3,16 @@ use Rattle.std.specs.Prelude.{ℕ, zero, suc, ◌+◌, List, [], ◌∷◌, ◌+
 use Rattle.atomic_table.specs.Seated.{TableId}
 use Rattle.gc_worker.specs.declared.config.Config.{Config}
 use Rattle.ael_threads.specs.declared.view.Plan.{Plan}
-use Rattle.ael_threads.specs.Readers.{Scanning}
+use Rattle.ael_threads.specs.Readers.{SeatedScanner}
 use Rattle.ael_threads.specs.Seats.{new_seated}
 
 abbrev pub plan_of : (mutators : ℕ) → Config → Plan
 plan_of mutators config = record { spaces = record { pages = config.pages }; mutators = mutators; scanners = config.scanners }
 
-abbrev pub new_scanner : TableId → Plan → ℕ → Scanning
+abbrev pub new_scanner : TableId → Plan → ℕ → SeatedScanner
 new_scanner t plan k = record { seated = new_seated t plan k; steps = 0 }
 
 -- so many scanners from this number on, which have made no steps
-abbrev pub new_scanners : TableId → Plan → (from count : ℕ) → List Scanning
+abbrev pub new_scanners : TableId → Plan → (from count : ℕ) → List SeatedScanner
 new_scanners t plan from zero = []
 new_scanners t plan from (suc n) = new_scanners t plan from n ++ new_scanner t plan (from + n) ∷ []

@@ -14,7 +14,7 @@ use Rattle.gc_worker.specs.declared.config.Config.{Config}
 use Rattle.gc_worker.specs.declared.open_error.OpenError.{OpenError}
 use Rattle.gc_worker.specs.declared.open_error.OpenError.TheVariants as opens
 use Rattle.gc_worker.specs.declared.stage.Stage.TheVariants.{Gone}
-use Rattle.gc_worker.specs.Between.{Shows}
+use Rattle.gc_worker.specs.Between.{ShowsRegisters}
 use Rattle.gc_worker.specs.Copied.{IsTraced}
 use Rattle.gc_worker.specs.Held.{Held}
 use Rattle.gc_worker.specs.Law.{Heap, WorkersStand, epoch_of, read}
@@ -30,11 +30,11 @@ use Rattle.ael_threads.specs.declared.outputs.RunError.TheVariants as runs
 use Rattle.gc_worker.specs.History.Needs.{EachFullIs, EachMayCome, HasNoFull, IsEnoughForOne, IsLargeEnough, flips_in}
 use Rattle.gc_worker.specs.History.Needs as needs
 use Rattle.gc_worker.specs.History.Tally.{EachEntry, EntryIs, tasks_held, tally}
-use Rattle.ael_threads.specs.Histories.{opened, Each}
+use Rattle.ael_threads.specs.Histories.{opening_tally, Each}
 use Rattle.gc_worker.specs.History.Legal.{IsLegal, after_all, last_flip}
 use Rattle.ael_threads.specs.Opened.{plan_of}
 use Rattle.gc_worker.specs.History.Order.{order_of}
-use Rattle.ael_threads.specs.Readers.{Scanning, seated}
+use Rattle.ael_threads.specs.Readers.{SeatedScanner, seated}
 use Rattle.ael_threads.specs.Began.{EachAfter, FlippedIfFull}
 use Rattle.ael_threads.specs.Rule.{crew, heap_of}
 use Rattle.ael_threads.specs.Running.{FullIn}
@@ -45,14 +45,14 @@ use Rattle.ael_threads.specs.Seats.{Closes, Seated}
 abbrev pub HasEnd : Seated → Type 0
 HasEnd s = IsSome s.worker.account.end
 
-abbrev pub seen_by : Seated → Seen
-seen_by s = record { printed = s.worker.account.printed; end = s.worker.account.end }
+abbrev pub seat_seen : Seated → Seen
+seat_seen s = record { printed = s.worker.account.printed; end = s.worker.account.end }
 
-abbrev pub registers_by : Seated → List ℕ
-registers_by s = s.worker.registers
+abbrev pub seat_registers : Seated → List ℕ
+seat_registers s = s.worker.registers
 
-abbrev pub kept_by : Seated → ℕ × ℕ
-kept_by s = (header_kept s.worker.stage, place_kept s.worker.stage)
+abbrev pub seat_kept : Seated → ℕ × ℕ
+seat_kept s = (header_kept s.worker.stage, place_kept s.worker.stage)
 
 -- ---- what is told
 
@@ -71,12 +71,12 @@ pub record Tells (h : Heap) (told : Outputs) : Type 0 where
   pub kept : map as_kept told.kept.items ≡ kept_in h
 
 -- what is told of a heap that was closed, by these mutators and scanners and by its words
-pub record IsTold (plan : Plan) (mutators : List Seated) (scanners : List Scanning) (told : Outputs) : Type 0 where
+pub record IsToldOnClose (plan : Plan) (mutators : List Seated) (scanners : List SeatedScanner) (told : Outputs) : Type 0 where
   pub closes : Closes plan (map seated scanners ++ mutators) told.words
   pub all_words : length told.words ≡ table_length plan.spaces.pages
-  pub printed : map printed_by told.mutators.items ≡ map seen_by mutators
-  pub registers : told.regs.items ≡ map registers_by mutators
-  pub kept : told.kept.items ≡ map kept_by (mutators ++ map seated scanners)
+  pub printed : map printed_by told.mutators.items ≡ map seat_seen mutators
+  pub registers : told.regs.items ≡ map seat_registers mutators
+  pub kept : told.kept.items ≡ map seat_kept (mutators ++ map seated scanners)
   pub cycles : told.cycles ≡ epoch_of plan.spaces.pages told.words
   pub live : told.live ≡ live_said told.cycles (word_in plan.spaces.pages told.words Traced) (word_in plan.spaces.pages told.words (Area (to_space told.cycles)))
 
@@ -84,7 +84,7 @@ pub record IsTold (plan : Plan) (mutators : List Seated) (scanners : List Scanni
 pub record TellsRegisters (told : Outputs) (m : ℕ) (q : Mutator) : Type 0 where
   pub words : List ℕ
   pub is : slice_get told.regs.items m ≡ Some words
-  pub shows : Shows words q
+  pub shows : ShowsRegisters words q
 
 -- THE CLAUSE OF RUN: all calls of its mutators stand in one legal history. In the order of that history the plain machine executes the
 -- program, each mutator its section from the start, none of its instructions skipped and none executed twice, to its end. The words that
@@ -106,15 +106,15 @@ pub record Runs (code : List (List Instr)) (config : Config) (told : Outputs) : 
   pub stands : WorkersStand (heap_of (plan_of (length code) config) told.words workers) (after_all (opening code) log) (last_flip (opening code) log)
   pub copied : IsTraced (heap_of (plan_of (length code) config) told.words workers)
       → CopiedIsLive (read (heap_of (plan_of (length code) config) told.words workers)) (last_flip (opening code) log)
-  pub epoch : told.cycles ≡ (tally (opened (plan_of (length code) config)) log).flips
+  pub epoch : told.cycles ≡ (tally (opening_tally (plan_of (length code) config)) log).flips
   pub left : Each (λ (x : Held). x.stage ≡ Gone) workers
   pub shows : (m : ℕ) (q : Mutator) → slice_get (after_all (opening code) log).mutators m ≡ Some q → TellsRegisters told m q
-  pub entries : EachEntry (EntryIs config.pages (tasks_held workers)) (opened (plan_of (length code) config)) log
+  pub entries : EachEntry (EntryIs config.pages (tasks_held workers)) (opening_tally (plan_of (length code) config)) log
   pub all_words : length told.words ≡ table_length config.pages
   pub tells : Tells (heap_of (plan_of (length code) config) told.words workers) told
   pub flipped : EachAfter (FlippedIfFull (plan_of (length code) config)) [] log
   pub full : (m : ℕ) (q : Mutator) (end : End) → slice_get (after_all (opening code) log).mutators m ≡ Some q → q.end ≡ Some end → FullIn (plan_of (length code) config) m log end
-  pub filled : EachFullIs config.pages code config.turns (needs.opened code) 0 (order_of log)
+  pub filled : EachFullIs config.pages code config.turns (needs.first_story code) 0 (order_of log)
   pub follows : EachMayCome (λ m. false) 0 (order_of log)
   pub large : IsLargeEnough config.pages code config.turns (order_of log) → HasNoFull (order_of log)
   pub lone : length code ≡ 1 → flips_in 0 (order_of log) < 2 ^ 32 - 1 → IsEnoughForOne config.pages code config.turns (order_of log) → HasNoFull (order_of log)

@@ -17,12 +17,12 @@ use Rattle.ael_threads.specs.Seats.{Seated, first_number}
 -- ---- what a mutator's thread keeps
 
 -- how many instructions a mutator has executed after this call
-abbrev pub count_after : Did → ℕ → ℕ
-count_after Done count = count + 1
-count_after (Trap end) count = count
+abbrev pub count_after_call : Did → ℕ → ℕ
+count_after_call Done count = count + 1
+count_after_call (Trap end) count = count
 
 -- Mutator m, for which records are kept, has executed so many instructions and has made no more records than that.
-pub record Counts (p : Plain) (m count : ℕ) : Type 0 where
+pub record HasCount (p : Plain) (m count : ℕ) : Type 0 where
   pub executed : (q : Mutator) → slice_get p.mutators m ≡ Some q → q.executed ≡ count
   pub serial : serial_of p.heap m ≤ count
   pub kept : m < length p.heap.records
@@ -31,7 +31,7 @@ pub record Counts (p : Plain) (m count : ℕ) : Type 0 where
 pub record Executes (code : List (List Instr)) (turns : ℕ) (p : Plain) (m count : ℕ) (log : List Entry) : Type 0 where
   pub fetched : AreFetched code turns m p log
   pub short : AreShort m log
-  pub counts : Counts (after_all p log) m count
+  pub counts : HasCount (after_all p log) m count
 
 -- so it is in what a seat has seen of its own mutator
 abbrev pub HasExecuted : List (List Instr) → (turns count : ℕ) → Seated → Type 0

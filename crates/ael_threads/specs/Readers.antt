@@ -3,7 +3,7 @@ use Rattle.std.specs.Prelude.{◌≡◌, ℕ, ◌+◌, ◌-◌, ◌^◌, ◌<◌
 use Rattle.heap_words.specs.Decoded.{NumberWord, PointerWord, decode}
 use Rattle.gc_worker.specs.declared.stepped.Stepped.{Stepped}
 use Rattle.gc_worker.specs.declared.stepped.Stepped.TheVariants.{Idle}
-use Rattle.ael_threads.specs.Seats.{Seated, first_number, plain_seen}
+use Rattle.ael_threads.specs.Seats.{Seated, first_number, plain_after_seen}
 use Rattle.ael_threads.specs.declared.mutator.Reg.{Reg}
 use Rattle.ael_threads.specs.declared.mutator.Reg.TheVariants.{Number, Pointer}
 
@@ -14,14 +14,14 @@ IsReg word (Pointer address) = decode word ≡ PointerWord address
 
 -- the mutator of the seat's own number is in the plain state after what was seen
 abbrev pub IsThere : Seated → Type 0
-IsThere s = (first_number s.knows.hands ≡ s.worker.number) × (s.worker.number < length (plain_seen s.knows).mutators)
+IsThere s = (first_number s.knows.hands ≡ s.worker.number) × (s.worker.number < length (plain_after_seen s.knows).mutators)
 
 -- a scanner: its seat, and how many steps it has made
-pub record Scanning : Type 0 where
+pub record SeatedScanner : Type 0 where
   pub seated : Seated
   pub steps : ℕ
 
-abbrev pub seated : Scanning → Seated
+abbrev pub seated : SeatedScanner → Seated
 seated s = s.seated
 
 -- one more, but for an idle act; at the last value of a u64 it stays

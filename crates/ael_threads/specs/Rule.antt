@@ -8,20 +8,20 @@ use Rattle.gc_worker.specs.Held.{Held}
 use Rattle.gc_worker.specs.Cycles.{IsInCall}
 use Rattle.gc_worker.specs.Law.{IsOut, WorkersStand}
 use Rattle.gc_worker.specs.Turned.{PageWon}
-use Rattle.ael_threads.specs.declared.view.Claim.{Claim}
+use Rattle.ael_threads.specs.declared.view.WonClaim.{WonClaim}
 use Rattle.gc_worker.specs.declared.entry.Entry.{Entry}
 use Rattle.ael_threads.specs.declared.view.Hand.{Hand}
 use Rattle.ael_threads.specs.declared.view.Plan.{Plan}
 use Rattle.ael_threads.specs.declared.view.View.{View}
 use Rattle.gc_worker.specs.History.Tally.{IsTallied}
-use Rattle.ael_threads.specs.Histories.{opened, Each, IsOnce, first_plain, new_hands, number}
+use Rattle.ael_threads.specs.Histories.{opening_tally, Each, IsOnce, first_plain, new_hands, hand_number}
 use Rattle.gc_worker.specs.History.Legal.{IsLegal, after_all, calls_of, last_flip}
 use Rattle.ael_threads.specs.Began.{EachAfter, HasLooked, FlippedIfFull}
 pub use Rattle.ael_threads.specs.Workers.{StandsAs, crew, heap_of}
 
 -- ---- views
 
-abbrev pub view : Plan → List Hand → (seen heard : List Entry) → List Claim → View
+abbrev pub view : Plan → List Hand → (seen heard : List Entry) → List WonClaim → View
 view plan hands seen heard claims = record { plan = plan; hands = hands; seen = seen; heard = heard; claims = claims }
 
 -- the first seat has all workers
@@ -37,27 +37,27 @@ spent_view = view no_plan [] [] [] []
 
 -- ---- the rule
 
-abbrev pub won_page : Claim → PageWon
+abbrev pub won_page : WonClaim → PageWon
 won_page c = record { page = c.page; epoch = c.epoch }
 
 -- the seat id has this worker, whose code holds this, and the calls that it made
-pub record Has (workers : List Held) (log : List Entry) (owner : ℕ → ℕ) (id : ℕ) (h : Hand) : Type 0 where
+pub record HasHand (workers : List Held) (log : List Entry) (owner : ℕ → ℕ) (id : ℕ) (h : Hand) : Type 0 where
   pub owns : owner h.number ≡ id
   pub state : StandsAs workers h.number h.worker
   pub calls : calls_of h.number log ≡ h.own
 
 -- the seat id won this page
-pub record Won (n : ℕ) (words : List ℕ) (winner : Claim → ℕ) (id : ℕ) (c : Claim) : Type 0 where
+pub record Won (n : ℕ) (words : List ℕ) (winner : WonClaim → ℕ) (id : ℕ) (c : WonClaim) : Type 0 where
   pub owns : winner c ≡ id
   pub out : IsOut n words (won_page c)
 
 -- what a seat knows fits the history, the workers, and whose they and the pages won are
-pub record FitsView (plan : Plan) (words : List ℕ) (workers : List Held) (log : List Entry) (owner : ℕ → ℕ) (winner : Claim → ℕ) (id : ℕ) (v : View) : Type 0 where
+pub record FitsView (plan : Plan) (words : List ℕ) (workers : List Held) (log : List Entry) (owner : ℕ → ℕ) (winner : WonClaim → ℕ) (id : ℕ) (v : View) : Type 0 where
   pub same : 0 < v.plan.spaces.pages → v.plan ≡ plan
   pub seen : IsPrefix v.seen log
   pub heard : IsPrefix v.heard log
-  pub hands : Each (Has workers log owner id) v.hands
-  pub apart : IsOnce (map number v.hands)
+  pub hands : Each (HasHand workers log owner id) v.hands
+  pub apart : IsOnce (map hand_number v.hands)
   pub claims : Each (Won plan.spaces.pages words winner id) v.claims
   pub once : IsOnce v.claims
 
@@ -65,15 +65,15 @@ pub record FitsView (plan : Plan) (words : List ℕ) (workers : List Held) (log 
 -- began at its last flip; what is counted along the history fits the words and the workers; each worker that is in a call began it by a
 -- look at a beginning of the history, and each full heap of the history was found after a flip since such a look, or in the last epoch;
 -- what each seat knows fits these.
-pub record Kept (plan : Plan) (s : table.State ℕ View) : Type 0 where
+pub record RuleHolds (plan : Plan) (s : table.State ℕ View) : Type 0 where
   pub log : List Entry
   pub workers : List Held
   pub count : length workers ≡ crew plan
   pub owner : ℕ → ℕ
-  pub winner : Claim → ℕ
+  pub winner : WonClaim → ℕ
   pub legal : IsLegal (first_plain plan) log
   pub stands : WorkersStand (heap_of plan s.words workers) (after_all (first_plain plan) log) (last_flip (first_plain plan) log)
-  pub tallied : IsTallied (heap_of plan s.words workers) (opened plan) log
+  pub tallied : IsTallied (heap_of plan s.words workers) (opening_tally plan) log
   pub begun : (m : ℕ) (x : Held) → get_elem? workers m ≡ some x → IsInCall x.stage → HasLooked plan m x log
   pub flipped : EachAfter (FlippedIfFull plan) [] log
   pub seats : (id : ℕ) (v : View) → get_elem? s.views id ≡ some v → FitsView plan s.words workers log owner winner id v

@@ -17,11 +17,11 @@ use Rattle.gc_worker.specs.declared.call.Call.{Call}
 use Rattle.gc_worker.specs.declared.entry.Entry.{Entry}
 use Rattle.gc_worker.specs.declared.entry.Entry.TheVariants.{Made}
 use Rattle.ael_threads.specs.declared.view.Plan.{Plan}
-use Rattle.gc_worker.specs.History.Legal.{IsLegal, after_all, call, last_flip}
+use Rattle.gc_worker.specs.History.Legal.{IsLegal, after_all, worker_call, last_flip}
 use Rattle.ael_threads.specs.Began.{FlippedSinceBegun}
 use Rattle.ael_threads.specs.Histories.{first_plain, hand}
 use Rattle.ael_threads.specs.Programs.{HasExecuted}
-use Rattle.ael_threads.specs.Readers.{Scanning}
+use Rattle.ael_threads.specs.Readers.{SeatedScanner}
 use Rattle.ael_threads.specs.Rule.{StandsAs, heap_of}
 use Rattle.ael_threads.specs.Seats.{IsMine, Seated, ShowsSeen}
 
@@ -33,7 +33,7 @@ use Rattle.ael_threads.specs.Seats.{IsMine, Seated, ShowsSeen}
 pub record FoundFull (plan : Plan) (m : ℕ) (log : List Entry) (asked room live : ℕ) : Type 0 where
   pub before : List Entry
   pub task : Task
-  pub is : log ≡ before ++ Made (call m task (Trap (HeapFull asked room live))) ∷ []
+  pub is : log ≡ before ++ Made (worker_call m task (Trap (HeapFull asked room live))) ∷ []
   pub words : List ℕ
   pub workers : List Held
   pub held : Held
@@ -44,15 +44,15 @@ pub record FoundFull (plan : Plan) (m : ℕ) (log : List Entry) (asked room live
   pub flipped : FlippedSinceBegun plan m task before
 
 -- at a call of this history
-abbrev pub FullByEnd : Plan → (m : ℕ) → List Entry → End → Type 0
-FullByEnd plan m log (HeapFull asked room live) = FoundFull plan m log asked room live
-FullByEnd plan m log end = ⊤
+abbrev pub EndFoundFull : Plan → (m : ℕ) → List Entry → End → Type 0
+EndFoundFull plan m log (HeapFull asked room live) = FoundFull plan m log asked room live
+EndFoundFull plan m log end = ⊤
 
 -- Mutator m found the heap full, where this is its end, at a call with which a beginning of the history ends.
 pub record FullIn (plan : Plan) (m : ℕ) (log : List Entry) (end : End) : Type 0 where
   pub upto : List Entry
   pub begins : IsPrefix upto log
-  pub full : FullByEnd plan m upto end
+  pub full : EndFoundFull plan m upto end
 
 -- ---- what the threads of a run share
 
@@ -92,7 +92,7 @@ pub record Executed (w : Work) (m : ℕ) (s : Seated) : Type 0 where
   pub legal : IsLegal (first_plain w.plan) s.knows.seen
   pub count : ℕ
   pub executed : HasExecuted w.code w.turns count s
-  pub full : FullByEnd w.plan m s.knows.seen end
+  pub full : EndFoundFull w.plan m s.knows.seen end
 
 -- and has left
 pub record HasRun (w : Work) (m : ℕ) (s : Seated) : Type 0 where
@@ -102,15 +102,15 @@ pub record HasRun (w : Work) (m : ℕ) (s : Seated) : Type 0 where
 -- ---- a scanner
 
 -- worker k, which its seat has alone, makes no calls
-pub record IsScanning (w : Work) (k : ℕ) (s : Seated) : Type 0 where
+pub record RunsAsScanner (w : Work) (k : ℕ) (s : Seated) : Type 0 where
   pub table : s.table ≡ w.table
   pub plan : s.knows.plan ≡ w.plan
   pub hands : s.knows.hands ≡ hand k s.worker [] ∷ []
   pub task : s.worker.task ≡ None
 
 -- and has seen that all mutators have left
-pub record HasScanned (w : Work) (k : ℕ) (s : Seated) : Type 0 where
-  pub scanning : IsScanning w k s
+pub record HasSeenAllLeave (w : Work) (k : ℕ) (s : Seated) : Type 0 where
+  pub scanning : RunsAsScanner w k s
   pub gone : s.worker.stage ≡ Gone
 
 -- ---- all workers
@@ -129,9 +129,9 @@ abbrev pub HaveRun : Work → (from : ℕ) → List Seated → Type 0
 HaveRun w from mutators = EachFrom (HasRun w) from mutators
 
 -- scanners, numbered from this one on
-abbrev pub AreScanning : Work → (from : ℕ) → List Scanning → Type 0
-AreScanning w from scanners = EachFrom (λ k (s : Scanning). IsScanning w k s.seated) from scanners
+abbrev pub AreScanning : Work → (from : ℕ) → List SeatedScanner → Type 0
+AreScanning w from scanners = EachFrom (λ k (s : SeatedScanner). RunsAsScanner w k s.seated) from scanners
 
 -- and after their last act
-abbrev pub HaveScanned : Work → (from : ℕ) → List Scanning → Type 0
-HaveScanned w from scanners = EachFrom (λ k (s : Scanning). HasScanned w k s.seated) from scanners
+abbrev pub HaveScanned : Work → (from : ℕ) → List SeatedScanner → Type 0
+HaveScanned w from scanners = EachFrom (λ k (s : SeatedScanner). HasSeenAllLeave w k s.seated) from scanners

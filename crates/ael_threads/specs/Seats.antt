@@ -15,7 +15,7 @@ use Rattle.plain_state.specs.State as plain
 use Rattle.gc_worker.specs.declared.stage.Stage.TheVariants.{Gone}
 use Rattle.gc_worker.specs.declared.stepped.Stepped.{Stepped}
 use Rattle.gc_worker.specs.declared.stepped.Stepped.TheVariants.{Idle}
-use Rattle.gc_worker.specs.Between.{Begins, AreAlike, GoesOn, Lands, Readies, Shows}
+use Rattle.gc_worker.specs.Between.{Begins, AreAlike, KeepsToTask, RegistersLand, Readies, ShowsRegisters}
 use Rattle.gc_worker.specs.Counted.{counted}
 use Rattle.gc_worker.specs.Fits.{Fits, Takes}
 use Rattle.gc_worker.specs.Full.{FullWhereTold}
@@ -33,7 +33,7 @@ use Rattle.gc_worker.specs.declared.did.Did.TheVariants.{Done, Trap}
 use Rattle.gc_worker.specs.Turned.{PageWon, Told, Silent, Answers, Marks, told, turned, won}
 use Rattle.gc_worker.specs.Wanted.{wanted}
 use Rattle.gc_worker.specs.declared.call.Call.{Call}
-use Rattle.ael_threads.specs.declared.view.Claim.{Claim}
+use Rattle.ael_threads.specs.declared.view.WonClaim.{WonClaim}
 use Rattle.gc_worker.specs.declared.entry.Entry.{Entry}
 use Rattle.gc_worker.specs.declared.entry.Entry.TheVariants.{Made}
 use Rattle.ael_threads.specs.declared.view.Hand.{Hand}
@@ -41,8 +41,8 @@ use Rattle.ael_threads.specs.declared.view.Plan.{Plan}
 use Rattle.ael_threads.specs.declared.view.View.{View}
 use Rattle.gc_worker.specs.History.Large.{HasNoFullCall, IsLargeFor}
 use Rattle.gc_worker.specs.History.Tally.{EachEntry, EntryIs, IsTallied, Tasks, tasks_held, tally}
-use Rattle.ael_threads.specs.Histories.{AreBy, opened, Each, IsOnce, HasOwn, first_held, first_plain, hand, number}
-use Rattle.gc_worker.specs.History.Legal.{IsLegal, after_all, call, calls_of, extra, last_flip, own_after}
+use Rattle.ael_threads.specs.Histories.{AreBy, opening_tally, Each, IsOnce, HasOwnCalls, first_held, first_plain, hand, hand_number}
+use Rattle.gc_worker.specs.History.Legal.{IsLegal, after_all, worker_call, calls_of, extra, last_flip, own_after}
 use Rattle.ael_threads.specs.Began.{EachAfter, FlippedIfFull}
 use Rattle.ael_threads.specs.Rule.{StandsAs, crew, heap_of, view}
 
@@ -68,8 +68,8 @@ abbrev pub IsMine : View → Type 0
 IsMine v = calls_of (first_number v.hands) v.seen ≡ first_own v.hands
 
 -- the plain state after all that was seen
-abbrev pub plain_seen : View → Plain
-plain_seen v = after_all (first_plain v.plan) v.seen
+abbrev pub plain_after_seen : View → Plain
+plain_after_seen v = after_all (first_plain v.plan) v.seen
 
 -- Worker m, which holds x, is as its plain mutator q, and its registers show that one's, also once it has its end.
 pub record IsShown (records : plain.Heap) (m : ℕ) (x : Held) (q : Mutator) : Type 0 where
@@ -77,20 +77,20 @@ pub record IsShown (records : plain.Heap) (m : ℕ) (x : Held) (q : Mutator) : T
   pub printed : x.account.printed ≡ q.printed
   pub end : x.account.end ≡ q.end
   pub serial : x.account.serial ≡ serial_of records m
-  pub registers : Shows x.registers q
+  pub registers : ShowsRegisters x.registers q
 
 -- The seat's own worker is as its plain mutator after what was seen: whatever came since was none of its calls.
 abbrev pub ShowsSeen : Held → View → Type 0
-ShowsSeen x v = (q : Mutator) → slice_get (plain_seen v).mutators (first_number v.hands) ≡ Some q → IsShown (plain_seen v).heap (first_number v.hands) x q
+ShowsSeen x v = (q : Mutator) → slice_get (plain_after_seen v).mutators (first_number v.hands) ≡ Some q → IsShown (plain_after_seen v).heap (first_number v.hands) x q
 
 -- ---- what a step tells
 
-abbrev pub claim_of : PageWon → Claim
-claim_of w = record { page = w.page; epoch = w.epoch }
+abbrev pub claim_by_win : PageWon → WonClaim
+claim_by_win w = record { page = w.page; epoch = w.epoch }
 
-abbrev pub with_claim : List Claim → Option PageWon → List Claim
+abbrev pub with_claim : List WonClaim → Option PageWon → List WonClaim
 with_claim cs None = cs
-with_claim cs (Some w) = claim_of w ∷ cs
+with_claim cs (Some w) = claim_by_win w ∷ cs
 
 -- what the seat has seen after a step, if the history is this then
 abbrev pub seen_after : (seen log : List Entry) → Told → List Entry
@@ -103,13 +103,13 @@ seen_after seen log (Marks asked) = seen
 pub record Extends (plan : Plan) (hands : List Hand) (seen : List Entry) (c : Call) (later : List Entry) : Type 0 where
   pub between : List Entry
   pub is : later ≡ (seen ++ between) ++ Made c ∷ []
-  pub own : HasOwn later hands
+  pub own : HasOwnCalls later hands
   pub legal : IsLegal (first_plain plan) later
 
 -- what a step of worker m tells of the history
 abbrev pub Sees : View → (m : ℕ) → Told → View → Type 0
 Sees v m Silent w = w.seen ≡ v.seen
-Sees v m (Answers task outcome) w = Extends v.plan w.hands v.seen (call m task outcome) w.seen
+Sees v m (Answers task outcome) w = Extends v.plan w.hands v.seen (worker_call m task outcome) w.seen
 Sees v m (Marks asked) w = w.seen ≡ v.seen
 
 -- the words that the end of a full heap tells as live are those that were live in this plain state
@@ -137,7 +137,7 @@ pub record StandWith (plan : Plan) (m : ℕ) (x : Held) (seen : List Entry) (wor
   pub count : length workers ≡ crew plan
   pub here : StandsAs workers m (uncounted x)
   pub stands : WorkersStand (heap_of plan words workers) (after_all (first_plain plan) log) (last_flip (first_plain plan) log)
-  pub tallied : IsTallied (heap_of plan words workers) (opened plan) log
+  pub tallied : IsTallied (heap_of plan words workers) (opening_tally plan) log
 
 -- A step of worker m, whose code holds x and takes r. It is the step that x wants, on the words before it, and r is what that step
 -- replies; with the words before and after it the workers stand for histories of which the latter has what the step tells besides, and no
@@ -172,8 +172,8 @@ pub record Moves (v : View) (m : ℕ) (x : Held) (r : Reply) (w : View) : Type 0
   pub flips : FlipsWhereTold v.plan.spaces.pages before after x (told x r)
   pub full : FullWhereTold v.plan.spaces.pages before x (told x r)
   pub live : LiveWhereTold (last_flip (first_plain v.plan) w.seen) (told x r)
-  pub lands : IsRunning (turned x r) → Lands v.plan.spaces.pages after (turned x r)
-  pub alike : IsRunning (turned x r) → (q : Mutator) → slice_get (plain_seen w).mutators m ≡ Some q → AreAlike (turned x r).registers q
+  pub lands : IsRunning (turned x r) → RegistersLand v.plan.spaces.pages after (turned x r)
+  pub alike : IsRunning (turned x r) → (q : Mutator) → slice_get (plain_after_seen w).mutators m ≡ Some q → AreAlike (turned x r).registers q
 
 abbrev pub Me : Type 0
 Me = table.Me ℕ View
@@ -201,8 +201,8 @@ Heads plan x [] = ⊥
 Heads plan x (was ∷ others) = Follows plan was.number was.worker x
 
 -- the seat is of this heap
-abbrev pub IsLive : TableId → View → Type 0
-IsLive t v = (0 < v.plan.spaces.pages) × (t.words ≡ table_length v.plan.spaces.pages)
+abbrev pub IsSeatOf : TableId → View → Type 0
+IsSeatOf t v = (0 < v.plan.spaces.pages) × (t.words ≡ table_length v.plan.spaces.pages)
 
 -- what an act tells: the caller's code took this reply to the step that it wanted, and goes on with its task or has answered it
 pub record ActsBy (a : Seated) (r : Reply) (s : Stepped) (b : Seated) : Type 0 where
@@ -210,7 +210,7 @@ pub record ActsBy (a : Seated) (r : Reply) (s : Stepped) (b : Seated) : Type 0 w
   pub stepped : s ≡ stepped_by a.worker.number (told a.worker r)
   pub worker : b.worker ≡ uncounted (turned a.worker r)
   pub knows : Moves a.knows (first_number a.knows.hands) a.worker r b.knows
-  pub goes_on : GoesOn a.worker r
+  pub goes_on : KeepsToTask a.worker r
 
 -- An act is idle exactly where the worker is gone: a mutator that has left, or a scanner that has read a gate which all mutators have left.
 -- No other step brings a worker there (`who_is_gone_saw_why` of gc_worker).
@@ -248,12 +248,12 @@ pub record Learned (v w : View) : Type 0 where
   pub seen : IsPrefix v.seen w.seen
   pub heard : IsPrefix v.heard w.seen
   pub hears : w.heard ≡ w.seen
-  pub own : HasOwn w.seen w.hands
-  pub apart : IsOnce (map number w.hands)
+  pub own : HasOwnCalls w.seen w.hands
+  pub apart : IsOnce (map hand_number w.hands)
   pub once : IsOnce w.claims
   pub legal : IsLegal (first_plain w.plan) w.seen
   pub tasks : Tasks
-  pub entries : EachEntry (EntryIs w.plan.spaces.pages tasks) (opened w.plan) w.seen
+  pub entries : EachEntry (EntryIs w.plan.spaces.pages tasks) (opening_tally w.plan) w.seen
   pub flipped : EachAfter (FlippedIfFull w.plan) [] w.seen
 
 abbrev pub Learns : table.Step ℕ → Me → ℕ → Me → Type 0
@@ -269,12 +269,12 @@ pub record Absorbs (v u w : View) : Type 0 where
   pub mine : IsPrefix v.seen w.seen
   pub other : IsPrefix u.seen w.seen
   pub hears : w.heard ≡ w.seen
-  pub own : HasOwn w.seen w.hands
-  pub apart : IsOnce (map number w.hands)
+  pub own : HasOwnCalls w.seen w.hands
+  pub apart : IsOnce (map hand_number w.hands)
   pub once : IsOnce w.claims
   pub legal : IsLegal (first_plain w.plan) w.seen
   pub tasks : Tasks
-  pub entries : EachEntry (EntryIs w.plan.spaces.pages tasks) (opened w.plan) w.seen
+  pub entries : EachEntry (EntryIs w.plan.spaces.pages tasks) (opening_tally w.plan) w.seen
   pub flipped : EachAfter (FlippedIfFull w.plan) [] w.seen
 
 -- ---- the end
@@ -284,7 +284,7 @@ abbrev pub all_hands : List Seated → List Hand
 all_hands [] = []
 all_hands (s ∷ ss) = all_hands ss ++ s.knows.hands
 
-abbrev pub all_claims : List Seated → List Claim
+abbrev pub all_claims : List Seated → List WonClaim
 all_claims [] = []
 all_claims (s ∷ ss) = all_claims ss ++ s.knows.claims
 
@@ -314,12 +314,12 @@ pub record Closes (plan : Plan) (all : List Seated) (words : List ℕ) : Type 0 
   pub count : length workers ≡ crew plan
   pub stands : WorkersStand (heap_of plan words workers) (after_all (first_plain plan) log) (last_flip (first_plain plan) log)
   pub copied : IsTraced (heap_of plan words workers) → CopiedIsLive (read (heap_of plan words workers)) (last_flip (first_plain plan) log)
-  pub epoch : epoch_of plan.spaces.pages words ≡ (tally (opened plan) log).flips
-  pub entries : EachEntry (EntryIs plan.spaces.pages (tasks_held workers)) (opened plan) log
-  pub large : IsLargeFor plan.spaces.pages (tasks_held workers) (opened plan) log → HasNoFullCall log
+  pub epoch : epoch_of plan.spaces.pages words ≡ (tally (opening_tally plan) log).flips
+  pub entries : EachEntry (EntryIs plan.spaces.pages (tasks_held workers)) (opening_tally plan) log
+  pub large : IsLargeFor plan.spaces.pages (tasks_held workers) (opening_tally plan) log → HasNoFullCall log
   pub flipped : EachAfter (FlippedIfFull plan) [] log
   pub seen : Each (λ (s : Seated). IsPrefix s.knows.seen log) all
   pub hands : Each (Stays workers log) (all_hands all)
-  pub others : length (all_hands all) ≡ crew plan → AreBy (map number (all_hands all)) log
-  pub apart : IsOnce (map number (all_hands all))
+  pub others : length (all_hands all) ≡ crew plan → AreBy (map hand_number (all_hands all)) log
+  pub apart : IsOnce (map hand_number (all_hands all))
   pub once : IsOnce (all_claims all)

@@ -6,7 +6,7 @@ ghost use Rattle.gc_worker.specs.declared.stage.Stage.TheVariants.{Gone};
 ghost use Rattle.gc_worker.specs.declared.task.Task.{Task};
 ghost use Rattle.gc_worker.specs.declared.task.Task.TheVariants.{Calls};
 ghost use Rattle.gc_worker.specs.Fits.{MayBegin};
-ghost use Rattle.ael_threads.specs.Calls.{Called, Halts, IsQuiet, IsUnderWay, Tries};
+ghost use Rattle.ael_threads.specs.Calls.{Called, Halts, StaysSilent, IsUnderWay, Tries};
 ghost use Rattle.ael_threads.specs.Seats.{Seated};
 
 use crate::mutator::Mutator;
@@ -72,7 +72,7 @@ impl Mutator {
         requires no_task { self.old.worker.account.end ≡ None → self.old.worker.task ≡ None }
         ensures table { self.new.table ≡ self.old.table }
         ensures left { self.new.worker.stage ≡ Gone }
-        ensures ended { (end : End) → self.old.worker.account.end ≡ Some end → IsQuiet self.old self.new }
+        ensures ended { (end : End) → self.old.worker.account.end ≡ Some end → StaysSilent self.old self.new }
         ensures halts { self.old.worker.account.end ≡ None → Halts self.old self.new }
     {
         if self.ended().is_none() {
@@ -92,7 +92,7 @@ impl Mutator {
         requires table { self.old.table ≡ h.now.table.shared.table_id }
         ensures table { self.new.table ≡ self.old.table }
         ensures left { result ≡ true → self.new.worker.stage ≡ Gone }
-        ensures quiet { (a : Seated) → IsQuiet a self.old → IsQuiet a self.new }
+        ensures quiet { (a : Seated) → StaysSilent a self.old → StaysSilent a self.new }
     {
         for _ in 0..ACTS {
             if let Stepped::Idle = self.act(h) {

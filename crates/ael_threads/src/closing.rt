@@ -2,7 +2,7 @@
 
 ghost use Rattle.std.specs.Prelude.{◌≡◌, ◌<◌, ◌++◌, List, length, map, vec_len};
 ghost use Rattle.ael_threads.specs.Histories.{Each};
-ghost use Rattle.ael_threads.specs.Readers.{Scanning, seated};
+ghost use Rattle.ael_threads.specs.Readers.{SeatedScanner, seated};
 ghost use Rattle.ael_threads.specs.Seats.{Closes, Gathers, Seated};
 
 use crate::caller::Caller;
@@ -17,7 +17,7 @@ impl Shared {
     pub fn close(self, seats: Seats) -> Words
         requires some { 0 < vec_len seats.mutators }
         requires mutators { Each (λ (m : Seated). m.table ≡ self.table.shared.table_id) seats.mutators.items }
-        requires scanners { Each (λ (s : Scanning). s.seated.table ≡ self.table.shared.table_id) seats.scanners.items }
+        requires scanners { Each (λ (s : SeatedScanner). s.seated.table ≡ self.table.shared.table_id) seats.scanners.items }
         ensures closes { Closes self.table.shared.key (map seated seats.scanners.items ++ seats.mutators.items) result }
         ensures whole { length result ≡ self.table.shared.table_id.words }
     {
@@ -50,7 +50,7 @@ impl Shared {
 
     /// It takes in these scanners too.
     fn gather_scanners(&self, mut one: Caller, mut scanners: Vec<Scanner>) -> Caller
-        requires table { Each (λ (s : Scanning). s.seated.table ≡ self.now.table.shared.table_id) scanners.items }
+        requires table { Each (λ (s : SeatedScanner). s.seated.table ≡ self.now.table.shared.table_id) scanners.items }
         requires mine { one.table ≡ self.now.table.shared.table_id }
         ensures { (all : List Seated) → Gathers self.now.table.shared.table_id all one → Gathers self.now.table.shared.table_id (map seated scanners.items ++ all) result }
     {

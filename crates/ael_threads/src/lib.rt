@@ -28,5 +28,5 @@ pub use pace::{NoPace, Pace};
 pub use running::run;
 pub use scanner::Scanner;
 pub use shared::{Rule, Shared};
-pub use view::{Claim, Hand, Plan, View};
+pub use view::{WonClaim, Hand, Plan, View};
 pub use words::Words;

@@ -2,7 +2,7 @@
 
 ghost use Rattle.std.specs.Prelude.{◌≡◌, ◌++◌, IfOk, map};
 ghost use Rattle.ael_threads.specs.Histories.{Each};
-ghost use Rattle.ael_threads.specs.Outputs.{HasEnd, kept_by, printed_by, registers_by, seen_by};
+ghost use Rattle.ael_threads.specs.Outputs.{HasEnd, seat_kept, printed_by, seat_registers, seat_seen};
 ghost use Rattle.ael_threads.specs.Readers.{seated};
 
 use crate::mutator::Mutator;
@@ -72,7 +72,7 @@ impl From<AllocError> for RunError {
 /// What each of these printed, and its end.
 pub(crate) fn all_printed(alloc: Global, mutators: &[Mutator]) -> Result<Vec<Printed>, AllocError>
     requires { Each HasEnd mutators.now }
-    ensures { IfOk result (λ all. map printed_by all.items ≡ map seen_by mutators.now) }
+    ensures { IfOk result (λ all. map printed_by all.items ≡ map seat_seen mutators.now) }
 {
     let mut all = Vec::with_capacity(alloc, mutators.len())?;
     for mutator in mutators {
@@ -90,7 +90,7 @@ pub(crate) fn all_registers(
     alloc: Global,
     mutators: &[Mutator],
 ) -> Result<Vec<[u64; REGISTERS]>, AllocError>
-    ensures { IfOk result (λ all. all.items ≡ map registers_by mutators.now) }
+    ensures { IfOk result (λ all. all.items ≡ map seat_registers mutators.now) }
 {
     let mut all = Vec::with_capacity(alloc, mutators.len())?;
     for mutator in mutators {
@@ -101,7 +101,7 @@ pub(crate) fn all_registers(
 
 /// What each worker keeps, the mutators first.
 pub(crate) fn all_kept(alloc: Global, seats: &Seats) -> Result<Vec<(u64, u64)>, AllocError>
-    ensures { IfOk result (λ all. all.items ≡ map kept_by (seats.now.mutators.items ++ map seated seats.now.scanners.items)) }
+    ensures { IfOk result (λ all. all.items ≡ map seat_kept (seats.now.mutators.items ++ map seated seats.now.scanners.items)) }
 {
     let mut all = Vec::with_capacity(alloc, seats.mutators.len() + seats.scanners.len())?;
     for mutator in &seats.mutators {

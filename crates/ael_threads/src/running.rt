@@ -7,9 +7,9 @@ ghost use Rattle.space_map.specs.Spaces.{is_size};
 ghost use Rattle.space_map.specs.Table.{table_length};
 ghost use Rattle.gc_worker.specs.declared.config.TheConstants.{MOST_TURNS};
 ghost use Rattle.ael_threads.specs.Histories.{Each};
-ghost use Rattle.ael_threads.specs.Outputs.{HasEnd, IsTold, Runs};
-ghost use Rattle.ael_threads.specs.Readers.{Scanning};
-ghost use Rattle.ael_threads.specs.Running.{AreReady, AreScanning, Executing, HasRun, HasScanned, HaveRun, HaveScanned, IsScanning};
+ghost use Rattle.ael_threads.specs.Outputs.{HasEnd, IsToldOnClose, Runs};
+ghost use Rattle.ael_threads.specs.Readers.{SeatedScanner};
+ghost use Rattle.ael_threads.specs.Running.{AreReady, AreScanning, Executing, HasRun, HasSeenAllLeave, HaveRun, HaveScanned, RunsAsScanner};
 ghost use Rattle.ael_threads.specs.Seats.{Seated};
 
 use crate::job::Job;
@@ -97,7 +97,7 @@ fn run_workers<R: Threads + Wait + Sync, P: Pace>(
 
 /// Runs these scanners, if any, each on a thread of its own.
 fn run_scanners<R: Threads + Wait + Sync, P: Pace>(job: &Job<R, P>, scanners: &mut [Scanner])
-    requires { Each (λ (s : Scanning). s.seated.table ≡ job.now.table) scanners.old }
+    requires { Each (λ (s : SeatedScanner). s.seated.table ≡ job.now.table) scanners.old }
     ensures scanned { (from : ℕ) → AreScanning job.now from scanners.old → HaveScanned job.now from scanners.new }
     ensures as_many { length scanners.new ≡ length scanners.old }
 {
@@ -108,7 +108,7 @@ fn run_scanners<R: Threads + Wait + Sync, P: Pace>(job: &Job<R, P>, scanners: &m
         threads,
         &|_, scanner: &mut Scanner|
             requires { scanner.now.seated.table ≡ job.now.table }
-            ensures { (k : ℕ) → IsScanning job.entry.now k scanner.entry.now.seated → HasScanned job.entry.now k scanner.exit.now.seated }
+            ensures { (k : ℕ) → RunsAsScanner job.entry.now k scanner.entry.now.seated → HasSeenAllLeave job.entry.now k scanner.exit.now.seated }
         { scanner.runs(job) },
     );
 }
@@ -117,11 +117,11 @@ fn run_scanners<R: Threads + Wait + Sync, P: Pace>(job: &Job<R, P>, scanners: &m
 fn tell(alloc: Global, spaces: Spaces, heap: Shared, seats: Seats) -> Result<Outputs, RunError>
     requires some { 0 < vec_len seats.mutators }
     requires mutators { Each (λ (m : Seated). m.table ≡ heap.table.shared.table_id) seats.mutators.items }
-    requires scanners { Each (λ (s : Scanning). s.seated.table ≡ heap.table.shared.table_id) seats.scanners.items }
+    requires scanners { Each (λ (s : SeatedScanner). s.seated.table ≡ heap.table.shared.table_id) seats.scanners.items }
     requires ended { Each HasEnd seats.mutators.items }
     requires pages { spaces.pages ≡ heap.table.shared.key.spaces.pages }
     requires words { heap.table.shared.table_id.words ≡ table_length heap.table.shared.key.spaces.pages }
-    ensures told { IfOk result (IsTold heap.table.shared.key seats.mutators.items seats.scanners.items) }
+    ensures told { IfOk result (IsToldOnClose heap.table.shared.key seats.mutators.items seats.scanners.items) }
     ensures no_bad_pages { IsErrOf result RunError.BadPages → ⊥ }
 {
     let mutators = all_printed(alloc, &seats.mutators)?;

@@ -18,9 +18,9 @@ pub struct Scanner {
 }
 
 impl Model for Scanner {
-    ghost use Rattle.ael_threads.specs.Readers.{Scanning};
+    ghost use Rattle.ael_threads.specs.Readers.{SeatedScanner};
 
-    ghost Value = { Scanning };
+    ghost Value = { SeatedScanner };
 
     ghost view = { λ s. record { seated = s.caller; steps = s.steps } };
 }

@@ -8,8 +8,8 @@ ghost use Rattle.gc_worker.specs.Between.{fresh_mutator};
 ghost use Rattle.gc_worker.specs.Held.{Held};
 ghost use Rattle.gc_worker.specs.Law.{nobody};
 ghost use Rattle.gc_worker.specs.Wanted.{wanted};
-ghost use Rattle.ael_threads.specs.Rule.{Kept, first_view, spent_view};
-ghost use Rattle.ael_threads.specs.Seats.{Heads, IsLive, IsMine, Learns, Moves, Plays, ShowsSeen, both_of, first_number, first_of, others_of};
+ghost use Rattle.ael_threads.specs.Rule.{RuleHolds, first_view, spent_view};
+ghost use Rattle.ael_threads.specs.Seats.{Heads, IsSeatOf, IsMine, Learns, Moves, Plays, ShowsSeen, both_of, first_number, first_of, others_of};
 
 use crate::view::{Plan, View};
 use atom_store::{Reply, Step};
@@ -22,7 +22,7 @@ use std::marker::{Brand, PhantomData};
 pub struct Rule;
 
 impl TableRule<u8, View, Plan> for Rule {
-    ghost holds = { Kept };
+    ghost holds = { RuleHolds };
 
     ghost first = { first_view };
 }
@@ -89,7 +89,7 @@ impl Shared {
         requires worker { worker.now ≡ J.now }
         requires want { wanted worker.now ≡ Some step }
         requires heads { Heads seat.old.me.0.plan worker.now seat.old.me.0.hands }
-        requires live { IsLive seat.old.table_id seat.old.me.0 }
+        requires live { IsSeatOf seat.old.table_id seat.old.me.0 }
         requires mine { IsMine seat.old.me.0 }
         requires shows { ShowsSeen worker.now seat.old.me.0 }
         ensures table { (seat.new.table_id ≡ seat.old.table_id) × (seat.new.id ≡ seat.old.id) × (seat.new.me.1 ≡ seat.old.me.1) }

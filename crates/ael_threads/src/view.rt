@@ -20,7 +20,7 @@ pub struct Hand {
 }
 
 /// A page that was won in an epoch.
-pub struct Claim {
+pub struct WonClaim {
     pub page: usize,
     pub epoch: usize,
 }
@@ -32,5 +32,5 @@ pub struct View {
     pub hands: LinkedList<Hand>,
     pub seen: LinkedList<Entry>,
     pub heard: LinkedList<Entry>,
-    pub claims: LinkedList<Claim>,
+    pub claims: LinkedList<WonClaim>,
 }

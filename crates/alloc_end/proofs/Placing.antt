@@ -7,7 +7,7 @@ use Rattle.atom_store.specs.declared.reply.Reply.TheVariants as reply
 use Rattle.atom_store.specs.declared.step.Step.TheVariants.{Store}
 use Rattle.atom_store.specs.declared.turn.Turn.{Turn}
 use Rattle.atom_store.specs.declared.turn.Turn.TheVariants.{More, Finished}
-use Rattle.atom_store.specs.Acts.{Acts, stepped}
+use Rattle.atom_store.specs.Acts.{MakesStep, after_next_step}
 use Rattle.atom_store.specs.Step.{words_after}
 use Rattle.atom_store.proofs.Acting.{no_step}
 use Rattle.atom_store.proofs.Steps.{slice_index-words_after, slice_index-stored}
@@ -28,7 +28,7 @@ use Rattle.alloc_end.specs.declared.allocated.Allocated.{Allocated}
 use Rattle.alloc_end.specs.declared.allocated.Allocated.TheVariants.{Placed, Full}
 use Rattle.alloc_end.specs.declared.place_stage.PlaceStage.{PlaceStage}
 use Rattle.alloc_end.specs.declared.place_stage.PlaceStage.TheVariants.{LoadsTraced, LoadsArea, ExchangesArea, StoresZero, OpensPage, StoresHeader, Ended}
-use Rattle.alloc_end.specs.Place.{Placing, at_stage, size_of, pages_for, words_for, fits, shortage, place_machine, told, taken_at, looked_at_area, cleared, opened}
+use Rattle.alloc_end.specs.Place.{Placing, at_stage, size_of, pages_for, words_for, fits, shortage, place_machine, told, taken_at, looked_at_area, cleared, after_opening}
 use Rattle.alloc_end.specs.Soundness.{IsSoundPlacing}
 use Rattle.alloc_end.specs.Theorems.{area_word, AreZero, AreOpen, IsReady, PlacesRecord}
 
@@ -141,7 +141,7 @@ ready_by_zero p new words below zero = by_test (nat_lt (new.next + 1) (new.first
         (λ a low high. zero a low (omega arith), λ page low high. absurd (omega arith))
 
 ready_by_page : (p : Placing) (new : NewPages) (words : List ℕ) → AreZero p.layout.pages new.first (new.first + words_for p.header) words
-    → AreOpen p.layout.pages p.epoch (page_of new.first) (new.next + 1) words → IsReady (opened p new) (opened p new).stage words
+    → AreOpen p.layout.pages p.epoch (page_of new.first) (new.next + 1) words → IsReady (after_opening p new) (after_opening p new).stage words
 ready_by_page p new words zero open_pages = by_test (nat_lt (new.next + 1) (page_of new.first + pages_for (size_of p.header))) refl
   where
     by_test : (b : Bool) → nat_lt (new.next + 1) (page_of new.first + pages_for (size_of p.header)) ≡ b
@@ -154,8 +154,8 @@ ready_by_page p new words zero open_pages = by_test (nat_lt (new.next + 1) (page
         (zero, λ page low high. open_pages page low (omega arith))
 
 pub ready : (p : Placing) (stage : PlaceStage) (before after : List ℕ) (turn : Turn Allocated) → IsSoundPlacing (at_stage p stage) → HoldsTable p.layout.pages before
-    → IsReady (at_stage p stage) stage before → Acts place_machine (at_stage p stage) before after turn
-    → let next = stepped place_machine (at_stage p stage) before in IsReady next next.stage after
+    → IsReady (at_stage p stage) stage before → MakesStep place_machine (at_stage p stage) before after turn
+    → let next = after_next_step place_machine (at_stage p stage) before in IsReady next next.stage after
 ready p LoadsTraced before after turn sound whole is acts = tt
 ready p (LoadsArea traced) before after turn sound whole is acts = ready_by_area p traced (decode_area (area_word p before)) after
 ready p (ExchangesArea f) before after turn sound whole is acts = ready_by_exchange p f _ (area_word p before) after
@@ -194,7 +194,7 @@ never_ends_at_zero p new result tells = by_test (nat_lt (new.next + 1) (new.firs
     by_test true e = cc
     by_test false e = cc
 
-pub never_ends_at_page : (p : Placing) (new : NewPages) (result : Allocated) → told (opened p new) ≡ Finished result → ⊥
+pub never_ends_at_page : (p : Placing) (new : NewPages) (result : Allocated) → told (after_opening p new) ≡ Finished result → ⊥
 never_ends_at_page p new result tells = by_test (nat_lt (new.next + 1) (page_of new.first + pages_for (size_of p.header))) tells
   where
     by_test : (b : Bool) → told (cond b (at_stage p (OpensPage (record { first = new.first; next = new.next + 1 })))
@@ -206,7 +206,7 @@ pub more_never_ends : (result : Allocated) → More ≡ Finished result → ⊥
 more_never_ends result e = cc
 
 pub places : (p : Placing) (stage : PlaceStage) (before after : List ℕ) (at : ℕ) → IsSoundPlacing (at_stage p stage) → HoldsTable p.layout.pages before
-    → IsReady (at_stage p stage) stage before → Acts place_machine (at_stage p stage) before after (Finished (Placed at))
+    → IsReady (at_stage p stage) stage before → MakesStep place_machine (at_stage p stage) before after (Finished (Placed at))
     → PlacesRecord (at_stage p stage) before after at
 places p LoadsTraced before after at sound whole is acts = absurd (more_never_ends (Placed at) acts.tells)
 places p (LoadsArea traced) before after at sound whole is acts = absurd (never_placed_at_area p traced at (decode_area (area_word p before)) acts.tells)

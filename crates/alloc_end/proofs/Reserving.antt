@@ -5,7 +5,7 @@ use Rattle.atom_store.specs.declared.reply.Reply.TheVariants as reply
 use Rattle.atom_store.specs.declared.step.Step.TheVariants.{Exchange}
 use Rattle.atom_store.specs.declared.turn.Turn.{Turn}
 use Rattle.atom_store.specs.declared.turn.Turn.TheVariants.{Finished}
-use Rattle.atom_store.specs.Acts.{Acts}
+use Rattle.atom_store.specs.Acts.{MakesStep}
 use Rattle.atom_store.proofs.Acting.{no_step}
 use Rattle.atom_store.proofs.Steps.{slice_index-words_after, slice_index-won, won_exactly}
 use Rattle.space_map.specs.declared.area_word.AreaWord.{AreaWord}
@@ -34,7 +34,7 @@ same_test m n same = grind (arith, nat_tests)
 test_same : (m n : ℕ) → nat_eq m n ≡ true → m ≡ n
 test_same m n test = grind (arith, nat_tests)
 
-pub looks_at_traced : (p : Placing) (before after : List ℕ) (turn : Turn Allocated) → Acts place_machine (at_stage p LoadsTraced) before after turn
+pub looks_at_traced : (p : Placing) (before after : List ℕ) (turn : Turn Allocated) → MakesStep place_machine (at_stage p LoadsTraced) before after turn
     → LooksAtTraced p before after
 looks_at_traced p before after turn acts =
     let loaded : ℕ = row_word p.layout.pages Traced before in
@@ -65,7 +65,7 @@ words_lost true changed words is = cc
 words_lost false changed words is = refl
 
 pub claims : (p : Placing) (f : Fitting) (before after : List ℕ) (turn : Turn Allocated) → IsSoundPlacing (at_stage p (ExchangesArea f)) → HoldsTable p.layout.pages before
-    → Acts place_machine (at_stage p (ExchangesArea f)) before after turn → area_word p before ≡ encode_area f.area → ClaimsPages p f before after
+    → MakesStep place_machine (at_stage p (ExchangesArea f)) before after turn → area_word p before ≡ encode_area f.area → ClaimsPages p f before after
 claims p f before after turn sound whole acts stood =
     let n : ℕ = p.layout.pages in
     let place : ℕ = place_of n (Area (to_space p.epoch)) in
@@ -85,7 +85,7 @@ claims p f before after turn sound whole acts stood =
       others = λ other apart. ap (λ ws. slice_index ws other) acts.makes ∙ slice_index-words_after (Exchange place (encode_area f.area) new) before other apart;
     }
 
-pub loses : (p : Placing) (f : Fitting) (before after : List ℕ) (turn : Turn Allocated) → Acts place_machine (at_stage p (ExchangesArea f)) before after turn
+pub loses : (p : Placing) (f : Fitting) (before after : List ℕ) (turn : Turn Allocated) → MakesStep place_machine (at_stage p (ExchangesArea f)) before after turn
     → area_word p before ≢ encode_area f.area → LosesPages p f before after
 loses p f before after turn acts other =
     let test = apart_test (area_word p before) (encode_area f.area) other in
@@ -134,7 +134,7 @@ shows p traced area before after says test stays = record {
 }
 
 pub fulls : (p : Placing) (stage : PlaceStage) (before after : List ℕ) (s : Shortage)
-    → Acts place_machine (at_stage p stage) before after (Finished (Full s)) → ShowsShortage p before after s
+    → MakesStep place_machine (at_stage p stage) before after (Finished (Full s)) → ShowsShortage p before after s
 fulls p LoadsTraced before after s acts = absurd (more_never_ends (Full s) acts.tells)
 fulls p (LoadsArea traced) before after s acts =
     let found = short p traced s (decode_area (area_word p before)) acts.tells in
@@ -150,7 +150,7 @@ refuses words kept room less = grind (arith, nat_tests)
 
 pub is_full : (p : Placing) (traced : Bool) (area : AreaWord) (words : List ℕ) → decode_area (area_word p words) ≡ Some area
     → room_in area < words_for p.header + kept_room traced area
-    → Acts place_machine (at_stage p (LoadsArea traced)) words words (Finished (Full (shortage traced p.header area)))
+    → MakesStep place_machine (at_stage p (LoadsArea traced)) words words (Finished (Full (shortage traced p.header area)))
 is_full p traced area words says less = record {
   has_step = refl;
   makes = refl;

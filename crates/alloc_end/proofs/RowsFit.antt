@@ -5,9 +5,9 @@ use Rattle.space_map.specs.Table.{IsRow}
 use Rattle.alloc_end.specs.declared.place_stage.PlaceStage.{PlaceStage}
 use Rattle.alloc_end.specs.declared.place_stage.PlaceStage.TheVariants.{LoadsTraced, LoadsArea, ExchangesArea, StoresZero, OpensPage, StoresHeader, Ended}
 use Rattle.alloc_end.specs.Place.{Placing, pages_for, size_of, wants_at}
-use Rattle.alloc_end.specs.Soundness.{FitsPlaceStage, IsPlacingGoing, IsRun}
+use Rattle.alloc_end.specs.Soundness.{FitsPlaceStage, IsPlacingGoing, RunLiesInSpaces}
 
-pub rows_fit : (p : Placing) (stage : PlaceStage) → FitsPlaceStage p.layout.pages (pages_for (size_of p.header)) p.run p.header stage → IsRun p.layout.pages p.run → IsPlacingGoing stage
+pub rows_fit : (p : Placing) (stage : PlaceStage) → FitsPlaceStage p.layout.pages (pages_for (size_of p.header)) p.run p.header stage → RunLiesInSpaces p.layout.pages p.run → IsPlacingGoing stage
     → IsOn (IsRow p.layout.pages) (wants_at p stage)
 rows_fit p LoadsTraced fits run going = tt
 rows_fit p (LoadsArea traced) fits run going = omega arith

@@ -123,8 +123,8 @@ cleared words new =
     else OpensPage (record { first = new.first; next = page_of new.first })
 
 -- after a page that was opened, the next; after the last, these pages are the run
-abbrev pub opened : Placing → NewPages → Placing
-opened p new =
+abbrev pub after_opening : Placing → NewPages → Placing
+after_opening p new =
     if nat_lt (new.next + 1) (page_of new.first + pages_for (size_of p.header))
     then at_stage p (OpensPage (record { first = new.first; next = new.next + 1 }))
     else record p { run = record { at = new.first; end = new.first + words_for p.header }; stage = StoresHeader }
@@ -139,7 +139,7 @@ taken_at p (LoadsArea traced) (Value word) = at_stage p (looked_at_area p traced
 taken_at p (ExchangesArea f) Won = at_stage p (StoresZero (record { first = first_claimed p f; next = first_claimed p f }))
 taken_at p (ExchangesArea f) (Lost word) = at_stage p LoadsTraced
 taken_at p (StoresZero new) Done = at_stage p (cleared (words_for p.header) new)
-taken_at p (OpensPage new) Done = opened p new
+taken_at p (OpensPage new) Done = after_opening p new
 taken_at p StoresHeader Done = placed p
 taken_at p stage answer = p
 

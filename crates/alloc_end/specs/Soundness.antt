@@ -10,11 +10,11 @@ use Rattle.alloc_end.specs.declared.place_stage.PlaceStage.TheVariants.{LoadsTra
 use Rattle.alloc_end.specs.Place.{Placing, size_of, pages_for, kept_room}
 
 -- the run lies in the spaces
-abbrev pub IsRun : (pages : ℕ) → Run → Type 0
-IsRun n run = (run.at ≤ run.end) × (run.end ≤ 128 * n)
+abbrev pub RunLiesInSpaces : (pages : ℕ) → Run → Type 0
+RunLiesInSpaces n run = (run.at ≤ run.end) × (run.end ≤ 128 * n)
 
 -- the area has room for so many words, and its parts are in their ranges
-pub record HasRoom (pages words : ℕ) (f : Fitting) : Type 0 where
+pub record AreaHoldsClaim (pages words : ℕ) (f : Fitting) : Type 0 where
   pub kept : words + kept_room f.traced f.area + f.area.front ≤ f.area.low
   pub in_space : f.area.low ≤ 64 * pages
   pub owed : f.area.owed < 2 ^ 18
@@ -27,7 +27,7 @@ IsClaimed n words first = first + words ≤ 128 * n
 abbrev pub FitsPlaceStage : (pages asked : ℕ) → Run → Header → PlaceStage → Type 0
 FitsPlaceStage n asked run header LoadsTraced = ⊤
 FitsPlaceStage n asked run header (LoadsArea traced) = ⊤
-FitsPlaceStage n asked run header (ExchangesArea f) = HasRoom n (64 * asked) f
+FitsPlaceStage n asked run header (ExchangesArea f) = AreaHoldsClaim n (64 * asked) f
 FitsPlaceStage n asked run header (StoresZero new) = IsClaimed n (64 * asked) new.first × (new.first ≤ new.next) × (new.next < new.first + 64 * asked)
 FitsPlaceStage n asked run header (OpensPage new) =
     IsClaimed n (64 * asked) new.first × (page_of new.first ≤ new.next) × (new.next < page_of new.first + asked)
@@ -36,7 +36,7 @@ FitsPlaceStage n asked run header (Ended result) = ⊤
 
 pub record IsSoundPlacing (p : Placing) : Type 0 where
   pub pages : IsPageCount p.layout.pages
-  pub run : IsRun p.layout.pages p.run
+  pub run : RunLiesInSpaces p.layout.pages p.run
   pub epoch : p.epoch < 2 ^ 32
   pub stage : FitsPlaceStage p.layout.pages (pages_for (size_of p.header)) p.run p.header p.stage
 

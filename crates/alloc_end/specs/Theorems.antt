@@ -2,7 +2,7 @@
 use Rattle.std.specs.Prelude.{◌≡◌, ◌≢◌, ℕ, ◌+◌, ◌-◌, ◌*◌, ◌<◌, ◌≤◌, ◌↔◌, ⊤, Bool, IsTrue, List, Some}
 use Rattle.atom_store.specs.declared.turn.Turn.{Turn}
 use Rattle.atom_store.specs.declared.turn.Turn.TheVariants.{Finished}
-use Rattle.atom_store.specs.Acts.{Acts, stepped}
+use Rattle.atom_store.specs.Acts.{MakesStep, after_next_step}
 use Rattle.heap_words.specs.Decoded.{encode}
 use Rattle.record_layout.specs.Layout.{header_says}
 use Rattle.space_map.specs.declared.area_word.AreaWord.{AreaWord}
@@ -31,12 +31,12 @@ area_word p words = row_word p.layout.pages (Area (to_space p.epoch)) words
 pub record LooksAtTraced (p : Placing) (before after : List ℕ) : Type 0 where
   pub traced : Bool
   pub exactly : IsTrue traced ↔ (row_word p.layout.pages Traced before ≡ p.epoch + 1)
-  pub goes : (stepped place_machine (at_stage p LoadsTraced) before).stage ≡ LoadsArea traced
+  pub goes : (after_next_step place_machine (at_stage p LoadsTraced) before).stage ≡ LoadsArea traced
   pub stays : after ≡ before
 
 abbrev pub TracedIsRead : Type 0
 TracedIsRead = (p : Placing) (before after : List ℕ) (turn : Turn Allocated)
-    → Acts place_machine (at_stage p LoadsTraced) before after turn → LooksAtTraced p before after
+    → MakesStep place_machine (at_stage p LoadsTraced) before after turn → LooksAtTraced p before after
 
 -- ---- the claim of pages
 
@@ -44,23 +44,23 @@ TracedIsRead = (p : Placing) (before after : List ℕ) (turn : Turn Allocated)
 pub record ClaimsPages (p : Placing) (f : Fitting) (before after : List ℕ) : Type 0 where
   pub is : decode_area (area_word p after) ≡ Some (area_after (words_for p.header) f)
   pub kept : (area_after (words_for p.header) f).owed ≤ room_in (area_after (words_for p.header) f)
-  pub goes : (stepped place_machine (at_stage p (ExchangesArea f)) before).stage
+  pub goes : (after_next_step place_machine (at_stage p (ExchangesArea f)) before).stage
       ≡ StoresZero (record { first = first_claimed p f; next = first_claimed p f })
   pub others : ChangesOnly p.layout.pages (Area (to_space p.epoch)) before after
 
 -- another area stood: no word changes, and TRACED is looked at again
 pub record LosesPages (p : Placing) (f : Fitting) (before after : List ℕ) : Type 0 where
   pub stays : after ≡ before
-  pub goes : (stepped place_machine (at_stage p (ExchangesArea f)) before).stage ≡ LoadsTraced
+  pub goes : (after_next_step place_machine (at_stage p (ExchangesArea f)) before).stage ≡ LoadsTraced
 
 abbrev pub PagesAreClaimed : Type 0
 PagesAreClaimed = (p : Placing) (f : Fitting) (before after : List ℕ) (turn : Turn Allocated)
     → IsSoundPlacing (at_stage p (ExchangesArea f)) → HoldsTable p.layout.pages before
-    → Acts place_machine (at_stage p (ExchangesArea f)) before after turn → area_word p before ≡ encode_area f.area → ClaimsPages p f before after
+    → MakesStep place_machine (at_stage p (ExchangesArea f)) before after turn → area_word p before ≡ encode_area f.area → ClaimsPages p f before after
 
 abbrev pub PagesAreLost : Type 0
 PagesAreLost = (p : Placing) (f : Fitting) (before after : List ℕ) (turn : Turn Allocated)
-    → Acts place_machine (at_stage p (ExchangesArea f)) before after turn → area_word p before ≢ encode_area f.area → LosesPages p f before after
+    → MakesStep place_machine (at_stage p (ExchangesArea f)) before after turn → area_word p before ≢ encode_area f.area → LosesPages p f before after
 
 -- ---- the record
 
@@ -86,8 +86,8 @@ IsReady p (Ended result) words = ⊤
 -- nobody else writes these words; and the allocation's own steps keep it
 abbrev pub PagesAreMadeReady : Type 0
 PagesAreMadeReady = (p : Placing) (before after : List ℕ) (turn : Turn Allocated) → IsSoundPlacing p → HoldsTable p.layout.pages before
-    → IsReady p p.stage before → Acts place_machine p before after turn
-    → IsReady (stepped place_machine p before) (stepped place_machine p before).stage after
+    → IsReady p p.stage before → MakesStep place_machine p before after turn
+    → IsReady (after_next_step place_machine p before) (after_next_step place_machine p before).stage after
 
 -- The record's header stands where the run was, inside it and on open pages; its words are 0, and so is what is left of the run,
 -- which goes on behind the record. No other word changes.
@@ -97,12 +97,12 @@ pub record PlacesRecord (p : Placing) (before after : List ℕ) (at : ℕ) : Typ
   pub header : row_word p.layout.pages (HeapWord at) after ≡ encode (header_says p.header)
   pub zero : AreZero p.layout.pages (at + 1) p.run.end after
   pub opened : AreOpen p.layout.pages p.epoch (page_of at) (page_of p.run.end) after
-  pub run_goes_on : (stepped place_machine p before).run ≡ record { at = at + size_of p.header; end = p.run.end }
+  pub run_goes_on : (after_next_step place_machine p before).run ≡ record { at = at + size_of p.header; end = p.run.end }
   pub others : ChangesOnly p.layout.pages (HeapWord at) before after
 
 abbrev pub RecordsArePlaced : Type 0
 RecordsArePlaced = (p : Placing) (before after : List ℕ) (at : ℕ) → IsSoundPlacing p → HoldsTable p.layout.pages before
-    → IsReady p p.stage before → Acts place_machine p before after (Finished (Placed at)) → PlacesRecord p before after at
+    → IsReady p p.stage before → MakesStep place_machine p before after (Finished (Placed at)) → PlacesRecord p before after at
 
 -- ---- heap full
 
@@ -119,10 +119,10 @@ pub record ShowsShortage (p : Placing) (before after : List ℕ) (s : Shortage) 
 
 abbrev pub FullHeapsAreShort : Type 0
 FullHeapsAreShort = (p : Placing) (before after : List ℕ) (s : Shortage)
-    → Acts place_machine p before after (Finished (Full s)) → ShowsShortage p before after s
+    → MakesStep place_machine p before after (Finished (Full s)) → ShowsShortage p before after s
 
 -- and where the claim doesn't fit, that is what is told
 abbrev pub ShortHeapsAreFull : Type 0
 ShortHeapsAreFull = (p : Placing) (traced : Bool) (area : AreaWord) (words : List ℕ) → decode_area (area_word p words) ≡ Some area
     → room_in area < words_for p.header + kept_room traced area
-    → Acts place_machine (at_stage p (LoadsArea traced)) words words (Finished (Full (shortage traced p.header area)))
+    → MakesStep place_machine (at_stage p (LoadsArea traced)) words words (Finished (Full (shortage traced p.header area)))

@@ -4,8 +4,8 @@ ghost use Rattle.record_layout.specs.declared.header.Header.{Header};
 ghost use Rattle.space_map.specs.AreaWord.{AreaFits, decode_area};
 ghost use Rattle.space_map.specs.Spaces.{to_space};
 ghost use Rattle.space_map.specs.Table.{Area, place_of, table_length};
-ghost use Rattle.alloc_end.specs.Place.{begun, wanted, taken, told, left, advances, size_of, pages_for, words_for, kept_room, looked_at_area, area_after, shortage, cleared, opened, placed, at_stage, first_claimed};
-ghost use Rattle.alloc_end.specs.Soundness.{IsRun, IsSoundPlacing, IsPlacingGoing, FitsPlaceStage, HasRoom};
+ghost use Rattle.alloc_end.specs.Place.{begun, wanted, taken, told, left, advances, size_of, pages_for, words_for, kept_room, looked_at_area, area_after, shortage, cleared, after_opening, placed, at_stage, first_claimed};
+ghost use Rattle.alloc_end.specs.Soundness.{RunLiesInSpaces, IsSoundPlacing, IsPlacingGoing, FitsPlaceStage, AreaHoldsClaim};
 
 use crate::allocated::Allocated;
 use crate::fitting::Fitting;
@@ -44,7 +44,7 @@ impl Model for Place {
 impl Place {
     /// The allocation of a record with this header, by a mutator of this epoch that has this run.
     pub fn new(spaces: Spaces, run: Run, header: Header, epoch: u32) -> Place
-        requires { IsRun spaces.pages run }
+        requires { RunLiesInSpaces spaces.pages run }
         ensures { result ≡ begun spaces run header epoch }
     {
         spaces.known();
@@ -154,7 +154,7 @@ impl Place {
     }
 
     fn claim(&mut self, fitting: Fitting) -> Turn<Allocated>
-        requires { HasRoom self.old.layout.pages (words_for self.old.header) fitting }
+        requires { AreaHoldsClaim self.old.layout.pages (words_for self.old.header) fitting }
         ensures state { self.new ≡ at_stage self.old (PlaceStage.StoresZero (record { first = first_claimed self.old fitting; next = first_claimed self.old fitting })) }
         ensures tells { result ≡ told self.new }
     {
@@ -188,7 +188,7 @@ impl Place {
 
     fn open(&mut self, new: NewPages) -> Turn<Allocated>
         requires { FitsPlaceStage self.old.layout.pages (pages_for (size_of self.old.header)) self.old.run self.old.header (PlaceStage.OpensPage new) }
-        ensures state { self.new ≡ opened self.old new }
+        ensures state { self.new ≡ after_opening self.old new }
         ensures tells { result ≡ told self.new }
     {
         self.spaces.known();
@@ -240,7 +240,7 @@ impl Place {
 
 /// The area after the claim of the pages that the record needs.
 fn claimed(spaces: Spaces, header: Header, fitting: Fitting) -> AreaWord
-    requires { HasRoom spaces.pages (words_for header) fitting }
+    requires { AreaHoldsClaim spaces.pages (words_for header) fitting }
     ensures area { result ≡ area_after (words_for header) fitting }
     ensures fits { AreaFits result }
 {

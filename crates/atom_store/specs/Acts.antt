@@ -5,11 +5,11 @@ use Rattle.atom_store.specs.Machine.{Machine}
 use Rattle.atom_store.specs.Runs.{after_step, words_then}
 
 -- the machine after its next step, if it wants one, on these words
-abbrev pub stepped : {M R : Type 0} → Machine M R → M → List ℕ → M
-stepped k m words = after_step k m (k.wanted m) words
+abbrev pub after_next_step : {M R : Type 0} → Machine M R → M → List ℕ → M
+after_next_step k m words = after_step k m (k.wanted m) words
 
 -- the machine makes its next step on these words, which are those then, and tells this
-pub record Acts {M R : Type 0} (k : Machine M R) (m : M) (words after : List ℕ) (turn : Turn R) : Type 0 where
+pub record MakesStep {M R : Type 0} (k : Machine M R) (m : M) (words after : List ℕ) (turn : Turn R) : Type 0 where
   pub has_step : IsSome (k.wanted m)
   pub makes : after ≡ words_then (k.wanted m) words
-  pub tells : k.told (stepped k m words) ≡ turn
+  pub tells : k.told (after_next_step k m words) ≡ turn

@@ -30,6 +30,6 @@ steps_in [] = []
 steps_in (row ∷ rows) = Some row.0 ∷ steps_in rows
 
 -- where its steps are replied to so, they are these, and it then comes to this result
-pub record ComesTo {M R : Type 0} (k : Machine M R) (m : M) (rows : List (Step × Reply)) (result : R) : Type 0 where
+pub record RunsTo {M R : Type 0} (k : Machine M R) (m : M) (rows : List (Step × Reply)) (result : R) : Type 0 where
   pub steps : wanted_along k m (replies_in rows) ≡ steps_in rows
   pub ends : k.told (after_replies k m (replies_in rows)) ≡ Finished result

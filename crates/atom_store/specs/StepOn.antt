@@ -27,8 +27,8 @@ IsOn Q None = ⊥
 IsOn Q (Some step) = Q (touched step)
 
 -- Q is so of whatever the step writes, if there is one
-abbrev pub Writes : {P : Type 0} → (Q : P → Type 0) → Option (StepOn P) → Type 0
-Writes Q None = ⊤
-Writes Q (Some (Load on)) = ⊤
-Writes Q (Some (Store on word)) = Q on
-Writes Q (Some (Exchange on old new)) = Q on
+abbrev pub WritesOnly : {P : Type 0} → (Q : P → Type 0) → Option (StepOn P) → Type 0
+WritesOnly Q None = ⊤
+WritesOnly Q (Some (Load on)) = ⊤
+WritesOnly Q (Some (Store on word)) = Q on
+WritesOnly Q (Some (Exchange on old new)) = Q on

@@ -6,8 +6,8 @@ use Rattle.std.proofs.lemmas.Bool.{and_parts}
 use Rattle.std.proofs.lemmas.List.{append-nil, length-append}
 use Rattle.mutator_asm.specs.declared.mistake.Mistake.{Mistake}
 use Rattle.mutator_asm.specs.Instr.{instr_of}
-use Rattle.mutator_asm.specs.Line.{Line, Nothing, lines_of, named_of, plain}
-use Rattle.mutator_asm.specs.Text.{begins, code_of, error_of, schedule_of, IsCleanUpTo}
+use Rattle.mutator_asm.specs.Line.{Line, Nothing, lines_of, named_of, unlabelled}
+use Rattle.mutator_asm.specs.Text.{begins_section, code_of, error_of, schedule_of, IsCleanUpTo}
 use Rattle.mutator_asm.specs.Theorems.{Means}
 use Rattle.mutator_asm.specs.Token.{label_of, number_of, register_of}
 use Rattle.mutator_asm.proofs.Clean.{clean_more, clean_none, error_is}
@@ -36,11 +36,11 @@ clean_by before (line ∷ after) h clean =
 
 -- ---- four sections
 
-are_clean_below_4 : (count seed : ℕ) → are_clean [] (lines_below count seed 4 ++ plain Nothing ∷ []) ≡ true
+are_clean_below_4 : (count seed : ℕ) → are_clean [] (lines_below count seed 4 ++ unlabelled Nothing ∷ []) ≡ true
 unfolding lines_below error_of label_of named_of instr_of register_of number_of
 are_clean_below_4 count seed = refl
 
-begun_below_4 : (count seed : ℕ) → count_by begins (lines_below count seed 4 ++ plain Nothing ∷ []) ≡ 4
+begun_below_4 : (count seed : ℕ) → count_by begins_section (lines_below count seed 4 ++ unlabelled Nothing ∷ []) ≡ 4
 unfolding lines_below label_of named_of instr_of register_of number_of
 begun_below_4 count seed = refl
 
@@ -48,13 +48,13 @@ pub bench_means : (depth seed : ℕ) → 1 ≤ depth → depth ≤ 9 → Means (
 bench_means depth seed some few =
     let bounds = pow_from_1_to_9 depth some few in
     let lines = lines_are (2 ^ depth) seed 4 bounds.0 bounds.1 in
-    let all = lines_below (2 ^ depth) seed 4 ++ plain Nothing ∷ [] in
+    let all = lines_below (2 ^ depth) seed 4 ++ unlabelled Nothing ∷ [] in
     record {
       code = code_of (lines_of (bench_text depth seed));
       schedule = schedule_of (lines_of (bench_text depth seed));
       text = record {
         clean = rw lines (clean_by [] all (are_clean_below_4 (2 ^ depth) seed) (clean_none all));
-        begun = omega (arith, begun_below_4 (2 ^ depth) seed, ap (count_by begins) lines);
+        begun = omega (arith, begun_below_4 (2 ^ depth) seed, ap (count_by begins_section) lines);
         code_is = refl;
         schedule_is = refl;
       };

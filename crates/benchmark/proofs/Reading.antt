@@ -5,7 +5,7 @@ use Rattle.std.specs.List.{list_all}
 use Rattle.std.proofs.lemmas.Bool.{and_parts}
 use Rattle.mutator_asm.specs.declared.instr.Instr.TheVariants.{Li}
 use Rattle.mutator_asm.specs.Instr.{instr_of}
-use Rattle.mutator_asm.specs.Line.{Line, Does, line_from, named_of, plain}
+use Rattle.mutator_asm.specs.Line.{Line, Does, line_from, named_of, unlabelled}
 use Rattle.mutator_asm.specs.Listing.{register_token}
 use Rattle.mutator_asm.specs.Program.{is_number}
 use Rattle.mutator_asm.specs.Token.{label_of, number_of, register_of}
@@ -30,7 +30,7 @@ abbrev read : List ℕ → List Line
 read text = map line_from (lines text)
 
 abbrev loads : ℕ → ℕ → Line
-loads r n = plain (Does (Li r n))
+loads r n = unlabelled (Does (Li r n))
 
 -- what the lines of a section say
 abbrev pub section_lines : (first count addend : ℕ) → List Line

@@ -6,7 +6,7 @@ use Rattle.std.proofs.lemmas.Bool.{and_from, and_parts, lt-ltb}
 use Rattle.std.proofs.lemmas.Grind.{flat_map-append}
 use Rattle.std.proofs.lemmas.List.{length-append, map-append}
 use Rattle.std.proofs.lemmas.List.Folds.{list_all-append}
-use Rattle.mutator_asm.specs.Line.{Line, Nothing, line_from, lines_of, plain}
+use Rattle.mutator_asm.specs.Line.{Line, Nothing, line_from, lines_of, unlabelled}
 use Rattle.mutator_asm.specs.Listing.{line_text}
 use Rattle.mutator_asm.specs.Program.{is_number}
 use Rattle.mutator_asm.proofs.Splitting.{is_token, line_length, lines_split}
@@ -79,11 +79,11 @@ say_below count seed (suc m) some few =
     ∙ ap₂ (λ xs ys. xs ++ ys) (say_below count seed m some few) (says keys.first count keys.addend n.first n.all n.addend)
 
 -- the lines of the text of so many sections; a blank one is behind the last LF
-pub lines_are : (count seed m : ℕ) → 2 ≤ count → count ≤ 512 → lines_of (sections_text count seed m) ≡ lines_below count seed m ++ plain Nothing ∷ []
+pub lines_are : (count seed m : ℕ) → 2 ≤ count → count ≤ 512 → lines_of (sections_text count seed m) ≡ lines_below count seed m ++ unlabelled Nothing ∷ []
 lines_are count seed m some few =
     let tokens = tokens_below count seed m in
     ap lines_of (text_below count seed m) ∙ lines_split tokens (are_tokens_below count seed m some few)
-    ∙ ap (λ (ls : List Line). ls ++ plain Nothing ∷ []) (say_below count seed m some few)
+    ∙ ap (λ (ls : List Line). ls ++ unlabelled Nothing ∷ []) (say_below count seed m some few)
 
 -- ---- how long the text is
 

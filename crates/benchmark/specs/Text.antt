@@ -8,8 +8,8 @@ use Rattle.benchmark.specs.declared.keys.TheConstants.{MUTATORS}
 -- ---- the keys of a mutator
 
 -- the word at a position of those that a seed gives by SplitMix64, whose state is the seed at first
-abbrev pub word_of : ℕ → ℕ → ℕ
-word_of seed at = (mix_u64 (iterate next_state at seed)).0
+abbrev pub seeded_word : ℕ → ℕ → ℕ
+seeded_word seed at = (mix_u64 (iterate next_state at seed)).0
 
 -- of so many keys the first is that of one word, and the addend of another, made odd
 abbrev pub keys_by : ℕ → ℕ → ℕ → Keys
@@ -17,7 +17,7 @@ keys_by count first addend = record { first = first % count; addend = 2 * (adden
 
 -- the keys of mutator m, by two words: those after the words of the mutators before it
 abbrev pub keys_of : ℕ → ℕ → ℕ → Keys
-keys_of count seed m = keys_by count (word_of seed (2 * m)) (word_of seed (2 * m + 1))
+keys_of count seed m = keys_by count (seeded_word seed (2 * m)) (seeded_word seed (2 * m + 1))
 
 -- ---- the text
 

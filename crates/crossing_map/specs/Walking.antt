@@ -2,7 +2,7 @@
 use Rattle.std.specs.Prelude.{ℕ, zero, suc, ◌+◌, ◌-◌, Bool, false, List, ◌++◌, max, nat_le, if◌then◌else◌}
 use Rattle.heap_state.specs.Kept.{Kept, reserved_in}
 use Rattle.heap_state.specs.Table.{Table}
-use Rattle.heap_state.specs.Walk.{Met, AtEnd, Nothing, Reserved, Record, Broken, Walked, meets, next_place, walk, is_closed, ReadsAll}
+use Rattle.heap_state.specs.Walk.{Met, AtEnd, Nothing, Reserved, Record, Broken, Walked, meets, next_place, walk, is_protected, ReadsAll}
 use Rattle.crossing_map.specs.declared.area.Area.{Area}
 use Rattle.crossing_map.specs.declared.walked.Walked.{Walked as Next}
 use Rattle.crossing_map.specs.declared.walked.Walked.TheVariants as next
@@ -36,7 +36,7 @@ abbrev pub passes_none : ℕ → Bool
 passes_none p = false
 
 abbrev pub passes_closed : Table → ℕ → ℕ → Bool
-passes_closed t epoch p = is_closed epoch (t.page p)
+passes_closed t epoch p = is_protected epoch (t.page p)
 
 abbrev pub nothing_reserved : ℕ → ℕ
 nothing_reserved a = 0

@@ -4,7 +4,7 @@ use Rattle.std.proofs.lemmas.Bool.{eqb-true, eq-eqb}
 use Rattle.std.proofs.lemmas.List.{append_assoc}
 use Rattle.std.specs.List.{AllByRecursion}
 use Rattle.heap_state.specs.Kept.{Kept}
-use Rattle.dump_text.specs.Pieces.{behind, Piece, ◌>>=◌, byte_at, word_at, cell_at, line_at, registers_at, kept_at}
+use Rattle.dump_text.specs.Pieces.{behind, Piece, ◌>>=◌, byte_at, word_at, cell_at, line_at, registers_at, kept_read_at}
 use Rattle.dump_text.specs.Text.{word_text, IsWord, AreRegisters, AreKept}
 use Rattle.dump_text.proofs.Laid.{row_text, kept_text, table_text}
 use Rattle.dump_text.proofs.Hex.{word_takes, word_again}
@@ -83,8 +83,8 @@ table_piece = record {
 
 -- ---- what a worker keeps
 
-kept_takes : (bytes : List ℕ) (k : Kept) (rest : List ℕ) → kept_at bytes ≡ Some (k, rest) → (bytes ≡ kept_text k ++ rest) × AreKept k
-unfolding kept_at
+kept_takes : (bytes : List ℕ) (k : Kept) (rest : List ℕ) → kept_read_at bytes ≡ Some (k, rest) → (bytes ≡ kept_text k ++ rest) × AreKept k
+unfolding kept_read_at
 kept_takes bytes k rest e =
     let a = some_bind (cell_at 32 bytes) (λ header. cell_at 10 header.1 >>= λ place. Some (record { header = header.0; place = place.0 }, place.1)) (k, rest) e in
     let b = some_bind (cell_at 10 a.0.1) (λ place. Some (record { header = a.0.0; place = place.0 }, place.1)) (k, rest) a.2 in
@@ -98,12 +98,12 @@ kept_takes bytes k rest e =
     let P : Kept × List ℕ → Type 0 = λ p. (bytes ≡ kept_text p.0 ++ p.1) × AreKept p.0 in
     subst P pair (whole, (first.1, second.1))
 
-pub kept_piece : IsPiece kept_at kept_text AreKept
-unfolding kept_at
+pub kept_piece : IsPiece kept_read_at kept_text AreKept
+unfolding kept_read_at
 kept_piece = record {
   takes = kept_takes;
   again = λ k rest h.
       let regrouped : kept_text k ++ rest ≡ word_text k.header ++ 32 ∷ (word_text k.place ++ 10 ∷ rest) =
       append_assoc (word_text k.header) (32 ∷ row_text (k.place ∷ [])) rest ∙ ap (λ (xs : List ℕ). word_text k.header ++ 32 ∷ xs) (append_assoc (word_text k.place) (10 ∷ []) rest) in
-      ap kept_at regrouped ∙ rw (cell_again 32 k.header (word_text k.place ++ 10 ∷ rest) h.0, cell_again 10 k.place rest h.1) refl;
+      ap kept_read_at regrouped ∙ rw (cell_again 32 k.header (word_text k.place ++ 10 ∷ rest) h.0, cell_again 10 k.place rest h.1) refl;
 }

@@ -5,7 +5,7 @@ use Rattle.std.specs.List.{flat_map, AllByRecursion}
 use Rattle.heap_state.specs.Kept.{Kept}
 use Rattle.space_map.specs.Table.{table_length}
 use Rattle.dump_text.specs.Lines.{first_lines, IsFirstWrong}
-use Rattle.dump_text.specs.Pieces.{cell_at, registers_at, kept_at, head_at}
+use Rattle.dump_text.specs.Pieces.{cell_at, registers_at, kept_read_at, head_at}
 use Rattle.dump_text.specs.Reading.{Reader, ◌>>=◌, or_line, many, nothing_at, dump_at}
 use Rattle.dump_text.specs.Text.{Counts, Dumped, IsDump, IsWord, AreRegisters, AreKept, are_counts, counts_of, dump_text}
 use Rattle.dump_text.proofs.Laid.{laid, laid_text, head_text, row_text, kept_text, table_text}
@@ -35,7 +35,7 @@ registers_lines =
     let z = zero_is_word in
     one_line registers_piece no_registers (refl, (z, (z, (z, (z, (z, (z, (z, (z, tt))))))))) registers_end
 
-kept_lines : IsExact (λ line bytes. or_line line (kept_at bytes)) kept_text AreKept (λ _. 1)
+kept_lines : IsExact (λ line bytes. or_line line (kept_read_at bytes)) kept_text AreKept (λ _. 1)
 kept_lines = one_line kept_piece (record { header = 0; place = 0 }) (zero_is_word, zero_is_word) (λ k rest n h. words_end n k.header (k.place ∷ []) rest)
 
 table_lines : IsExact (λ line bytes. or_line line (cell_at 10 bytes)) table_text IsWord (λ _. 1)
@@ -47,7 +47,7 @@ abbrev Parts : Type 0
 Parts = Counts × (List (List ℕ) × (List Kept × List ℕ))
 
 abbrev parts_at : Reader Parts
-parts_at = both (λ line bytes. or_line line (head_at bytes)) (λ _. 1) (λ c. both (many registers_at c.mutators) (λ _. c.mutators) (λ _. both (many kept_at c.workers) (λ _. c.workers) (λ _. many (cell_at 10) (table_length c.pages))))
+parts_at = both (λ line bytes. or_line line (head_at bytes)) (λ _. 1) (λ c. both (many registers_at c.mutators) (λ _. c.mutators) (λ _. both (many kept_read_at c.workers) (λ _. c.workers) (λ _. many (cell_at 10) (table_length c.pages))))
 
 abbrev parts_text : Parts → List ℕ
 parts_text z = head_text z.0 ++ (flat_map row_text z.1.0 ++ (flat_map kept_text z.1.1.0 ++ flat_map table_text z.1.1.1))
@@ -60,7 +60,7 @@ parts_count z = 1 + (z.0.mutators + (z.0.workers + table_length z.0.pages))
 
 parts_exact : IsExact parts_at parts_text PartsFit parts_count
 parts_exact =
-    both_exact head_lines (λ c. both_exact (many_lines registers_at registers_lines c.mutators) (λ _. both_exact (many_lines kept_at kept_lines c.workers) (λ _. many_lines (cell_at 10) table_lines (table_length c.pages))))
+    both_exact head_lines (λ c. both_exact (many_lines registers_at registers_lines c.mutators) (λ _. both_exact (many_lines kept_read_at kept_lines c.workers) (λ _. many_lines (cell_at 10) table_lines (table_length c.pages))))
 
 -- ---- a dump is its parts
 
@@ -102,7 +102,7 @@ abbrev after_kept : Counts → List (List ℕ) → List Kept × List ℕ → Res
 after_kept c r k = many (cell_at 10) (table_length c.pages) (2 + c.mutators + c.workers) k.1 >>= λ w. finish ((c, (r, (k.0, w.0))), w.1)
 
 abbrev after_registers : Counts → List (List ℕ) × List ℕ → Result Dumped ℕ
-after_registers c r = many kept_at c.workers (2 + c.mutators) r.1 >>= λ k. after_kept c r.0 k
+after_registers c r = many kept_read_at c.workers (2 + c.mutators) r.1 >>= λ k. after_kept c r.0 k
 
 abbrev after_head : Counts × List ℕ → Result Dumped ℕ
 after_head h = many registers_at h.0.mutators 2 h.1 >>= λ r. after_registers h.0 r
@@ -111,13 +111,13 @@ abbrev last_parts : Counts → List Kept × List ℕ → Result (List ℕ × Lis
 last_parts c k = many (cell_at 10) (table_length c.pages) (2 + c.mutators + c.workers) k.1
 
 abbrev later_parts : Counts → List (List ℕ) × List ℕ → Result ((List Kept × List ℕ) × List ℕ) ℕ
-later_parts c r = both (many kept_at c.workers) (λ _. c.workers) (λ _. many (cell_at 10) (table_length c.pages)) (2 + c.mutators) r.1
+later_parts c r = both (many kept_read_at c.workers) (λ _. c.workers) (λ _. many (cell_at 10) (table_length c.pages)) (2 + c.mutators) r.1
 
 abbrev other_parts : Counts × List ℕ → Result ((List (List ℕ) × (List Kept × List ℕ)) × List ℕ) ℕ
-other_parts h = both (many registers_at h.0.mutators) (λ _. h.0.mutators) (λ _. both (many kept_at h.0.workers) (λ _. h.0.workers) (λ _. many (cell_at 10) (table_length h.0.pages))) 2 h.1
+other_parts h = both (many registers_at h.0.mutators) (λ _. h.0.mutators) (λ _. both (many kept_read_at h.0.workers) (λ _. h.0.workers) (λ _. many (cell_at 10) (table_length h.0.pages))) 2 h.1
 
 registers_nest : (c : Counts) (r : List (List ℕ) × List ℕ) → after_registers c r ≡ (later_parts c r >>= λ y. finish ((c, (r.0, y.0)), y.1))
-registers_nest c r = nest (many kept_at c.workers (2 + c.mutators) r.1) (λ k. last_parts c k) (λ k w. ((k.0, w.0), w.1)) (λ k. after_kept c r.0 k) (λ y. finish ((c, (r.0, y.0)), y.1)) (λ k. refl)
+registers_nest c r = nest (many kept_read_at c.workers (2 + c.mutators) r.1) (λ k. last_parts c k) (λ k w. ((k.0, w.0), w.1)) (λ k. after_kept c r.0 k) (λ y. finish ((c, (r.0, y.0)), y.1)) (λ k. refl)
 
 head_nest : (h : Counts × List ℕ) → after_head h ≡ (other_parts h >>= λ y. finish ((h.0, y.0), y.1))
 head_nest h = nest (many registers_at h.0.mutators 2 h.1) (λ r. later_parts h.0 r) (λ r y. ((r.0, y.0), y.1)) (λ r. after_registers h.0 r) (λ y. finish ((h.0, y.0), y.1)) (λ r. registers_nest h.0 r)

@@ -59,8 +59,8 @@ unfoldable pub registers_at : Piece (List ℕ)
 registers_at bytes = line_at REGISTERS bytes
 
 -- the line of what a worker keeps
-unfoldable pub kept_at : Piece Kept
-kept_at bytes = do
+unfoldable pub kept_read_at : Piece Kept
+kept_read_at bytes = do
   header ← cell_at 32 bytes
   place ← cell_at 10 header.1
   Some (record { header = header.0; place = place.0 }, place.1)

@@ -5,7 +5,7 @@ use Rattle.dump_text.specs.declared.dump.Dump.{Dump}
 use Rattle.dump_text.specs.declared.dump_error.DumpError.{DumpError}
 use Rattle.dump_text.specs.declared.dump_error.DumpError.TheVariants as errors
 use Rattle.dump_text.specs.Text.{Dumped}
-use Rattle.dump_text.specs.Pieces.{Piece, cell_at, registers_at, kept_at, head_at, kept_view}
+use Rattle.dump_text.specs.Pieces.{Piece, cell_at, registers_at, kept_read_at, head_at, kept_view}
 
 -- a reader of lines, the first of which has this number
 abbrev pub Reader : Type 0 → Type 0
@@ -39,7 +39,7 @@ unfoldable pub dump_at : List ℕ → Result Dumped ℕ
 dump_at bytes = do
   head ← or_line 1 (head_at bytes)
   registers ← many registers_at head.0.mutators 2 head.1
-  kept ← many kept_at head.0.workers (2 + head.0.mutators) registers.1
+  kept ← many kept_read_at head.0.workers (2 + head.0.mutators) registers.1
   words ← many (cell_at 10) (table_length head.0.pages) (2 + head.0.mutators + head.0.workers) kept.1
   end ← nothing_at (2 + head.0.mutators + head.0.workers + table_length head.0.pages) words.1
   Ok (record { pages = head.0.pages; registers = registers.0; kept = kept.0; words = words.0 })
@@ -52,9 +52,9 @@ Fails errors.NoMemory read = Unit {0}
 Fails (errors.Bad line) read = read ≡ Err line
 
 -- what a function returned is what reading gives, unless memory ran out
-abbrev pub Gives : {X Y : Type 0} → (X → Y) → Result X DumpError → Result Y ℕ → Type 0
-Gives view (Ok x) read = read ≡ Ok (view x)
-Gives view (Err e) read = Fails e read
+abbrev pub GivesReading : {X Y : Type 0} → (X → Y) → Result X DumpError → Result Y ℕ → Type 0
+GivesReading view (Ok x) read = read ≡ Ok (view x)
+GivesReading view (Err e) read = Fails e read
 
 -- a dump, without where it lies in memory
 abbrev pub dump_view : Dump → Dumped

@@ -1,8 +1,8 @@
 //! The lines of one kind.
 
 ghost use Rattle.std.specs.Prelude.{map, ◌+◌, ◌<◌, ◌^◌};
-ghost use Rattle.dump_text.specs.Pieces.{cell_at, kept_at, kept_view, registers_at};
-ghost use Rattle.dump_text.specs.Reading.{Gives, many};
+ghost use Rattle.dump_text.specs.Pieces.{cell_at, kept_read_at, kept_view, registers_at};
+ghost use Rattle.dump_text.specs.Reading.{GivesReading, many};
 
 use crate::dump_error::DumpError;
 use crate::kept::Kept;
@@ -18,7 +18,7 @@ pub fn all_registers(
     bytes: &[u8],
 ) -> Result<(Vec<[u64; REGISTERS]>, &[u8]), DumpError>
     requires { line + count < 2 ^ 32 }
-    ensures { Gives (λ x. (x.0.items, x.1.now)) result (many registers_at count line bytes.now) }
+    ensures { GivesReading (λ x. (x.0.items, x.1.now)) result (many registers_at count line bytes.now) }
 {
     let mut found = Vec::new(alloc);
     let mut rest = bytes;
@@ -41,7 +41,7 @@ pub fn all_kept(
     bytes: &[u8],
 ) -> Result<(Vec<Kept>, &[u8]), DumpError>
     requires { line + count < 2 ^ 32 }
-    ensures { Gives (λ x. (map kept_view x.0.items, x.1.now)) result (many kept_at count line bytes.now) }
+    ensures { GivesReading (λ x. (map kept_view x.0.items, x.1.now)) result (many kept_read_at count line bytes.now) }
 {
     let mut found = Vec::new(alloc);
     let mut rest = bytes;
@@ -63,7 +63,7 @@ pub fn table(
     bytes: &[u8],
 ) -> Result<(Vec<u64>, &[u8]), DumpError>
     requires { line + count < 2 ^ 32 }
-    ensures { Gives (λ x. (x.0.items, x.1.now)) result (many (cell_at 10) count line bytes.now) }
+    ensures { GivesReading (λ x. (x.0.items, x.1.now)) result (many (cell_at 10) count line bytes.now) }
 {
     let mut found = Vec::new(alloc);
     let mut rest = bytes;

@@ -2,7 +2,7 @@
 
 ghost use Rattle.std.specs.Prelude.{◌≡◌, IfErr, IfOk, Ok};
 ghost use Rattle.dump_text.specs.Lines.{NamesFirstWrong};
-ghost use Rattle.dump_text.specs.Reading.{Gives, dump_at, dump_view};
+ghost use Rattle.dump_text.specs.Reading.{GivesReading, dump_at, dump_view};
 ghost use Rattle.dump_text.specs.Text.{Dumped, IsDump, dump_text};
 
 use crate::dump::Dump;
@@ -14,7 +14,7 @@ use std::alloc::Global;
 /// Each line in turn.
 #[tactic(auto, unfolding(crate::specs::Reading::dump_at))]
 fn all(alloc: Global, bytes: &[u8]) -> Result<Dump, DumpError>
-    ensures { Gives dump_view result (dump_at bytes.now) }
+    ensures { GivesReading dump_view result (dump_at bytes.now) }
 {
     let Some((head, rest)) = first_line(bytes) else {
         return Err(DumpError::Bad { line: 1 });
@@ -44,7 +44,7 @@ pub fn read(alloc: Global, bytes: &[u8]) -> Result<Dump, DumpError>
     // What is read is a dump that is printed so.
     ensures found { IfOk result (λ d. IsDump (dump_view d) × (bytes.now ≡ dump_text (dump_view d))) }
     // A dump that was printed is read back, unless memory runs out.
-    ensures only { (d : Dumped) → IsDump d → bytes.now ≡ dump_text d → Gives dump_view result (Ok d) }
+    ensures only { (d : Dumped) → IsDump d → bytes.now ≡ dump_text d → GivesReading dump_view result (Ok d) }
     // Else the first line by which the bytes differ from every dump is told.
     ensures first_wrong { IfErr result (λ e. NamesFirstWrong bytes.now e) }
 {

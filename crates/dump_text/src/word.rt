@@ -4,7 +4,7 @@ ghost use Rattle.std.specs.Prelude.{◌≡◌, IsTrue, length, option_map};
 ghost use Rattle.std.specs.Char.{digit_value};
 ghost use Rattle.std.specs.List.{list_all};
 ghost use Rattle.std.specs.Str.Parse.{digits_value};
-ghost use Rattle.dump_text.specs.Pieces.{is_hex, byte_at, behind, word_at, cell_at, registers_at, kept_at, kept_view};
+ghost use Rattle.dump_text.specs.Pieces.{is_hex, byte_at, behind, word_at, cell_at, registers_at, kept_read_at, kept_view};
 
 use crate::kept::Kept;
 use plain_state::REGISTERS;
@@ -102,9 +102,9 @@ pub fn registers_line(bytes: &[u8]) -> Option<([u64; REGISTERS], &[u8])>
 }
 
 /// The line of what a worker keeps.
-#[tactic(auto, unfolding(crate::specs::Pieces::kept_at))]
+#[tactic(auto, unfolding(crate::specs::Pieces::kept_read_at))]
 pub fn kept_line(bytes: &[u8]) -> Option<(Kept, &[u8])>
-    ensures { option_map (λ x. (kept_view x.0, x.1.now)) result ≡ kept_at bytes.now }
+    ensures { option_map (λ x. (kept_view x.0, x.1.now)) result ≡ kept_read_at bytes.now }
 {
     let (header, rest) = cell(b' ', bytes)?;
     let (place, rest) = cell(b'\n', rest)?;

@@ -5,7 +5,7 @@ use Rattle.atom_store.specs.declared.reply.Reply.TheVariants as reply
 use Rattle.atom_store.specs.declared.step.Step.{Step}
 use Rattle.atom_store.specs.declared.turn.Turn.{Turn}
 use Rattle.atom_store.specs.declared.turn.Turn.TheVariants.{More, Finished}
-use Rattle.atom_store.specs.Acts.{Acts, stepped}
+use Rattle.atom_store.specs.Acts.{MakesStep, after_next_step}
 use Rattle.atom_store.specs.Runs.{after_step}
 use Rattle.space_map.specs.declared.area_word.AreaWord.{AreaWord}
 use Rattle.space_map.specs.declared.gate_word.GateWord.{GateWord}
@@ -33,11 +33,11 @@ use Rattle.fault_duty.specs.declared.duty_stage.DutyStage.TheVariants.{LoadsGate
 use Rattle.fault_duty.specs.Duty
 use Rattle.fault_duty.specs.Duty.{Round, at_stage, duty_machine, told, taken_at}
 use Rattle.fault_duty.specs.Soundness.{IsSoundRound}
-use Rattle.fault_duty.specs.Theorems.{row_of, ClaimsBoard, ClaimsWanted, ClaimsFilling, ClaimsFor}
+use Rattle.fault_duty.specs.Theorems.{word_of_row, ClaimsBoard, ClaimsWanted, ClaimsFilling, ClaimsFor}
 
 -- ---- stages that lead to no claim
 
-gate_never : (d : Round) (caller : Caller) (loaded : ℕ) (g : GateWord) (c : Claiming) → (Duty.looked_by d caller loaded g).stage ≡ Claims c → ⊥
+gate_never : (d : Round) (caller : Caller) (loaded : ℕ) (g : GateWord) (c : Claiming) → (Duty.looked_by_gate d caller loaded g).stage ≡ Claims c → ⊥
 gate_never d (Faulted page) loaded g c is = by_test (nat_eq g.epoch d.epoch) is
   where
     by_test : (b : Bool) → cond b (LoadsTraced (Duty.hindrance_in loaded g)) (Ended (NothingNow loaded)) ≡ Claims c → ⊥
@@ -78,7 +78,7 @@ after_choice_never : (found : Findings) (hindrance : Option ℕ) (c : Claiming) 
 after_choice_never found (Some word) c is = cc
 after_choice_never found None c is = cc
 
-passed_never : (d : Round) (choice : Choice) (page : ℕ) (c : Claiming) → Duty.passed_by d choice page ≡ Claims c → ⊥
+passed_never : (d : Round) (choice : Choice) (page : ℕ) (c : Claiming) → Duty.passed_page d choice page ≡ Claims c → ⊥
 passed_never d choice page c is = by_test (Duty.is_full choice.front (Duty.page_after d page)) is
   where
     by_test : (b : Bool) → cond b (LoadsPage choice (Duty.page_after d page)) (Duty.after_choice choice.seen choice.seen.hindrance) ≡ Claims c → ⊥
@@ -135,7 +135,7 @@ trace_never d traced false found c is = cc
 same_claim : (a b : Claiming) → Claims a ≡ Claims b → b ≡ a
 same_claim a b same = cc
 
-claimed_is : (d : Round) (page : ℕ) (says : PageWord) (in_place : Bool) (state : PageState) (c : Claiming) → Duty.claimed_by d page says in_place state ≡ Claims c
+claimed_is : (d : Round) (page : ℕ) (says : PageWord) (in_place : Bool) (state : PageState) (c : Claiming) → Duty.claim_by_state d page says in_place state ≡ Claims c
     → c ≡ begun d.layout page d.epoch d.worker says in_place
 claimed_is d page says in_place Waits c is = same_claim (begun d.layout page d.epoch d.worker says in_place) c is
 claimed_is d page says in_place Past c is = cc
@@ -147,7 +147,7 @@ one_is : (d : Round) (found : Findings) (w : WantedPage) (c : Claiming) → Duty
 one_is d found w c is = by_test (nat_eq w.page (board_page d.layout.pages)) refl is
   where
     by_test : (b : Bool) → nat_eq w.page (board_page d.layout.pages) ≡ b
-        → cond b (Duty.claimed_by d w.page w.says false (Duty.state_of w.says d.epoch)) (LoadsFrontFor found w) ≡ Claims c
+        → cond b (Duty.claim_by_state d w.page w.says false (Duty.state_of w.says d.epoch)) (LoadsFrontFor found w) ≡ Claims c
         → (w.page ≡ board_page d.layout.pages) × (c ≡ begun d.layout w.page d.epoch d.worker w.says false)
     by_test true test e = (grind (arith, nat_tests), claimed_is d w.page w.says false (Duty.state_of w.says d.epoch) c e)
     by_test false test e = cc
@@ -159,10 +159,10 @@ wanted_is d found page loaded says Scanned c is = cc
 wanted_is d found page loaded says Waits c is = one_is d found (record { page = page; says = says }) c is
 wanted_is d found page loaded says Past c is = one_is d found (record { page = page; says = says }) c is
 
-claims_board : (d : Round) (found : Findings) (page : ℕ) (words : List ℕ) (o : Option PageWord) (c : Claiming) → decode_page (row_of d (Page page) words) ≡ o
-    → Duty.looked_at_wanted d found page (row_of d (Page page) words) o ≡ Claims c → ClaimsBoard d page words c
+claims_board : (d : Round) (found : Findings) (page : ℕ) (words : List ℕ) (o : Option PageWord) (c : Claiming) → decode_page (word_of_row d (Page page) words) ≡ o
+    → Duty.looked_at_wanted d found page (word_of_row d (Page page) words) o ≡ Claims c → ClaimsBoard d page words c
 claims_board d found page words (Some says) c read is =
-    let it = wanted_is d found page (row_of d (Page page) words) says (Duty.state_of says d.epoch) c is in
+    let it = wanted_is d found page (word_of_row d (Page page) words) says (Duty.state_of says d.epoch) c is in
     record { found = says; says = read; board = it.0; is = it.1 }
 claims_board d found page words None c read is = cc
 
@@ -170,11 +170,11 @@ full_le : (front page : ℕ) → Duty.is_full front page ≡ true → first_word
 full_le front page full = grind (arith, nat_tests)
 
 claims_wanted : (d : Round) (found : Findings) (w : WantedPage) (words : List ℕ) (o : Option AreaWord) (c : Claiming)
-    → decode_area (row_of d (Area (to_space d.epoch)) words) ≡ o → Duty.found_front_for d found w o ≡ Claims c → ClaimsWanted d w words c
+    → decode_area (word_of_row d (Area (to_space d.epoch)) words) ≡ o → Duty.found_front_for d found w o ≡ Claims c → ClaimsWanted d w words c
 claims_wanted d found w words (Some area) c read is = by_test (Duty.is_full (Duty.front_of d area) w.page) refl is
   where
     by_test : (b : Bool) → Duty.is_full (Duty.front_of d area) w.page ≡ b
-        → cond b (Duty.claimed_by d w.page w.says false (Duty.state_of w.says d.epoch)) (LoadsFront found) ≡ Claims c → ClaimsWanted d w words c
+        → cond b (Duty.claim_by_state d w.page w.says false (Duty.state_of w.says d.epoch)) (LoadsFront found) ≡ Claims c → ClaimsWanted d w words c
     by_test true test e = record {
       area = area;
       says = read;
@@ -209,12 +209,12 @@ ends_is d look filling Past c is = cc
 ends_is d look filling Scanned c is = cc
 
 claims_filling : (d : Round) (look : EndLook) (filling : PageWord) (words : List ℕ) (o : Option AreaWord) (c : Claiming)
-    → decode_area (row_of d (Area (to_space d.epoch)) words) ≡ o
-    → Duty.ended_area_again d look filling (row_of d (Area (to_space d.epoch)) words) o ≡ Claims c → ClaimsFilling d look filling words c
+    → decode_area (word_of_row d (Area (to_space d.epoch)) words) ≡ o
+    → Duty.ended_area_again d look filling (word_of_row d (Area (to_space d.epoch)) words) o ≡ Claims c → ClaimsFilling d look filling words c
 claims_filling d look filling words (Some area) c read is = by_test (nat_eq (Duty.front_of d area) look.front) refl is
   where
     by_test : (b : Bool) → nat_eq (Duty.front_of d area) look.front ≡ b
-        → cond b (Duty.ends_by d look filling (Duty.state_of filling d.epoch)) (Ended (NothingNow (row_of d (Area (to_space d.epoch)) words))) ≡ Claims c
+        → cond b (Duty.ends_by d look filling (Duty.state_of filling d.epoch)) (Ended (NothingNow (word_of_row d (Area (to_space d.epoch)) words))) ≡ Claims c
         → ClaimsFilling d look filling words c
     by_test true test e = record { area = area; says = read; stands = grind (arith, nat_tests); is = ends_is d look filling (Duty.state_of filling d.epoch) c e }
     by_test false test e = cc
@@ -232,36 +232,36 @@ goes_on d c next (Some step) before is = went_on (after_step claim_machine c (So
 -- ---- all
 
 pub claims_for : (d : Round) (stage : DutyStage) (before : List ℕ) (c : Claiming) → IsSoundRound (at_stage d stage)
-    → (stepped duty_machine (at_stage d stage) before).stage ≡ Claims c → ClaimsFor (at_stage d stage) stage before c
-claims_for d LoadsGate before c sound is = at_gate_never (at_stage d LoadsGate) (row_of d Gate before) (decode_gate (row_of d Gate before)) c is
-claims_for d (LoadsTraced hindrance) before c sound is = traced_never (at_stage d (LoadsTraced hindrance)) hindrance (row_of d Traced before) c is
+    → (after_next_step duty_machine (at_stage d stage) before).stage ≡ Claims c → ClaimsFor (at_stage d stage) stage before c
+claims_for d LoadsGate before c sound is = at_gate_never (at_stage d LoadsGate) (word_of_row d Gate before) (decode_gate (word_of_row d Gate before)) c is
+claims_for d (LoadsTraced hindrance) before c sound is = traced_never (at_stage d (LoadsTraced hindrance)) hindrance (word_of_row d Traced before) c is
 claims_for d (LoadsWanted found page) before c sound is =
-    claims_board (at_stage d (LoadsWanted found page)) found page before (decode_page (row_of d (Page page) before)) c refl is
+    claims_board (at_stage d (LoadsWanted found page)) found page before (decode_page (word_of_row d (Page page) before)) c refl is
 claims_for d (LoadsFrontFor found w) before c sound is =
-    claims_wanted (at_stage d (LoadsFrontFor found w)) found w before (decode_area (row_of d (Area (to_space d.epoch)) before)) c refl is
+    claims_wanted (at_stage d (LoadsFrontFor found w)) found w before (decode_area (word_of_row d (Area (to_space d.epoch)) before)) c refl is
 claims_for d (LoadsFront found) before c sound is =
-    front_never (at_stage d (LoadsFront found)) found (decode_area (row_of d (Area (to_space d.epoch)) before)) c is
+    front_never (at_stage d (LoadsFront found)) found (decode_area (word_of_row d (Area (to_space d.epoch)) before)) c is
 claims_for d (LoadsPage choice page) before c sound is =
-    let loaded : ℕ = row_of d (Page page) before in
+    let loaded : ℕ = word_of_row d (Page page) before in
     let it = chosen (at_stage d (LoadsPage choice page)) choice page loaded (decode_page loaded) c is in
     record { found = it.found; says = it.says; chosen = sound.stage.1; is = it.is }
 claims_for d (Claims last) before c sound is = goes_on d last c (claim.wanted last) before is
-claims_for d (EndGate traced) before c sound is = end_gate_never (at_stage d (EndGate traced)) traced (row_of d Gate before) (decode_gate (row_of d Gate before)) c is
-claims_for d (EndArea traced) before c sound is = end_area_never (at_stage d (EndArea traced)) traced (decode_area (row_of d (Area (to_space d.epoch)) before)) c is
-claims_for d (EndPage look page) before c sound is = end_page_never (at_stage d (EndPage look page)) look page (row_of d (Page page) before) c is
+claims_for d (EndGate traced) before c sound is = end_gate_never (at_stage d (EndGate traced)) traced (word_of_row d Gate before) (decode_gate (word_of_row d Gate before)) c is
+claims_for d (EndArea traced) before c sound is = end_area_never (at_stage d (EndArea traced)) traced (decode_area (word_of_row d (Area (to_space d.epoch)) before)) c is
+claims_for d (EndPage look page) before c sound is = end_page_never (at_stage d (EndPage look page)) look page (word_of_row d (Page page) before) c is
 claims_for d (EndFilling look) before c sound is =
-    let loaded : ℕ = row_of d (Page (page_of look.front)) before in filling_never (at_stage d (EndFilling look)) look loaded (decode_page loaded) c is
+    let loaded : ℕ = word_of_row d (Page (page_of look.front)) before in filling_never (at_stage d (EndFilling look)) look loaded (decode_page loaded) c is
 claims_for d (EndAreaAgain look filling) before c sound is =
-    claims_filling (at_stage d (EndAreaAgain look filling)) look filling before (decode_area (row_of d (Area (to_space d.epoch)) before)) c refl is
-claims_for d (Traces traced) before c sound is = trace_never d traced _ (row_of d Traced before) c is
+    claims_filling (at_stage d (EndAreaAgain look filling)) look filling before (decode_area (word_of_row d (Area (to_space d.epoch)) before)) c refl is
+claims_for d (Traces traced) before c sound is = trace_never d traced _ (word_of_row d Traced before) c is
 claims_for d (Ended result) before c sound is = cc
 
 -- ---- TRACED
 
-pub traced_told : (d : Round) (hindrance : Option ℕ) (words : List ℕ) → row_of d Traced words ≡ d.epoch + 1
-    → Acts duty_machine (at_stage d (LoadsTraced hindrance)) words words (Finished (NothingNow (row_of d Traced words)))
+pub traced_told : (d : Round) (hindrance : Option ℕ) (words : List ℕ) → word_of_row d Traced words ≡ d.epoch + 1
+    → MakesStep duty_machine (at_stage d (LoadsTraced hindrance)) words words (Finished (NothingNow (word_of_row d Traced words)))
 traced_told d hindrance words same =
-    let test = same_test (row_of d Traced words) (d.epoch + 1) same in record { has_step = refl; makes = refl; tells = rw test refl }
+    let test = same_test (word_of_row d Traced words) (d.epoch + 1) same in record { has_step = refl; makes = refl; tells = rw test refl }
   where
     same_test : (m n : ℕ) → m ≡ n → nat_eq m n ≡ true
     same_test m n e = grind (arith, nat_tests)

@@ -48,7 +48,7 @@ by_scanner : (d : Round) (mutators word : ℕ) (gate : GateWord) → left (Duty.
 by_scanner d mutators word gate =
     by_test (λ (e : Round). left e < 2 * d.layout.pages + 32) (nat_eq gate.left mutators) _ _ (λ _. omega arith) (λ _. omega arith)
 
-by_caller : (d : Round) (caller : Caller) (word : ℕ) (gate : GateWord) → left (Duty.looked_by d caller word gate) < 2 * d.layout.pages + 32
+by_caller : (d : Round) (caller : Caller) (word : ℕ) (gate : GateWord) → left (Duty.looked_by_gate d caller word gate) < 2 * d.layout.pages + 32
 by_caller d (Faulted page) word gate = by_mutator d word gate
 by_caller d Allocates word gate = by_mutator d word gate
 by_caller d (Scans mutators) word gate = by_scanner d mutators word gate
@@ -72,7 +72,7 @@ first_stage-le : (n page : ℕ) (in_place : Bool) → claim.left_at (claim.first
 first_stage-le n page true = omega arith
 first_stage-le n page false = by_test (λ s. claim.left_at s ≤ 26) (nat_eq page (board_page n)) _ _ (λ _. omega arith) (λ _. omega arith)
 
-claimed_by-le : (d : Round) (page : ℕ) (says : PageWord) (in_place : Bool) (state : PageState) → left_at d (Duty.claimed_by d page says in_place state) ≤ 26
+claimed_by-le : (d : Round) (page : ℕ) (says : PageWord) (in_place : Bool) (state : PageState) → left_at d (Duty.claim_by_state d page says in_place state) ≤ 26
 claimed_by-le d page says in_place Waits = first_stage-le d.layout.pages page in_place
 claimed_by-le d page says in_place Past = omega arith
 claimed_by-le d page says in_place Opened = omega arith
@@ -80,7 +80,7 @@ claimed_by-le d page says in_place Scanned = omega arith
 
 wanted_one-le : (d : Round) (seen : Findings) (w : WantedPage) → left_at d (Duty.wanted_one d seen w) ≤ 2 * d.layout.pages + 29
 wanted_one-le d seen w =
-    by_test (λ (s : DutyStage). left_at d s ≤ 2 * d.layout.pages + 29) (nat_eq w.page (board_page d.layout.pages)) (Duty.claimed_by d w.page w.says false _) (LoadsFrontFor seen w)
+    by_test (λ (s : DutyStage). left_at d s ≤ 2 * d.layout.pages + 29) (nat_eq w.page (board_page d.layout.pages)) (Duty.claim_by_state d w.page w.says false _) (LoadsFrontFor seen w)
     (λ _. let claim = claimed_by-le d w.page w.says false (Duty.state_of w.says d.epoch) in omega (arith, claim)) (λ _. omega arith)
 
 by_wanted_state : (d : Round) (seen : Findings) (page word : ℕ) (says : PageWord) (state : PageState)
@@ -98,7 +98,7 @@ by_wanted d seen page word None t = cc
 by_front_for : (d : Round) (seen : Findings) (w : WantedPage) (o : Option AreaWord) → IsTrue (is_some o)
     → left_at d (Duty.found_front_for d seen w o) < 2 * d.layout.pages + 29
 by_front_for d seen w (Some area) t =
-    by_test (λ (s : DutyStage). left_at d s < 2 * d.layout.pages + 29) (Duty.is_full (Duty.front_of d area) w.page) (Duty.claimed_by d w.page w.says false _) (LoadsFront seen)
+    by_test (λ (s : DutyStage). left_at d s < 2 * d.layout.pages + 29) (Duty.is_full (Duty.front_of d area) w.page) (Duty.claim_by_state d w.page w.says false _) (LoadsFront seen)
     (λ _. let claim = claimed_by-le d w.page w.says false (Duty.state_of w.says d.epoch) in omega (arith, claim)) (λ _. omega arith)
 by_front_for d seen w None t = cc
 
@@ -169,7 +169,7 @@ after_choice-le d seen (Some word) = omega arith
 after_choice-le d seen None = omega arith
 
 passed_by-lt : (d : Round) (choice : Choice) (page : ℕ) → IsPageCount d.layout.pages → IsChoice d choice.front page
-    → left_at d (Duty.passed_by d choice page) < Duty.pages_left d page + d.layout.pages + 26
+    → left_at d (Duty.passed_page d choice page) < Duty.pages_left d page + d.layout.pages + 26
 passed_by-lt d choice page few fits =
     by_test (λ (s : DutyStage). left_at d s < Duty.pages_left d page + d.layout.pages + 26) (Duty.is_full choice.front (Duty.page_after d page))
     (LoadsPage choice (Duty.page_after d page)) (Duty.after_choice choice.seen choice.seen.hindrance)

@@ -5,7 +5,7 @@ use Rattle.atom_store.specs.declared.reply.Reply.TheVariants as reply
 use Rattle.atom_store.specs.declared.step.Step.{Step}
 use Rattle.atom_store.specs.declared.step.Step.TheVariants.{Exchange}
 use Rattle.atom_store.specs.declared.turn.Turn.TheVariants.{Finished}
-use Rattle.atom_store.specs.Acts.{Acts, stepped}
+use Rattle.atom_store.specs.Acts.{MakesStep, after_next_step}
 use Rattle.atom_store.specs.Runs.{after_step}
 use Rattle.atom_store.specs.Step.{reply_of}
 use Rattle.atom_store.proofs.Acting.{no_step}
@@ -35,7 +35,7 @@ use Rattle.fault_duty.specs.declared.duty_stage.DutyStage.TheVariants.{LoadsGate
 use Rattle.fault_duty.specs.Duty
 use Rattle.fault_duty.specs.Duty.{Round, at_stage, duty_machine, told, told_at, taken_at}
 use Rattle.fault_duty.specs.Soundness.{Forbids, PageInScan, IsHindrance, IsSoundRound}
-use Rattle.fault_duty.specs.Theorems.{row_of, IsPastPage, ShowsNothing, SeesAllLeft, MarksEpoch, ClaimsPage}
+use Rattle.fault_duty.specs.Theorems.{word_of_row, IsPastPage, ShowsNothing, SeesAllLeft, MarksEpoch, ClaimsPage}
 use Rattle.fault_duty.proofs.Telling.{gate_ends, left_ends, traced_ends, wanted_ends, front_for_ends, front_never, ChoiceEnds, ByHindrance, ByScan, ByPast, page_ends, claim_nothing, claimed_page, claim_scans, claim_never, end_gate_ends, end_area_never, end_page_ends, filling_ends, AreaAgainEnds, ByFront, ByFilling, area_again_ends}
 
 told_word : (word other : ℕ) → NothingNow word ≡ NothingNow other → word ≡ other
@@ -73,20 +73,20 @@ same_place c (Some step) before = refl
 -- ---- nothing to do now
 
 choice_shows : (d : Round) (choice : Choice) (page : ℕ) (before : List ℕ) (word : ℕ) → IsHindrance d.epoch choice.seen.hindrance
-    → ChoiceEnds d choice page (row_of d (Page page) before) (NothingNow word) (decode_page (row_of d (Page page) before))
+    → ChoiceEnds d choice page (word_of_row d (Page page) before) (NothingNow word) (decode_page (word_of_row d (Page page) before))
     → IsPastPage d page before word ⊎ ((choice.front < first_word (Duty.page_after d page + 1)) × Forbids d.epoch word)
 choice_shows d choice page before word holds (ByHindrance other is same last) =
     inr (last, subst (Forbids d.epoch) (sym (told_word word other same)) (let h : IsHindrance d.epoch (Some other) = subst (IsHindrance d.epoch) is holds in h))
 choice_shows d choice page before word holds (ByScan worker is same last) =
-    let read = told_word word (row_of d (Page page) before) same in inr (last, PageInScan worker (ap decode_page read ∙ is))
+    let read = told_word word (word_of_row d (Page page) before) same in inr (last, PageInScan worker (ap decode_page read ∙ is))
 choice_shows d choice page before word holds (ByPast says is later same) =
-    let read = told_word word (row_of d (Page page) before) same in inl (record { found = says; read = read; says = ap decode_page read ∙ is; later = later })
+    let read = told_word word (word_of_row d (Page page) before) same in inl (record { found = says; read = read; says = ap decode_page read ∙ is; later = later })
 
 again_shows : (d : Round) (look : EndLook) (filling : PageWord) (before : List ℕ) (word : ℕ)
-    → AreaAgainEnds d look filling (row_of d (Area (to_space d.epoch)) before) (NothingNow word) (decode_area (row_of d (Area (to_space d.epoch)) before))
+    → AreaAgainEnds d look filling (word_of_row d (Area (to_space d.epoch)) before) (NothingNow word) (decode_area (word_of_row d (Area (to_space d.epoch)) before))
     → ShowsNothing d (EndAreaAgain look filling) before word
 again_shows d look filling before word (ByFront area is moved same) =
-    let read = told_word word (row_of d (Area (to_space d.epoch)) before) same in inl (record { area = area; read = read; says = ap decode_area read ∙ is; moved = moved })
+    let read = told_word word (word_of_row d (Area (to_space d.epoch)) before) same in inl (record { area = area; read = read; says = ap decode_area read ∙ is; moved = moved })
 again_shows d look filling before word (ByFilling late same) = inr (told_word word (encode_page filling) same, late)
 
 -- the wanted page's word is what was loaded, however it is told
@@ -96,54 +96,54 @@ wanted_read loaded word says is (inl same) = told_word word loaded same
 wanted_read loaded word says is (inr same) = told_word word (encode_page says) same ∙ encode_page-decode_page loaded says is
 
 pub nothing : (d : Round) (stage : DutyStage) (before after : List ℕ) (word : ℕ) → IsSoundRound (at_stage d stage)
-    → Acts duty_machine (at_stage d stage) before after (Finished (NothingNow word)) → ShowsNothing (at_stage d stage) stage before word × (after ≡ before)
+    → MakesStep duty_machine (at_stage d stage) before after (Finished (NothingNow word)) → ShowsNothing (at_stage d stage) stage before word × (after ≡ before)
 nothing d LoadsGate before after word sound acts =
-    let loaded : ℕ = row_of d Gate before in
+    let loaded : ℕ = word_of_row d Gate before in
     let ends = gate_ends (at_stage d LoadsGate) loaded word (decode_gate loaded) acts.tells in
     (record { gate = ends.gate; read = ends.same; says = ap decode_gate ends.same ∙ ends.is; other = ends.other }, acts.makes)
 nothing d (LoadsTraced hindrance) before after word sound acts =
-    let loaded : ℕ = row_of d Traced before in
+    let loaded : ℕ = word_of_row d Traced before in
     let ends = traced_ends (at_stage d (LoadsTraced hindrance)) hindrance loaded (NothingNow word) acts.tells in
     let read = told_word word loaded ends.1 in
     ((read, read ∙ ends.0), acts.makes)
 nothing d (LoadsWanted found page) before after word sound acts =
-    let loaded : ℕ = row_of d (Page page) before in
+    let loaded : ℕ = word_of_row d (Page page) before in
     let ends = wanted_ends (at_stage d (LoadsWanted found page)) found page loaded (NothingNow word) (decode_page loaded) acts.tells in
     let read = wanted_read loaded word ends.says ends.is ends.told_word in
     (record { found = ends.says; read = read; says = ap decode_page read ∙ ends.is; served = ends.served }, acts.makes)
 nothing d (LoadsFrontFor found w) before after word sound acts =
-    let loaded : ℕ = row_of d (Area (to_space d.epoch)) before in
+    let loaded : ℕ = word_of_row d (Area (to_space d.epoch)) before in
     let ends = front_for_ends (at_stage d (LoadsFrontFor found w)) found w (NothingNow word) (decode_area loaded) acts.tells in
     ((told_word word (encode_page w.says) ends.0, ends.1), acts.makes)
 nothing d (LoadsFront found) before after word sound acts =
-    absurd (front_never (at_stage d (LoadsFront found)) found (NothingNow word) (decode_area (row_of d (Area (to_space d.epoch)) before)) acts.tells)
+    absurd (front_never (at_stage d (LoadsFront found)) found (NothingNow word) (decode_area (word_of_row d (Area (to_space d.epoch)) before)) acts.tells)
 nothing d (LoadsPage choice page) before after word sound acts =
-    let loaded : ℕ = row_of d (Page page) before in
+    let loaded : ℕ = word_of_row d (Page page) before in
     let ends = page_ends (at_stage d (LoadsPage choice page)) choice page loaded (NothingNow word) (decode_page loaded) acts.tells in
     (choice_shows (at_stage d (LoadsPage choice page)) choice page before word sound.stage.0.hindrance ends, acts.makes)
 nothing d (Claims c) before after word sound acts =
     let tells = claim_tells d c (claim.wanted c) before (NothingNow word) acts.tells in
-    let takes = claim_nothing (stepped claim_machine c before) (claim.told (stepped claim_machine c before)) word tells in
+    let takes = claim_nothing (after_next_step claim_machine c before) (claim.told (after_next_step claim_machine c before)) word tells in
     claims.takes c c.stage before after word sound.stage.sound (record { has_step = acts.has_step; makes = acts.makes; tells = takes })
 nothing d (EndGate traced) before after word sound acts =
-    let loaded : ℕ = row_of d Gate before in
+    let loaded : ℕ = word_of_row d Gate before in
     let ends = end_gate_ends (at_stage d (EndGate traced)) traced loaded (NothingNow word) (decode_gate loaded) acts.tells in
     let read = told_word word loaded ends.told_is in
     (record { gate = ends.gate; read = read; says = ap decode_gate read ∙ ends.is; unfit = ends.unfit }, acts.makes)
 nothing d (EndArea traced) before after word sound acts =
-    absurd (end_area_never (at_stage d (EndArea traced)) traced (NothingNow word) (decode_area (row_of d (Area (to_space d.epoch)) before)) acts.tells)
+    absurd (end_area_never (at_stage d (EndArea traced)) traced (NothingNow word) (decode_area (word_of_row d (Area (to_space d.epoch)) before)) acts.tells)
 nothing d (EndPage look page) before after word sound acts =
-    let loaded : ℕ = row_of d (Page page) before in
+    let loaded : ℕ = word_of_row d (Page page) before in
     let ends = end_page_ends (at_stage d (EndPage look page)) look page loaded (NothingNow word) acts.tells in
     let read = told_word word loaded ends.1 in
     ((read, λ same. ends.0 (sym read ∙ same)), acts.makes)
 nothing d (EndFilling look) before after word sound acts =
-    let loaded : ℕ = row_of d (Page (page_of look.front)) before in
+    let loaded : ℕ = word_of_row d (Page (page_of look.front)) before in
     let ends = filling_ends (at_stage d (EndFilling look)) look loaded (NothingNow word) (decode_page loaded) acts.tells in
     let read = told_word word loaded ends.told_is in
     ((read, (ends.worker, ap decode_page read ∙ ends.is)), acts.makes)
 nothing d (EndAreaAgain look filling) before after word sound acts =
-    let loaded : ℕ = row_of d (Area (to_space d.epoch)) before in
+    let loaded : ℕ = word_of_row d (Area (to_space d.epoch)) before in
     let ends = area_again_ends (at_stage d (EndAreaAgain look filling)) look filling loaded (NothingNow word) (decode_area loaded) acts.tells in
     (again_shows (at_stage d (EndAreaAgain look filling)) look filling before word ends, acts.makes)
 nothing d (Traces traced) before after word sound acts =
@@ -161,7 +161,7 @@ IsNothing result = (word : ℕ) × (result ≡ NothingNow word)
 abbrev IsAllLeft : RoundEnd → Type 0
 IsAllLeft result = (word : ℕ) × (result ≡ AllLeft word)
 
-gate_results : (d : Round) (caller : Caller) (loaded : ℕ) (g : GateWord) (result : RoundEnd) → told (Duty.looked_by d caller loaded g) ≡ Finished result
+gate_results : (d : Round) (caller : Caller) (loaded : ℕ) (g : GateWord) (result : RoundEnd) → told (Duty.looked_by_gate d caller loaded g) ≡ Finished result
     → IsNothing result ⊎ IsAllLeft result
 gate_results d (Faulted page) loaded g result tells = by_test (nat_eq g.epoch d.epoch) tells
   where
@@ -204,36 +204,36 @@ again_told : (d : Round) (look : EndLook) (filling : PageWord) (loaded : ℕ) (r
 again_told d look filling loaded result o (ByFront area is moved same) = (loaded, same)
 again_told d look filling loaded result o (ByFilling late same) = (encode_page filling, same)
 
-elsewhere : (d : Round) (stage : DutyStage) (before after : List ℕ) (result : RoundEnd) → Acts duty_machine (at_stage d stage) before after (Finished result)
+elsewhere : (d : Round) (stage : DutyStage) (before after : List ℕ) (result : RoundEnd) → MakesStep duty_machine (at_stage d stage) before after (Finished result)
     → Elsewhere stage result
-elsewhere d LoadsGate before after result acts = at_gate (at_stage d LoadsGate) (row_of d Gate before) (decode_gate (row_of d Gate before)) result acts.tells
+elsewhere d LoadsGate before after result acts = at_gate (at_stage d LoadsGate) (word_of_row d Gate before) (decode_gate (word_of_row d Gate before)) result acts.tells
 elsewhere d (LoadsTraced hindrance) before after result acts =
-    let ends = traced_ends (at_stage d (LoadsTraced hindrance)) hindrance (row_of d Traced before) result acts.tells in (row_of d Traced before, ends.1)
+    let ends = traced_ends (at_stage d (LoadsTraced hindrance)) hindrance (word_of_row d Traced before) result acts.tells in (word_of_row d Traced before, ends.1)
 elsewhere d (LoadsWanted found page) before after result acts =
-    let loaded : ℕ = row_of d (Page page) before in
+    let loaded : ℕ = word_of_row d (Page page) before in
     let ends = wanted_ends (at_stage d (LoadsWanted found page)) found page loaded result (decode_page loaded) acts.tells in wanted_told loaded ends.says result ends.told_word
 elsewhere d (LoadsFrontFor found w) before after result acts =
-    let ends = front_for_ends (at_stage d (LoadsFrontFor found w)) found w result (decode_area (row_of d (Area (to_space d.epoch)) before)) acts.tells in (encode_page w.says, ends.0)
+    let ends = front_for_ends (at_stage d (LoadsFrontFor found w)) found w result (decode_area (word_of_row d (Area (to_space d.epoch)) before)) acts.tells in (encode_page w.says, ends.0)
 elsewhere d (LoadsFront found) before after result acts =
-    absurd (front_never (at_stage d (LoadsFront found)) found result (decode_area (row_of d (Area (to_space d.epoch)) before)) acts.tells)
+    absurd (front_never (at_stage d (LoadsFront found)) found result (decode_area (word_of_row d (Area (to_space d.epoch)) before)) acts.tells)
 elsewhere d (LoadsPage choice page) before after result acts =
-    let loaded : ℕ = row_of d (Page page) before in
+    let loaded : ℕ = word_of_row d (Page page) before in
     choice_told (at_stage d (LoadsPage choice page)) choice page loaded result (decode_page loaded)
     (page_ends (at_stage d (LoadsPage choice page)) choice page loaded result (decode_page loaded) acts.tells)
 elsewhere d (Claims c) before after result acts = tt
 elsewhere d (EndGate traced) before after result acts =
-    let loaded : ℕ = row_of d Gate before in
+    let loaded : ℕ = word_of_row d Gate before in
     let ends = end_gate_ends (at_stage d (EndGate traced)) traced loaded result (decode_gate loaded) acts.tells in (loaded, ends.told_is)
 elsewhere d (EndArea traced) before after result acts =
-    absurd (end_area_never (at_stage d (EndArea traced)) traced result (decode_area (row_of d (Area (to_space d.epoch)) before)) acts.tells)
+    absurd (end_area_never (at_stage d (EndArea traced)) traced result (decode_area (word_of_row d (Area (to_space d.epoch)) before)) acts.tells)
 elsewhere d (EndPage look page) before after result acts =
-    let loaded : ℕ = row_of d (Page page) before in
+    let loaded : ℕ = word_of_row d (Page page) before in
     let ends = end_page_ends (at_stage d (EndPage look page)) look page loaded result acts.tells in (loaded, ends.1)
 elsewhere d (EndFilling look) before after result acts =
-    let loaded : ℕ = row_of d (Page (page_of look.front)) before in
+    let loaded : ℕ = word_of_row d (Page (page_of look.front)) before in
     let ends = filling_ends (at_stage d (EndFilling look)) look loaded result (decode_page loaded) acts.tells in (loaded, ends.told_is)
 elsewhere d (EndAreaAgain look filling) before after result acts =
-    let loaded : ℕ = row_of d (Area (to_space d.epoch)) before in
+    let loaded : ℕ = word_of_row d (Area (to_space d.epoch)) before in
     again_told (at_stage d (EndAreaAgain look filling)) look filling loaded result (decode_area loaded)
     (area_again_ends (at_stage d (EndAreaAgain look filling)) look filling loaded result (decode_area loaded) acts.tells)
 elsewhere d (Traces traced) before after result acts = tt
@@ -280,10 +280,10 @@ claimed_other false page = record { not_nothing = λ word e. cc; not_left = λ w
 -- ---- marked
 
 marks_by : (d : Round) (stage : DutyStage) (before after : List ℕ) → IsLast stage → IsSoundRound (at_stage d stage) → HoldsTable d.layout.pages before
-    → Acts duty_machine (at_stage d stage) before after (Finished Marked) → MarksEpoch d before after
+    → MakesStep duty_machine (at_stage d stage) before after (Finished Marked) → MarksEpoch d before after
 marks_by d (Claims c) before after last sound whole acts =
     let tells = claim_tells d c (claim.wanted c) before Marked acts.tells in
-    absurd ((claim_never (stepped claim_machine c before) (claim.told (stepped claim_machine c before)) Marked tells).0 refl)
+    absurd ((claim_never (after_next_step claim_machine c before) (claim.told (after_next_step claim_machine c before)) Marked tells).0 refl)
 marks_by d (Traces traced) before after last sound whole acts =
     let place : ℕ = place_of d.layout.pages Traced in
     let won = trace_wins d traced (reply_of (Exchange place traced (d.epoch + 1)) before) acts.tells in
@@ -297,7 +297,7 @@ marks_by d (Traces traced) before after last sound whole acts =
 marks_by d _ before after last sound whole acts = elim last [ ]
 
 pub marks : (d : Round) (stage : DutyStage) (before after : List ℕ) → IsSoundRound (at_stage d stage) → HoldsTable d.layout.pages before
-    → Acts duty_machine (at_stage d stage) before after (Finished Marked) → MarksEpoch d before after
+    → MakesStep duty_machine (at_stage d stage) before after (Finished Marked) → MarksEpoch d before after
 marks d stage before after sound whole acts =
     marks_by d stage before after (last_alone stage Marked marked_other (elsewhere d stage before after Marked acts)) sound whole acts
 
@@ -312,10 +312,10 @@ trace_never_claims d traced (reply.Value value) in_place page e = cc
 trace_never_claims d traced reply.Done in_place page e = cc
 
 claims_by : (d : Round) (stage : DutyStage) (before after : List ℕ) (in_place : Bool) (page : ℕ) → IsLast stage → IsSoundRound (at_stage d stage) → HoldsTable d.layout.pages before
-    → Acts duty_machine (at_stage d stage) before after (Finished (claimed_page in_place page)) → ClaimsPage (at_stage d stage) page in_place before after
+    → MakesStep duty_machine (at_stage d stage) before after (Finished (claimed_page in_place page)) → ClaimsPage (at_stage d stage) page in_place before after
 claims_by d (Claims c) before after in_place page last sound whole acts =
     let tells = claim_tells d c (claim.wanted c) before (claimed_page in_place page) acts.tells in
-    let scans = claim_scans (stepped claim_machine c before) (claim.told (stepped claim_machine c before)) in_place page tells in
+    let scans = claim_scans (after_next_step claim_machine c before) (claim.told (after_next_step claim_machine c before)) in_place page tells in
     let own = sound.stage in
     record {
       claim = c;
@@ -329,7 +329,7 @@ claims_by d (Traces traced) before after in_place page last sound whole acts = a
 claims_by d _ before after in_place page last sound whole acts = elim last [ ]
 
 pub claims_page : (d : Round) (stage : DutyStage) (before after : List ℕ) (in_place : Bool) (page : ℕ) → IsSoundRound (at_stage d stage) → HoldsTable d.layout.pages before
-    → Acts duty_machine (at_stage d stage) before after (Finished (claimed_page in_place page)) → ClaimsPage (at_stage d stage) page in_place before after
+    → MakesStep duty_machine (at_stage d stage) before after (Finished (claimed_page in_place page)) → ClaimsPage (at_stage d stage) page in_place before after
 claims_page d stage before after in_place page sound whole acts =
     claims_by d stage before after in_place page (last_alone stage (claimed_page in_place page) (claimed_other in_place page) (elsewhere d stage before after (claimed_page in_place page) acts)) sound whole acts
 
@@ -344,10 +344,10 @@ trace_never_left d traced (reply.Lost lost) word e = cc
 trace_never_left d traced (reply.Value value) word e = cc
 trace_never_left d traced reply.Done word e = cc
 
-pub sees_left : (d : Round) (stage : DutyStage) (before after : List ℕ) (word : ℕ) → Acts duty_machine (at_stage d stage) before after (Finished (AllLeft word))
+pub sees_left : (d : Round) (stage : DutyStage) (before after : List ℕ) (word : ℕ) → MakesStep duty_machine (at_stage d stage) before after (Finished (AllLeft word))
     → SeesAllLeft (at_stage d stage) before after word
 sees_left d LoadsGate before after word acts =
-    let loaded : ℕ = row_of d Gate before in
+    let loaded : ℕ = word_of_row d Gate before in
     let ends = left_ends (at_stage d LoadsGate) loaded word (decode_gate loaded) acts.tells in
     record {
       first = refl;
@@ -361,7 +361,7 @@ sees_left d LoadsGate before after word acts =
     }
 sees_left d (Claims c) before after word acts =
     let tells = claim_tells d c (claim.wanted c) before (AllLeft word) acts.tells in
-    absurd ((claim_never (stepped claim_machine c before) (claim.told (stepped claim_machine c before)) (AllLeft word) tells).1 word refl)
+    absurd ((claim_never (after_next_step claim_machine c before) (claim.told (after_next_step claim_machine c before)) (AllLeft word) tells).1 word refl)
 sees_left d (Traces traced) before after word acts = absurd (trace_never_left d traced _ word acts.tells)
 sees_left d (LoadsTraced hindrance) before after word acts = absurd (no_left word (elsewhere d (LoadsTraced hindrance) before after (AllLeft word) acts))
 sees_left d (LoadsWanted found page) before after word acts = absurd (no_left word (elsewhere d (LoadsWanted found page) before after (AllLeft word) acts))

@@ -1,7 +1,7 @@
 -- A round that goes on wants a step on a row of the table, and writes TRACED or a page's word.
 use Rattle.std.proofs.Common.{◌≡◌, ℕ, refl, ap, subst, arith}
 use Rattle.std.specs.Prelude.{option_map}
-use Rattle.atom_store.specs.StepOn.{IsOn, Writes, step_at}
+use Rattle.atom_store.specs.StepOn.{IsOn, WritesOnly, step_at}
 use Rattle.space_map.specs.Spaces.{Layout}
 use Rattle.space_map.specs.Table.{Row, Traced, Page, IsRow, place_of}
 use Rattle.page_slots.specs.Claim as claim
@@ -34,7 +34,7 @@ rows_fit d (EndAreaAgain look filling) fits caller going = omega arith
 rows_fit d (Traces traced) fits caller going = tt
 rows_fit d (Ended result) fits caller going = going
 
-pub writes : (Q : Row → Type 0) → Q Traced → ((page : ℕ) → Q (Page page)) → (d : Round) (stage : DutyStage) → Writes Q (wants_at d stage)
+pub writes : (Q : Row → Type 0) → Q Traced → ((page : ℕ) → Q (Page page)) → (d : Round) (stage : DutyStage) → WritesOnly Q (wants_at d stage)
 writes Q traced pages d (Claims c) = claim_writes Q pages c c.stage
 writes Q traced pages d (Traces word) = traced
 writes Q traced pages d stage = tt

@@ -96,7 +96,7 @@ scanner_never d mutators loaded word g tells = by_test (nat_eq g.left mutators) 
     by_test true e = cc
     by_test false e = cc
 
-caller_ends : (d : Round) (caller : Caller) (loaded word : ℕ) (g : GateWord) → told (Duty.looked_by d caller loaded g) ≡ Finished (NothingNow word)
+caller_ends : (d : Round) (caller : Caller) (loaded word : ℕ) (g : GateWord) → told (Duty.looked_by_gate d caller loaded g) ≡ Finished (NothingNow word)
     → GateEnds d loaded word (Some g)
 caller_ends d (Faulted page) loaded word g tells = mutator_ends d loaded word g tells
 caller_ends d Allocates loaded word g tells = mutator_ends d loaded word g tells
@@ -132,7 +132,7 @@ scanner_left d mutators loaded word g scans tells = by_test (nat_eq g.left mutat
     by_test true test e = record { mutators = mutators; caller = scans; gate = g; is = refl; left = grind (arith, nat_tests); same = cc }
     by_test false test e = cc
 
-caller_left : (d : Round) (caller : Caller) (loaded word : ℕ) (g : GateWord) → d.caller ≡ caller → told (Duty.looked_by d caller loaded g) ≡ Finished (AllLeft word)
+caller_left : (d : Round) (caller : Caller) (loaded word : ℕ) (g : GateWord) → d.caller ≡ caller → told (Duty.looked_by_gate d caller loaded g) ≡ Finished (AllLeft word)
     → LeftEnds d loaded word (Some g)
 caller_left d (Faulted page) loaded word g is tells = absurd (mutator_never_left d loaded word g tells)
 caller_left d Allocates loaded word g is tells = absurd (mutator_never_left d loaded word g tells)
@@ -143,7 +143,7 @@ left_ends d loaded word (Some g) tells = caller_left d d.caller loaded word g re
 left_ends d loaded word None tells = cc
 
 pub left_told : (d : Round) (mutators loaded : ℕ) (g : GateWord) (caller : Caller) → caller ≡ Scans mutators → g.left ≡ mutators
-    → told (Duty.looked_by d caller loaded g) ≡ Finished (AllLeft loaded)
+    → told (Duty.looked_by_gate d caller loaded g) ≡ Finished (AllLeft loaded)
 left_told d mutators loaded g caller is left =
     let test : nat_eq g.left mutators ≡ true = grind (arith, nat_tests) in
     rw is (rw test refl)
@@ -169,7 +169,7 @@ traced_ends d hindrance loaded result tells = by_test (nat_eq loaded (d.epoch + 
 
 -- a page that could not be claimed
 pub claimed_ends : (d : Round) (page : ℕ) (says : PageWord) (in_place : Bool) (state : PageState) (result : RoundEnd)
-    → told_at (Duty.claimed_by d page says in_place state) ≡ Finished result → (result ≡ NothingNow (encode_page says)) × (state ≢ Waits)
+    → told_at (Duty.claim_by_state d page says in_place state) ≡ Finished result → (result ≡ NothingNow (encode_page says)) × (state ≢ Waits)
 claimed_ends d page says in_place Waits result e = cc
 claimed_ends d page says in_place Past result e = (cc, λ x. cc)
 claimed_ends d page says in_place Opened result e = (cc, λ x. cc)
@@ -187,7 +187,7 @@ one_ends : (d : Round) (found : Findings) (w : WantedPage) (result : RoundEnd) �
 one_ends d found w result tells = by_test (nat_eq w.page (board_page d.layout.pages)) refl tells
   where
     by_test : (b : Bool) → nat_eq w.page (board_page d.layout.pages) ≡ b
-        → told_at (cond b (Duty.claimed_by d w.page w.says false (Duty.state_of w.says d.epoch)) (LoadsFrontFor found w)) ≡ Finished result
+        → told_at (cond b (Duty.claim_by_state d w.page w.says false (Duty.state_of w.says d.epoch)) (LoadsFrontFor found w)) ≡ Finished result
         → (w.page ≡ board_page d.layout.pages) × (result ≡ NothingNow (encode_page w.says)) × (Duty.state_of w.says d.epoch ≢ Waits)
     by_test true test e =
         let ends = claimed_ends d w.page w.says false (Duty.state_of w.says d.epoch) result e in (grind (arith, nat_tests), ends.0, ends.1)
@@ -215,7 +215,7 @@ pub front_for_ends : (d : Round) (found : Findings) (w : WantedPage) (result : R
     → told_at (Duty.found_front_for d found w o) ≡ Finished result → (result ≡ NothingNow (encode_page w.says)) × (d.epoch < age_of w.says)
 front_for_ends d found w result (Some area) tells = by_test (Duty.is_full (Duty.front_of d area) w.page) tells
   where
-    by_test : (b : Bool) → told_at (cond b (Duty.claimed_by d w.page w.says false (Duty.state_of w.says d.epoch)) (LoadsFront found)) ≡ Finished result
+    by_test : (b : Bool) → told_at (cond b (Duty.claim_by_state d w.page w.says false (Duty.state_of w.says d.epoch)) (LoadsFront found)) ≡ Finished result
         → (result ≡ NothingNow (encode_page w.says)) × (d.epoch < age_of w.says)
     by_test true e = let ends = claimed_ends d w.page w.says false (Duty.state_of w.says d.epoch) result e in (ends.0, (says_state w.says d.epoch).not_early ends.1)
     by_test false e = cc
@@ -233,7 +233,7 @@ after_choice_ends found None result tells = cc
 not_full : (front page : ℕ) → Duty.is_full front page ≡ false → front < first_word (page + 1)
 not_full front page test = grind (arith, nat_tests)
 
-passed_ends : (d : Round) (choice : Choice) (page : ℕ) (result : RoundEnd) → told_at (Duty.passed_by d choice page) ≡ Finished result
+passed_ends : (d : Round) (choice : Choice) (page : ℕ) (result : RoundEnd) → told_at (Duty.passed_page d choice page) ≡ Finished result
     → (word : ℕ) × (choice.seen.hindrance ≡ Some word) × (result ≡ NothingNow word) × (choice.front < first_word (Duty.page_after d page + 1))
 passed_ends d choice page result tells = by_test (Duty.is_full choice.front (Duty.page_after d page)) refl tells
   where

@@ -127,13 +127,13 @@ scanner_at_gate d mutators word gate =
     if gate.left == mutators then at_stage d (Ended (AllLeft word))
     else record d { epoch = gate.epoch; stage = LoadsTraced (hindrance_in word gate) }
 
-abbrev pub looked_by : Round → Caller → (word : ℕ) → GateWord → Round
-looked_by d (Faulted page) word gate = mutator_at_gate d word gate
-looked_by d Allocates word gate = mutator_at_gate d word gate
-looked_by d (Scans mutators) word gate = scanner_at_gate d mutators word gate
+abbrev pub looked_by_gate : Round → Caller → (word : ℕ) → GateWord → Round
+looked_by_gate d (Faulted page) word gate = mutator_at_gate d word gate
+looked_by_gate d Allocates word gate = mutator_at_gate d word gate
+looked_by_gate d (Scans mutators) word gate = scanner_at_gate d mutators word gate
 
 abbrev pub looked_at_gate : Round → (word : ℕ) → Option GateWord → Round
-looked_at_gate d word (Some gate) = looked_by d d.caller word gate
+looked_at_gate d word (Some gate) = looked_by_gate d d.caller word gate
 looked_at_gate d word None = at_stage d LoadsGate
 
 -- where to look first
@@ -151,16 +151,16 @@ abbrev pub claim_of : Round → (page : ℕ) → PageWord → (in_place : Bool) 
 claim_of d page says in_place = Claims (claim.begun d.layout page d.epoch d.worker says in_place)
 
 -- a page whose word says this is claimed, if that is of an earlier epoch
-abbrev pub claimed_by : Round → (page : ℕ) → PageWord → (in_place : Bool) → PageState → DutyStage
-claimed_by d page says in_place Waits = claim_of d page says in_place
-claimed_by d page says in_place Past = Ended (NothingNow (encode_page says))
-claimed_by d page says in_place Opened = Ended (NothingNow (encode_page says))
-claimed_by d page says in_place Scanned = Ended (NothingNow (encode_page says))
+abbrev pub claim_by_state : Round → (page : ℕ) → PageWord → (in_place : Bool) → PageState → DutyStage
+claim_by_state d page says in_place Waits = claim_of d page says in_place
+claim_by_state d page says in_place Past = Ended (NothingNow (encode_page says))
+claim_by_state d page says in_place Opened = Ended (NothingNow (encode_page says))
+claim_by_state d page says in_place Scanned = Ended (NothingNow (encode_page says))
 
 -- the page that is wanted, which nobody has opened or scanned: the board is always full
 abbrev pub wanted_one : Round → Findings → WantedPage → DutyStage
 wanted_one d seen w =
-    if w.page == board_page d.layout.pages then claimed_by d w.page w.says false (state_of w.says d.epoch) else LoadsFrontFor seen w
+    if w.page == board_page d.layout.pages then claim_by_state d w.page w.says false (state_of w.says d.epoch) else LoadsFrontFor seen w
 
 abbrev pub wanted_by : Round → Findings → (page word : ℕ) → PageWord → PageState → DutyStage
 wanted_by d seen page word says Opened = Ended (NothingNow word)
@@ -175,7 +175,7 @@ looked_at_wanted d seen page word None = LoadsWanted seen page
 -- a wanted page that isn't full is left to the choice
 abbrev pub found_front_for : Round → Findings → WantedPage → Option AreaWord → DutyStage
 found_front_for d seen w (Some area) =
-    if is_full (front_of d area) w.page then claimed_by d w.page w.says false (state_of w.says d.epoch) else LoadsFront seen
+    if is_full (front_of d area) w.page then claim_by_state d w.page w.says false (state_of w.says d.epoch) else LoadsFront seen
 found_front_for d seen w None = LoadsFrontFor seen w
 
 abbrev pub found_front : Round → Findings → Option AreaWord → DutyStage
@@ -188,8 +188,8 @@ after_choice seen (Some word) = Ended (NothingNow word)
 after_choice seen None = EndGate seen.traced
 
 -- after a page that is not to be claimed, the next full one
-abbrev pub passed_by : Round → Choice → (page : ℕ) → DutyStage
-passed_by d choice page =
+abbrev pub passed_page : Round → Choice → (page : ℕ) → DutyStage
+passed_page d choice page =
     if is_full choice.front (page_after d page) then LoadsPage choice (page_after d page) else after_choice choice.seen choice.seen.hindrance
 
 -- a page that another scans, whose word forbids to end the tracing
@@ -197,8 +197,8 @@ abbrev pub hindered : Choice → (word : ℕ) → Choice
 hindered choice word = record { seen = record { traced = choice.seen.traced; hindrance = Some word }; front = choice.front }
 
 abbrev pub chosen_by : Round → Choice → (page word : ℕ) → PageWord → PageState → DutyStage
-chosen_by d choice page word says Opened = passed_by d choice page
-chosen_by d choice page word says Scanned = passed_by d (hindered choice word) page
+chosen_by d choice page word says Opened = passed_page d choice page
+chosen_by d choice page word says Scanned = passed_page d (hindered choice word) page
 chosen_by d choice page word says Waits = claim_of d page says false
 chosen_by d choice page word says Past = Ended (NothingNow word)
 
@@ -246,9 +246,9 @@ looked_at_filling d look word None = EndFilling look
 -- FRONT still stands: all is open, or the filling page is to be claimed
 abbrev pub ends_by : Round → EndLook → PageWord → PageState → DutyStage
 ends_by d look filling Opened = Traces look.traced
-ends_by d look filling Waits = claimed_by d (page_of look.front) filling true Waits
-ends_by d look filling Past = claimed_by d (page_of look.front) filling true Past
-ends_by d look filling Scanned = claimed_by d (page_of look.front) filling true Scanned
+ends_by d look filling Waits = claim_by_state d (page_of look.front) filling true Waits
+ends_by d look filling Past = claim_by_state d (page_of look.front) filling true Past
+ends_by d look filling Scanned = claim_by_state d (page_of look.front) filling true Scanned
 
 abbrev pub ended_area_again : Round → EndLook → PageWord → (word : ℕ) → Option AreaWord → DutyStage
 ended_area_again d look filling word (Some area) =

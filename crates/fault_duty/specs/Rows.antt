@@ -5,7 +5,7 @@ use Rattle.atom_store.specs.declared.step.Step.{Step}
 use Rattle.atom_store.specs.declared.step.Step.TheVariants.{Load, Exchange}
 use Rattle.atom_store.specs.declared.reply.Reply.{Reply}
 use Rattle.atom_store.specs.declared.reply.Reply.TheVariants.{Value, Won, Lost}
-use Rattle.atom_store.specs.Machine.{ComesTo}
+use Rattle.atom_store.specs.Machine.{RunsTo}
 use Rattle.space_map.specs.Worked.{four_pages}
 use Rattle.fault_duty.specs.declared.caller.Caller.{Caller}
 use Rattle.fault_duty.specs.declared.caller.Caller.TheVariants.{Faulted, Allocates, Scans}
@@ -16,11 +16,11 @@ use Rattle.fault_duty.specs.Duty.{begun, duty_machine}
 
 -- a round of scanner 1 beside one mutator makes these steps, and comes to this
 abbrev pub ScannerComesTo : List (Step × Reply) → RoundEnd → Type 0
-ScannerComesTo rows result = ComesTo duty_machine (begun four_pages (Scans 1) 0 1) rows result
+ScannerComesTo rows result = RunsTo duty_machine (begun four_pages (Scans 1) 0 1) rows result
 
 -- a round of mutator 0 in epoch 1 does
 abbrev pub MutatorComesTo : Caller → List (Step × Reply) → RoundEnd → Type 0
-MutatorComesTo caller rows result = ComesTo duty_machine (begun four_pages caller 1 0) rows result
+MutatorComesTo caller rows result = RunsTo duty_machine (begun four_pages caller 1 0) rows result
 
 -- the first round claims the board, page 8, from OPEN of epoch 0
 abbrev pub BoardIsClaimed : Type 0

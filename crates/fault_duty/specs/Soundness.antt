@@ -53,17 +53,17 @@ pub record IsOwnClaim (d : Round) (c : Claiming) : Type 0 where
   pub sound : IsSoundClaim c
 
 -- what a round has found: TRACED isn't that of its epoch, and what is held as forbidding to end the tracing forbids it
-pub record Fits (epoch : ℕ) (found : Findings) : Type 0 where
+pub record FitsFindings (epoch : ℕ) (found : Findings) : Type 0 where
   pub untraced : found.traced ≢ epoch + 1
   pub hindrance : IsHindrance epoch found.hindrance
 
 abbrev pub FitsDutyStage : Round → DutyStage → Type 0
 FitsDutyStage d LoadsGate = ⊤
 FitsDutyStage d (LoadsTraced hindrance) = IsHindrance d.epoch hindrance
-FitsDutyStage d (LoadsWanted seen page) = Fits d.epoch seen × (d.caller ≡ Faulted page)
-FitsDutyStage d (LoadsFrontFor seen w) = Fits d.epoch seen × (d.caller ≡ Faulted w.page) × PageFits w.says
-FitsDutyStage d (LoadsFront seen) = Fits d.epoch seen
-FitsDutyStage d (LoadsPage choice page) = Fits d.epoch choice.seen × IsChoice d choice.front page
+FitsDutyStage d (LoadsWanted seen page) = FitsFindings d.epoch seen × (d.caller ≡ Faulted page)
+FitsDutyStage d (LoadsFrontFor seen w) = FitsFindings d.epoch seen × (d.caller ≡ Faulted w.page) × PageFits w.says
+FitsDutyStage d (LoadsFront seen) = FitsFindings d.epoch seen
+FitsDutyStage d (LoadsPage choice page) = FitsFindings d.epoch choice.seen × IsChoice d choice.front page
 FitsDutyStage d (Claims c) = IsOwnClaim d c
 FitsDutyStage d (EndGate traced) = traced ≢ d.epoch + 1
 FitsDutyStage d (EndArea traced) = traced ≢ d.epoch + 1

@@ -1,7 +1,7 @@
 -- What is proved of a round of the duty, by the words on which it makes its steps.
 use Rattle.std.specs.Prelude.{◌≡◌, ◌≢◌, ℕ, ◌+◌, ◌<◌, ◌⊎◌, ◌≤◌, Bool, true, false, List, Option, Some}
 use Rattle.atom_store.specs.declared.turn.Turn.TheVariants.{More, Finished}
-use Rattle.atom_store.specs.Acts.{Acts, stepped}
+use Rattle.atom_store.specs.Acts.{MakesStep, after_next_step}
 use Rattle.space_map.specs.declared.area_word.AreaWord.{AreaWord}
 use Rattle.space_map.specs.declared.gate_word.GateWord.{GateWord}
 use Rattle.space_map.specs.declared.page_word.PageWord.{PageWord}
@@ -25,8 +25,8 @@ use Rattle.fault_duty.specs.Duty.{Round, at_stage, front_of, page_after, duty_ma
 use Rattle.fault_duty.specs.Soundness.{Forbids, IsChoice, IsOwnClaim, IsSoundRound}
 
 -- the word of a row of the round's table
-abbrev pub row_of : Round → Row → List ℕ → ℕ
-row_of d row words = row_word d.layout.pages row words
+abbrev pub word_of_row : Round → Row → List ℕ → ℕ
+word_of_row d row words = row_word d.layout.pages row words
 
 -- ---- nothing to do now
 
@@ -37,42 +37,42 @@ IsLater says epoch = epoch + 1 < age_of says
 -- the gate's word has another epoch than the round's
 pub record OtherEpoch (d : Round) (words : List ℕ) (word : ℕ) : Type 0 where
   pub gate : GateWord
-  pub read : word ≡ row_of d Gate words
+  pub read : word ≡ word_of_row d Gate words
   pub says : decode_gate word ≡ Some gate
   pub other : gate.epoch ≢ d.epoch
 
 -- the gate's word has another epoch, or a mutator behind
 pub record NotStill (d : Round) (words : List ℕ) (word : ℕ) : Type 0 where
   pub gate : GateWord
-  pub read : word ≡ row_of d Gate words
+  pub read : word ≡ word_of_row d Gate words
   pub says : decode_gate word ≡ Some gate
   pub unfit : (gate.epoch ≢ d.epoch) ⊎ (gate.behind ≢ 0)
 
 -- the wanted page is open or scanned in this epoch, or it is the board and of a later one
 pub record IsServed (d : Round) (page : ℕ) (words : List ℕ) (word : ℕ) : Type 0 where
   pub found : PageWord
-  pub read : word ≡ row_of d (Page page) words
+  pub read : word ≡ word_of_row d (Page page) words
   pub says : decode_page word ≡ Some found
   pub served : (age_of found ≡ d.epoch + 1) ⊎ ((page ≡ board_page d.layout.pages) × IsLater found d.epoch)
 
 -- a page that might be chosen is of a later epoch
 pub record IsPastPage (d : Round) (page : ℕ) (words : List ℕ) (word : ℕ) : Type 0 where
   pub found : PageWord
-  pub read : word ≡ row_of d (Page page) words
+  pub read : word ≡ word_of_row d (Page page) words
   pub says : decode_page word ≡ Some found
   pub later : IsLater found d.epoch
 
 -- FRONT has moved since the first look at the end of the area
 pub record FrontMoved (d : Round) (look : EndLook) (words : List ℕ) (word : ℕ) : Type 0 where
   pub area : AreaWord
-  pub read : word ≡ row_of d (Area (to_space d.epoch)) words
+  pub read : word ≡ word_of_row d (Area (to_space d.epoch)) words
   pub says : decode_area word ≡ Some area
   pub moved : front_of d area ≢ look.front
 
 -- A word shows that there is nothing to do now, by what the round was about to do.
 abbrev pub ShowsNothing : Round → DutyStage → (words : List ℕ) → (word : ℕ) → Type 0
 ShowsNothing d LoadsGate words word = OtherEpoch d words word
-ShowsNothing d (LoadsTraced hindrance) words word = (word ≡ row_of d Traced words) × (word ≡ d.epoch + 1)
+ShowsNothing d (LoadsTraced hindrance) words word = (word ≡ word_of_row d Traced words) × (word ≡ d.epoch + 1)
 ShowsNothing d (LoadsWanted seen page) words word = IsServed d page words word
 -- the word of the wanted page, as it was read, is of this epoch or a later one
 ShowsNothing d (LoadsFrontFor seen w) words word = (word ≡ encode_page w.says) × (d.epoch < age_of w.says)
@@ -83,22 +83,22 @@ ShowsNothing d (LoadsPage choice page) words word =
 ShowsNothing d (Claims c) words word = ShowsTaken c words word
 ShowsNothing d (EndGate traced) words word = NotStill d words word
 ShowsNothing d (EndArea traced) words word = ⊥
-ShowsNothing d (EndPage look page) words word = (word ≡ row_of d (Page page) words) × (word ≢ encode_page (page_word.Open d.epoch))
+ShowsNothing d (EndPage look page) words word = (word ≡ word_of_row d (Page page) words) × (word ≢ encode_page (page_word.Open d.epoch))
 ShowsNothing d (EndFilling look) words word =
-    (word ≡ row_of d (Page (page_of look.front)) words) × ((worker : ℕ) × (decode_page word ≡ Some (page_word.Scanning d.epoch worker)))
+    (word ≡ word_of_row d (Page (page_of look.front)) words) × ((worker : ℕ) × (decode_page word ≡ Some (page_word.Scanning d.epoch worker)))
 -- or the word of the filling page, as it was read, is of this epoch or a later one
 ShowsNothing d (EndAreaAgain look filling) words word = FrontMoved d look words word ⊎ ((word ≡ encode_page filling) × (d.epoch < age_of filling))
-ShowsNothing d (Traces traced) words word = (word ≡ row_of d Traced words) × (word ≢ traced)
+ShowsNothing d (Traces traced) words word = (word ≡ word_of_row d Traced words) × (word ≢ traced)
 ShowsNothing d (Ended result) words word = ⊥
 
 abbrev pub NothingIsShown : Type 0
 NothingIsShown = (d : Round) (before after : List ℕ) (word : ℕ) → IsSoundRound d
-    → Acts duty_machine d before after (Finished (NothingNow word)) → ShowsNothing d d.stage before word × (after ≡ before)
+    → MakesStep duty_machine d before after (Finished (NothingNow word)) → ShowsNothing d d.stage before word × (after ≡ before)
 
 -- and where TRACED says that the epoch is traced, that is what is told
 abbrev pub TracedEpochsEndRounds : Type 0
-TracedEpochsEndRounds = (d : Round) (hindrance : Option ℕ) (words : List ℕ) → row_of d Traced words ≡ d.epoch + 1
-    → Acts duty_machine (at_stage d (LoadsTraced hindrance)) words words (Finished (NothingNow (row_of d Traced words)))
+TracedEpochsEndRounds = (d : Round) (hindrance : Option ℕ) (words : List ℕ) → word_of_row d Traced words ≡ d.epoch + 1
+    → MakesStep duty_machine (at_stage d (LoadsTraced hindrance)) words words (Finished (NothingNow (word_of_row d Traced words)))
 
 -- ---- all mutators have left
 
@@ -108,32 +108,32 @@ pub record SeesAllLeft (d : Round) (before after : List ℕ) (word : ℕ) : Type
   pub mutators : ℕ
   pub scanner : d.caller ≡ Scans mutators
   pub gate : GateWord
-  pub read : word ≡ row_of d Gate before
+  pub read : word ≡ word_of_row d Gate before
   pub says : decode_gate word ≡ Some gate
   pub left : gate.left ≡ mutators
   pub stays : after ≡ before
 
 abbrev pub AllLeftIsSeen : Type 0
 AllLeftIsSeen = (d : Round) (before after : List ℕ) (word : ℕ)
-    → Acts duty_machine d before after (Finished (AllLeft word)) → SeesAllLeft d before after word
+    → MakesStep duty_machine d before after (Finished (AllLeft word)) → SeesAllLeft d before after word
 
 -- and where it does as a scanner reads it first, that is what is told
 abbrev pub AllLeftIsTold : Type 0
 AllLeftIsTold = (d : Round) (mutators : ℕ) (gate : GateWord) (words : List ℕ) → d.caller ≡ Scans mutators
-    → decode_gate (row_of d Gate words) ≡ Some gate → gate.left ≡ mutators
-    → Acts duty_machine (at_stage d LoadsGate) words words (Finished (AllLeft (row_of d Gate words)))
+    → decode_gate (word_of_row d Gate words) ≡ Some gate → gate.left ≡ mutators
+    → MakesStep duty_machine (at_stage d LoadsGate) words words (Finished (AllLeft (word_of_row d Gate words)))
 
 -- ---- what is done
 
 -- TRACED was another word, and says then that the round's epoch is traced; no other word changes
 pub record MarksEpoch (d : Round) (before after : List ℕ) : Type 0 where
-  pub was : row_of d Traced before ≢ d.epoch + 1
-  pub is : row_of d Traced after ≡ d.epoch + 1
+  pub was : word_of_row d Traced before ≢ d.epoch + 1
+  pub is : word_of_row d Traced after ≡ d.epoch + 1
   pub others : ChangesOnly d.layout.pages Traced before after
 
 abbrev pub MarkedEpochsAreTraced : Type 0
 MarkedEpochsAreTraced = (d : Round) (before after : List ℕ) → IsSoundRound d → HoldsTable d.layout.pages before
-    → Acts duty_machine d before after (Finished Marked) → MarksEpoch d before after
+    → MakesStep duty_machine d before after (Finished Marked) → MarksEpoch d before after
 
 -- the round's own claim of this page wins it
 pub record ClaimsPage (d : Round) (page : ℕ) (in_place : Bool) (before after : List ℕ) : Type 0 where
@@ -145,39 +145,39 @@ pub record ClaimsPage (d : Round) (page : ℕ) (in_place : Bool) (before after :
 
 abbrev pub ScannedPagesAreClaimed : Type 0
 ScannedPagesAreClaimed = (d : Round) (before after : List ℕ) (page : ℕ) → IsSoundRound d → HoldsTable d.layout.pages before
-    → Acts duty_machine d before after (Finished (ScanPage page)) → ClaimsPage d page false before after
+    → MakesStep duty_machine d before after (Finished (ScanPage page)) → ClaimsPage d page false before after
 
 abbrev pub PagesInPlaceAreClaimed : Type 0
 PagesInPlaceAreClaimed = (d : Round) (before after : List ℕ) (page : ℕ) → IsSoundRound d → HoldsTable d.layout.pages before
-    → Acts duty_machine d before after (Finished (ScanInPlace page)) → ClaimsPage d page true before after
+    → MakesStep duty_machine d before after (Finished (ScanInPlace page)) → ClaimsPage d page true before after
 
 -- ---- which page is claimed
 
 -- the wanted page is the board
 pub record ClaimsBoard (d : Round) (page : ℕ) (words : List ℕ) (c : Claiming) : Type 0 where
   pub found : PageWord
-  pub says : decode_page (row_of d (Page page) words) ≡ Some found
+  pub says : decode_page (word_of_row d (Page page) words) ≡ Some found
   pub board : page ≡ board_page d.layout.pages
   pub is : c ≡ begun d.layout page d.epoch d.worker found false
 
 -- the wanted page is full by the area
 pub record ClaimsWanted (d : Round) (w : WantedPage) (words : List ℕ) (c : Claiming) : Type 0 where
   pub area : AreaWord
-  pub says : decode_area (row_of d (Area (to_space d.epoch)) words) ≡ Some area
+  pub says : decode_area (word_of_row d (Area (to_space d.epoch)) words) ≡ Some area
   pub full : first_word (w.page + 1) ≤ front_of d area
   pub is : c ≡ begun d.layout w.page d.epoch d.worker w.says false
 
 -- the page comes next in the choice: it is the board, or full
 pub record ClaimsChosen (d : Round) (choice : Choice) (page : ℕ) (words : List ℕ) (c : Claiming) : Type 0 where
   pub found : PageWord
-  pub says : decode_page (row_of d (Page page) words) ≡ Some found
+  pub says : decode_page (word_of_row d (Page page) words) ≡ Some found
   pub chosen : IsChoice d choice.front page
   pub is : c ≡ begun d.layout page d.epoch d.worker found false
 
 -- FRONT stands where it stood, and the page is the one that it is on
 pub record ClaimsFilling (d : Round) (look : EndLook) (filling : PageWord) (words : List ℕ) (c : Claiming) : Type 0 where
   pub area : AreaWord
-  pub says : decode_area (row_of d (Area (to_space d.epoch)) words) ≡ Some area
+  pub says : decode_area (word_of_row d (Area (to_space d.epoch)) words) ≡ Some area
   pub stands : front_of d area ≡ look.front
   pub is : c ≡ begun d.layout (page_of look.front) d.epoch d.worker filling true
 
@@ -187,9 +187,9 @@ ClaimsFor d (LoadsWanted found page) words c = ClaimsBoard d page words c
 ClaimsFor d (LoadsFrontFor found w) words c = ClaimsWanted d w words c
 ClaimsFor d (LoadsPage choice page) words c = ClaimsChosen d choice page words c
 ClaimsFor d (EndAreaAgain look filling) words c = ClaimsFilling d look filling words c
-ClaimsFor d (Claims before) words c = c ≡ stepped claim_machine before words
+ClaimsFor d (Claims before) words c = c ≡ after_next_step claim_machine before words
 ClaimsFor d stage words c = ⊥
 
 abbrev pub ClaimsHaveCause : Type 0
-ClaimsHaveCause = (d : Round) (before after : List ℕ) (c : Claiming) → IsSoundRound d → Acts duty_machine d before after More
-    → (stepped duty_machine d before).stage ≡ Claims c → ClaimsFor d d.stage before c
+ClaimsHaveCause = (d : Round) (before after : List ℕ) (c : Claiming) → IsSoundRound d → MakesStep duty_machine d before after More
+    → (after_next_step duty_machine d before).stage ≡ Claims c → ClaimsFor d d.stage before c

@@ -21,7 +21,7 @@ use Rattle.forwarding.specs.Taken.{by_first_word, told}
 use Rattle.forwarding.specs.Theorems.{FollowsForwards, EndsBehindForwards, ReadsHeaders, TakesByExchange, AnnouncesFirst, ReservesByExchange, place}
 use Rattle.forwarding.specs.declared.reserved.Reserved.{Reserved}
 use Rattle.atom_store.specs.declared.turn.Turn.{Turn}
-use Rattle.forwarding.proofs.Stages.{IsCopying, of_each_way}
+use Rattle.forwarding.proofs.Stages.{IsBeingCopied, of_each_way}
 
 -- ---- forwards
 
@@ -44,8 +44,8 @@ follows_forwards v word to begins =
 
 -- ---- the end
 
-no_copy : (r : Reserved) (x y : EvacStage) → IsCopying r x → x ≡ y → ¬ (IsCopying r y) → ⊥
-no_copy r x y copies is never = never (subst (IsCopying r) is copies)
+no_copy : (r : Reserved) (x y : EvacStage) → IsBeingCopied r x → x ≡ y → ¬ (IsBeingCopied r y) → ⊥
+no_copy r x y copies is never = never (subst (IsBeingCopied r) is copies)
 
 pub ends_behind_forwards : EndsBehindForwards
 ends_behind_forwards v reply to =
@@ -96,7 +96,7 @@ reads_headers v reply kept =
     }) v.stage reply
 
 -- a copy keeps its header and its address
-header_kept-copying : (r : Reserved) (x : EvacStage) → IsCopying r x → header_kept x ≡ Some r.kept
+header_kept-copying : (r : Reserved) (x : EvacStage) → IsBeingCopied r x → header_kept x ≡ Some r.kept
 header_kept-copying r (StoresHeader of) is = ap (λ (z : Reserved). Some z.kept) is
 header_kept-copying r (LoadsWord of i) is = ap (λ (z : Reserved). Some z.kept) is
 header_kept-copying r (StoresWord of w) is = ap (λ (z : Reserved). Some z.kept) is
@@ -110,7 +110,7 @@ header_kept-copying r (Reserves kept area) is = absurd is
 header_kept-copying r (Clears to) is = absurd is
 header_kept-copying r (Ended to) is = absurd is
 
-address_reserved-copying : (r : Reserved) (x : EvacStage) → IsCopying r x → address_reserved x ≡ Some r.to
+address_reserved-copying : (r : Reserved) (x : EvacStage) → IsBeingCopied r x → address_reserved x ≡ Some r.to
 address_reserved-copying r (StoresHeader of) is = ap (λ (z : Reserved). Some z.to) is
 address_reserved-copying r (LoadsWord of i) is = ap (λ (z : Reserved). Some z.to) is
 address_reserved-copying r (StoresWord of w) is = ap (λ (z : Reserved). Some z.to) is

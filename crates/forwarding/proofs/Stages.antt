@@ -57,13 +57,13 @@ module _ (P : EvacStage → Type 0) where
       either (nat_lt count (size_of r.kept)) (LoadsWord r count) (crossed r (first_page r)) loads (of_crossed r (first_page r) crosses forwards)
 
 -- a stage between the won exchange of the area and the clear
-abbrev pub IsCopying : Reserved → EvacStage → Type 0
-IsCopying r (StoresHeader of) = of ≡ r
-IsCopying r (LoadsWord of i) = of ≡ r
-IsCopying r (StoresWord of w) = of ≡ r
-IsCopying r (StoresCross of page) = of ≡ r
-IsCopying r (StoresForward of) = of ≡ r
-IsCopying r _ = ⊥
+abbrev pub IsBeingCopied : Reserved → EvacStage → Type 0
+IsBeingCopied r (StoresHeader of) = of ≡ r
+IsBeingCopied r (LoadsWord of i) = of ≡ r
+IsBeingCopied r (StoresWord of w) = of ≡ r
+IsBeingCopied r (StoresCross of page) = of ≡ r
+IsBeingCopied r (StoresForward of) = of ≡ r
+IsBeingCopied r _ = ⊥
 
 -- what holds of each way from a stage by a reply to the next stage
 pub record OfEachWay (l : Layout) (e : ℕ) (P : EvacStage → Reply → EvacStage → Type 0) : Type 0 where
@@ -79,7 +79,7 @@ pub record OfEachWay (l : Layout) (e : ℕ) (P : EvacStage → Reply → EvacSta
   pub tries_again : (kept : KeptHeader) (area : AreaWord) (w : ℕ) (other : AreaWord) → other.front ≡ area.front
       → P (Reserves kept area) (Lost w) (Reserves kept other)
   pub aims_again : (kept : KeptHeader) (area : AreaWord) (w : ℕ) (other : AreaWord) → P (Reserves kept area) (Lost w) (Announces kept other)
-  pub copies : (r : Reserved) (x : EvacStage) (reply : Reply) (z : EvacStage) → IsCopying r x → IsCopying r z → P x reply z
+  pub copies : (r : Reserved) (x : EvacStage) (reply : Reply) (z : EvacStage) → IsBeingCopied r x → IsBeingCopied r z → P x reply z
   pub forwards : (r : Reserved) → P (StoresForward r) Done (Clears r.to)
   pub clears : (to : ℕ) → P (Clears to) Done (Ended to)
 

@@ -11,16 +11,16 @@ use Rattle.forwarding.specs.declared.evac_stage.EvacStage.TheVariants.{LoadsHead
 use Rattle.forwarding.specs.Evacuation.{Evacuation, size_of}
 
 -- a longest record has 4096 words, and each takes at most three steps: two to be copied, one for a page that begins there
-abbrev pub longest : ℕ
-longest = 3 * 4096 + 1
+abbrev pub steps_of_longest : ℕ
+steps_of_longest = 3 * 4096 + 1
 
 -- at most so many steps are left, where no exchange is lost and nobody else copies the record
 abbrev pub left_at : EvacStage → ℕ
-left_at LoadsHeader = longest + 5
-left_at (TakesHeader kept) = longest + 4
-left_at (LoadsArea kept) = longest + 3
-left_at (Announces kept area) = longest + 2
-left_at (Reserves kept area) = longest + 1
+left_at LoadsHeader = steps_of_longest + 5
+left_at (TakesHeader kept) = steps_of_longest + 4
+left_at (LoadsArea kept) = steps_of_longest + 3
+left_at (Announces kept area) = steps_of_longest + 2
+left_at (Reserves kept area) = steps_of_longest + 1
 left_at (StoresHeader r) = 3 * size_of r.kept + 1
 left_at (LoadsWord r i) = 2 * (size_of r.kept - i) + size_of r.kept + 2
 left_at (StoresWord r w) = 2 * (size_of r.kept - w.number) + size_of r.kept + 1

@@ -13,7 +13,7 @@ use Rattle.forwarding.specs.declared.evac_stage.EvacStage.TheVariants.{LoadsHead
 use Rattle.forwarding.specs.Evacuation.{Evacuation, size_of}
 
 -- the word kept is a header of this length, of a record in one of the spaces
-pub record KeepsHeader (pages addr : ℕ) (kept : KeptHeader) : Type 0 where
+pub record IsKeptHeader (pages addr : ℕ) (kept : KeptHeader) : Type 0 where
   pub kind : Kind
   pub serial : ℕ
   pub mutator : ℕ
@@ -22,7 +22,7 @@ pub record KeepsHeader (pages addr : ℕ) (kept : KeptHeader) : Type 0 where
   pub inside : addr + size_of kept ≤ 128 * pages
 
 -- the area has room for a copy of this size, and that room is owed
-pub record HasRoom (pages size : ℕ) (area : AreaWord) : Type 0 where
+pub record AreaHoldsCopy (pages size : ℕ) (area : AreaWord) : Type 0 where
   pub fits : AreaFits area
   pub owed : size ≤ area.owed
   pub below_low : area.front + size ≤ area.low
@@ -30,15 +30,15 @@ pub record HasRoom (pages size : ℕ) (area : AreaWord) : Type 0 where
 
 -- the copy lies in one of the spaces
 pub record HasReserved (pages addr : ℕ) (r : Reserved) : Type 0 where
-  pub keeps : KeepsHeader pages addr r.kept
+  pub keeps : IsKeptHeader pages addr r.kept
   pub inside : r.to + size_of r.kept ≤ 128 * pages
 
 abbrev pub FitsStage : (pages addr : ℕ) → EvacStage → Type 0
 FitsStage n a LoadsHeader = ⊤
-FitsStage n a (TakesHeader kept) = KeepsHeader n a kept
-FitsStage n a (LoadsArea kept) = KeepsHeader n a kept
-FitsStage n a (Announces kept area) = KeepsHeader n a kept × HasRoom n (size_of kept) area
-FitsStage n a (Reserves kept area) = KeepsHeader n a kept × HasRoom n (size_of kept) area
+FitsStage n a (TakesHeader kept) = IsKeptHeader n a kept
+FitsStage n a (LoadsArea kept) = IsKeptHeader n a kept
+FitsStage n a (Announces kept area) = IsKeptHeader n a kept × AreaHoldsCopy n (size_of kept) area
+FitsStage n a (Reserves kept area) = IsKeptHeader n a kept × AreaHoldsCopy n (size_of kept) area
 FitsStage n a (StoresHeader r) = HasReserved n a r
 FitsStage n a (LoadsWord r i) = HasReserved n a r × (0 < i) × (i < size_of r.kept)
 FitsStage n a (StoresWord r w) = HasReserved n a r × (0 < w.number) × (w.number < size_of r.kept)

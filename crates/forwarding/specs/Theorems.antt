@@ -1,6 +1,6 @@
 -- What is proved of the copy of a record.
 use Rattle.std.specs.Prelude.{◌≡◌, false, ℕ, ◌+◌, ◌-◌, ◌*◌, ◌<◌, ◌≤◌, ◌⊎◌, ◌↔◌, List, Option, Some, slice_index, take}
-use Rattle.atom_store.specs.Machine.{ComesTo, after_replies}
+use Rattle.atom_store.specs.Machine.{RunsTo, after_replies}
 use Rattle.atom_store.specs.Runs.{alone, among}
 use Rattle.atom_store.specs.Step.{reply_of}
 use Rattle.atom_store.specs.declared.reply.Reply.{Reply}
@@ -107,14 +107,14 @@ after_replies_to n = wanted (after_replies evac_machine longest (take n longest_
 
 -- where it is replied to so, the machine wants these steps and comes to this address
 pub record IsWorkedOut : Type 0 where
-  pub copy : ComesTo evac_machine worked copy (record { 0 = 256 })
-  pub second : ComesTo evac_machine worked second (record { 0 = 256 })
-  pub taken_by_another : ComesTo evac_machine worked taken_by_another (record { 0 = 256 })
-  pub header_lost : ComesTo evac_machine worked header_lost (record { 0 = 256 })
-  pub low_moved : ComesTo evac_machine worked low_moved (record { 0 = 256 })
-  pub front_moved : ComesTo evac_machine worked front_moved (record { 0 = 261 })
-  pub over_two_pages : ComesTo evac_machine worked over_two_pages (record { 0 = 318 })
-  pub header_alone : ComesTo evac_machine worked header_alone (record { 0 = 256 })
+  pub copy : RunsTo evac_machine worked copy (record { 0 = 256 })
+  pub second : RunsTo evac_machine worked second (record { 0 = 256 })
+  pub taken_by_another : RunsTo evac_machine worked taken_by_another (record { 0 = 256 })
+  pub header_lost : RunsTo evac_machine worked header_lost (record { 0 = 256 })
+  pub low_moved : RunsTo evac_machine worked low_moved (record { 0 = 256 })
+  pub front_moved : RunsTo evac_machine worked front_moved (record { 0 = 261 })
+  pub over_two_pages : RunsTo evac_machine worked over_two_pages (record { 0 = 318 })
+  pub header_alone : RunsTo evac_machine worked header_alone (record { 0 = 256 })
   pub reserves_longest : after_replies_to 4 ≡ Some (Exchange 5 0x0001_0000_4000_0000 0x0000_0000_4000_1000)
   pub crosses_first : after_replies_to (6 + 2 * 4095) ≡ Some (Store (17 + 128 + 64) 4096)
   pub crosses_last : after_replies_to (6 + 2 * 4095 + 63) ≡ Some (Store (17 + 128 + 127) 4096)

@@ -9,7 +9,7 @@ ghost use Rattle.space_map.specs.Table.{table_length};
 ghost use Rattle.forwarding.specs.Evacuation.{IsGoing, area_past, begun, front_of, size_of, wanted};
 ghost use Rattle.forwarding.specs.Keeping.{address_reserved, header_kept, kept_word, reserved_word};
 ghost use Rattle.forwarding.specs.Left.{advances, left};
-ghost use Rattle.forwarding.specs.Soundness.{IsSound, HasReserved, HasRoom};
+ghost use Rattle.forwarding.specs.Soundness.{IsSound, HasReserved, AreaHoldsCopy};
 ghost use Rattle.forwarding.specs.Taken.{by_area, by_first_word, by_other_area, copied, crossed, first_page, reserved_at, stage_after, taken, told};
 
 use crate::evac_stage::EvacStage;
@@ -260,7 +260,7 @@ impl Evac {
     }
 
     fn has_reserved(&mut self, kept: KeptHeader, area: AreaWord) -> Turn<To>
-        requires room { HasRoom self.old.layout.pages (size_of kept) area }
+        requires room { AreaHoldsCopy self.old.layout.pages (size_of kept) area }
         requires sound { IsSound (record self.old { stage = EvacStage.StoresHeader (reserved_at self.old.layout self.old.epoch kept area) }) }
         ensures state { self.new ≡ record self.old { stage = EvacStage.StoresHeader (reserved_at self.old.layout self.old.epoch kept area) } }
         ensures told { result ≡ Turn.More }
@@ -303,7 +303,7 @@ impl Evac {
 
 /// The address of FRONT.
 fn front(spaces: Spaces, epoch: u32, kept: KeptHeader, area: AreaWord) -> u32
-    requires { HasRoom spaces.pages (size_of kept) area }
+    requires { AreaHoldsCopy spaces.pages (size_of kept) area }
     ensures front { result ≡ front_of spaces epoch area }
     ensures in_range { result < 2 ^ 20 }
 {

@@ -6,7 +6,7 @@ use Rattle.atom_store.specs.declared.reply.Reply.TheVariants as reply
 use Rattle.atom_store.specs.declared.step.Step.TheVariants.{Store, Exchange}
 use Rattle.atom_store.specs.declared.turn.Turn.{Turn}
 use Rattle.atom_store.specs.declared.turn.Turn.TheVariants.{Finished}
-use Rattle.atom_store.specs.Acts.{Acts}
+use Rattle.atom_store.specs.Acts.{MakesStep}
 use Rattle.atom_store.specs.Runs.{after_step}
 use Rattle.atom_store.specs.Step.{reply_of, words_after}
 use Rattle.atom_store.proofs.Acting.{no_step}
@@ -121,7 +121,7 @@ ended_stands f reset words true found = tt
 ended_stands f reset words false found = tt
 
 pub keeps : (f : Flipping) (stage : FlipStage) (before after : List ℕ) (turn : Turn Flipped) → IsSoundFlipping (at f stage) → HoldsTable f.layout.pages before
-    → StandsAt f stage before → Acts flip_machine (at f stage) before after turn
+    → StandsAt f stage before → MakesStep flip_machine (at f stage) before after turn
     → StandsAt f (after_step flip_machine (at f stage) (wanted (at f stage)) before).stage after
 keeps f LoadsGate before after turn sound whole stands acts =
     subst (λ ws. StandsAt f (looked (gate_of f before) (decode_gate (gate_of f before))) ws) (sym acts.makes) (gate_stands f before (gate_of f before) (decode_gate (gate_of f before)) refl)
@@ -160,7 +160,7 @@ exchange_never_hindered f reset (reply.Value value) word tells = cc
 exchange_never_hindered f reset reply.Done word tells = cc
 
 pub flips : (f : Flipping) (stage : FlipStage) (before after : List ℕ) (asked : ℕ) → IsSoundFlipping (at f stage) → HoldsTable f.layout.pages before
-    → StandsAt f stage before → Acts flip_machine (at f stage) before after (Finished (Went asked)) → FlipsHeap f before after × (asked ≡ f.asked)
+    → StandsAt f stage before → MakesStep flip_machine (at f stage) before after (Finished (Went asked)) → FlipsHeap f before after × (asked ≡ f.asked)
 flips f LoadsGate before after asked sound whole stands acts = absurd (never_went_at_gate (gate_of f before) asked (decode_gate (gate_of f before)) acts.tells)
 flips f (LoadsArea g) before after asked sound whole stands acts = absurd (never_ends_at_area f.layout.pages g (decode_area (area_of f f.epoch before)) (Went asked) acts.tells)
 flips f (StoresArea reset) before after asked sound whole stands acts = absurd (never acts.tells)
@@ -208,7 +208,7 @@ hinders loaded word (Some g) tells = by_test (is_still g) refl tells
 hinders loaded word None tells = cc
 
 pub hindered : (f : Flipping) (stage : FlipStage) (before after : List ℕ) (word : ℕ)
-    → Acts flip_machine (at f stage) before after (Finished (NotYet word)) → ForbidsFlip f before after word
+    → MakesStep flip_machine (at f stage) before after (Finished (NotYet word)) → ForbidsFlip f before after word
 hindered f LoadsGate before after word acts =
     let found = hinders (gate_of f before) word (decode_gate (gate_of f before)) acts.tells in
     record {

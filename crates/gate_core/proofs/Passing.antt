@@ -6,7 +6,7 @@ use Rattle.atom_store.specs.declared.reply.Reply.{Reply}
 use Rattle.atom_store.specs.declared.reply.Reply.TheVariants as reply
 use Rattle.atom_store.specs.declared.step.Step.TheVariants.{Exchange}
 use Rattle.atom_store.specs.declared.turn.Turn.TheVariants.{Finished}
-use Rattle.atom_store.specs.Acts.{Acts}
+use Rattle.atom_store.specs.Acts.{MakesStep}
 use Rattle.atom_store.specs.Step.{reply_of}
 use Rattle.atom_store.proofs.Acting.{no_step}
 use Rattle.atom_store.proofs.Steps.{slice_index-words_after, slice_index-won, won_exactly}
@@ -173,7 +173,7 @@ exchange_never_hindered passage g reply.Done word tells = cc
 -- ---- all
 
 pub passes : (p : Passing) (stage : GateStage) (before after : List ℕ) (word : ℕ) → IsSoundPassing (at p stage) → HoldsTable p.layout.pages before
-    → Acts gate_machine (at p stage) before after (Finished (Went word)) → PassesGate p before after word
+    → MakesStep gate_machine (at p stage) before after (Finished (Went word)) → PassesGate p before after word
 passes p Loads before after word sound whole acts =
     let loaded : ℕ = row_word p.layout.pages row.Gate before in
     let found = looks p.passage loaded word (decode_gate loaded) acts.tells in
@@ -204,7 +204,7 @@ passes p (Exchanges g) before after word sound whole acts =
 passes p (Ended result) before after word sound whole acts = absurd (no_step acts.has_step)
 
 pub hindered : (p : Passing) (stage : GateStage) (before after : List ℕ) (word : ℕ)
-    → Acts gate_machine (at p stage) before after (Finished (NotYet word)) → ForbidsPassage p before after word
+    → MakesStep gate_machine (at p stage) before after (Finished (NotYet word)) → ForbidsPassage p before after word
 hindered p Loads before after word acts =
     let loaded : ℕ = row_word p.layout.pages row.Gate before in
     let found = hinders p.passage loaded word (decode_gate loaded) acts.tells in

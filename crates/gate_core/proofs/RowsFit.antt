@@ -1,6 +1,6 @@
 -- A passage and a flip that go on want a step on a row of the table, and a passage writes the gate alone.
 use Rattle.std.proofs.Common.{arith}
-use Rattle.atom_store.specs.StepOn.{IsOn, Writes}
+use Rattle.atom_store.specs.StepOn.{IsOn, WritesOnly}
 use Rattle.space_map.specs.Table.{Row, Gate, IsRow}
 use Rattle.gate_core.specs.declared.flip_stage.FlipStage.{FlipStage}
 use Rattle.gate_core.specs.declared.flip_stage.FlipStage.TheVariants as flip_stage
@@ -16,7 +16,7 @@ pub passage_rows_fit : (p : Passing) (stage : GateStage) → IsPassingGoing stag
 passage_rows_fit p (gate_stage.Ended result) going = going
 passage_rows_fit p stage going = tt
 
-pub passage_writes : (Q : Row → Type 0) → Q Gate → (p : Passing) (stage : GateStage) → Writes Q (gate.wants_at p stage)
+pub passage_writes : (Q : Row → Type 0) → Q Gate → (p : Passing) (stage : GateStage) → WritesOnly Q (gate.wants_at p stage)
 passage_writes Q gate p (gate_stage.Exchanges read) = gate
 passage_writes Q gate p stage = tt
 

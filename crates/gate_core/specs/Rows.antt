@@ -4,7 +4,7 @@ use Rattle.atom_store.specs.declared.step.Step.{Step}
 use Rattle.atom_store.specs.declared.step.Step.TheVariants.{Load, Store, Exchange}
 use Rattle.atom_store.specs.declared.reply.Reply.{Reply}
 use Rattle.atom_store.specs.declared.reply.Reply.TheVariants.{Value, Done, Won, Lost}
-use Rattle.atom_store.specs.Machine.{ComesTo}
+use Rattle.atom_store.specs.Machine.{RunsTo}
 use Rattle.space_map.specs.Worked.{four_pages}
 use Rattle.gate_core.specs.declared.passage.Passage.{Passage}
 use Rattle.gate_core.specs.declared.passage.Passage.TheVariants.{Look, Attach, Park, Request, Resume, Forwarded, Leave}
@@ -16,83 +16,83 @@ use Rattle.gate_core.specs.Gate.{begun, gate_machine}
 use Rattle.gate_core.specs.Flip as flip
 
 -- a passage of the gate makes these steps, and comes to this
-abbrev pub Passes : Passage → List (Step × Reply) → Passed → Type 0
-Passes passage rows result = ComesTo gate_machine (begun four_pages passage) rows result
+abbrev pub GateRunsTo : Passage → List (Step × Reply) → Passed → Type 0
+GateRunsTo passage rows result = RunsTo gate_machine (begun four_pages passage) rows result
 
 -- the flip out of epoch 0 for one page does
-abbrev pub Flips : List (Step × Reply) → Flipped → Type 0
-Flips rows result = ComesTo flip.flip_machine (flip.begun four_pages 0 1) rows result
+abbrev pub FlipRunsTo : List (Step × Reply) → Flipped → Type 0
+FlipRunsTo rows result = RunsTo flip.flip_machine (flip.begun four_pages 0 1) rows result
 
 -- the first mutator attaches to an empty heap
 abbrev pub Attaches : Type 0
 Attaches =
-    Passes Attach ((Load 0, Value 0) ∷ (Exchange 0 0 0x0000_0101_0000_0000, Won) ∷ []) (passed.Went 0x0000_0101_0000_0000)
+    GateRunsTo Attach ((Load 0, Value 0) ∷ (Exchange 0 0 0x0000_0101_0000_0000, Won) ∷ []) (passed.Went 0x0000_0101_0000_0000)
 
 -- it requests a flip, and stops
 abbrev pub Requests : Type 0
 Requests =
-    Passes Request ((Load 0, Value 0x0000_0101_0000_0000) ∷ (Exchange 0 0x0000_0101_0000_0000 0x0100_0001_0000_0000, Won) ∷ []) (passed.Went 0x0100_0001_0000_0000)
+    GateRunsTo Request ((Load 0, Value 0x0000_0101_0000_0000) ∷ (Exchange 0 0x0000_0101_0000_0000 0x0100_0001_0000_0000, Won) ∷ []) (passed.Went 0x0100_0001_0000_0000)
 
 -- it flips: one page is in use, so the other space begins with 64 words owed
 abbrev pub FlipsSpaces : Type 0
 FlipsSpaces =
-    Flips ((Load 0, Value 0x0100_0001_0000_0000) ∷ (Load 4, Value 0x0000_0000_0300_0000) ∷ (Store 5 0x0000_0400_0400_0000, Done) ∷ (Exchange 0 0x0100_0001_0000_0000 0x0001_0001_0000_0001, Won) ∷ []) (flipped.Went 1)
+    FlipRunsTo ((Load 0, Value 0x0100_0001_0000_0000) ∷ (Load 4, Value 0x0000_0000_0300_0000) ∷ (Store 5 0x0000_0400_0400_0000, Done) ∷ (Exchange 0 0x0100_0001_0000_0000 0x0001_0001_0000_0001, Won) ∷ []) (flipped.Went 1)
 
 -- it has forwarded its registers
 abbrev pub TellsForwarded : Type 0
 TellsForwarded =
-    Passes Forwarded ((Load 0, Value 0x0001_0001_0000_0001) ∷ (Exchange 0 0x0001_0001_0000_0001 0x0000_0001_0000_0001, Won) ∷ []) (passed.Went 0x0000_0001_0000_0001)
+    GateRunsTo Forwarded ((Load 0, Value 0x0001_0001_0000_0001) ∷ (Exchange 0 0x0001_0001_0000_0001 0x0000_0001_0000_0001, Won) ∷ []) (passed.Went 0x0000_0001_0000_0001)
 
 -- it runs on
 abbrev pub Resumes : Type 0
 Resumes =
-    Passes (Resume 1) ((Load 0, Value 0x0000_0001_0000_0001) ∷ (Exchange 0 0x0000_0001_0000_0001 0x0000_0101_0000_0001, Won) ∷ []) (passed.Went 0x0000_0101_0000_0001)
+    GateRunsTo (Resume 1) ((Load 0, Value 0x0000_0001_0000_0001) ∷ (Exchange 0 0x0000_0001_0000_0001 0x0000_0101_0000_0001, Won) ∷ []) (passed.Went 0x0000_0101_0000_0001)
 
 -- it leaves
 abbrev pub Leaves : Type 0
 Leaves =
-    Passes Leave ((Load 0, Value 0x0000_0101_0000_0001) ∷ (Exchange 0 0x0000_0101_0000_0001 0x0200_0000_0000_0001, Won) ∷ []) (passed.Went 0x0200_0000_0000_0001)
+    GateRunsTo Leave ((Load 0, Value 0x0000_0101_0000_0001) ∷ (Exchange 0 0x0000_0101_0000_0001 0x0200_0000_0000_0001, Won) ∷ []) (passed.Went 0x0200_0000_0000_0001)
 
 -- of two mutators the other one stops when it sees the request
 abbrev pub Parks : Type 0
 Parks =
-    Passes Park ((Load 0, Value 0x0100_0102_0000_0000) ∷ (Exchange 0 0x0100_0102_0000_0000 0x0100_0002_0000_0000, Won) ∷ []) (passed.Went 0x0100_0002_0000_0000)
+    GateRunsTo Park ((Load 0, Value 0x0100_0102_0000_0000) ∷ (Exchange 0 0x0100_0102_0000_0000 0x0100_0002_0000_0000, Won) ∷ []) (passed.Went 0x0100_0002_0000_0000)
 
 -- where the exchange is lost to another mutator, the gate is loaded again
 abbrev pub ExchangeIsTriedAgain : Type 0
 ExchangeIsTriedAgain =
-    Passes Park ((Load 0, Value 0x0100_0203_0000_0000) ∷ (Exchange 0 0x0100_0203_0000_0000 0x0100_0103_0000_0000, Lost 0x0100_0103_0000_0000) ∷ (Load 0, Value 0x0100_0103_0000_0000) ∷ (Exchange 0 0x0100_0103_0000_0000 0x0100_0003_0000_0000, Won) ∷ []) (passed.Went 0x0100_0003_0000_0000)
+    GateRunsTo Park ((Load 0, Value 0x0100_0203_0000_0000) ∷ (Exchange 0 0x0100_0203_0000_0000 0x0100_0103_0000_0000, Lost 0x0100_0103_0000_0000) ∷ (Load 0, Value 0x0100_0103_0000_0000) ∷ (Exchange 0 0x0100_0103_0000_0000 0x0100_0003_0000_0000, Won) ∷ []) (passed.Went 0x0100_0003_0000_0000)
 
 -- a running mutator goes on, if no flip is requested
 abbrev pub Looks : Type 0
-Looks = Passes Look ((Load 0, Value 0x0000_0202_0000_0000) ∷ []) (passed.Went 0x0000_0202_0000_0000)
+Looks = GateRunsTo Look ((Load 0, Value 0x0000_0202_0000_0000) ∷ []) (passed.Went 0x0000_0202_0000_0000)
 
 -- nobody goes on, attaches, resumes or requests while a flip is requested
 abbrev pub RequestHinders : Type 0
 RequestHinders =
-    (Passes Look ((Load 0, Value 0x0100_0102_0000_0000) ∷ []) (passed.NotYet 0x0100_0102_0000_0000)) × (Passes Attach ((Load 0, Value 0x0100_0102_0000_0000) ∷ []) (passed.NotYet 0x0100_0102_0000_0000)) × (Passes Request ((Load 0, Value 0x0100_0102_0000_0000) ∷ []) (passed.NotYet 0x0100_0102_0000_0000)) × (Passes (Resume 0) ((Load 0, Value 0x0100_0102_0000_0000) ∷ []) (passed.NotYet 0x0100_0102_0000_0000))
+    (GateRunsTo Look ((Load 0, Value 0x0100_0102_0000_0000) ∷ []) (passed.NotYet 0x0100_0102_0000_0000)) × (GateRunsTo Attach ((Load 0, Value 0x0100_0102_0000_0000) ∷ []) (passed.NotYet 0x0100_0102_0000_0000)) × (GateRunsTo Request ((Load 0, Value 0x0100_0102_0000_0000) ∷ []) (passed.NotYet 0x0100_0102_0000_0000)) × (GateRunsTo (Resume 0) ((Load 0, Value 0x0100_0102_0000_0000) ∷ []) (passed.NotYet 0x0100_0102_0000_0000))
 
 -- nobody attaches or resumes while a mutator is behind
 abbrev pub BehindHinders : Type 0
 BehindHinders =
-    (Passes Attach ((Load 0, Value 0x0002_0002_0000_0001) ∷ []) (passed.NotYet 0x0002_0002_0000_0001)) × (Passes (Resume 1) ((Load 0, Value 0x0002_0002_0000_0001) ∷ []) (passed.NotYet 0x0002_0002_0000_0001))
+    (GateRunsTo Attach ((Load 0, Value 0x0002_0002_0000_0001) ∷ []) (passed.NotYet 0x0002_0002_0000_0001)) × (GateRunsTo (Resume 1) ((Load 0, Value 0x0002_0002_0000_0001) ∷ []) (passed.NotYet 0x0002_0002_0000_0001))
 
 -- nobody parks without a request
 abbrev pub NoRequestHinders : Type 0
 NoRequestHinders =
-    Passes Park ((Load 0, Value 0x0000_0202_0000_0000) ∷ []) (passed.NotYet 0x0000_0202_0000_0000)
+    GateRunsTo Park ((Load 0, Value 0x0000_0202_0000_0000) ∷ []) (passed.NotYet 0x0000_0202_0000_0000)
 
 -- nobody resumes in an epoch that is past
 abbrev pub LaterEpochHinders : Type 0
 LaterEpochHinders =
-    Passes (Resume 0) ((Load 0, Value 0x0000_0001_0000_0001) ∷ []) (passed.NotYet 0x0000_0001_0000_0001)
+    GateRunsTo (Resume 0) ((Load 0, Value 0x0000_0001_0000_0001) ∷ []) (passed.NotYet 0x0000_0001_0000_0001)
 
 -- nobody flips while a mutator runs
 abbrev pub RunningHindersFlip : Type 0
 RunningHindersFlip =
-    Flips ((Load 0, Value 0x0100_0102_0000_0000) ∷ []) (flipped.NotYet 0x0100_0102_0000_0000)
+    FlipRunsTo ((Load 0, Value 0x0100_0102_0000_0000) ∷ []) (flipped.NotYet 0x0100_0102_0000_0000)
 
 -- a flip whose exchange were lost would begin again
 abbrev pub LostFlipBeginsAgain : Type 0
 LostFlipBeginsAgain =
-    Flips ((Load 0, Value 0x0100_0002_0000_0000) ∷ (Load 4, Value 0x0000_0000_0300_0000) ∷ (Store 5 0x0000_0400_0400_0000, Done) ∷ (Exchange 0 0x0100_0002_0000_0000 0x0002_0002_0000_0001, Lost 0x0100_0102_0000_0000) ∷ (Load 0, Value 0x0100_0102_0000_0000) ∷ []) (flipped.NotYet 0x0100_0102_0000_0000)
+    FlipRunsTo ((Load 0, Value 0x0100_0002_0000_0000) ∷ (Load 4, Value 0x0000_0000_0300_0000) ∷ (Store 5 0x0000_0400_0400_0000, Done) ∷ (Exchange 0 0x0100_0002_0000_0000 0x0002_0002_0000_0001, Lost 0x0100_0102_0000_0000) ∷ (Load 0, Value 0x0100_0102_0000_0000) ∷ []) (flipped.NotYet 0x0100_0102_0000_0000)

@@ -14,20 +14,20 @@ use Rattle.gate_core.specs.Gate.{Passing, allows}
 use Rattle.gate_core.specs.Flip.{Flipping, is_still}
 
 -- the gate counts those whom the passage takes away, and has room for those whom it brings
-abbrev pub Counts : Passage → GateWord → Type 0
-Counts Look gate = ⊤
-Counts Attach gate = (gate.live + 1 < 2 ^ 8) × (gate.running + 1 < 2 ^ 8)
-Counts Park gate = 0 < gate.running
-Counts Request gate = 0 < gate.running
-Counts (Resume epoch) gate = gate.running + 1 < 2 ^ 8
-Counts Forwarded gate = 0 < gate.behind
-Counts Leave gate = (0 < gate.live) × (0 < gate.running) × (gate.left + 1 < 2 ^ 5)
+abbrev pub CountsAllow : Passage → GateWord → Type 0
+CountsAllow Look gate = ⊤
+CountsAllow Attach gate = (gate.live + 1 < 2 ^ 8) × (gate.running + 1 < 2 ^ 8)
+CountsAllow Park gate = 0 < gate.running
+CountsAllow Request gate = 0 < gate.running
+CountsAllow (Resume epoch) gate = gate.running + 1 < 2 ^ 8
+CountsAllow Forwarded gate = 0 < gate.behind
+CountsAllow Leave gate = (0 < gate.live) × (0 < gate.running) × (gate.left + 1 < 2 ^ 5)
 
 -- a gate from which the passage may be made
 pub record MayPass (passage : Passage) (gate : GateWord) : Type 0 where
   pub fits : GateFits gate
   pub allowed : allows passage gate ≡ true
-  pub counts : Counts passage gate
+  pub counts : CountsAllow passage gate
 
 abbrev pub FitsGateStage : Passage → GateStage → Type 0
 FitsGateStage passage gate_stage.Loads = ⊤

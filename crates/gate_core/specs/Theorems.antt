@@ -2,7 +2,7 @@
 use Rattle.std.specs.Prelude.{◌≡◌, ◌≢◌, ℕ, ◌+◌, ◌⊎◌, true, false, ⊤, List, Some}
 use Rattle.atom_store.specs.declared.turn.Turn.{Turn}
 use Rattle.atom_store.specs.declared.turn.Turn.TheVariants.{Finished}
-use Rattle.atom_store.specs.Acts.{Acts, stepped}
+use Rattle.atom_store.specs.Acts.{MakesStep, after_next_step}
 use Rattle.space_map.specs.declared.area_word.AreaWord.{AreaWord}
 use Rattle.space_map.specs.declared.gate_word.GateWord.{GateWord}
 use Rattle.space_map.specs.AreaWord.{decode_area}
@@ -55,7 +55,7 @@ pub record PassesGate (p : Passing) (before after : List ℕ) (word : ℕ) : Typ
 
 abbrev pub PassagesAreMade : Type 0
 PassagesAreMade = (p : Passing) (before after : List ℕ) (word : ℕ) → IsSoundPassing p → HoldsTable p.layout.pages before
-    → Acts gate_machine p before after (Finished (passed.Went word)) → PassesGate p before after word
+    → MakesStep gate_machine p before after (Finished (passed.Went word)) → PassesGate p before after word
 
 -- the gate's word, which is told, forbids the passage; no word changes
 pub record ForbidsPassage (p : Passing) (before after : List ℕ) (word : ℕ) : Type 0 where
@@ -67,7 +67,7 @@ pub record ForbidsPassage (p : Passing) (before after : List ℕ) (word : ℕ) :
 
 abbrev pub HinderedPassagesShowIt : Type 0
 HinderedPassagesShowIt = (p : Passing) (before after : List ℕ) (word : ℕ)
-    → Acts gate_machine p before after (Finished (passed.NotYet word)) → ForbidsPassage p before after word
+    → MakesStep gate_machine p before after (Finished (passed.NotYet word)) → ForbidsPassage p before after word
 
 -- ---- the flip
 
@@ -93,8 +93,8 @@ StandsAt f (Ended result) words = ⊤
 -- while mutators are stopped and none is behind, nobody else changes these words; and the flip's own steps keep it
 abbrev pub FlipsKeepWhatTheyRead : Type 0
 FlipsKeepWhatTheyRead = (f : Flipping) (before after : List ℕ) (turn : Turn Flipped) → IsSoundFlipping f → HoldsTable f.layout.pages before
-    → StandsAt f f.stage before → Acts flip_machine f before after turn
-    → StandsAt f (stepped flip_machine f before).stage after
+    → StandsAt f f.stage before → MakesStep flip_machine f before after turn
+    → StandsAt f (after_next_step flip_machine f before).stage after
 
 -- Nobody ran and nobody was behind; then the epoch is the next one, all that are live are behind, and no flip is requested any
 -- more. The other space is empty, and owes as many words as are in use in the one that was copied into until now.
@@ -111,7 +111,7 @@ pub record FlipsHeap (f : Flipping) (before after : List ℕ) : Type 0 where
 
 abbrev pub FlipsAreMade : Type 0
 FlipsAreMade = (f : Flipping) (before after : List ℕ) (asked : ℕ) → IsSoundFlipping f → HoldsTable f.layout.pages before
-    → StandsAt f f.stage before → Acts flip_machine f before after (Finished (flipped.Went asked))
+    → StandsAt f f.stage before → MakesStep flip_machine f before after (Finished (flipped.Went asked))
     → FlipsHeap f before after × (asked ≡ f.asked)
 
 -- the gate's word, which is told, says that a mutator runs or is behind; no word changes
@@ -124,4 +124,4 @@ pub record ForbidsFlip (f : Flipping) (before after : List ℕ) (word : ℕ) : T
 
 abbrev pub HinderedFlipsShowIt : Type 0
 HinderedFlipsShowIt = (f : Flipping) (before after : List ℕ) (word : ℕ)
-    → Acts flip_machine f before after (Finished (flipped.NotYet word)) → ForbidsFlip f before after word
+    → MakesStep flip_machine f before after (Finished (flipped.NotYet word)) → ForbidsFlip f before after word

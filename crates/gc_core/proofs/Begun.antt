@@ -17,14 +17,14 @@ use Rattle.heap_laws.proofs.Opening.Heap.{entries_fit}
 use Rattle.gc_worker.specs.Between.{HeapsOpen, fresh_worker, fresh_workers, fresh_mutator, fresh_scanner}
 use Rattle.gc_worker.specs.Held.{Held}
 use Rattle.gc_worker.specs.Law.{WorkersStand, held_at, read}
-use Rattle.gc_worker.specs.Turned.{epoch_in as epoch_in_gate}
+use Rattle.gc_worker.specs.Turned.{epoch_in_gate}
 use Rattle.gc_worker.proofs.Gate.Words.{gate_says}
 use Rattle.gc_worker.proofs.Between.Last.{scanners_begin_last}
 use Rattle.gc_worker.proofs.Between.Opening.{is_there}
 use Rattle.gc_worker.specs.declared.config.Config.{Config}
 use Rattle.gc_worker.proofs.Outcomes.{opens_so}
 use Rattle.gc_core.specs.Core.{opening_core, is_size}
-use Rattle.gc_worker.specs.Claims.{epoch_in}
+use Rattle.gc_worker.specs.Claims.{epoch_of_heap}
 use Rattle.gc_core.specs.Law.{IsLawful, IsSteady}
 
 pub size_fits : (pages : ℕ) → IsTrue (is_size pages) → IsPageCount pages
@@ -71,7 +71,7 @@ module _ (opens : HeapsOpen) (code : List (List Instr)) (items : List Item) (con
   opening_lawful = record { steady = opening_steady; plain = order.opening code; flip = order.opening code; stands = opening_stands }
 
   -- it begins in the first epoch
-  pub opening_epoch : epoch_in (opening_core code config).heap ≡ 0
+  pub opening_epoch : epoch_of_heap (opening_core code config).heap ≡ 0
   opening_epoch =
       let fit : IsPageCount config.pages = size_fits config.pages size in
       let c = read (opening_core code config).heap in

@@ -13,9 +13,9 @@ use Rattle.gc_worker.specs.Wanted.{wanted}
 use Rattle.gc_core.specs.Claims.{AreApart, won_of, wins_from, PagesAreWonOnce}
 use Rattle.gc_core.specs.Core.{CoreState}
 use Rattle.gc_core.specs.Event.{core_after, event_of, readied, ready}
-use Rattle.gc_core.specs.Law.{EventsKeep, IsSteady, Keeps, story_by}
+use Rattle.gc_core.specs.Law.{EventsKeep, IsSteady, KeepsStory, story_by}
 use Rattle.gc_core.specs.Run.{all_ended}
-use Rattle.gc_core.proofs.Readied.{Ready, readied_stands}
+use Rattle.gc_core.proofs.Readied.{ReadyToStep, readied_stands}
 
 -- ---- an event
 
@@ -30,7 +30,7 @@ unfolding event_of
 idle_wins s w none = record { pages = rw none refl; kept = rw none (λ v out. out); wins = rw none tt }
 
 module _ (law : StepsKeep) (readies : ReadyingStands) (tasks : TasksMayBegin) where
-  step_wins : (s : CoreState) (w : ℕ) (story : Story) (r : Ready s w story.now story.flip) (q : Step) → wanted (ready s w) ≡ Some q → Wins s w
+  step_wins : (s : CoreState) (w : ℕ) (story : Story) (r : ReadyToStep s w story.now story.flip) (q : Step) → wanted (ready s w) ≡ Some q → Wins s w
   unfolding event_of
   step_wins s w story r q asked =
       let keeps = law r.heap story.now story.flip w (ready s w) q r.stands r.below r.holds asked in
@@ -40,7 +40,7 @@ module _ (law : StepsKeep) (readies : ReadyingStands) (tasks : TasksMayBegin) wh
         wins = rw asked (rw (r.words, r.pages) at keeps.wins);
       }
 
-  by_step : (s : CoreState) (w : ℕ) (story : Story) (r : Ready s w story.now story.flip) (o : Option Step) → wanted (ready s w) ≡ o → Wins s w
+  by_step : (s : CoreState) (w : ℕ) (story : Story) (r : ReadyToStep s w story.now story.flip) (o : Option Step) → wanted (ready s w) ≡ o → Wins s w
   by_step s w story r None is = idle_wins s w is
   by_step s w story r (Some q) is = step_wins s w story r q is
 
@@ -69,7 +69,7 @@ module _ (law : StepsKeep) (readies : ReadyingStands) (tasks : TasksMayBegin) wh
     abbrev later : Heap
     later = (core_after s w).heap
 
-    keeps : Keeps s w story
+    keeps : KeepsStory s w story
     keeps = events s w story steady stands
 
     abbrev after : Story

@@ -14,7 +14,7 @@ use Rattle.space_map.specs.declared.page_word.PageWord.TheVariants.{Unset}
 use Rattle.space_map.specs.PageWord.{age_of}
 use Rattle.space_map.specs.Spaces.{board_page}
 use Rattle.gc_worker.specs.Between.{ReadyingStands, TasksMayBegin}
-use Rattle.gc_worker.specs.Claims.{CopiedPagesAreBelowLow, FlipsAreOfTraced, IsCopiedPage, IsOfEpoch, PagesAreOpenedByClaims, TracedPagesAreOpen, epoch_in}
+use Rattle.gc_worker.specs.Claims.{CopiedPagesAreBelowLow, FlipsAreOfTraced, IsCopiedPage, IsOfEpoch, PagesAreOpenedByClaims, TracedPagesAreOpen, epoch_of_heap}
 use Rattle.gc_worker.specs.Copied.{IsTraced}
 use Rattle.gc_worker.specs.Held.{Held}
 use Rattle.gc_worker.specs.Law.{Heap, WorkersStand, nobody}
@@ -28,7 +28,7 @@ use Rattle.gc_core.specs.Core.{CoreState}
 use Rattle.gc_core.specs.Event.{core_after, event_of, event_by, readied, ready}
 use Rattle.gc_core.specs.Law.{EventsKeep, IsSteady, story_by}
 use Rattle.gc_core.specs.Run.{Ran, after_event, all_ended, run_from}
-use Rattle.gc_core.proofs.Readied.{Ready, readied_stands}
+use Rattle.gc_core.proofs.Readied.{ReadyToStep, readied_stands}
 
 -- a page of the gate's epoch, of the core's heap
 abbrev IsOf : CoreState → (page : ℕ) → Type 0
@@ -40,20 +40,20 @@ IsOf s page = IsOfEpoch s.heap.pages s.heap.words page
 abbrev Comes : CoreState → (w page : ℕ) → Type 0
 Comes s w page =
     IsOf (core_after s w) page
-    → ((epoch_in (core_after s w).heap ≡ epoch_in s.heap) × IsOf s page) ⊎ (won_of s w ≡ Some (record { page = page; epoch = epoch_in (core_after s w).heap }))
+    → ((epoch_of_heap (core_after s w).heap ≡ epoch_of_heap s.heap) × IsOf s page) ⊎ (won_of s w ≡ Some (record { page = page; epoch = epoch_of_heap (core_after s w).heap }))
 
 idle_comes : (s : CoreState) (w page : ℕ) → wanted (ready s w) ≡ None → Comes s w page
 unfolding event_of
 idle_comes s w page none = rw none (λ is. inl (refl, is))
 
 module _ (opens : PagesAreOpenedByClaims) (readies : ReadyingStands) (tasks : TasksMayBegin) where
-  step_comes : (s : CoreState) (w : ℕ) (story : Story) (r : Ready s w story.now story.flip) (page : ℕ) (q : Step) → wanted (ready s w) ≡ Some q → Comes s w page
+  step_comes : (s : CoreState) (w : ℕ) (story : Story) (r : ReadyToStep s w story.now story.flip) (page : ℕ) (q : Step) → wanted (ready s w) ≡ Some q → Comes s w page
   unfolding event_of
   step_comes s w story r page q asked =
       let comes = opens r.heap story.now story.flip w (ready s w) q page r.stands r.below r.holds asked in
       rw asked (rw (r.words, r.pages) at comes)
 
-  by_step : (s : CoreState) (w : ℕ) (story : Story) (r : Ready s w story.now story.flip) (page : ℕ) (o : Option Step) → wanted (ready s w) ≡ o → Comes s w page
+  by_step : (s : CoreState) (w : ℕ) (story : Story) (r : ReadyToStep s w story.now story.flip) (page : ℕ) (o : Option Step) → wanted (ready s w) ≡ o → Comes s w page
   by_step s w story r page None is = idle_comes s w page is
   by_step s w story r page (Some q) is = step_comes s w story r page q is
 
@@ -79,16 +79,16 @@ module _ (opens : PagesAreOpenedByClaims) (readies : ReadyingStands) (tasks : Ta
 
   -- what is of the last core's epoch was of the first one's, in the same epoch, or was won
   abbrev Came : CoreState → CoreState → List PageWon → (page : ℕ) → Type 0
-  Came s last wins page = ((epoch_in last.heap ≡ epoch_in s.heap) × IsOf s page) ⊎ StandsIn wins (record { page = page; epoch = epoch_in last.heap })
+  Came s last wins page = ((epoch_of_heap last.heap ≡ epoch_of_heap s.heap) × IsOf s page) ⊎ StandsIn wins (record { page = page; epoch = epoch_of_heap last.heap })
 
   module _ (events : EventsKeep) where
     came_by : (s : CoreState) (w : ℕ) (story : Story) → IsSteady s → WorkersStand s.heap story.now story.flip → (last : CoreState) (rest : List PageWon) (page : ℕ)
         → Came (core_after s w) last rest page → Came s last (option_to_list (won_of s w) ++ rest) page
     came_by s w story steady stands last rest page (inr there) = inr (later_stands (won_of s w) rest _ there)
     came_by s w story steady stands last rest page (inl (same, is)) = ⊎_elim
-        (λ (was : (epoch_in (core_after s w).heap ≡ epoch_in s.heap) × IsOf s page). inl (same ∙ was.0, was.1))
-        (λ (won : won_of s w ≡ Some (record { page = page; epoch = epoch_in (core_after s w).heap })).
-        inr (now_stands (won_of s w) rest (record { page = page; epoch = epoch_in last.heap }) (won ∙ ap (λ (e : ℕ). Some (record { page = page; epoch = e })) (sym same))))
+        (λ (was : (epoch_of_heap (core_after s w).heap ≡ epoch_of_heap s.heap) × IsOf s page). inl (same ∙ was.0, was.1))
+        (λ (won : won_of s w ≡ Some (record { page = page; epoch = epoch_of_heap (core_after s w).heap })).
+        inr (now_stands (won_of s w) rest (record { page = page; epoch = epoch_of_heap last.heap }) (won ∙ ap (λ (e : ℕ). Some (record { page = page; epoch = e })) (sym same))))
         (event_comes s w story steady stands page is)
 
     run_by : (s : CoreState) (w : ℕ) (story : Story) → IsSteady s → WorkersStand s.heap story.now story.flip → (o : Option Mark) (r : Ran) (rest : List PageWon) (page : ℕ)
@@ -112,16 +112,16 @@ module _ (opens : PagesAreOpenedByClaims) (readies : ReadyingStands) (tasks : Ta
     -- ---- from an opening
 
     module _ (open_pages : TracedPagesAreOpen) (below : CopiedPagesAreBelowLow) (schedule : ℕ → ℕ) (n : ℕ) (s : CoreState) (story : Story) (steady : IsSteady s)
-        (stands : WorkersStand s.heap story.now story.flip) (first : epoch_in s.heap ≡ 0) (apart : AreApart (wins_from schedule 0 n s)) where
+        (stands : WorkersStand s.heap story.now story.flip) (first : epoch_of_heap s.heap ≡ 0) (apart : AreApart (wins_from schedule 0 n s)) where
       abbrev last : Heap
       last = (run_from schedule 0 n s).last.heap
 
-      module _ (later : 0 < epoch_in last) where
+      module _ (later : 0 < epoch_of_heap last) where
         won_once : (page : ℕ) → IsOf (run_from schedule 0 n s).last page → IsWonOnce (wins_from schedule 0 n s) last page
         won_once page is = ⊎_elim
-            (λ (was : (epoch_in last ≡ epoch_in s.heap) × IsOf s page). absurd (let e = was.0 in omega (arith, e, first, later)))
-            (λ (there : StandsIn (wins_from schedule 0 n s) (record { page = page; epoch = epoch_in last })).
-            record { at = there.0; won = there.1; once = λ i e. apart i there.0 (record { page = page; epoch = epoch_in last }) e there.1 })
+            (λ (was : (epoch_of_heap last ≡ epoch_of_heap s.heap) × IsOf s page). absurd (let e = was.0 in omega (arith, e, first, later)))
+            (λ (there : StandsIn (wins_from schedule 0 n s) (record { page = page; epoch = epoch_of_heap last })).
+            record { at = there.0; won = there.1; once = λ i e. apart i there.0 (record { page = page; epoch = epoch_of_heap last }) e there.1 })
             (came schedule 0 n s story steady stands page is)
 
         pub pages_are_won : (p o : Plain) → WorkersStand last p o → PagesAreWon (wins_from schedule 0 n s) last

@@ -19,7 +19,7 @@ use Rattle.gc_worker.specs.Fits.{Fits}
 use Rattle.gc_worker.specs.Held.{Held}
 use Rattle.heap_state.specs.Worker.{Account}
 use Rattle.gc_worker.specs.Law.{StepKeeps, held_at, nobody}
-use Rattle.gc_worker.specs.Made.{AllowsStep, MayMake, made, made_by}
+use Rattle.gc_worker.specs.Made.{AllowsStep, MayMake, step_made, step_made_by}
 use Rattle.gc_worker.specs.Stepped.{IsSound, awaits, stepped_by}
 use Rattle.gc_worker.specs.declared.did.Did.TheVariants.{Done, Trap}
 use Rattle.gc_worker.specs.Turned.{Told, Silent, Answers, Marks, told, turned}
@@ -32,9 +32,9 @@ use Rattle.gc_worker.proofs.Whole.{steps_keep}
 use Rattle.gc_worker.specs.declared.stepped.Stepped.TheVariants as tells
 use Rattle.gc_worker.specs.Marks.{task_of}
 use Rattle.gc_core.specs.Core.{CoreState, workers_of}
-use Rattle.gc_core.specs.Event.{Event, core_after, event_of, next_task, readied, ready}
+use Rattle.gc_core.specs.Event.{Event, core_after, event_of, fetched_task, readied, ready}
 use Rattle.gc_core.specs.Law.{IsLawful}
-use Rattle.gc_core.proofs.Readied.{Due, Begins, Rests, Ready, due, readied_stands, ready_task, ready_account}
+use Rattle.gc_core.proofs.Readied.{Due, Begins, Rests, ReadyToStep, due, readied_stands, ready_task, ready_account}
 use Rattle.gc_core.proofs.Counting.{idle_by}
 use Rattle.gc_core.proofs.Lawful.{event_none, event_some, makes, ready_fits}
 
@@ -44,7 +44,7 @@ sound_by n mutators k x f = subst (λ (j : ℕ). Fits x.layout.pages x.mutators 
     (subst (λ (m : ℕ). Fits x.layout.pages m k x) (sym f.beside) (subst (λ (pages : ℕ). Fits pages mutators k x) (sym f.pages) f))
 
 -- who executes an instruction has turns left
-has_turns : (code : List (List Instr)) (turns m : ℕ) (x : Held) (instr : Instr) → Calls instr ≡ next_task code turns m x → x.account.executed < turns
+has_turns : (code : List (List Instr)) (turns m : ℕ) (x : Held) (instr : Instr) → Calls instr ≡ fetched_task code turns m x → x.account.executed < turns
 has_turns code turns m x instr is = by_turns (nat_le turns x.account.executed) refl
   where
     by_turns : (b : Bool) → nat_le turns x.account.executed ≡ b → x.account.executed < turns
@@ -74,7 +74,7 @@ module _ (s : CoreState) (w : ℕ) (lawful : IsLawful s) (below : w < length s.h
       let f = lawful.stands.fit w below in
       (lawful.steady.on_task w (let n = idle.is_mutator in let a = f.number in let b = f.beside in omega (arith, n, a, b))).counted
 
-  r : Ready s w lawful.plain lawful.flip
+  r : ReadyToStep s w lawful.plain lawful.flip
   r = readied_stands readying_stands tasks_may_begin s w lawful.plain lawful.flip lawful.steady lawful.stands below
 
   fits : Fits s.heap.pages s.heap.mutators w y
@@ -108,7 +108,7 @@ module _ (s : CoreState) (w : ℕ) (lawful : IsLawful s) (below : w < length s.h
         let most = lawful.steady.turns_fit in
         omega (arith, left, most)
       where
-        by_task : (q : Mutator) (task : Task) → MayCome w lawful.plain.heap q task Done → task ≡ next_task s.code s.turns w x → x.account.executed < s.turns
+        by_task : (q : Mutator) (task : Task) → MayCome w lawful.plain.heap q task Done → task ≡ fetched_task s.code s.turns w x → x.account.executed < s.turns
         by_task q (Calls instr) may is = has_turns s.code s.turns w x instr is
         by_task q (Stops end) may is = absurd may
 
@@ -137,35 +137,35 @@ module _ (s : CoreState) (w : ℕ) (lawful : IsLawful s) (below : w < workers_of
   may_by None none = tt
   may_by (Some q) asked = let m = makes s w q lawful below asked in record { place = m.place; takes = m.takes; fits = turned_sound s w lawful below q asked }
 
-  room_by : (o : Option Step) → wanted worker ≡ o → (m : ℕ) → (made_by worker on o).told ≡ tells.Effect m → worker.account.executed < 4294967295
+  room_by : (o : Option Step) → wanted worker ≡ o → (m : ℕ) → (step_made_by worker on o).told ≡ tells.Effect m → worker.account.executed < 4294967295
   room_by None none m is = absurd (cc)
   room_by (Some q) asked m is = room s w lawful below q asked m is
 
-  told_by : (o : Option Step) → wanted worker ≡ o → (made_by worker on o).told ≡ (event_of s w).told
+  told_by : (o : Option Step) → wanted worker ≡ o → (step_made_by worker on o).told ≡ (event_of s w).told
   told_by None none = sym (ap (λ (e : Event). e.told) (event_none s w none))
   told_by (Some q) asked =
       ap (λ (k : ℕ). stepped_by k (told worker (reply_of q on))) (ready_fits s w lawful below).number
       ∙ ap (λ (e : Event). e.told) (sym (event_some s w q asked))
 
-  core_by : (o : Option Step) → wanted worker ≡ o → with_step s w (made_by worker on o).held (made_by worker on o).words ≡ core_after s w
+  core_by : (o : Option Step) → wanted worker ≡ o → with_step s w (step_made_by worker on o).held (step_made_by worker on o).words ≡ core_after s w
   core_by None none =
       ap (λ (ks : List Held). record s { heap = record s.heap { workers = ks } }) (ap (set s.heap.workers w) (idle_same s w none) ∙ set-get_or s.heap.workers w nobody)
       ∙ sym (ap (λ (e : Event). record s { heap = e.after }) (event_none s w none))
   core_by (Some q) asked = sym (ap (λ (e : Event). record s { heap = e.after }) (event_some s w q asked))
 
 -- x is worker w of a lawful core
-pub record IsWorker (s : CoreState) (w : ℕ) (x : Held) : Type 0 where
+pub record IsWorkerOfCore (s : CoreState) (w : ℕ) (x : Held) : Type 0 where
   pub lawful : IsLawful s
   pub below : w < workers_of s
   pub held : x ≡ held_at s.heap w
 
 -- and that worker, once it was made ready
-pub record IsReady (s : CoreState) (w : ℕ) (x : Held) : Type 0 where
+pub record WorkerIsReady (s : CoreState) (w : ℕ) (x : Held) : Type 0 where
   pub lawful : IsLawful s
   pub below : w < workers_of s
   pub made_ready : x ≡ ready s w
 
-module _ (s : CoreState) (w : ℕ) (x : Held) (is : IsWorker s w x) where
+module _ (s : CoreState) (w : ℕ) (x : Held) (is : IsWorkerOfCore s w x) where
   -- it may be made ready
   pub readies_soundly : IsSound x
   readies_soundly = subst IsSound (sym is.held) (held_sound s w is.lawful is.below)
@@ -173,10 +173,10 @@ module _ (s : CoreState) (w : ℕ) (x : Held) (is : IsWorker s w x) where
   pub has_counted : awaits x ≡ true → x.account.serial ≤ x.account.executed
   has_counted = subst (λ (y : Held). awaits y ≡ true → y.account.serial ≤ y.account.executed) (sym is.held) (held_counts s w is.lawful is.below)
 
-  pub is_ready : (y : Held) → y ≡ readied s.code s.turns w x → IsReady s w y
+  pub is_ready : (y : Held) → y ≡ readied s.code s.turns w x → WorkerIsReady s w y
   is_ready y made = record { lawful = is.lawful; below = is.below; made_ready = made ∙ ap (readied s.code s.turns w) is.held }
 
-module _ (s : CoreState) (w : ℕ) (x : Held) (is : IsReady s w x) where
+module _ (s : CoreState) (w : ℕ) (x : Held) (is : WorkerIsReady s w x) where
   pub steps_soundly : IsSound x
   steps_soundly = subst IsSound (sym is.made_ready) (ready_sound s w is.lawful is.below)
 
@@ -184,18 +184,18 @@ module _ (s : CoreState) (w : ℕ) (x : Held) (is : IsReady s w x) where
   pub may_step : MayMake x s.heap.words
   may_step = subst (λ (y : Held). MayMake y s.heap.words) (sym is.made_ready) (may_by s w is.lawful is.below (wanted (ready s w)) refl)
 
-  pub has_room : (m : ℕ) → (made x s.heap.words).told ≡ tells.Effect m → x.account.executed < 4294967295
+  pub has_room : (m : ℕ) → (step_made x s.heap.words).told ≡ tells.Effect m → x.account.executed < 4294967295
   has_room =
-      subst (λ (y : Held). (m : ℕ) → (made y s.heap.words).told ≡ tells.Effect m → y.account.executed < 4294967295) (sym is.made_ready)
+      subst (λ (y : Held). (m : ℕ) → (step_made y s.heap.words).told ≡ tells.Effect m → y.account.executed < 4294967295) (sym is.made_ready)
       (room_by s w is.lawful is.below (wanted (ready s w)) refl)
 
   -- what is told of the step is told of the event
-  pub stepped_told : (made x s.heap.words).told ≡ (event_of s w).told
-  stepped_told = ap (λ (y : Held). (made y s.heap.words).told) is.made_ready ∙ told_by s w is.lawful is.below (wanted (ready s w)) refl
+  pub stepped_told : (step_made x s.heap.words).told ≡ (event_of s w).told
+  stepped_told = ap (λ (y : Held). (step_made y s.heap.words).told) is.made_ready ∙ told_by s w is.lawful is.below (wanted (ready s w)) refl
 
   -- and the core that it leaves is the one after the event
-  pub stepped_core : (z : Held) (words : List ℕ) → z ≡ (made x s.heap.words).held → words ≡ (made x s.heap.words).words → with_step s w z words ≡ core_after s w
+  pub stepped_core : (z : Held) (words : List ℕ) → z ≡ (step_made x s.heap.words).held → words ≡ (step_made x s.heap.words).words → with_step s w z words ≡ core_after s w
   stepped_core z words z_is words_is =
       (λ i. with_step s w (z_is i) (words_is i))
-      ∙ (ap (λ (y : Held). with_step s w (made y s.heap.words).held (made y s.heap.words).words) is.made_ready
+      ∙ (ap (λ (y : Held). with_step s w (step_made y s.heap.words).held (step_made y s.heap.words).words) is.made_ready
       ∙ core_by s w is.lawful is.below (wanted (ready s w)) refl)

@@ -20,7 +20,7 @@ use Rattle.gc_worker.specs.Turned.{Told, Silent, Answers, Marks, told, turned}
 use Rattle.atom_store.specs.declared.reply.Reply.{Reply}
 use Rattle.atom_store.specs.declared.step.Step.{Step}
 use Rattle.atom_store.specs.Step.{reply_of}
-use Rattle.gc_worker.specs.Made.{AllowsStep, MayMake, made, made_by}
+use Rattle.gc_worker.specs.Made.{AllowsStep, MayMake, step_made, step_made_by}
 use Rattle.gc_worker.specs.Wanted.{wanted}
 use Rattle.gc_worker.proofs.Counting.{counted_fit, counts_are_apart}
 
@@ -107,30 +107,30 @@ module _ (count : ℕ) (x : Held) (sound : IsSound (counted count x)) (words : L
       by_step None may = tt
       by_step (Some q) may = record { place = may.place; takes = may.takes; fits = turned_sound count x sound (reply_of q words) may.fits }
 
-  pub words_apart : (made x words).words ≡ (made y words).words
-  words_apart = by_step (wanted x) ∙ ap (λ (o : Option Step). (made_by y words o).words) (sym wants)
+  pub words_apart : (step_made x words).words ≡ (step_made y words).words
+  words_apart = by_step (wanted x) ∙ ap (λ (o : Option Step). (step_made_by y words o).words) (sym wants)
     where
-      by_step : (o : Option Step) → (made_by x words o).words ≡ (made_by y words o).words
+      by_step : (o : Option Step) → (step_made_by x words o).words ≡ (step_made_by y words o).words
       by_step None = refl
       by_step (Some q) = refl
 
-  pub told_apart : (made x words).told ≡ (made y words).told
-  told_apart = by_step (wanted x) ∙ ap (λ (o : Option Step). (made_by y words o).told) (sym wants)
+  pub told_apart : (step_made x words).told ≡ (step_made y words).told
+  told_apart = by_step (wanted x) ∙ ap (λ (o : Option Step). (step_made_by y words o).told) (sym wants)
     where
-      by_step : (o : Option Step) → (made_by x words o).told ≡ (made_by y words o).told
+      by_step : (o : Option Step) → (step_made_by x words o).told ≡ (step_made_by y words o).told
       by_step None = refl
       by_step (Some q) = tells_with count x sound (reply_of q words)
 
-  pub made_effect : (m : ℕ) → (made x words).told ≡ steps.Effect m → counted (count + 1) (uncounted (made x words).held) ≡ (made y words).held
-  made_effect m is = by_step (wanted x) is ∙ ap (λ (o : Option Step). (made_by y words o).held) (sym wants)
+  pub made_effect : (m : ℕ) → (step_made x words).told ≡ steps.Effect m → counted (count + 1) (uncounted (step_made x words).held) ≡ (step_made y words).held
+  made_effect m is = by_step (wanted x) is ∙ ap (λ (o : Option Step). (step_made_by y words o).held) (sym wants)
     where
-      by_step : (o : Option Step) → (made_by x words o).told ≡ steps.Effect m → counted (count + 1) (uncounted (made_by x words o).held) ≡ (made_by y words o).held
+      by_step : (o : Option Step) → (step_made_by x words o).told ≡ steps.Effect m → counted (count + 1) (uncounted (step_made_by x words o).held) ≡ (step_made_by y words o).held
       by_step None is = absurd (cc)
       by_step (Some q) is = turned_with count x sound (reply_of q words) (count + 1) (counts_effect x.number m count (told x (reply_of q words)) is)
 
-  pub made_other : ((m : ℕ) → (made x words).told ≡ steps.Effect m → ⊥) → counted count (uncounted (made x words).held) ≡ (made y words).held
-  made_other other = by_step (wanted x) other ∙ ap (λ (o : Option Step). (made_by y words o).held) (sym wants)
+  pub made_other : ((m : ℕ) → (step_made x words).told ≡ steps.Effect m → ⊥) → counted count (uncounted (step_made x words).held) ≡ (step_made y words).held
+  made_other other = by_step (wanted x) other ∙ ap (λ (o : Option Step). (step_made_by y words o).held) (sym wants)
     where
-      by_step : (o : Option Step) → ((m : ℕ) → (made_by x words o).told ≡ steps.Effect m → ⊥) → counted count (uncounted (made_by x words o).held) ≡ (made_by y words o).held
+      by_step : (o : Option Step) → ((m : ℕ) → (step_made_by x words o).told ≡ steps.Effect m → ⊥) → counted count (uncounted (step_made_by x words o).held) ≡ (step_made_by y words o).held
       by_step None other = refl
       by_step (Some q) other = turned_with count x sound (reply_of q words) count (counts_no_other x.number count (told x (reply_of q words)) other)

@@ -18,7 +18,7 @@ use Rattle.atom_store.specs.Step.{words_after, reply_of}
 use Rattle.gc_worker.specs.declared.stage.Stage.TheVariants.{Gone}
 use Rattle.gc_worker.specs.declared.task.Task.{Task}
 use Rattle.gc_worker.specs.Answer.{ComesTo, MayCome, IsAnswered, after_outcome, after_told}
-use Rattle.gc_worker.specs.Between.{ReadyingStands, TasksMayBegin, WorkersGoOn, WorkersWant, WhatStandsIsSo, GoesOn, IsSo, IsNoAnswer}
+use Rattle.gc_worker.specs.Between.{ReadyingStands, TasksMayBegin, WorkersGoOn, WorkersWant, WhatStandsIsSo, KeepsToTask, IsSo, IsNoAnswer}
 use Rattle.gc_worker.specs.Fits.{Fits, IsOnSide}
 use Rattle.gc_worker.specs.Full.{FullByEnd, FullWhereTold}
 use Rattle.gc_worker.specs.Gone.{ScannersAreLast}
@@ -34,13 +34,13 @@ use Rattle.gc_worker.specs.Marks.{mark_of, task_of}
 use Rattle.gc_core.specs.Core.{CoreState}
 use Rattle.gc_core.specs.Event.{event_of, ready}
 use Rattle.gc_worker.specs.Stepped.{stepped_by}
-use Rattle.gc_worker.specs.Claims.{epoch_in}
-use Rattle.gc_core.specs.Law.{AllHaveLeft, IsOnTask, IsScanner, IsSteady, IsForWant, IsTold, Keeps, EventsKeep, EventsMeet, plain_after, story_by}
+use Rattle.gc_worker.specs.Claims.{epoch_of_heap}
+use Rattle.gc_core.specs.Law.{AllHaveLeft, IsOnTask, IsScanner, IsSteady, IsForWant, IsTold, KeepsStory, EventsKeep, EventsMeet, plain_after, story_by}
 use Rattle.gc_core.specs.Whole.{MissingWorkersAreIdle}
 use Rattle.gc_worker.proofs.Between.Last.{scanners_last_with, scanners_stay_last}
 use Rattle.gc_worker.proofs.Represented.{represented_workers}
 use Rattle.gc_worker.proofs.Outcomes.{Sort, IsFull, IsStep, sort, comes, end_then, asks_then, counted_then, was_running}
-use Rattle.gc_core.proofs.Readied.{Ready, readied_stands, same_task, ready_task, ready_account, ready_stage}
+use Rattle.gc_core.proofs.Readied.{ReadyToStep, readied_stands, same_task, ready_task, ready_account, ready_stage}
 
 -- ---- idle
 
@@ -49,7 +49,7 @@ module _ (s : CoreState) (w : ℕ) (story : Story) (steady : IsSteady s) (stands
   unfolding event_of
   idle_event none = rw none refl
 
-  pub idle_keeps : wanted (ready s w) ≡ None → end_of story.now w ≢ Some None → (IsScanner s.heap w → AllHaveLeft s.heap) → Keeps s w story
+  pub idle_keeps : wanted (ready s w) ≡ None → end_of story.now w ≢ Some None → (IsScanner s.heap w → AllHaveLeft s.heap) → KeepsStory s w story
   idle_keeps none ended left = let e = idle_event none in record { steady = rw e steady; stands = rw e stands; told = rw e (refl, ended, left) }
 
 -- ---- the story
@@ -81,7 +81,7 @@ for_want s p w (ends.HeapFull asked room live) asks full = (asks asked room live
 -- ---- the step of a worker that is there
 
 module _ (law : StepsKeep) (goes : WorkersGoOn) (wants : WorkersWant) (so : WhatStandsIsSo) (s : CoreState) (w : ℕ) (story : Story) (steady : IsSteady s)
-    (r : Ready s w story.now story.flip) where
+    (r : ReadyToStep s w story.now story.flip) where
   abbrev p : Plain
   p = story.now
 
@@ -150,7 +150,7 @@ module _ (law : StepsKeep) (goes : WorkersGoOn) (wants : WorkersWant) (so : What
     unfolding event_of
     event_is = rw asked (λ i. record { told = stepped_by w (told y (reply_of q (sym r.words i))); after = sym (r.moves y q) i })
 
-    goes_on : GoesOn y (reply_of q r.heap.words)
+    goes_on : KeepsToTask y (reply_of q r.heap.words)
     goes_on = goes r.heap.pages r.heap.mutators w y (reply_of q r.heap.words) fits
 
     -- ---- an answer
@@ -180,7 +180,7 @@ module _ (law : StepsKeep) (goes : WorkersGoOn) (wants : WorkersWant) (so : What
 
     -- ---- what is told
 
-    epoch_same : epoch_of r.heap.pages (words_after q r.heap.words) ≡ epoch_of r.heap.pages r.heap.words → epoch_in after ≡ epoch_in s.heap
+    epoch_same : epoch_of r.heap.pages (words_after q r.heap.words) ≡ epoch_of r.heap.pages r.heap.words → epoch_of_heap after ≡ epoch_of_heap s.heap
     epoch_same e = e ∙ (λ i. epoch_of (r.pages i) (r.words i))
 
     module _ (task : Task) (outcome : Did) (e : t ≡ Answers task outcome) (answered : ComesTo p w task outcome) where
@@ -297,7 +297,7 @@ module _ (law : StepsKeep) (goes : WorkersGoOn) (wants : WorkersWant) (so : What
       last = scanners_stay_last r.heap p story.flip w y q r.stands r.below r.holds asked ready_last;
     }
 
-    pub step_keeps : Keeps s w story
+    pub step_keeps : KeepsStory s w story
     step_keeps =
         let stood = story_stands t refl keeps.answered in
         record {
@@ -309,8 +309,8 @@ module _ (law : StepsKeep) (goes : WorkersGoOn) (wants : WorkersWant) (so : What
 -- ---- any event
 
 module _ (law : StepsKeep) (readies : ReadyingStands) (tasks : TasksMayBegin) (goes : WorkersGoOn) (wants : WorkersWant) (so : WhatStandsIsSo) where
-  by_want : (s : CoreState) (w : ℕ) (story : Story) (steady : IsSteady s) (stands : WorkersStand s.heap story.now story.flip) (r : Ready s w story.now story.flip)
-      → (o : Option Step) → wanted (ready s w) ≡ o → Keeps s w story
+  by_want : (s : CoreState) (w : ℕ) (story : Story) (steady : IsSteady s) (stands : WorkersStand s.heap story.now story.flip) (r : ReadyToStep s w story.now story.flip)
+      → (o : Option Step) → wanted (ready s w) ≡ o → KeepsStory s w story
   by_want s w story steady stands r None e =
       let gone = (wants r.heap.pages r.heap.mutators w (ready s w) (fits law goes wants so s w story steady r)).0 e in
       idle_keeps s w story steady stands e (gone_ended law goes wants so s w story steady r gone) (gone_last law goes wants so s w story steady r gone)

@@ -17,7 +17,7 @@ use Rattle.gc_worker.specs.Answer.{IsAnswered}
 use Rattle.gc_worker.specs.Held.{Held}
 use Rattle.gc_worker.specs.History.Legal.{IsLegal, after_all, extra}
 use Rattle.gc_worker.specs.Between.{IsSo}
-use Rattle.gc_worker.specs.History.Needs.{EachFullIs, EachMayCome, made_since, opened}
+use Rattle.gc_worker.specs.History.Needs.{EachFullIs, EachMayCome, made_since, first_story}
 use Rattle.gc_worker.specs.History.Order.{AreFetched, entry_mark, order_of}
 use Rattle.gc_worker.specs.History.Tally.{IsTallied, Tally, first_tally, tally, tasks_held}
 use Rattle.gc_worker.specs.Law.{Heap, StepKeeps, WorkersStand, held_at, moved, nobody}
@@ -41,10 +41,10 @@ use Rattle.gc_worker.proofs.Whole.{steps_keep}
 use Rattle.gc_core.specs.Core.{CoreState}
 use Rattle.gc_core.specs.Cycles.{count_from}
 use Rattle.gc_core.specs.Event.{Event, core_after, event_of, readied, ready}
-use Rattle.gc_core.specs.Law.{IsSteady, Keeps}
+use Rattle.gc_core.specs.Law.{IsSteady, KeepsStory}
 use Rattle.gc_core.specs.Run.{all_ended, run_from}
 use Rattle.gc_core.proofs.Events.{event_is, own_task}
-use Rattle.gc_core.proofs.Readied.{Ready, ready_begins, readied_stands}
+use Rattle.gc_core.proofs.Readied.{ReadyToStep, ready_begins, readied_stands}
 use Rattle.gc_core.proofs.Whole.{events_keep}
 
 -- ---- what an event adds
@@ -112,7 +112,7 @@ module _ (s : CoreState) (w : ℕ) (log : List Entry) (h : HasHistory s log) whe
   abbrev now : Story
   now = record { flip = t.flip; now = t.now }
 
-  kept : Keeps s w now
+  kept : KeepsStory s w now
   kept = events_keep s w now h.steady h.stands
 
   idle_history : wanted (ready s w) ≡ None → HasHistory (core_after s w) (log ++ adds s w)
@@ -120,10 +120,10 @@ module _ (s : CoreState) (w : ℕ) (log : List Entry) (h : HasHistory s log) whe
   idle_history none = rw (none, append-nil log) h
 
   module _ (below : w < length s.heap.workers) (q : Step) (asked : wanted (ready s w) ≡ Some q) where
-    pub its_ready : Ready s w t.now t.flip
+    pub its_ready : ReadyToStep s w t.now t.flip
     its_ready = readied_stands readying_stands tasks_may_begin s w t.now t.flip h.steady h.stands below
 
-    abbrev r : Ready s w t.now t.flip
+    abbrev r : ReadyToStep s w t.now t.flip
     r = its_ready
 
     abbrev y : Held
@@ -208,7 +208,7 @@ module _ (s : CoreState) (log : List Entry) (h : HasHistory s log) where
       let same : fetch s.code s.turns j (seen x.account x.registers) ≡ fetch s.code s.turns j q = rw (account.counter, account.executed) refl in
       (h.steady.on_task j (omega (arith, inside, many))).task task is ∙ ap task_of same
 
-  pub history_fills : EachFullIs s.heap.pages s.code s.turns (opened s.code) 0 (order_of log) × EachMayCome (λ j. false) 0 (order_of log)
+  pub history_fills : EachFullIs s.heap.pages s.code s.turns (first_story s.code) 0 (order_of log) × EachMayCome (λ j. false) 0 (order_of log)
   history_fills =
       orders_fill s.code s.turns (tasks_held s.heap.workers) s.heap.pages (first s) 0 (λ j. false) log h.legal (plain_count s.code s.turns []) h.fetched are_next h.tallied.entries
       (omega arith) (λ m e. e)

@@ -19,7 +19,7 @@ use Rattle.gc_worker.proofs.Between.Readying.{readying_stands}
 use Rattle.gc_worker.proofs.Whole.{steps_keep}
 use Rattle.gc_worker.specs.declared.config.Config.{Config}
 use Rattle.gc_core.specs.Core.{CoreState, opening_core, workers_of, is_size}
-use Rattle.gc_core.specs.Event.{Event, event_of, event_by, core_after, ready, next_task}
+use Rattle.gc_core.specs.Event.{Event, event_of, event_by, core_after, ready, fetched_task}
 use Rattle.gc_worker.specs.Stepped.{stepped_by}
 use Rattle.gc_core.specs.Law.{IsLawful, story_by}
 use Rattle.gc_core.proofs.Begun.{opening_lawful}
@@ -58,7 +58,7 @@ workers_after s w = by_want (wanted (ready s w)) refl
 -- ---- a worker's next step
 
 -- the step is of a word of the table, the worker may take the reply and is sound then, and this is the event
-pub record Makes (s : CoreState) (w : ℕ) (q : Step) : Type 0 where
+pub record MakesEvent (s : CoreState) (w : ℕ) (q : Step) : Type 0 where
   pub fits_before : Fits s.heap.pages s.heap.mutators w (ready s w)
   pub place : place_in q < length s.heap.words
   pub takes : Takes (ready s w) (reply_of q s.heap.words)
@@ -70,7 +70,7 @@ ready_fits s w l below =
     let r = readied_stands readying_stands tasks_may_begin s w l.plain l.flip l.steady l.stands below in
     rw (r.holds, r.pages, r.mutators) at (r.stands.fit w r.below)
 
-pub makes : (s : CoreState) (w : ℕ) (q : Step) → IsLawful s → w < workers_of s → wanted (ready s w) ≡ Some q → Makes s w q
+pub makes : (s : CoreState) (w : ℕ) (q : Step) → IsLawful s → w < workers_of s → wanted (ready s w) ≡ Some q → MakesEvent s w q
 makes s w q l below e =
     let r = readied_stands readying_stands tasks_may_begin s w l.plain l.flip l.steady l.stands below in
     let k = steps_keep r.heap l.plain l.flip w (ready s w) q r.stands r.below r.holds e in
@@ -87,7 +87,7 @@ makes s w q l below e =
 -- who looks at the gate and has no task may be given the next one
 pub record MayBeGiven (s : CoreState) (w : ℕ) : Type 0 where
   pub idle : IsIdle (held_at s.heap w)
-  pub begins : MayBegin (held_at s.heap w).account (held_at s.heap w).registers (Some (next_task s.code s.turns w (held_at s.heap w)))
+  pub begins : MayBegin (held_at s.heap w).account (held_at s.heap w).registers (Some (fetched_task s.code s.turns w (held_at s.heap w)))
 
 pub may_be_given : (s : CoreState) (w : ℕ) → IsLawful s → w < workers_of s → (held_at s.heap w).stage ≡ Looks → (held_at s.heap w).task ≡ None → MayBeGiven s w
 may_be_given s w l below looks none =

@@ -27,7 +27,7 @@ use Rattle.gc_worker.specs.Stepped.{awaits, awaits_at}
 use Rattle.gc_worker.specs.Turned.{turned}
 use Rattle.gc_worker.specs.Marks.{task_of}
 use Rattle.gc_core.specs.Core.{CoreState}
-use Rattle.gc_core.specs.Event.{next_task, readied, ready}
+use Rattle.gc_core.specs.Event.{fetched_task, readied, ready}
 use Rattle.gc_core.specs.Law.{IsSteady}
 use Rattle.gc_core.proofs.Counting.{at_look}
 
@@ -35,7 +35,7 @@ use Rattle.gc_core.proofs.Counting.{at_look}
 
 -- it is given one, or stays as it is
 pub data Due (code : List (List Instr)) (turns m : ℕ) (x : Held) : Type 0 where
-  Begins : x.stage ≡ Looks → x.task ≡ None → readied code turns m x ≡ with_task x (next_task code turns m x) → Due code turns m x
+  Begins : x.stage ≡ Looks → x.task ≡ None → readied code turns m x ≡ with_task x (fetched_task code turns m x) → Due code turns m x
   Rests : readied code turns m x ≡ x → Due code turns m x
 
 module _ (code : List (List Instr)) (turns m : ℕ) (x : Held) where
@@ -57,7 +57,7 @@ module _ (code : List (List Instr)) (turns m : ℕ) (x : Held) where
   due = due_by x.stage x.task refl refl
 
   -- one that awaits a task is given its next one
-  pub readied_awaits : awaits x ≡ true → readied code turns m x ≡ with_task x (next_task code turns m x)
+  pub readied_awaits : awaits x ≡ true → readied code turns m x ≡ with_task x (fetched_task code turns m x)
   readied_awaits is = let at = at_look x.stage x.task is in rw (at.0, at.1) refl
 
   -- another stays as it is
@@ -82,7 +82,7 @@ module _ (code : List (List Instr)) (turns m : ℕ) (account : Account) (registe
 
 -- ---- the heap in which it is given
 
-pub record Ready (s : CoreState) (w : ℕ) (p o : Plain) : Type 0 where
+pub record ReadyToStep (s : CoreState) (w : ℕ) (p o : Plain) : Type 0 where
   pub heap : Heap
   pub stands : WorkersStand heap p o
   pub below : w < length heap.workers
@@ -116,11 +116,11 @@ module _ (readies : ReadyingStands) (tasks : TasksMayBegin) (s : CoreState) (w :
       mutator_by true e b = ltb-true x.number x.mutators e
       mutator_by false e b = absurd (cc)
 
-  ready_by : Due s.code s.turns w x → Ready s w p o
+  ready_by : Due s.code s.turns w x → ReadyToStep s w p o
   ready_by (Rests e) = record { heap = s.heap; stands = stands; below = below; holds = sym e; words = refl; pages = refl; mutators = refl; moves = λ y q. refl; is = sym (ap (with_worker s.heap w) e ∙ ap (λ (ks : List Held). record s.heap { workers = ks }) (set-get_or s.heap.workers w nobody)) }
   ready_by (Begins e f is) =
       let idle = looks_idle e f in
-      let task = next_task s.code s.turns w x in
+      let task = fetched_task s.code s.turns w x in
       let number : w < s.heap.mutators = (let n = idle.is_mutator in let a = fits.number in let b = fits.beside in omega (arith, n, a, b)) in
       let r = tasks s.heap.pages s.heap.mutators w x task fits idle (may_begin s.code s.turns w x.account x.registers steady.valid steady.turns_fit (steady.on_task w number).counted) in
       record {
@@ -135,23 +135,23 @@ module _ (readies : ReadyingStands) (tasks : TasksMayBegin) (s : CoreState) (w :
         is = ap (with_worker s.heap w) (sym is);
       }
 
-  pub readied_stands : Ready s w p o
+  pub readied_stands : ReadyToStep s w p o
   readied_stands = ready_by (due s.code s.turns w x)
 
 -- ---- what it holds then
 
 -- the next task is that of an account with this counter and so many instructions executed
 pub same_task : (code : List (List Instr)) (turns m : ℕ) (x y : Held) → x.account.counter ≡ y.account.counter → x.account.executed ≡ y.account.executed
-    → next_task code turns m x ≡ next_task code turns m y
+    → fetched_task code turns m x ≡ fetched_task code turns m y
 same_task code turns m x y c e = rw (c, e) refl
 
 module _ (s : CoreState) (w : ℕ) (steady : IsSteady s) (few : w < s.heap.mutators) where
   -- the task that it has then is its next one
-  pub ready_task : (task : Task) → (ready s w).task ≡ Some task → task ≡ next_task s.code s.turns w (held_at s.heap w)
+  pub ready_task : (task : Task) → (ready s w).task ≡ Some task → task ≡ fetched_task s.code s.turns w (held_at s.heap w)
   ready_task task e = by_due (due s.code s.turns w (held_at s.heap w))
     where
-      by_due : Due s.code s.turns w (held_at s.heap w) → task ≡ next_task s.code s.turns w (held_at s.heap w)
-      by_due (Begins stage none is) = let q : Some (next_task s.code s.turns w (held_at s.heap w)) ≡ Some task = sym (ap (λ (h : Held). h.task) is) ∙ e in cc
+      by_due : Due s.code s.turns w (held_at s.heap w) → task ≡ fetched_task s.code s.turns w (held_at s.heap w)
+      by_due (Begins stage none is) = let q : Some (fetched_task s.code s.turns w (held_at s.heap w)) ≡ Some task = sym (ap (λ (h : Held). h.task) is) ∙ e in cc
       by_due (Rests is) = (steady.on_task w few).task task (sym (ap (λ (h : Held). h.task) is) ∙ e)
 
 -- it is as it was, or was given its next task
@@ -159,7 +159,7 @@ pub ready_begins : (s : CoreState) (w : ℕ) → between.Begins (held_at s.heap 
 ready_begins s w = by_due (due s.code s.turns w (held_at s.heap w))
   where
     by_due : Due s.code s.turns w (held_at s.heap w) → between.Begins (held_at s.heap w) (ready s w)
-    by_due (Begins stage none is) = inr (next_task s.code s.turns w (held_at s.heap w), none, is)
+    by_due (Begins stage none is) = inr (fetched_task s.code s.turns w (held_at s.heap w), none, is)
     by_due (Rests is) = inl is
 
 pub ready_account : (s : CoreState) (w : ℕ) → (ready s w).account ≡ (held_at s.heap w).account

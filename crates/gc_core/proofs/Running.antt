@@ -16,7 +16,7 @@ use Rattle.gc_worker.specs.Held.{Held}
 use Rattle.gc_worker.specs.Law.{Heap, WorkersStand, nobody, held_at}
 use Rattle.gc_worker.specs.declared.stepped.Stepped.{Stepped}
 use Rattle.gc_worker.specs.declared.stepped.Stepped.TheVariants.{Idle, Moved, Effect, Flipped, Ended}
-use Rattle.gc_worker.specs.Marks.{Acts, EachActs, mark_of}
+use Rattle.gc_worker.specs.Marks.{MarkActs, EachActs, mark_of}
 use Rattle.gc_core.specs.Core.{CoreState}
 use Rattle.gc_core.specs.Event.{core_after, event_of}
 use Rattle.gc_core.specs.Law.{IsSteady, IsTold, EventsKeep, plain_after, story_by}
@@ -86,7 +86,7 @@ module _ (keep : EventsKeep) where
   unfolding run_from
   acts_as schedule at n s p true is now rest = rw is tt
   acts_as schedule at n s p false is now rest = rw is
-      (EachMark-append (Acts s.code s.turns) s.code s.turns p (option_to_list (mark_of (event_of s (schedule at)).told)) (run_from schedule (at + 1) n (core_after s (schedule at))).order now rest)
+      (EachMark-append (MarkActs s.code s.turns) s.code s.turns p (option_to_list (mark_of (event_of s (schedule at)).told)) (run_from schedule (at + 1) n (core_after s (schedule at))).order now rest)
 
   pub run_acts : (schedule : ℕ → ℕ) (at n : ℕ) (s : CoreState) (story : Story) → IsSteady s → WorkersStand s.heap story.now story.flip → EachActs s.code s.turns story.now (run_from schedule at n s).order
   unfolding run_from

@@ -27,14 +27,14 @@ run_more schedule at zero s some running = absurd (omega (arith, some))
 run_more schedule at (suc n) s some running = let e : suc n - 1 ≡ n = omega arith in rw (running, e)
 
 -- how far a run has come: what it comes to from here is what all of it comes to
-pub record ComesTo (schedule : ℕ → ℕ) (at steps : ℕ) (s : CoreState) (all : Ran) : Type 0 where
+pub record HasComeTo (schedule : ℕ → ℕ) (at steps : ℕ) (s : CoreState) (all : Ran) : Type 0 where
   pub last : (run_from schedule at (steps - at) s).last ≡ all.last
 
 pub record ComesToOrder (schedule : ℕ → ℕ) (at steps : ℕ) (s : CoreState) (marks : List Mark) (all : Ran) : Type 0 where
   pub order : marks ++ (run_from schedule at (steps - at) s).order ≡ all.order
 
 pub comes_on : (schedule : ℕ → ℕ) (at steps : ℕ) (s : CoreState) (all : Ran) → at < steps → all_ended s ≡ false
-    → ComesTo schedule at steps s all → ComesTo schedule (at + 1) steps (core_after s (schedule at)) all
+    → HasComeTo schedule at steps s all → HasComeTo schedule (at + 1) steps (core_after s (schedule at)) all
 comes_on schedule at steps s all some running h =
     let less : steps - at - 1 ≡ steps - (at + 1) = omega arith in
     let left : 0 < steps - at = omega arith in
@@ -48,10 +48,10 @@ comes_on_order schedule at steps s marks all some running h =
     let left : 0 < steps - at = omega arith in
     record { order = rw (← less, append_assoc) (rw (run_more schedule at (steps - at) s left running) at h.order) }
 
-pub came_over : (schedule : ℕ → ℕ) (at steps : ℕ) (s : CoreState) (all : Ran) → all_ended s ≡ true → ComesTo schedule at steps s all → s ≡ all.last
+pub came_over : (schedule : ℕ → ℕ) (at steps : ℕ) (s : CoreState) (all : Ran) → all_ended s ≡ true → HasComeTo schedule at steps s all → s ≡ all.last
 came_over schedule at steps s all ended h = rw (run_over schedule at (steps - at) s ended) at h.last
 
-pub came_out : (schedule : ℕ → ℕ) (at steps : ℕ) (s : CoreState) (all : Ran) → steps ≤ at → ComesTo schedule at steps s all → s ≡ all.last
+pub came_out : (schedule : ℕ → ℕ) (at steps : ℕ) (s : CoreState) (all : Ran) → steps ≤ at → HasComeTo schedule at steps s all → s ≡ all.last
 came_out schedule at steps s all done h = let none : steps - at ≡ 0 = omega arith in rw (run_out schedule at (steps - at) s none) at h.last
 
 pub came_over_order : (schedule : ℕ → ℕ) (at steps : ℕ) (s : CoreState) (marks : List Mark) (all : Ran) → all_ended s ≡ true

@@ -5,7 +5,7 @@ use Rattle.plain_heap.specs.Order.{Story}
 use Rattle.atom_store.specs.declared.step.Step.{Step}
 use Rattle.atom_store.specs.Step.{reply_of}
 use Rattle.space_map.specs.Spaces.{board_page}
-use Rattle.gc_worker.specs.Claims.{CopiedPagesAreOpen, IsCopiedPage, IsOfEpoch, epoch_in}
+use Rattle.gc_worker.specs.Claims.{CopiedPagesAreOpen, IsCopiedPage, IsOfEpoch, epoch_of_heap}
 use Rattle.gc_worker.specs.Copied.{IsTraced}
 use Rattle.gc_worker.specs.Law.{Heap, WorkersStand}
 use Rattle.gc_worker.specs.Turned.{PageWon, won}
@@ -15,13 +15,13 @@ use Rattle.gc_core.specs.Event.{ready, core_after}
 use Rattle.gc_core.specs.Law.{IsSteady}
 use Rattle.gc_core.specs.Run.{all_ended}
 
-abbrev pub won_by : CoreState → ℕ → Option Step → Option PageWon
-won_by s w None = None
-won_by s w (Some q) = won (ready s w) (reply_of q s.heap.words)
+abbrev pub page_won_by : CoreState → ℕ → Option Step → Option PageWon
+page_won_by s w None = None
+page_won_by s w (Some q) = won (ready s w) (reply_of q s.heap.words)
 
 -- the page that the event of worker w wins, and in which epoch
 abbrev pub won_of : CoreState → ℕ → Option PageWon
-won_of s w = won_by s w (wanted (ready s w))
+won_of s w = page_won_by s w (wanted (ready s w))
 
 -- the pages that are won in the run from a position of the schedule on
 unfoldable pub wins_from : (ℕ → ℕ) → ℕ → ℕ → CoreState → List PageWon
@@ -43,8 +43,8 @@ PagesAreWonOnce = (schedule : ℕ → ℕ) (at n : ℕ) (s : CoreState) (story :
 -- the page was won in the epoch of the heap's gate, exactly once
 pub record IsWonOnce (wins : List PageWon) (h : Heap) (page : ℕ) : Type 0 where
   pub at : ℕ
-  pub won : slice_get wins at ≡ Some (record { page = page; epoch = epoch_in h })
-  pub once : (i : ℕ) → slice_get wins i ≡ Some (record { page = page; epoch = epoch_in h }) → i ≡ at
+  pub won : slice_get wins at ≡ Some (record { page = page; epoch = epoch_of_heap h })
+  pub once : (i : ℕ) → slice_get wins i ≡ Some (record { page = page; epoch = epoch_of_heap h }) → i ≡ at
 
 -- Each page for copies that is open in that epoch, or being scanned, was won so. Once the epoch is traced the board and all pages into
 -- which records were copied are open in it, and were won so.

@@ -2,7 +2,7 @@
 use Rattle.std.specs.Prelude.{ℕ, List, length}
 pub use Rattle.space_map.specs.Spaces.{is_size}
 use Rattle.mutator_asm.specs.declared.instr.Instr.{Instr}
-use Rattle.gc_worker.specs.Between.{opening}
+use Rattle.gc_worker.specs.Between.{opening_heap}
 use Rattle.gc_worker.specs.Law.{Heap}
 use Rattle.gc_worker.specs.declared.config.Config.{Config}
 
@@ -14,7 +14,7 @@ pub record CoreState : Type 0 where
 
 -- the core in which a program begins: a mutator for each section, and the scanners
 abbrev pub opening_core : List (List Instr) → Config → CoreState
-opening_core code config = record { code = code; turns = config.turns; heap = opening config.pages (length code) config.scanners }
+opening_core code config = record { code = code; turns = config.turns; heap = opening_heap config.pages (length code) config.scanners }
 
 -- the mutators, then the scanners
 abbrev pub workers_of : CoreState → ℕ

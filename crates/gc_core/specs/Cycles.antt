@@ -10,7 +10,7 @@ use Rattle.atom_store.specs.Step.{reply_of}
 use Rattle.heap_state.specs.Copies.{CopiedIsLive}
 use Rattle.heap_state.specs.Reachable.{IsLive}
 use Rattle.gc_worker.specs.Copied.{IsTraced}
-use Rattle.gc_worker.specs.Cycles.{claimed}
+use Rattle.gc_worker.specs.Cycles.{words_claimed}
 use Rattle.gc_worker.specs.Law.{read}
 use Rattle.gc_worker.specs.Wanted.{wanted}
 use Rattle.gc_worker.specs.declared.config.Config.{Config}
@@ -52,7 +52,7 @@ CyclesKeepWhatIsLive = InEveryRun (λ code config schedule n. KeepsWhatIsLive (r
 
 abbrev pub claimed_if : CoreState → ℕ → Option Step → ℕ
 claimed_if s w None = 0
-claimed_if s w (Some q) = claimed (ready s w) (reply_of q s.heap.words)
+claimed_if s w (Some q) = words_claimed (ready s w) (reply_of q s.heap.words)
 
 -- the words of the pages that the event of worker w claims for a record
 abbrev pub claimed_by : CoreState → ℕ → ℕ

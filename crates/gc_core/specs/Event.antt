@@ -22,11 +22,11 @@ use Rattle.gc_worker.specs.declared.stepped.Stepped.TheVariants.{Idle}
 -- ---- the next task
 
 -- the instruction that mutator m executes next, or the end that stands in its place
-abbrev pub next_task : List (List Instr) → (turns m : ℕ) → Held → Task
-next_task code turns m x = task_of (fetch code turns m (seen x.account x.registers))
+abbrev pub fetched_task : List (List Instr) → (turns m : ℕ) → Held → Task
+fetched_task code turns m x = task_of (fetch code turns m (seen x.account x.registers))
 
 abbrev pub given : List (List Instr) → (turns m : ℕ) → Held → Stage → Option Task → Held
-given code turns m x Looks None = with_task x (next_task code turns m x)
+given code turns m x Looks None = with_task x (fetched_task code turns m x)
 given code turns m x stage task = x
 
 -- a mutator that looks at the gate and has answered its task is given the next one

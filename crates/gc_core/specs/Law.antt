@@ -14,14 +14,14 @@ use Rattle.gc_worker.specs.declared.stage.Stage.TheVariants.{Gone}
 use Rattle.gc_worker.specs.declared.task.Task.{Task}
 use Rattle.gc_worker.specs.Full.{FindsNoRoom}
 use Rattle.gc_worker.specs.Held as held
-use Rattle.gc_worker.specs.Claims.{epoch_in}
+use Rattle.gc_worker.specs.Claims.{epoch_of_heap}
 use Rattle.gc_worker.specs.Gone.{ScannersAreLast}
 use Rattle.gc_worker.specs.Law.{Heap, WorkersStand, held_at, read}
 use Rattle.gc_worker.specs.declared.stepped.Stepped.{Stepped}
 use Rattle.gc_worker.specs.declared.stepped.Stepped.TheVariants.{Idle, Moved, Effect, Flipped, Ended}
 use Rattle.gc_worker.specs.Marks.{mark_of}
 use Rattle.gc_core.specs.Core.{CoreState}
-use Rattle.gc_core.specs.Event.{Event, next_task, ready, event_of, core_after}
+use Rattle.gc_core.specs.Event.{Event, fetched_task, ready, event_of, core_after}
 
 -- ---- what a core keeps beside the plain state
 
@@ -29,7 +29,7 @@ use Rattle.gc_core.specs.Event.{Event, next_task, ready, event_of, core_after}
 pub record IsOnTask (s : CoreState) (m : ℕ) : Type 0 where
   pub counted : (held_at s.heap m).account.serial ≤ (held_at s.heap m).account.executed
   pub within : (held_at s.heap m).account.executed ≤ s.turns
-  pub task : (t : Task) → (held_at s.heap m).task ≡ Some t → t ≡ next_task s.code s.turns m (held_at s.heap m)
+  pub task : (t : Task) → (held_at s.heap m).task ≡ Some t → t ≡ fetched_task s.code s.turns m (held_at s.heap m)
 
 -- there is a mutator for each section of valid code, and each is on its task; once a scanner is gone, all mutators are
 pub record IsSteady (s : CoreState) : Type 0 where
@@ -82,20 +82,20 @@ AllHaveLeft h = (m : ℕ) → m < h.mutators → (held_at h m).stage ≡ Gone
 -- worker's task asks for, and comes into the next epoch; nothing else changes the epoch.
 abbrev pub IsTold : CoreState → ℕ → Plain → Heap → Stepped → Type 0
 IsTold s w p after Idle = (after ≡ s.heap) × (end_of p w ≢ Some None) × (IsScanner s.heap w → AllHaveLeft s.heap)
-IsTold s w p after Moved = epoch_in after ≡ epoch_in s.heap
-IsTold s w p after (Flipped asked) = (asked ≡ held.asked_by (ready s w)) × (epoch_in after ≡ epoch_in s.heap + 1)
-IsTold s w p after (Effect m) = (m ≡ w) × (end_of p m ≡ Some None) × (end_of (plain_after s p (Effect m)) m ≡ Some None) × (epoch_in after ≡ epoch_in s.heap)
+IsTold s w p after Moved = epoch_of_heap after ≡ epoch_of_heap s.heap
+IsTold s w p after (Flipped asked) = (asked ≡ held.pages_needed (ready s w)) × (epoch_of_heap after ≡ epoch_of_heap s.heap + 1)
+IsTold s w p after (Effect m) = (m ≡ w) × (end_of p m ≡ Some None) × (end_of (plain_after s p (Effect m)) m ≡ Some None) × (epoch_of_heap after ≡ epoch_of_heap s.heap)
 IsTold s w p after (Ended m why) =
-    (m ≡ w) × (end_of p m ≡ Some None) × (end_of (plain_after s p (Ended m why)) m ≡ Some (Some why)) × IsForWant s p m why × (epoch_in after ≡ epoch_in s.heap)
+    (m ≡ w) × (end_of p m ≡ Some None) × (end_of (plain_after s p (Ended m why)) m ≡ Some (Some why)) × IsForWant s p m why × (epoch_of_heap after ≡ epoch_of_heap s.heap)
 
 -- The event of worker w, from a core that stands for a story: it stands for the story after what is told, which is so.
-pub record Keeps (s : CoreState) (w : ℕ) (story : Story) : Type 0 where
+pub record KeepsStory (s : CoreState) (w : ℕ) (story : Story) : Type 0 where
   pub steady : IsSteady (core_after s w)
   pub stands : WorkersStand (event_of s w).after (story_by s story (event_of s w).told).now (story_by s story (event_of s w).told).flip
   pub told : IsTold s w story.now (event_of s w).after (event_of s w).told
 
 abbrev pub EventsKeep : Type 0
-EventsKeep = (s : CoreState) (w : ℕ) (story : Story) → IsSteady s → WorkersStand s.heap story.now story.flip → Keeps s w story
+EventsKeep = (s : CoreState) (w : ℕ) (story : Story) → IsSteady s → WorkersStand s.heap story.now story.flip → KeepsStory s w story
 
 -- The event e of worker w, from a core that represents p, meets the law.
 pub record Meets (s : CoreState) (w : ℕ) (p : Plain) (e : Event) : Type 0 where

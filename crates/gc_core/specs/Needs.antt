@@ -8,7 +8,7 @@ use Rattle.plain_heap.specs.declared.mark.Mark.TheVariants.{Full}
 use Rattle.plain_heap.specs.Order.{story}
 use Rattle.gc_worker.specs.declared.config.Config.{Config}
 use Rattle.gc_worker.specs.declared.stepped.Stepped.TheVariants.{Ended}
-use Rattle.gc_worker.specs.History.Needs.{EachFullIs, EndsWithFlip, HasNoFull, IsEnoughForOne, IsLargeEnough, being_made, flips_in, made_since, opened}
+use Rattle.gc_worker.specs.History.Needs.{EachFullIs, EndsWithFlip, HasNoFull, IsEnoughForOne, IsLargeEnough, being_made, flips_in, made_since, first_story}
 use Rattle.gc_worker.specs.History.Tally.{aside_in}
 use Rattle.gc_core.specs.Cycles.{FillsTheSpace, story_of, claims_of}
 use Rattle.gc_core.specs.Event.{event_of}
@@ -48,7 +48,7 @@ OrdersAreFilledByClaims = InEveryRun (λ code config schedule n. AreFilledByClai
 -- at a full heap of an order the space is filled by what was live at the last flip and by records made since
 abbrev pub OrdersFillTheSpace : Type 0
 OrdersFillTheSpace = InEveryRun (λ code config schedule n.
-    EachFullIs config.pages code config.turns (opened code) 0 (run_of code config schedule n).order)
+    EachFullIs config.pages code config.turns (first_story code) 0 (run_of code config schedule n).order)
 
 -- a heap that is as large as the run's order needs is never full
 abbrev pub LargeHeapsAreNeverFull : Type 0

@@ -16,7 +16,7 @@ use Rattle.gc_core.specs.Dumped.{dump_said, dumped}
 use Rattle.gc_core.specs.Event.{core_after, event_of, ready}
 use Rattle.gc_core.specs.Claims.{AreApart, PagesAreWon, wins_from}
 use Rattle.gc_worker.specs.History.Needs.{EachMayCome}
-use Rattle.gc_worker.specs.Claims.{epoch_in}
+use Rattle.gc_worker.specs.Claims.{epoch_of_heap}
 use Rattle.gc_core.specs.Law.{IsLawful}
 use Rattle.gc_core.specs.Readers.{seen_of}
 use Rattle.gc_core.specs.Run.{InEveryRun, run_from, run_of, EachEvent}
@@ -66,7 +66,7 @@ NoPageIsWonTwice = (schedule : ℕ → ℕ) (at n : ℕ) (s : CoreState) → IsL
 -- in every run of every program, in each epoch but the first, which copies nothing, the pages that are open for copies were won,
 -- each exactly once; once the epoch is traced the board and all pages into which records were copied are among them
 abbrev pub CopiedPagesAreWonOnce : Type 0
-CopiedPagesAreWonOnce = InEveryRun (λ code config schedule n. 0 < epoch_in (run_of code config schedule n).last.heap
+CopiedPagesAreWonOnce = InEveryRun (λ code config schedule n. 0 < epoch_of_heap (run_of code config schedule n).last.heap
     → PagesAreWon (wins_from schedule 0 n (opening_core code config)) (run_of code config schedule n).last.heap)
 
 -- and no event flips out of an epoch that isn't traced

@@ -5,7 +5,7 @@ ghost use Rattle.std.specs.List.{list_all};
 ghost use Rattle.mutator_asm.specs.Program.{is_valid};
 ghost use Rattle.gc_worker.specs.declared.config.TheConstants.{MOST_TURNS};
 ghost use Rattle.gc_worker.specs.Counted.{counted};
-ghost use Rattle.gc_worker.specs.Made.{MayMake, made};
+ghost use Rattle.gc_worker.specs.Made.{MayMake, step_made};
 ghost use Rattle.gc_worker.specs.Stepped.{IsSound, awaits};
 ghost use Rattle.gc_worker.specs.declared.stepped.Stepped.TheVariants.{Effect};
 ghost use Rattle.gc_worker.specs.Wanted.{wanted};
@@ -72,10 +72,10 @@ impl Slot {
     pub fn step(&mut self, on: &mut PlainAtoms) -> Stepped
         requires sound { IsSound self.old }
         requires may { MayMake self.old on.old }
-        requires room { (m : ℕ) → (made self.old on.old).told ≡ Effect m → self.old.account.executed < 2 ^ 32 - 1 }
-        ensures state { self.new ≡ (made self.old on.old).held }
-        ensures words { on.new ≡ (made self.old on.old).words }
-        ensures tells { result ≡ (made self.old on.old).told }
+        requires room { (m : ℕ) → (step_made self.old on.old).told ≡ Effect m → self.old.account.executed < 2 ^ 32 - 1 }
+        ensures state { self.new ≡ (step_made self.old on.old).held }
+        ensures words { on.new ≡ (step_made self.old on.old).words }
+        ensures tells { result ≡ (step_made self.old on.old).told }
     {
         let told = self.worker.step(on);
         if let Stepped::Effect(_) = told {

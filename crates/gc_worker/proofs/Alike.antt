@@ -21,7 +21,7 @@ use Rattle.mutator_asm.specs.declared.operand.Operand.TheVariants as operands
 use Rattle.mutator_asm.specs.Program.{is_valid, is_register, is_operand}
 use Rattle.plain_heap.specs.declared.action.Action.{Action}
 use Rattle.plain_heap.specs.declared.action.Action.TheVariants.{Sets, Jumps, Links, Prints, Makes, Measures, Loads, Stores, Gets, Puts, Swaps}
-use Rattle.plain_heap.specs.Action.{◌>>=◌, register, number_in, reference_in, is_zero, is_reference, are_same, operand, next_of, length_of, on_board, board_place, computes, allocates, prints, action}
+use Rattle.plain_heap.specs.Action.{◌>>=◌, register, as_number, reference_in, is_zero, is_reference, are_same, operand, next_of, length_of, on_board, board_place, computes, allocates, prints, action}
 
 -- ---- what the plain machine has for what a worker sees
 
@@ -49,10 +49,10 @@ plain_outcome identity (Err why) = Err why
 -- ---- of two mutators alike
 
 module _ (identity : ℕ → Identity) (v : Value) where
-  same_number : number_in (plain_value identity v) ≡ number_in v
+  same_number : as_number (plain_value identity v) ≡ as_number v
   same_number = by_value v
     where
-      by_value : (u : Value) → number_in (plain_value identity u) ≡ number_in u
+      by_value : (u : Value) → as_number (plain_value identity u) ≡ as_number u
       by_value (Number n) = refl
       by_value (Reference i) = refl
 
@@ -72,13 +72,13 @@ module _ (identity : ℕ → Identity) (v : Value) where
 
 -- The registers of q hold what those of m do, with identities in place of addresses; which of them are the same is the same; and both are at
 -- the same instruction, and have printed as many numbers.
-pub record AreAlike (identity : ℕ → Identity) (m q : Mutator) : Type 0 where
+pub record AreAlikeBy (identity : ℕ → Identity) (m q : Mutator) : Type 0 where
   pub values : (r : ℕ) → r < REGISTERS → register q r ≡ plain_value identity (register m r)
   pub same : (a b : ℕ) → a < REGISTERS → b < REGISTERS → are_same (register q a) (register q b) ≡ are_same (register m a) (register m b)
   pub next : next_of q ≡ next_of m
   pub printed : length q.printed ≡ length m.printed
 
-module _ (identity : ℕ → Identity) (m q : Mutator) (alike : AreAlike identity m q) where
+module _ (identity : ℕ → Identity) (m q : Mutator) (alike : AreAlikeBy identity m q) where
   -- the second outcome is the first one's
   abbrev Same : Result Action End → Result Action End → Type 0
   Same o p = p ≡ plain_outcome identity o
@@ -87,12 +87,12 @@ module _ (identity : ℕ → Identity) (m q : Mutator) (alike : AreAlike identit
   through (Ok a) f g next = next a
   through (Err why) f g next = refl
 
-  number_as : (a : ℕ) → a < REGISTERS → number_in (register q a) ≡ number_in (register m a)
-  number_as a small = ap number_in (alike.values a small) ∙ same_number identity (register m a)
+  number_as : (a : ℕ) → a < REGISTERS → as_number (register q a) ≡ as_number (register m a)
+  number_as a small = ap as_number (alike.values a small) ∙ same_number identity (register m a)
 
   with_number : (a : ℕ) → a < REGISTERS → (f g : ℕ → Result Action End) → ((n : ℕ) → Same (f n) (g n))
-      → Same (number_in (register m a) >>= f) (number_in (register q a) >>= g)
-  with_number a small f g next = ap (λ (o : Result ℕ End). o >>= g) (number_as a small) ∙ through (number_in (register m a)) f g next
+      → Same (as_number (register m a) >>= f) (as_number (register q a) >>= g)
+  with_number a small f g next = ap (λ (o : Result ℕ End). o >>= g) (number_as a small) ∙ through (as_number (register m a)) f g next
 
   operand_as : (x : Operand) → is_operand x ≡ true → operand q x ≡ operand m x
   operand_as (operands.Reg r) valid = number_as r (ltb-true r REGISTERS valid)

@@ -8,8 +8,8 @@ use Rattle.heap_state.specs.Configuration.{Configuration, Stands, era, memory, t
 use Rattle.heap_state.specs.Entries.{Entry, row_of}
 use Rattle.heap_state.specs.Ghost.{Ghost}
 use Rattle.heap_state.specs.Worker.{Account, Worker, is_running}
-use Rattle.heap_laws.specs.Fields.Effects.{IsMutator, RegisterHolds}
-use Rattle.heap_laws.specs.Fields.Held.{GoesOn, MayHold, going_on}
+use Rattle.heap_laws.specs.Fields.Effects.{IsLikePlain, RegisterHolds}
+use Rattle.heap_laws.specs.Fields.Held.{MutatorGoesOn, MayHold, going_on}
 use Rattle.heap_laws.specs.Fields.Stores.{IsAs}
 use Rattle.heap_laws.specs.Steps as law
 use Rattle.heap_laws.proofs.Fields.Effects.{mutators_are_shown, registers_hold}
@@ -71,7 +71,7 @@ module _ (c : Configuration) (p : Plain) (s : Stands c p) (k : ℕ) (x : Held) w
     as_running : is_running w.post ≡ true
     as_running = ap (λ (v : Worker). is_running v.post) is.as_known ∙ running
 
-    its : (q : Mutator) → IsMutator (era c) (memory c) (team c) s.ghost p k q → IsIts q
+    its : (q : Mutator) → IsLikePlain (era c) (memory c) (team c) s.ghost p k q → IsIts q
     its q m = record {
       is = m.is;
       no_end = sym m.same.account.end ∙ (ap (λ (v : Worker). v.account.end) is.as_known ∙ unended);
@@ -88,7 +88,7 @@ module _ (c : Configuration) (p : Plain) (s : Stands c p) (k : ℕ) (x : Held) w
         → (y : Value) × (slice_get q.registers j ≡ Some y) × RegisterHolds (era c) s.ghost (slice_index x.registers j) y
     holds q m j small =
         let late = timely (era c) w as_running ((s.invariant.workers k is.below).timely.running) in
-        let own : IsMutator (era c) (memory c) (team c) s.ghost p k q = record { is = m.is; same = subst (λ (v : Worker). IsAs s.ghost p.heap k v q) (sym is.as_known) m.same } in
+        let own : IsLikePlain (era c) (memory c) (team c) s.ghost p k q = record { is = m.is; same = subst (λ (v : Worker). IsAs s.ghost p.heap k v q) (sym is.as_known) m.same } in
         subst (λ (v : Worker). (y : Value) × (slice_get q.registers j ≡ Some y) × RegisterHolds (era c) s.ghost (v.registers j) y) is.as_known
         (registers_hold (era c) (memory c) (team c) s.ghost p k q j (prepared c p s k x is) own (runs w.post as_running).mutator late
         (ap (λ (v : Worker). v.account.end) is.as_known ∙ unended) small)
@@ -99,9 +99,9 @@ module _ (c : Configuration) (p : Plain) (s : Stands c p) (k : ℕ) (x : Held) w
     -- it goes on with another account and other registers, and accesses nothing
     pub going : (account : Account) (registers : ℕ → ℕ) → account.serial ≡ x.account.serial
         → ((j : ℕ) → j < 8 → MayHold (era c) s.ghost.size s.ghost.writer (registers j))
-        → GoesOn (era c) (memory c) s.ghost w (going_on (knows x) account registers None None)
+        → MutatorGoesOn (era c) (memory c) s.ghost w (going_on (knows x) account registers None None)
     going account registers serial held =
-        subst (λ (v : Worker). GoesOn (era c) (memory c) s.ghost w (going_on v account registers None None)) is.as_known
+        subst (λ (v : Worker). MutatorGoesOn (era c) (memory c) s.ghost w (going_on v account registers None None)) is.as_known
         (goes_on_so (era c) (memory c) (team c) s.ghost k account registers None None (prepared c p s k x is)
         (serial ∙ sym (ap (λ (v : Worker). v.account.serial) is.as_known)) (λ f e. absurd (let e = e in cc)) (λ page e. absurd (let e = e in cc)) (λ none j small. held j small))
 

@@ -12,7 +12,7 @@ use Rattle.plain_state.specs.Operation.{applied}
 use Rattle.plain_state.specs.State.{Mutator}
 use Rattle.plain_heap.specs.declared.action.Action.{Action}
 use Rattle.plain_heap.specs.declared.action.Action.TheVariants.{Prints}
-use Rattle.plain_heap.specs.Action.{◌>>=◌, action, allocates, board_place, computes, number_in, operand, reference_in, register}
+use Rattle.plain_heap.specs.Action.{◌>>=◌, action, allocates, board_place, computes, as_number, operand, reference_in, register}
 use Rattle.gc_worker.specs.declared.due.Due.{Due}
 use Rattle.gc_worker.specs.declared.due.Due.TheVariants as dues
 use Rattle.gc_worker.specs.declared.task.Task.{Task}
@@ -29,7 +29,7 @@ no_record_then (Err why) f h = refl
 
 computes_no_record : (operation : Operation) (q : Mutator) (d a b : ℕ) → making_in (computes operation q d a b) ≡ None
 computes_no_record operation q d a b =
-    no_record_then (number_in (register q a)) _ (λ x. no_record_then (number_in (register q b)) _ (λ y. no_record_then (applied operation x y) _ (λ n. refl)))
+    no_record_then (as_number (register q a)) _ (λ x. no_record_then (as_number (register q b)) _ (λ y. no_record_then (applied operation x y) _ (λ n. refl)))
 
 prints_no_record : (n : ℕ) (few : Bool) → making_in (if few then Ok (Prints n) else Err OutputFull) ≡ None
 prints_no_record n true = refl
@@ -55,7 +55,7 @@ made_of q (instrs.Eq d a b) = refl
 made_of q (instrs.Jmp target) = refl
 made_of q (instrs.Jz a target) = refl
 made_of q (instrs.Jal d target) = refl
-made_of q (instrs.Jr a) = no_record_then (number_in (register q a)) _ (λ n. refl)
+made_of q (instrs.Jr a) = no_record_then (as_number (register q a)) _ (λ n. refl)
 made_of q (instrs.New d x) = refl
 made_of q (instrs.Raw d x) = refl
 made_of q (instrs.Ld d a x) = no_record_then (reference_in (register q a)) _ (λ i. no_record_then (operand q x) _ (λ n. refl))
@@ -65,7 +65,7 @@ made_of q (instrs.Isp d a) = refl
 made_of q (instrs.Get d x) = no_record_then (board_place q x) _ (λ n. refl)
 made_of q (instrs.Put x a) = no_record_then (board_place q x) _ (λ n. refl)
 made_of q (instrs.Swap d x) = no_record_then (board_place q x) _ (λ n. refl)
-made_of q (instrs.Out a) = no_record_then (number_in (register q a)) _ (λ n. prints_no_record n (nat_lt (length q.printed) MOST_PRINTED))
+made_of q (instrs.Out a) = no_record_then (as_number (register q a)) _ (λ n. prints_no_record n (nat_lt (length q.printed) MOST_PRINTED))
 made_of q instrs.Halt = refl
 
 -- ---- a worker that makes a record

@@ -54,10 +54,10 @@ use Rattle.gc_worker.specs.declared.task.Task.{Task}
 use Rattle.gc_worker.specs.declared.task.Task.TheVariants.{Calls, Stops}
 use Rattle.gc_worker.specs.Access as access
 use Rattle.gc_worker.specs.Counted.{counted, count_after, CountsAreApart, CountedFit}
-use Rattle.gc_worker.specs.Fits.{Fits, FitsCall, FitsCopy, FitsRound, FitsScan, FitsStage, FitsTask, FitsTaskAfter, FitsTaskBack, FitsTaskBefore, Executes, IsAccessing, IsMaking, MayBegin}
-use Rattle.gc_worker.specs.Held.{Held, asked_by, at_stage, header_for, header_of, making_for, pages_asked}
+use Rattle.gc_worker.specs.Fits.{Fits, FitsCall, FitsCopy, FitsRound, FitsScan, FitsStage, FitsTask, FitsTaskAfter, FitsTaskBack, FitsTaskBefore, ExecutesAction, IsAccessing, IsMaking, MayBegin}
+use Rattle.gc_worker.specs.Held.{Held, pages_needed, at_stage, header_for, header_of, making_for, pages_asked}
 use Rattle.gc_worker.specs.Seen.{Making, making_in, seen}
-use Rattle.gc_worker.specs.Turned.{Told, Silent, acted, begins, end_of, ended, full_by, goes_back, goes_on, is_full, loads, looked_by, of_round, passed_by, passes, places, started, told_access, told_acted, told_at, told_effect, told_end, told_flip, told_full, told_gate, told_place, told_start, turned_access, turned_at, turned_copy, turned_flip, turned_gate, turned_opening, turned_place, turned_register, turned_round, turned_scan, went_on, with_evac, with_record}
+use Rattle.gc_worker.specs.Turned.{Told, Silent, acted, begins, end_by_shortage, ended, full_by, goes_back, goes_on, finds_full, loads, looked_by, of_round, passed_by, passes, places, started, told_access, told_acted, told_at, told_effect, told_end, told_flip, told_full, told_gate, told_place, told_start, turned_access, turned_at, turned_copy, turned_flip, turned_gate, turned_opening, turned_place, turned_register, turned_round, turned_scan, went_on, with_evac, with_record}
 use Rattle.gc_worker.specs.Wanted.{wanted_at}
 use Rattle.gc_worker.proofs.NewRecords.{made, made_is}
 
@@ -111,7 +111,7 @@ module _ (count : ℕ) (x : Held) where
   same_header : header_for y ≡ header_for x
   same_header = ap (λ (m : Option Making). option_and_then (header_of x) m) (same_making x.task)
 
-  same_asked : asked_by y ≡ asked_by x
+  same_asked : pages_needed y ≡ pages_needed x
   same_asked = ap pages_asked same_header
 
   -- ---- where it goes on
@@ -195,14 +195,14 @@ module _ (count : ℕ) (x : Held) where
   accessing a instr is (Finished Stored) = ap (λ (n : ℕ). counted n (went_on x)) (sym (effect_count x.task instr is))
   accessing a instr is (Finished (Fails why)) = ap (λ (n : ℕ). counted n (ended x why)) (sym (end_count x.task why))
 
-  short_of : (s : Shortage) (full : Bool) → cond full (ended y (end_of s)) (counted count (at_stage x (passes x Request afters.Places)))
-      ≡ counted (count_after count (cond full (told_end x.task (end_of s)) Silent)) (cond full (ended x (end_of s)) (at_stage x (passes x Request afters.Places)))
-  short_of s true = ap (λ (n : ℕ). counted n (ended x (end_of s))) (sym (end_count x.task (end_of s)))
+  short_of : (s : Shortage) (full : Bool) → cond full (ended y (end_by_shortage s)) (counted count (at_stage x (passes x Request afters.Places)))
+      ≡ counted (count_after count (cond full (told_end x.task (end_by_shortage s)) Silent)) (cond full (ended x (end_by_shortage s)) (at_stage x (passes x Request afters.Places)))
+  short_of s true = ap (λ (n : ℕ). counted n (ended x (end_by_shortage s))) (sym (end_count x.task (end_by_shortage s)))
   short_of s false = refl
 
   filling : (s : Shortage) (traced : Bool) → full_by y s traced ≡ counted (count_after count (told_full x s traced)) (full_by x s traced)
   filling s false = refl
-  filling s true = short_of s (is_full x)
+  filling s true = short_of s (finds_full x)
 
   placed : (p : place.Placing) (making : IsMaking x.account x.registers x.task) (t : Turn Allocated)
       → turned_place y p t ≡ counted (count_after count (told_place x t)) (turned_place x p t)
@@ -340,7 +340,7 @@ module _ (count : ℕ) (x : Held) where
   calling : (instr : Instr) → FitsCall x.account x.registers instr → FitsCall z.account z.registers instr
   calling instr c = record { valid = c.valid; serial = λ m e. c.serial m (sym (ap making_in (same_acts count x instr)) ∙ e) }
 
-  executing : (act : Action) → Executes x.account x.registers x.task act → Executes z.account z.registers z.task act
+  executing : (act : Action) → ExecutesAction x.account x.registers x.task act → ExecutesAction z.account z.registers z.task act
   executing act e = record { instr = e.instr; task_is = e.task_is; call = calling e.instr e.call; acts = same_acts count x e.instr ∙ e.acts }
 
   making : IsMaking x.account x.registers x.task → IsMaking z.account z.registers z.task

@@ -17,7 +17,7 @@ use Rattle.heap_state.specs.Configuration.{Configuration, Stands, era, memory, t
 use Rattle.heap_state.specs.Entries.{Entry}
 use Rattle.heap_state.specs.Values.{value_of}
 use Rattle.heap_state.specs.Worker.{Account, Worker, is_running}
-use Rattle.heap_laws.specs.Fields.Held.{GoesOn, MayHold, HoldsValue, going_on, with_mutator}
+use Rattle.heap_laws.specs.Fields.Held.{MutatorGoesOn, MayHold, HoldsValue, going_on, with_mutator}
 use Rattle.heap_laws.specs.Fields.Stores.{IsAs}
 use Rattle.heap_laws.specs.Fields.Stores as stores
 use Rattle.heap_laws.proofs.Fields.Laws.{mutators_end}
@@ -50,7 +50,7 @@ module _ (c : Configuration) (p : Plain) (s : Stands c p) (k : ℕ) (x : Held) (
     next_same : next_of x ≡ (q.counter + 1) % NUMBERS
     next_same = ap (λ (n : ℕ). (n + 1) % NUMBERS) its.same.account.counter
 
-    pub moved_goes : GoesOn (era c) (memory c) s.ghost ((team c).worker k) (moved x.registers)
+    pub moved_goes : MutatorGoesOn (era c) (memory c) s.ghost ((team c).worker k) (moved x.registers)
     moved_goes = going c p s k x is running unended counted (λ (j : ℕ). slice_index x.registers j) refl (may_hold c p s k x is running unended)
 
     pub moved_as : IsAs s.ghost p.heap k (moved x.registers) (plain.went_on q)
@@ -70,7 +70,7 @@ module _ (c : Configuration) (p : Plain) (s : Stands c p) (k : ℕ) (x : Held) (
       beside : (j : ℕ) → j ≢ into → slice_index with_it j ≡ slice_index x.registers j
       beside j e = get_or-set_other x.registers into j word 0 e
 
-      pub loaded_goes : GoesOn (era c) (memory c) s.ghost ((team c).worker k) (moved with_it)
+      pub loaded_goes : MutatorGoesOn (era c) (memory c) s.ghost ((team c).worker k) (moved with_it)
       loaded_goes = going c p s k x is running unended counted (λ (j : ℕ). slice_index with_it j) refl (λ j l. ⊎_elim
           (λ (e : j ≡ into). subst (MayHold (era c) s.ghost.size s.ghost.writer) (sym (at_it j e)) holds.held)
           (λ (e : j ≢ into). subst (MayHold (era c) s.ghost.size s.ghost.writer) (sym (beside j e)) (may_hold c p s k x is running unended j l))

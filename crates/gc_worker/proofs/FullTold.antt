@@ -17,11 +17,11 @@ use Rattle.gc_worker.specs.declared.task.Task.TheVariants.{Calls}
 use Rattle.gc_worker.specs.Fits.{Fits}
 use Rattle.gc_worker.specs.Full.{FindsNoRoom}
 use Rattle.gc_worker.specs.FullTold.{FullIsTold, TellsFull, found_traced}
-use Rattle.gc_worker.specs.Held.{Held, at_stage, asked_by, pages_asked}
+use Rattle.gc_worker.specs.Held.{Held, at_stage, pages_needed, pages_asked}
 use Rattle.gc_worker.specs.declared.did.Did.TheVariants.{Trap}
-use Rattle.gc_worker.specs.Turned.{Silent, Answers, is_full, end_of, told_end, told_place}
+use Rattle.gc_worker.specs.Turned.{Silent, Answers, finds_full, end_by_shortage, told_end, told_place}
 
-module _ (n mutators k : ℕ) (words : List ℕ) (x : Held) (z : Placing) (room live : ℕ) (f : Fits n mutators k (at_stage x (found_traced z))) (finds : FindsNoRoom n words x (asked_by x) room live) where
+module _ (n mutators k : ℕ) (words : List ℕ) (x : Held) (z : Placing) (room live : ℕ) (f : Fits n mutators k (at_stage x (found_traced z))) (finds : FindsNoRoom n words x (pages_needed x) room live) where
   abbrev word : ℕ
   word = word_in n words (Area (to_space x.epoch))
 
@@ -31,7 +31,7 @@ module _ (n mutators k : ℕ) (words : List ℕ) (x : Held) (z : Placing) (room 
   abbrev placing : PlaceStage → Placing
   placing stage = record z { stage = stage }
 
-  asked : asked_by x ≡ pages_for (size_of z.header)
+  asked : pages_needed x ≡ pages_for (size_of z.header)
   asked = ap pages_asked f.task.1
 
   short : fits true (words_for z.header) area ≡ false
@@ -42,13 +42,13 @@ module _ (n mutators k : ℕ) (words : List ℕ) (x : Held) (z : Placing) (room 
       ap (looked_at_area (placing (LoadsArea true)) true) finds.area_is
       ∙ ap (λ (b : Bool). cond b (ExchangesArea (record { traced = true; area = area })) (Ended (Full (shortage true z.header area)))) short
 
-  full : is_full x ≡ true
+  full : finds_full x ≡ true
   full = ⊎_elim
       (λ (flipped : x.begun < x.epoch). or_left (nat_lt x.begun x.epoch) (x.epoch == 2 ^ 32 - 1) (lt-ltb x.begun x.epoch flipped))
       (λ (last : x.epoch ≡ 2 ^ 32 - 1). or_right (nat_lt x.begun x.epoch) (x.epoch == 2 ^ 32 - 1) (eq-eqb x.epoch (2 ^ 32 - 1) last))
       finds.no_flip
 
-  numbers : end_of (shortage true z.header area) ≡ HeapFull (asked_by x) room live
+  numbers : end_by_shortage (shortage true z.header area) ≡ HeapFull (pages_needed x) room live
   numbers =
       let r : area.low - area.front ≡ room = let e = finds.room_is in omega (arith, e) in
       λ i. HeapFull (sym asked i) (r i) (finds.live_is i)
@@ -59,8 +59,8 @@ module _ (n mutators k : ℕ) (words : List ℕ) (x : Held) (z : Placing) (room 
     is = f.task.0.executes.task_is;
     tells =
         ap (λ (stage : PlaceStage). told_place (at_stage x (found_traced z)) (place.told (placing stage))) reads
-        ∙ (ap (λ (b : Bool). cond b (told_end x.task (end_of (shortage true z.header area))) Silent) full
-        ∙ (ap (λ (t : Option Task). told_end t (end_of (shortage true z.header area))) f.task.0.executes.task_is
+        ∙ (ap (λ (b : Bool). cond b (told_end x.task (end_by_shortage (shortage true z.header area))) Silent) full
+        ∙ (ap (λ (t : Option Task). told_end t (end_by_shortage (shortage true z.header area))) f.task.0.executes.task_is
         ∙ ap (λ end. Answers (Calls f.task.0.executes.instr) (Trap end)) numbers));
   }
 

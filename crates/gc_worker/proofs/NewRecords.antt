@@ -21,7 +21,7 @@ use Rattle.record_layout.proofs.Rereading.{header_in-header_says}
 use Rattle.alloc_end.specs.Place.{size_of, pages_for}
 use Rattle.heap_state.specs.Ghost.{header_kind}
 use Rattle.gc_worker.specs.Fits.{Fits, IsMaking}
-use Rattle.gc_worker.specs.Held.{Held, making_for, header_of, header_for, pages_asked, asked_by}
+use Rattle.gc_worker.specs.Held.{Held, making_for, header_of, header_for, pages_asked, pages_needed}
 use Rattle.gc_worker.specs.Seen.{Making, making_in, seen}
 
 -- ---- no record is too long
@@ -89,7 +89,7 @@ module _ (x : Held) (making : IsMaking x.account x.registers x.task) where
   header_is = ap (option_and_then (header_of x)) made_is ∙ header_in-header_says header_made
 
   -- the pages that it needs
-  pub asked_is : asked_by x ≡ pages_for (size_of header_made)
+  pub asked_is : pages_needed x ≡ pages_for (size_of header_made)
   asked_is = ap pages_asked header_is
 
   -- they are those of the plain machine's record

@@ -22,19 +22,19 @@ use Rattle.fault_duty.specs.declared.duty_stage.DutyStage.TheVariants.{Claims}
 use Rattle.fault_duty.specs.Duty.{Round}
 use Rattle.fault_duty.specs.Soundness.{IsOwnClaim}
 use Rattle.heap_state.specs.Configuration.{Configuration, team}
-use Rattle.heap_state.specs.Table.{page_said, word_in}
+use Rattle.heap_state.specs.Table.{page_in, word_in}
 use Rattle.heap_state.specs.Worker.{Worker}
 use Rattle.heap_state.proofs.Puts.{none≢some}
 use Rattle.heap_state.proofs.Table.Places.{word_in-row}
 use Rattle.gc_worker.specs.declared.back.Back.{Back}
 use Rattle.gc_worker.specs.declared.stage.Stage.{Stage}
 use Rattle.gc_worker.specs.declared.stage.Stage.TheVariants.{Serves}
-use Rattle.gc_worker.specs.Claims.{epoch_in}
+use Rattle.gc_worker.specs.Claims.{epoch_of_heap}
 use Rattle.gc_worker.specs.Goes.{Is}
 use Rattle.gc_worker.specs.Held.{Held, at_stage}
 use Rattle.gc_worker.specs.Knows.{claim_with, looked_all}
 use Rattle.gc_worker.specs.Law.{Heap, IsOut, read, WorkersStand, age, held_at}
-use Rattle.gc_worker.specs.Past.{LosesPage, LosesTraced, PastClaimsAreLost, PastMarksAreLost, PagesAreWonNow, claims_next, traces_next}
+use Rattle.gc_worker.specs.Past.{LosesPage, LosesTraced, PastClaimsAreLost, PastMarksAreLost, PagesAreWonNow, exchanges_next, traces_next}
 use Rattle.gc_worker.specs.Turned.{PageWon, won, won_at, won_by, won_in}
 use Rattle.gc_worker.specs.Wanted.{wanted}
 use Rattle.gc_worker.proofs.Between.Claims.{of_now}
@@ -58,7 +58,7 @@ other_word n m words row old new pages is other =
 -- the word of a page that says this has its age
 age_as : (n : ℕ) (words : List ℕ) (page : ℕ) (says : PageWord) → PageFits says → word_in n words (Page page) ≡ encode_page says → age n words page ≡ age_of says
 age_as n words page says fits same =
-    ap (λ (w : ℕ). age_of (page_said w)) same ∙ ap (λ o. age_of (unwrap_or o Unset)) (decode_page-encode_page says fits)
+    ap (λ (w : ℕ). age_of (page_in w)) same ∙ ap (λ o. age_of (unwrap_or o Unset)) (decode_page-encode_page says fits)
 
 -- the two exchanges
 abbrev claims_page : Claiming → Step
@@ -69,13 +69,13 @@ marks_traced d found = Exchange (place_of d.layout.pages Traced) found (d.epoch 
 
 -- ---- the rounds
 
-module _ (h : Heap) (p o : Plain) (k : ℕ) (st : WorkersStand h p o) (y : Held) (d : Round) (back : Back) (past : d.epoch < epoch_in h) where
+module _ (h : Heap) (p o : Plain) (k : ℕ) (st : WorkersStand h p o) (y : Held) (d : Round) (back : Back) (past : d.epoch < epoch_of_heap h) where
   abbrev c : Configuration
   c = read h
 
   -- a claim
-  module _ (q : Claiming) (is : Is c k (at_stage y (Serves (claims_next d q) back))) where
-    own : IsOwnClaim (claims_next d q) (record q { stage = Exchanges })
+  module _ (q : Claiming) (is : Is c k (at_stage y (Serves (exchanges_next d q) back))) where
+    own : IsOwnClaim (exchanges_next d q) (record q { stage = Exchanges })
     own = is.fits.stage.0.sound.stage
 
     pages : q.layout.pages ≡ h.pages
@@ -99,7 +99,7 @@ module _ (h : Heap) (p o : Plain) (k : ℕ) (st : WorkersStand h p o) (y : Held)
         let l = out.epoch in
         omega (arith, a, earlier, e, l)
 
-    loses_page : LosesPage h (at_stage y (Serves (claims_next d q) back)) d back q (claims_page q)
+    loses_page : LosesPage h (at_stage y (Serves (exchanges_next d q) back)) d back q (claims_page q)
     loses_page =
         let l = other_word h.pages q.layout.pages h.words (Page q.page) (encode_page q.found) (encode_page (Scanning q.epoch q.worker)) pages out.page other in
         record { out = out; lost = record { reply = l.reply; unchanged = l.unchanged; none = refl; silent = refl; ends = refl; goes_back = refl } }
@@ -127,7 +127,7 @@ module _ (h : Heap) (p o : Plain) (k : ℕ) (st : WorkersStand h p o) (y : Held)
 
 pub past_claims_are_lost : PastClaimsAreLost
 past_claims_are_lost h p o k x d back c q st below holds staged past asked =
-    let own : x ≡ at_stage x (Serves (claims_next d c) back) = ap (at_stage x) staged in
+    let own : x ≡ at_stage x (Serves (exchanges_next d c) back) = ap (at_stage x) staged in
     let lost = loses_page h p o k st x d back past c (subst (Is (read h) k) own (member h p o k x st below holds)) in
     subst (LosesPage h x d back c) (same_Some (claims_page c) q (ap wanted (sym own) ∙ asked)) (subst (λ (z : Held). LosesPage h z d back c (claims_page c)) (sym own) lost)
 
@@ -144,7 +144,7 @@ record Claimant (x : Held) (w : PageWon) : Type 0 where
   d : Round
   back : Back
   claim : Claiming
-  staged : x.stage ≡ Serves (claims_next d claim) back
+  staged : x.stage ≡ Serves (exchanges_next d claim) back
   epoch : claim.epoch ≡ w.epoch
 
 -- who wins a page is at the exchange of a claim
@@ -167,22 +167,22 @@ module _ (h : Heap) (p o : Plain) (k : ℕ) (x : Held) (q : Step) (w : PageWon) 
   by : Claimant x w
   by = wins_at x x.stage (reply_of q h.words) w refl wins
 
-  is : Is (read h) k (at_stage x (Serves (claims_next by.d by.claim) by.back))
+  is : Is (read h) k (at_stage x (Serves (exchanges_next by.d by.claim) by.back))
   is = subst (Is (read h) k) (ap (at_stage x) by.staged) (member h p o k x st below holds)
 
-  not_past : by.d.epoch < epoch_in h → ⊥
+  not_past : by.d.epoch < epoch_of_heap h → ⊥
   not_past past =
       let l = (past_claims_are_lost h p o k x by.d by.back by.claim q st below holds by.staged past asked).lost in
       none≢some (sym l.none ∙ (ap (won x) (sym l.reply) ∙ wins))
 
-  won_now : w.epoch ≡ epoch_in h
+  won_now : w.epoch ≡ epoch_of_heap h
   won_now =
       let e : ((team (read h)).worker k).epoch ≡ by.d.epoch = ap (λ (v : Worker). v.epoch) is.as_known in
       let timely = (st.stands.invariant.workers k is.below).timely.past in
       let own = is.fits.stage.0.sound.stage.epoch in
       let same = by.epoch in
       let now = of_now h p o st in
-      ⊎_elim (λ (past : by.d.epoch < epoch_in h). absurd (not_past past)) (λ (later : epoch_in h ≤ by.d.epoch). omega (arith, e, timely, own, same, now, later)) (cases_lt by.d.epoch (epoch_in h))
+      ⊎_elim (λ (past : by.d.epoch < epoch_of_heap h). absurd (not_past past)) (λ (later : epoch_of_heap h ≤ by.d.epoch). omega (arith, e, timely, own, same, now, later)) (cases_lt by.d.epoch (epoch_of_heap h))
 
 pub pages_are_won_now : PagesAreWonNow
 pages_are_won_now h p o k x q w st below holds asked wins = won_now h p o k x q w st below holds asked wins

@@ -38,7 +38,7 @@ use Rattle.gc_worker.specs.Goes.{Is}
 use Rattle.gc_worker.specs.Held.{Held}
 use Rattle.gc_worker.specs.Knows.{post_in}
 use Rattle.gc_worker.specs.Seen.{IsValueWord, IsValueAs, seen, seen_as, value_seen, word_for}
-use Rattle.gc_worker.proofs.Alike.{plain_value, plain_outcome, AreAlike, acts_alike}
+use Rattle.gc_worker.proofs.Alike.{plain_value, plain_outcome, AreAlikeBy, acts_alike}
 use Rattle.gc_worker.proofs.Answering.{IsIts, holds}
 use Rattle.gc_worker.proofs.Reading.{word_of_value_seen}
 use Rattle.gc_worker.proofs.Steps.{prepared}
@@ -158,7 +158,7 @@ module _ (c : Configuration) (p : Plain) (s : Stands c p) (k : ℕ) (x : Held) (
     same_plain : (a b : ℕ) → a < REGISTERS → b < REGISTERS → register sight a ≡ register sight b → register q a ≡ register q b
     same_plain a b small_a small_b e = values a small_a ∙ (ap (plain_value identity) e ∙ sym (values b small_b))
 
-    pub are_alike : AreAlike identity sight q
+    pub are_alike : AreAlikeBy identity sight q
     are_alike = record {
       values = values;
       same = λ a b small_a small_b. both_or_none (are_same (register q a) (register q b)) (are_same (register sight a) (register sight b))

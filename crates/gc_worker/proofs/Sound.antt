@@ -7,7 +7,7 @@ use Rattle.gc_worker.specs.declared.task.Task.{Task}
 use Rattle.gc_worker.specs.Between.{IsIdle, fresh_mutator, fresh_scanner, with_task}
 use Rattle.gc_worker.specs.Fits.{MayBegin}
 use Rattle.gc_worker.specs.Held.{Held}
-use Rattle.gc_worker.specs.Made.{AllowsStep, MayMake, made, made_by}
+use Rattle.gc_worker.specs.Made.{AllowsStep, MayMake, step_made, step_made_by}
 use Rattle.gc_worker.specs.Stepped.{IsSound, uncounted}
 use Rattle.gc_worker.specs.Wanted.{wanted}
 use Rattle.gc_worker.proofs.Between.Beginning.{tasks_may_begin}
@@ -28,9 +28,9 @@ begun_are_sound x y task is sound idle may =
 pub uncounted_are_sound : (x y : Held) → y ≡ uncounted x → IsSound x → IsSound y
 uncounted_are_sound x y is sound = subst IsSound (sym is) ((counted_fit x.layout.pages x.mutators x.number 0 x).1 sound)
 
-pub made_are_sound : (x y : Held) (words : List ℕ) → y ≡ uncounted (made x words).held → IsSound x → MayMake x words → IsSound y
-made_are_sound x y words is sound may = uncounted_are_sound (made x words).held y is (by_step (wanted x) may)
+pub made_are_sound : (x y : Held) (words : List ℕ) → y ≡ uncounted (step_made x words).held → IsSound x → MayMake x words → IsSound y
+made_are_sound x y words is sound may = uncounted_are_sound (step_made x words).held y is (by_step (wanted x) may)
   where
-    by_step : (step : Option Step) → AllowsStep x words step → IsSound (made_by x words step).held
+    by_step : (step : Option Step) → AllowsStep x words step → IsSound (step_made_by x words step).held
     by_step None may = sound
     by_step (Some q) may = may.fits

@@ -23,7 +23,7 @@ use Rattle.heap_laws.proofs.Steps.Composing.{steps_forget}
 use Rattle.heap_state.proofs.Table.Places.{word_in-row}
 use Rattle.heap_state.proofs.Table.Stores.{entry_has_row}
 use Rattle.gc_worker.specs.Fits.{Fits, Takes}
-use Rattle.gc_worker.specs.Goes.{Is, Goes, Steps, Wins}
+use Rattle.gc_worker.specs.Goes.{Is, Goes, StepsInTable, Wins}
 use Rattle.gc_worker.specs.Held.{Held}
 use Rattle.gc_worker.specs.Knows.{knows}
 use Rattle.gc_worker.specs.Turned.{Silent, PageWon, turned, told, won}
@@ -64,10 +64,10 @@ module _ (c : Configuration) (p : Plain) (s : Stands c p) (k : ℕ) (x : Held) w
   reads : (row : Row) → IsRow c.pages row → slice_index c.words (place_of c.pages row) ≡ word_in c.pages c.words row
   reads row is = sym (word_in-row c.pages c.words row is)
 
-  pub loads : (row : Row) → IsRow c.pages row → Goes c p s k None x (Value (word_in c.pages c.words row)) → Steps c p s k x (Load (place_of c.pages row))
+  pub loads : (row : Row) → IsRow c.pages row → Goes c p s k None x (Value (word_in c.pages c.words row)) → StepsInTable c p s k x (Load (place_of c.pages row))
   loads row is g = record { place = in_table row is; entry = None; writes = refl; goes = rw (reads row is) g }
 
-  pub stores : (e : Entry) → IsRow c.pages (row_of e) → Goes c p s k (Some e) x Done → Steps c p s k x (Store (place_of c.pages (row_of e)) (word_of e))
+  pub stores : (e : Entry) → IsRow c.pages (row_of e) → Goes c p s k (Some e) x Done → StepsInTable c p s k x (Store (place_of c.pages (row_of e)) (word_of e))
   stores e is g = record { place = in_table (row_of e) is; entry = Some e; writes = refl; goes = g }
 
   module _ (e : Entry) (old : ℕ) (is : IsRow c.pages (row_of e)) where
@@ -78,7 +78,7 @@ module _ (c : Configuration) (p : Plain) (s : Stands c p) (k : ℕ) (x : Held) w
     at = reads (row_of e) is
 
     abbrev Exchanges : Type 0
-    Exchanges = Steps c p s k x (Exchange (place_of c.pages (row_of e)) old (word_of e))
+    Exchanges = StepsInTable c p s k x (Exchange (place_of c.pages (row_of e)) old (word_of e))
 
     by_won : (slice_index c.words (place_of c.pages (row_of e)) == old) ≡ true → Goes c p s k (Some e) x Won → Exchanges
     by_won test g = record { place = in_table (row_of e) is; entry = Some e; writes = rw test refl; goes = rw test g }

@@ -17,7 +17,7 @@ use Rattle.mutator_asm.specs.declared.operand.Operand.{Operand}
 use Rattle.mutator_asm.specs.Program.{is_valid, is_register, is_operand}
 use Rattle.plain_heap.specs.declared.action.Action.{Action}
 use Rattle.plain_heap.specs.declared.action.Action.TheVariants.{Sets, Links, Makes, Measures, Loads, Gets, Swaps}
-use Rattle.plain_heap.specs.Action.{register, number_in, reference_in, operand, length_of, board_place, computes, allocates, prints, action}
+use Rattle.plain_heap.specs.Action.{register, as_number, reference_in, operand, length_of, board_place, computes, allocates, prints, action}
 use Rattle.plain_heap.proofs.Outcomes.{if_ok-bind}
 
 -- where it writes one
@@ -43,7 +43,7 @@ first_of_three d a b valid = first d (is_register a) (and_parts (is_register d &
 module _ (q : Mutator) where
   computed : (operation : Operation) (d a b : ℕ) → d < REGISTERS → Writes (computes operation q d a b)
   computed operation d a b small =
-      if_ok-bind WritesRegister (number_in (register q a)) _ (λ x. if_ok-bind WritesRegister (number_in (register q b)) _ (λ y. if_ok-bind WritesRegister (applied operation x y) _ (λ n. small)))
+      if_ok-bind WritesRegister (as_number (register q a)) _ (λ x. if_ok-bind WritesRegister (as_number (register q b)) _ (λ y. if_ok-bind WritesRegister (applied operation x y) _ (λ n. small)))
 
   allocated : (kind : Kind) (d : ℕ) (x : Operand) → d < REGISTERS → Writes (allocates q kind d x)
   allocated kind d x small = if_ok-bind WritesRegister (operand q x) _ (λ y. if_ok-bind WritesRegister (length_of y) _ (λ n. small))
@@ -66,7 +66,7 @@ module _ (q : Mutator) where
   writes_register (instrs.Jmp target) valid = tt
   writes_register (instrs.Jz a target) valid = tt
   writes_register (instrs.Jal d target) valid = first d _ valid
-  writes_register (instrs.Jr a) valid = if_ok-bind WritesRegister (number_in (register q a)) _ (λ n. tt)
+  writes_register (instrs.Jr a) valid = if_ok-bind WritesRegister (as_number (register q a)) _ (λ n. tt)
   writes_register (instrs.New d x) valid = allocated Fields d x (first d _ valid)
   writes_register (instrs.Raw d x) valid = allocated Raw d x (first d _ valid)
   writes_register (instrs.Ld d a x) valid = if_ok-bind WritesRegister (reference_in (register q a)) _ (λ i. if_ok-bind WritesRegister (operand q x) _ (λ y. first_of_three d a (is_operand x) valid))
@@ -76,5 +76,5 @@ module _ (q : Mutator) where
   writes_register (instrs.Get d x) valid = if_ok-bind WritesRegister (board_place q x) _ (λ y. first d _ valid)
   writes_register (instrs.Put x a) valid = if_ok-bind WritesRegister (board_place q x) _ (λ y. tt)
   writes_register (instrs.Swap d x) valid = if_ok-bind WritesRegister (board_place q x) _ (λ y. first d _ valid)
-  writes_register (instrs.Out a) valid = if_ok-bind WritesRegister (number_in (register q a)) _ (λ n. printed n (nat_lt (length q.printed) MOST_PRINTED) refl)
+  writes_register (instrs.Out a) valid = if_ok-bind WritesRegister (as_number (register q a)) _ (λ n. printed n (nat_lt (length q.printed) MOST_PRINTED) refl)
   writes_register instrs.Halt valid = tt

@@ -16,7 +16,7 @@ use Rattle.mutator_asm.specs.declared.operand.Operand.{Operand}
 use Rattle.mutator_asm.specs.declared.operand.Operand.TheVariants as operands
 use Rattle.plain_heap.specs.declared.action.Action.{Action}
 use Rattle.plain_heap.specs.declared.action.Action.TheVariants.{Makes}
-use Rattle.plain_heap.specs.Action.{◌>>=◌, action, allocates, length_of, operand, register, number_in}
+use Rattle.plain_heap.specs.Action.{◌>>=◌, action, allocates, length_of, operand, register, as_number}
 use Rattle.heap_state.specs.Worker.{Account}
 use Rattle.gc_worker.proofs.Asking.{makes_of, made_of}
 use Rattle.gc_worker.specs.declared.after.After.{After}
@@ -57,13 +57,13 @@ module _ (account : Account) (registers : List ℕ) (r a b : ℕ) (new : ℕ) (i
   seen_at : (rs : List ℕ) (i : ℕ) → i < length rs → register (seen account rs) i ≡ value_seen (slice_index rs i)
   seen_at rs i l = get_or-map value_seen rs i 0 (Number 0) l
 
-  number_same : (i : ℕ) → number_in (register after i) ≡ number_in (register before i)
+  number_same : (i : ℕ) → as_number (register after i) ≡ as_number (register before i)
   number_same i = ⊎_elim
       (λ (e : i ≡ r). let rs = slice_set registers r new in let n = length-set registers r new in
-      ap number_in (ap (register after) e ∙ (seen_at rs r (omega (arith, n, inside)) ∙ ap value_seen (get_or-set_same registers r new 0 inside))) ∙ ap (λ d. number_in (seen_as d)) now
-      ∙ sym (ap number_in (ap (register before) e ∙ seen_at registers r inside) ∙ ap (λ d. number_in (seen_as d)) was))
-      (λ (other : i ≢ r). ap (λ values. number_in (slice_index_or values i (Number 0))) (map-set value_seen registers r new)
-      ∙ ap number_in (get_or-set_other (map value_seen registers) r i (value_seen new) (Number 0) other))
+      ap as_number (ap (register after) e ∙ (seen_at rs r (omega (arith, n, inside)) ∙ ap value_seen (get_or-set_same registers r new 0 inside))) ∙ ap (λ d. as_number (seen_as d)) now
+      ∙ sym (ap as_number (ap (register before) e ∙ seen_at registers r inside) ∙ ap (λ d. as_number (seen_as d)) was))
+      (λ (other : i ≢ r). ap (λ values. as_number (slice_index_or values i (Number 0))) (map-set value_seen registers r new)
+      ∙ ap as_number (get_or-set_other (map value_seen registers) r i (value_seen new) (Number 0) other))
       (cases_eq i r)
 
   operand_same : (x : Operand) → operand after x ≡ operand before x

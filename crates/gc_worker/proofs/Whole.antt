@@ -17,17 +17,17 @@ use Rattle.heap_state.specs.Cycle.{Cycle}
 use Rattle.heap_state.specs.Entries.{Entry, GateIs}
 use Rattle.space_map.specs.PageWord.{age_of}
 use Rattle.heap_state.specs.Ghost.{Ghost}
-use Rattle.heap_laws.specs.Lifting.{StandsWith, stepped, Leaves, Flipped}
+use Rattle.heap_laws.specs.Lifting.{StandsWith, configuration_after, LeavesConfiguration, Flipped}
 use Rattle.gc_worker.specs.declared.after.After.{After}
 use Rattle.gc_worker.specs.declared.stage.Stage.{Stage}
 use Rattle.gc_worker.specs.declared.stage.Stage.TheVariants.{Looks, Passes, Flips, Forwards, Accesses, Places, Serves, Scans, Evacuates, Opens, Gone}
 use Rattle.gc_worker.specs.Answer.{after_told}
 use Rattle.gc_worker.specs.Fits.{Fits}
-use Rattle.gc_worker.specs.Goes.{Is, Leads, Steps, StepsSo, Wins, FlipIsOwn}
+use Rattle.gc_worker.specs.Goes.{Is, LeavesToPlain, StepsInTable, StepsSo, Wins, FlipIsOwn}
 use Rattle.gc_worker.specs.Held.{Held, at_stage}
 use Rattle.gc_worker.specs.Knows.{knows}
 use Rattle.gc_worker.specs.Law.{Heap, read, nobody, held_at, WorkersStand, moved, at_flip, epoch_of, age, WinsOne, FlipsOnce, FlipsWhereTold, StepKeeps, StepsKeep}
-use Rattle.gc_worker.specs.Turned.{Told, Silent, Answers, Marks, PageWon, epoch_in, turned, told, won}
+use Rattle.gc_worker.specs.Turned.{Told, Silent, Answers, Marks, PageWon, epoch_in_gate, turned, told, won}
 use Rattle.gc_worker.specs.Wanted.{wanted}
 use Rattle.gc_worker.proofs.Gate.Exchanging.{exchanges_gate}
 use Rattle.gc_worker.proofs.Look.Looking.{looks}
@@ -117,13 +117,13 @@ module _ (h : Heap) (p o : Plain) (k : ℕ) (x : Held) (q : Step) (st : WorkersS
       (λ (d : j ≢ k). subst (λ (z : Held). Fits h.pages h.mutators j z) (sym (get_or-set_other h.workers k j y nobody d)) (st.fit j (let n = length-set h.workers k y in omega (arith, n, below))))
       (cases_eq j k)
 
-  module _ (steps : Steps (read h) p st.stands k x q) where
+  module _ (steps : StepsInTable (read h) p st.stands k x q) where
     -- the configuration after the step, as the heap then is
-    after : stepped (read h) steps.entry k (knows y) ≡ read (moved h k x q)
+    after : configuration_after (read h) steps.entry k (knows y) ≡ read (moved h k x q)
     after = let w = sym steps.writes in λ i. record { pages = h.pages; words = w i; mutators = h.mutators; workers = sym (map-set knows h.workers k y) i }
 
     abbrev later : Configuration
-    later = stepped (read h) steps.entry k (knows y)
+    later = configuration_after (read h) steps.entry k (knows y)
 
     -- a configuration that stands, and its cycle, are the heap's
     comes : (h' : Ghost) (p' o' : Plain) (w : StandsWith later p' h') → Cycle (era later) (memory later) (team later) h' o' → WorkersStand (moved h k x q) p' o'
@@ -135,34 +135,34 @@ module _ (h : Heap) (p o : Plain) (k : ℕ) (x : Held) (q : Step) (st : WorkersS
         record { stands = now.0; cycle = now.1; fit = all_fit steps.goes.fits }
 
     -- a step that is no flip leaves it so for this plain state
-    stays : (p' : Plain) (e : Option Entry) → steps.entry ≡ e → (g : Ghost) → Leaves (read h) e k (knows y) p' st.stands.ghost g → WorkersStand (moved h k x q) p' o
+    stays : (p' : Plain) (e : Option Entry) → steps.entry ≡ e → (g : Ghost) → LeavesConfiguration (read h) e k (knows y) p' st.stands.ghost g → WorkersStand (moved h k x q) p' o
     stays p' e same g leads =
-        let ours : Leaves (read h) steps.entry k (knows y) p' st.stands.ghost g = subst (λ (f : Option Entry). Leaves (read h) f k (knows y) p' st.stands.ghost g) (sym same) leads in
+        let ours : LeavesConfiguration (read h) steps.entry k (knows y) p' st.stands.ghost g = subst (λ (f : Option Entry). LeavesConfiguration (read h) f k (knows y) p' st.stands.ghost g) (sym same) leads in
         comes g p' o ours.standing (ours.cycle o st.cycle)
 
     -- by what it is to the plain machine
-    stands_by : (t : Told) (e : Option Entry) → steps.entry ≡ e → (g : Ghost) → Leads (read h) p st.stands.ghost k e y g t
+    stands_by : (t : Told) (e : Option Entry) → steps.entry ≡ e → (g : Ghost) → LeavesToPlain (read h) p st.stands.ghost k e y g t
         → WorkersStand (moved h k x q) (after_told p k t) (at_flip p o t)
     stands_by Silent e same g leads = stays p e same g leads
     stands_by (Answers task outcome) e same g leads = stays (after_told p k (Answers task outcome)) e same g leads
     stands_by (Marks asked) (Some (GateIs gate)) same g leads =
         let ours : Flipped (read h) gate k (knows y) p g = leads in
-        let cfg = ap (λ (f : Option Entry). stepped (read h) f k (knows y)) (sym same) in
+        let cfg = ap (λ (f : Option Entry). configuration_after (read h) f k (knows y)) (sym same) in
         comes g p p (subst (λ (d : Configuration). StandsWith d p g) cfg ours.standing) (subst (λ (d : Configuration). Cycle (era d) (memory d) (team d) g p) cfg ours.begins)
     stands_by (Marks asked) _ same g leads = absurd leads
 
     -- no page word's epoch falls
-    ages_by : (t : Told) (e : Option Entry) → steps.entry ≡ e → (g : Ghost) → Leads (read h) p st.stands.ghost k e y g t
+    ages_by : (t : Told) (e : Option Entry) → steps.entry ≡ e → (g : Ghost) → LeavesToPlain (read h) p st.stands.ghost k e y g t
         → (page : ℕ) → age_of ((table (read h)).page page) ≤ age_of ((table later).page page)
     ages_by Silent e same g leads page =
-        (subst (λ (f : Option Entry). Leaves (read h) f k (knows y) p st.stands.ghost g) (sym same) leads).ages page
+        (subst (λ (f : Option Entry). LeavesConfiguration (read h) f k (knows y) p st.stands.ghost g) (sym same) leads).ages page
     ages_by (Marks asked) (Some (GateIs gate)) same g leads page =
         let ours : Flipped (read h) gate k (knows y) p g = leads in
-        let kept : (table later).page ≡ (table (read h)).page = ap (λ (f : Option Entry). (table (stepped (read h) f k (knows y))).page) same ∙ ours.pages in
+        let kept : (table later).page ≡ (table (read h)).page = ap (λ (f : Option Entry). (table (configuration_after (read h) f k (knows y))).page) same ∙ ours.pages in
         rw kept (omega arith)
     ages_by (Marks asked) _ same g leads page = absurd leads
     ages_by (Answers task outcome) e same g leads page =
-        (subst (λ (f : Option Entry). Leaves (read h) f k (knows y) (after_told p k (Answers task outcome)) st.stands.ghost g) (sym same) leads).ages page
+        (subst (λ (f : Option Entry). LeavesConfiguration (read h) f k (knows y) (after_told p k (Answers task outcome)) st.stands.ghost g) (sym same) leads).ages page
 
     aged : (page : ℕ) → age_of ((table later).page page) ≡ age h.pages (words_after q h.words) page
     aged page = ap (λ (d : Configuration). age_of ((table d).page page)) after ∙ page_age (read (moved h k x q)) page
@@ -179,21 +179,21 @@ module _ (h : Heap) (p o : Plain) (k : ℕ) (x : Held) (q : Step) (st : WorkersS
     now = (table (read h)).gate.epoch
 
     epoch_is : epoch_of h.pages h.words ≡ now
-    epoch_is = ap (epoch_in 0) (gate_says (read h) p st.stands)
+    epoch_is = ap (epoch_in_gate 0) (gate_says (read h) p st.stands)
 
     epoch_after : (p' o' : Plain) → WorkersStand (moved h k x q) p' o' → epoch_of h.pages (words_after q h.words) ≡ (table later).gate.epoch
-    epoch_after p' o' w = ap (epoch_in 0) (gate_says (read (moved h k x q)) p' w.stands) ∙ ap (λ (d : Configuration). (table d).gate.epoch) (sym after)
+    epoch_after p' o' w = ap (epoch_in_gate 0) (gate_says (read (moved h k x q)) p' w.stands) ∙ ap (λ (d : Configuration). (table d).gate.epoch) (sym after)
 
-    same_epoch : (p' o' : Plain) → WorkersStand (moved h k x q) p' o' → (e : Option Entry) → steps.entry ≡ e → (g : Ghost) → Leaves (read h) e k (knows y) p' st.stands.ghost g
+    same_epoch : (p' o' : Plain) → WorkersStand (moved h k x q) p' o' → (e : Option Entry) → steps.entry ≡ e → (g : Ghost) → LeavesConfiguration (read h) e k (knows y) p' st.stands.ghost g
         → epoch_of h.pages (words_after q h.words) ≡ epoch_of h.pages h.words
     same_epoch p' o' w e same g leads =
-        epoch_after p' o' w ∙ ((subst (λ (f : Option Entry). Leaves (read h) f k (knows y) p' st.stands.ghost g) (sym same) leads).epoch ∙ sym epoch_is)
+        epoch_after p' o' w ∙ ((subst (λ (f : Option Entry). LeavesConfiguration (read h) f k (knows y) p' st.stands.ghost g) (sym same) leads).epoch ∙ sym epoch_is)
 
-    next_epoch : (asked : ℕ) (p' o' : Plain) → FlipIsOwn (read h) x (Marks asked) → WorkersStand (moved h k x q) p' o' → (e : Option Entry) → steps.entry ≡ e → (g : Ghost) → Leads (read h) p st.stands.ghost k e y g (Marks asked)
+    next_epoch : (asked : ℕ) (p' o' : Plain) → FlipIsOwn (read h) x (Marks asked) → WorkersStand (moved h k x q) p' o' → (e : Option Entry) → steps.entry ≡ e → (g : Ghost) → LeavesToPlain (read h) p st.stands.ghost k e y g (Marks asked)
         → FlipsOnce h.pages h.words (words_after q h.words) x asked
     next_epoch asked p' o' own w (Some (GateIs gate)) same g leads =
         let ours : Flipped (read h) gate k (knows y) p g = leads in
-        let cfg = ap (λ (f : Option Entry). (table (stepped (read h) f k (knows y))).gate.epoch) same in
+        let cfg = ap (λ (f : Option Entry). (table (configuration_after (read h) f k (knows y))).gate.epoch) same in
         record {
           asked_is = own.0;
           epoch = epoch_is ∙ own.1;
@@ -201,7 +201,7 @@ module _ (h : Heap) (p o : Plain) (k : ℕ) (x : Held) (q : Step) (st : WorkersS
         }
     next_epoch asked p' o' own w _ same g leads = absurd leads
 
-    flips_by : (t : Told) → FlipIsOwn (read h) x t → WorkersStand (moved h k x q) (after_told p k t) (at_flip p o t) → Leads (read h) p st.stands.ghost k steps.entry y steps.goes.ghost_after t
+    flips_by : (t : Told) → FlipIsOwn (read h) x t → WorkersStand (moved h k x q) (after_told p k t) (at_flip p o t) → LeavesToPlain (read h) p st.stands.ghost k steps.entry y steps.goes.ghost_after t
         → FlipsWhereTold h.pages h.words (words_after q h.words) x t
     flips_by Silent own w leads = same_epoch p o w steps.entry refl steps.goes.ghost_after leads
     flips_by (Answers task outcome) own w leads = same_epoch (after_told p k (Answers task outcome)) o w steps.entry refl steps.goes.ghost_after leads

@@ -14,7 +14,7 @@ use Rattle.plain_state.specs.declared.end.End.{End}
 use Rattle.plain_state.specs.declared.kind.Kind as kinds
 use Rattle.plain_state.specs.declared.kind.Kind.TheVariants as kind
 use Rattle.plain_state.specs.declared.value.Value.{Value}
-use Rattle.plain_state.specs.Layout.{word_of}
+use Rattle.plain_state.specs.Layout.{word_of_value}
 use Rattle.plain_state.specs.declared.value.Value.TheVariants.{Number, Reference}
 use Rattle.plain_state.specs.declared.sizes.TheConstants.{BOARD_WORDS}
 use Rattle.plain_heap.specs.declared.action.Action.{Action}
@@ -125,17 +125,17 @@ uses_board word (board_uses.Swaps into new) = LoadsForSwap (record { word = word
 
 -- value x of the record at an address, where what stands there has this role
 abbrev pub field_of : (at : ℕ) → Role → (x : ℕ) → FieldAccess
-field_of at role x = record { at = at; word = word_of (kind_of role) x; role = role }
+field_of at role x = record { at = at; word = word_of_value (kind_of role) x; role = role }
 
 -- the number itself; a reference has none
-abbrev pub number_of : Value → ℕ
-number_of (Number n) = n
-number_of (Reference i) = 0
+abbrev pub number_in_value : Value → ℕ
+number_in_value (Number n) = n
+number_in_value (Reference i) = 0
 
 -- what stands at a word with this role for a value
 abbrev pub word_as : Role → Value → ℕ
 word_as roles.Field v = word_for v
-word_as roles.Number v = number_of v
+word_as roles.Number v = number_in_value v
 
 -- ---- by the header's kind and length: the ends are the plain machine's
 
@@ -256,15 +256,15 @@ FitsBoardUse (board_uses.Loads into) = IsRegister into
 FitsBoardUse (board_uses.Stores new) = ⊤
 FitsBoardUse (board_uses.Swaps into new) = IsRegister into
 
-abbrev pub IsInHeap : (pages addr : ℕ) → Type 0
-IsInHeap n addr = addr < 2 * (PAGE_WORDS * n)
+abbrev pub IsHeapAddress : (pages addr : ℕ) → Type 0
+IsHeapAddress n addr = addr < 2 * (PAGE_WORDS * n)
 
 abbrev pub FitsStage : (pages : ℕ) → AccessStage → Type 0
-FitsStage n (LooksAtRecord r) = IsInHeap n r.at × FitsRecordUse r.usage
-FitsStage n (LoadsHeader r) = IsInHeap n r.at × FitsRecordUse r.usage
-FitsStage n (LooksAtField f usage) = IsInHeap n (field_at f) × FitsFieldUse usage
-FitsStage n (LoadsField f into) = IsInHeap n (field_at f) × IsRegister into
-FitsStage n (StoresField f new) = IsInHeap n (field_at f)
+FitsStage n (LooksAtRecord r) = IsHeapAddress n r.at × FitsRecordUse r.usage
+FitsStage n (LoadsHeader r) = IsHeapAddress n r.at × FitsRecordUse r.usage
+FitsStage n (LooksAtField f usage) = IsHeapAddress n (field_at f) × FitsFieldUse usage
+FitsStage n (LoadsField f into) = IsHeapAddress n (field_at f) × IsRegister into
+FitsStage n (StoresField f new) = IsHeapAddress n (field_at f)
 FitsStage n (LooksAtBoard b) = (b.word < BOARD_WORDS) × FitsBoardUse b.usage
 FitsStage n (LoadsBoard x into) = (x < BOARD_WORDS) × IsRegister into
 FitsStage n (StoresBoard x new) = x < BOARD_WORDS
@@ -276,9 +276,9 @@ pub record IsSoundAccess (a : Access) : Type 0 where
   pub stage : FitsStage a.spaces.pages a.stage
 
 -- a plain number that is loaded fits a word
-abbrev pub Takes : AccessStage → Reply → Type 0
-Takes (LoadsField f into) (replies.Value word) = FitsRole (role_of f.role) word
-Takes stage reply = ⊤
+abbrev pub AccessTakes : AccessStage → Reply → Type 0
+AccessTakes (LoadsField f into) (replies.Value word) = FitsRole (role_of f.role) word
+AccessTakes stage reply = ⊤
 
 -- ---- whose access it is
 
@@ -297,18 +297,18 @@ begun (Prints n) = None
 begun (Makes kind d n) = None
 
 -- a field is that of the action: its value, or what stands there for it
-abbrev pub IsFieldOf : Action → FieldAccess → FieldUse → Type 0
-IsFieldOf (Loads d i x) f usage = (f ≡ field_of i.serial f.role x) × (usage ≡ field_uses.Loads d)
-IsFieldOf (Stores i x v) f usage = (f ≡ field_of i.serial f.role x) × (may_hold (kind_of f.role) v ≡ Ok v) × (usage ≡ field_uses.Stores (word_as f.role v))
-IsFieldOf act f usage = ⊥
+abbrev pub IsFieldOfAction : Action → FieldAccess → FieldUse → Type 0
+IsFieldOfAction (Loads d i x) f usage = (f ≡ field_of i.serial f.role x) × (usage ≡ field_uses.Loads d)
+IsFieldOfAction (Stores i x v) f usage = (f ≡ field_of i.serial f.role x) × (may_hold (kind_of f.role) v ≡ Ok v) × (usage ≡ field_uses.Stores (word_as f.role v))
+IsFieldOfAction act f usage = ⊥
 
 -- the access at this stage is that of the action
 abbrev pub IsAccessOf : Action → AccessStage → Type 0
 IsAccessOf act (LooksAtRecord r) = begun act ≡ Some (LooksAtRecord r)
 IsAccessOf act (LoadsHeader r) = begun act ≡ Some (LooksAtRecord r)
-IsAccessOf act (LooksAtField f usage) = IsFieldOf act f usage
-IsAccessOf act (LoadsField f into) = IsFieldOf act f (field_uses.Loads into)
-IsAccessOf act (StoresField f new) = IsFieldOf act f (field_uses.Stores new)
+IsAccessOf act (LooksAtField f usage) = IsFieldOfAction act f usage
+IsAccessOf act (LoadsField f into) = IsFieldOfAction act f (field_uses.Loads into)
+IsAccessOf act (StoresField f new) = IsFieldOfAction act f (field_uses.Stores new)
 IsAccessOf act (LooksAtBoard b) = begun act ≡ Some (LooksAtBoard b)
 IsAccessOf act (LoadsBoard x into) = begun act ≡ Some (LooksAtBoard (record { word = x; usage = board_uses.Loads into }))
 IsAccessOf act (StoresBoard x new) = begun act ≡ Some (LooksAtBoard (record { word = x; usage = board_uses.Stores new }))

@@ -5,7 +5,7 @@ use Rattle.atom_store.specs.declared.step.Step.{Step}
 use Rattle.atom_store.specs.declared.step.Step.TheVariants.{Load, Store, Exchange}
 use Rattle.atom_store.specs.declared.turn.Turn.{Turn}
 use Rattle.atom_store.specs.declared.turn.Turn.TheVariants.{More, Finished}
-use Rattle.atom_store.specs.Machine.{Machine, ComesTo}
+use Rattle.atom_store.specs.Machine.{Machine, RunsTo}
 use Rattle.plain_state.specs.declared.end.End.TheVariants.{OutOfRange}
 use Rattle.space_map.specs.Worked.{four_pages}
 use Rattle.gc_worker.specs.declared.access.Access.{Access}
@@ -41,28 +41,28 @@ begins_at stage = record { access = record { spaces = four_pages; epoch = 0; sta
 -- made again from that one.
 abbrev pub LostSwapIsTriedAgain : Type 0
 LostSwapIsTriedAgain =
-    ComesTo access_machine (begins_at (LooksAtBoard (record { word = 0; usage = Swaps 3 20 })))
+    RunsTo access_machine (begins_at (LooksAtBoard (record { word = 0; usage = Swaps 3 20 })))
     ((Load 24, Value 1) ∷ (Load 545, Value 4) ∷ (Exchange 545 4 20, Lost 8) ∷ (Load 545, Value 8) ∷ (Exchange 545 8 20, Won) ∷ []) (Brings 3 8)
 
 -- value 1 of a record whose header is the last word but one of page 3: its page is looked at too
 abbrev pub NextPageIsLookedAt : Type 0
 NextPageIsLookedAt =
-    ComesTo access_machine (begins_at (LooksAtRecord (record { at = 254; value = 1; usage = Loads 2 })))
+    RunsTo access_machine (begins_at (LooksAtRecord (record { at = 254; value = 1; usage = Loads 2 })))
     ((Load 19, Value 1) ∷ (Load 287, Value 65570) ∷ (Load 20, Value 1) ∷ (Load 289, Value 28) ∷ []) (Brings 2 28)
 
 -- a value on the header's page is stored there
 abbrev pub SamePageIsNotLookedAt : Type 0
 SamePageIsNotLookedAt =
-    ComesTo access_machine (begins_at (LooksAtRecord (record { at = 192; value = 0; usage = Stores 28 })))
+    RunsTo access_machine (begins_at (LooksAtRecord (record { at = 192; value = 0; usage = Stores 28 })))
     ((Load 19, Value 1) ∷ (Load 225, Value 65570) ∷ (Store 226 28, Done) ∷ []) Stored
 
 -- a page that isn't open is a fault
 abbrev pub ClosedPageIsAFault : Type 0
 ClosedPageIsAFault =
-    ComesTo access_machine (begins_at (LooksAtRecord (record { at = 192; value = 0; usage = Loads 2 }))) ((Load 19, Value 0) ∷ []) (Faults 3)
+    RunsTo access_machine (begins_at (LooksAtRecord (record { at = 192; value = 0; usage = Loads 2 }))) ((Load 19, Value 0) ∷ []) (Faults 3)
 
 -- the record of two fields has no value 2
 abbrev pub NoSuchValueFails : Type 0
 NoSuchValueFails =
-    ComesTo access_machine (begins_at (LooksAtRecord (record { at = 192; value = 2; usage = Loads 2 })))
+    RunsTo access_machine (begins_at (LooksAtRecord (record { at = 192; value = 2; usage = Loads 2 })))
     ((Load 19, Value 1) ∷ (Load 225, Value 65570) ∷ []) (Fails OutOfRange)

@@ -64,8 +64,8 @@ unfoldable pub fresh_workers : (n mutators from count : ℕ) → List Held
 fresh_workers n mutators from zero = []
 fresh_workers n mutators from (suc count) = fresh_worker n mutators from ∷ fresh_workers n mutators (from + 1) count
 
-abbrev pub opening : (n mutators scanners : ℕ) → Heap
-opening n mutators scanners = record {
+abbrev pub opening_heap : (n mutators scanners : ℕ) → Heap
+opening_heap n mutators scanners = record {
   pages = n;
   words = written n (opening_entries n);
   mutators = mutators;
@@ -75,7 +75,7 @@ opening n mutators scanners = record {
 -- it stands for the plain state in which nothing was made yet, and a cycle begins there
 abbrev pub HeapsOpen : Type 0
 HeapsOpen = (n mutators scanners : ℕ) → IsPageCount n → mutators ≤ 16 → mutators + scanners ≤ 24
-    → WorkersStand (opening n mutators scanners) (opening_plain mutators) (opening_plain mutators)
+    → WorkersStand (opening_heap n mutators scanners) (opening_plain mutators) (opening_plain mutators)
 
 -- ---- what a worker may become without a step
 
@@ -129,7 +129,7 @@ pub record IsAnswerOf (was now : Held) (task : Task) (outcome : Did) : Type 0 wh
 
 -- A step answers no other task than the one begun; it keeps that one until it answers it, and then there is none. A mutator with an end
 -- keeps its account and registers. The worker's number, layout and number of mutators never change.
-pub record GoesOn (x : Held) (reply : Reply) : Type 0 where
+pub record KeepsToTask (x : Held) (reply : Reply) : Type 0 where
   pub answers : (task : Task) (outcome : Did) → told x reply ≡ Answers task outcome → IsAnswerOf x (turned x reply) task outcome
   pub kept : IsNoAnswer (told x reply) → (turned x reply).task ≡ x.task
   pub ended : (end : End) → x.account.end ≡ Some end → ((turned x reply).account ≡ x.account) × ((turned x reply).registers ≡ x.registers)
@@ -138,7 +138,7 @@ pub record GoesOn (x : Held) (reply : Reply) : Type 0 where
   pub mutators : (turned x reply).mutators ≡ x.mutators
 
 abbrev pub WorkersGoOn : Type 0
-WorkersGoOn = (n mutators k : ℕ) (x : Held) (reply : Reply) → Fits n mutators k x → GoesOn x reply
+WorkersGoOn = (n mutators k : ℕ) (x : Held) (reply : Reply) → Fits n mutators k x → KeepsToTask x reply
 
 -- a worker that is no mutator that has left, nor a scanner that has seen all leave, wants a step
 abbrev pub WorkersWant : Type 0
@@ -147,12 +147,12 @@ WorkersWant = (n mutators k : ℕ) (x : Held) → Fits n mutators k x → (wante
 -- ---- what is so at any time
 
 -- Registers show those of the plain mutator: a number stands exactly where that number does, and a pointer exactly where a reference does.
-pub record Shows (registers : List ℕ) (q : Mutator) : Type 0 where
+pub record ShowsRegisters (registers : List ℕ) (q : Mutator) : Type 0 where
   pub numbers : (j n : ℕ) → j < REGISTERS → decode (slice_index registers j) ≡ NumberWord n → slice_get q.registers j ≡ Some (Number n)
   pub pointers : (j a : ℕ) → j < REGISTERS → decode (slice_index registers j) ≡ PointerWord a → (i : Identity) × (slice_get q.registers j ≡ Some (Reference i))
 
 -- each pointer in a register is one into the space of the worker's epoch, to a record's header
-pub record Lands (n : ℕ) (words : List ℕ) (x : Held) : Type 0 where
+pub record RegistersLand (n : ℕ) (words : List ℕ) (x : Held) : Type 0 where
   pub in_space : (j a : ℕ) → j < REGISTERS → decode (slice_index x.registers j) ≡ PointerWord a → IsInSpace n a (to_space x.epoch)
   pub header : (j a : ℕ) → j < REGISTERS → decode (slice_index x.registers j) ≡ PointerWord a
       → (kind : Kind) × (len : ℕ) × (serial : ℕ) × (mutator : ℕ) × (decode (word_in n words (HeapWord a)) ≡ HeaderWord kind len serial mutator)
@@ -165,9 +165,9 @@ AreAlike registers q = (j i : ℕ) → j < REGISTERS → i < REGISTERS → (slic
 -- they lead to where the records are.
 pub record IsAsPlain (h : Heap) (p : Plain) (k : ℕ) (x : Held) (q : Mutator) : Type 0 where
   pub account : Accounts p.heap k x.account q
-  pub shows : q.end ≡ None → Shows x.registers q
+  pub shows : q.end ≡ None → ShowsRegisters x.registers q
   pub epoch : is_running (post_in x x.stage) ≡ true → epoch_of h.pages h.words ≡ x.epoch
-  pub lands : q.end ≡ None → is_running (post_in x x.stage) ≡ true → Lands h.pages h.words x
+  pub lands : q.end ≡ None → is_running (post_in x x.stage) ≡ true → RegistersLand h.pages h.words x
   pub alike : q.end ≡ None → is_running (post_in x x.stage) ≡ true → AreAlike x.registers q
 
 -- The table has all its words, which keep the invariant and represent the plain state; each worker is sound, and each mutator is as its

@@ -17,19 +17,19 @@ use Rattle.gc_worker.specs.Law.{Heap, WorkersStand, held_at, epoch_of, age}
 use Rattle.gc_worker.specs.Turned.{Marks, PageWon, told, won}
 use Rattle.gc_worker.specs.Wanted.{wanted}
 
-abbrev pub epoch_in : Heap → ℕ
-epoch_in h = epoch_of h.pages h.words
+abbrev pub epoch_of_heap : Heap → ℕ
+epoch_of_heap h = epoch_of h.pages h.words
 
 -- a page of the gate's epoch into which records were copied: it begins below FRONT
 pub record IsCopiedPage (h : Heap) (page : ℕ) : Type 0 where
   pub area : AreaWord
-  pub area_is : decode_area (word_in h.pages h.words (Area (to_space (epoch_in h)))) ≡ Some area
-  pub from : space_start h.pages (to_space (epoch_in h)) ≤ first_word page
-  pub below : first_word page < space_start h.pages (to_space (epoch_in h)) + area.front
+  pub area_is : decode_area (word_in h.pages h.words (Area (to_space (epoch_of_heap h)))) ≡ Some area
+  pub from : space_start h.pages (to_space (epoch_of_heap h)) ≤ first_word page
+  pub below : first_word page < space_start h.pages (to_space (epoch_of_heap h)) + area.front
 
 -- the board and all those are open in the gate's epoch
 abbrev pub CopiedPagesAreOpen : Heap → Type 0
-CopiedPagesAreOpen h = (page : ℕ) → (page ≡ board_page h.pages) ⊎ IsCopiedPage h page → decode_page (word_in h.pages h.words (Page page)) ≡ Some (Open (epoch_in h))
+CopiedPagesAreOpen h = (page : ℕ) → (page ≡ board_page h.pages) ⊎ IsCopiedPage h page → decode_page (word_in h.pages h.words (Page page)) ≡ Some (Open (epoch_of_heap h))
 
 -- they are once the epoch is traced
 abbrev pub TracedPagesAreOpen : Type 0

@@ -26,7 +26,7 @@ use Rattle.gc_worker.specs.declared.task.Task.TheVariants.{Calls}
 use Rattle.gc_worker.specs.Begun.{IsPastAfter, IsPastBack}
 use Rattle.gc_worker.specs.Between.{IsNoAnswer}
 use Rattle.gc_worker.specs.Fits.{Fits}
-use Rattle.gc_worker.specs.Held.{Held, asked_by}
+use Rattle.gc_worker.specs.Held.{Held, pages_needed}
 use Rattle.gc_worker.specs.Law.{Heap, WorkersStand, held_at, epoch_of}
 use Rattle.gc_worker.specs.declared.did.Did.TheVariants.{Done, Trap}
 use Rattle.gc_worker.specs.Turned.{Told, Silent, Answers, Marks, turned, told}
@@ -34,17 +34,17 @@ use Rattle.gc_worker.specs.Wanted.{wanted}
 
 -- ---- claims of pages for records
 
-abbrev pub claimed_by : Placing → PlaceStage → Reply → ℕ
-claimed_by p (ExchangesArea f) replies.Won = words_for p.header
-claimed_by p stage reply = 0
+abbrev pub claimed_by_placing : Placing → PlaceStage → Reply → ℕ
+claimed_by_placing p (ExchangesArea f) replies.Won = words_for p.header
+claimed_by_placing p stage reply = 0
 
 abbrev pub claimed_at : Stage → Reply → ℕ
-claimed_at (Places p) reply = claimed_by p p.stage reply
+claimed_at (Places p) reply = claimed_by_placing p p.stage reply
 claimed_at stage reply = 0
 
 -- the words of the pages that this step claims for a record
-abbrev pub claimed : Held → Reply → ℕ
-claimed x reply = claimed_at x.stage reply
+abbrev pub words_claimed : Held → Reply → ℕ
+words_claimed x reply = claimed_at x.stage reply
 
 abbrev pub low_said : Option AreaWord → ℕ
 low_said (Some area) = area.low
@@ -66,7 +66,7 @@ LowGoes n words later claims (Marks asked) = low_of n later ≡ PAGE_WORDS * n
 
 abbrev pub LowFallsByClaims : Type 0
 LowFallsByClaims = (h : Heap) (p o : Plain) (k : ℕ) (x : Held) (q : Step) → WorkersStand h p o → k < length h.workers → held_at h k ≡ x → wanted x ≡ Some q
-    → LowGoes h.pages h.words (words_after q h.words) (claimed x (reply_of q h.words)) (told x (reply_of q h.words))
+    → LowGoes h.pages h.words (words_after q h.words) (words_claimed x (reply_of q h.words)) (told x (reply_of q h.words))
 
 -- ---- what a claim is for
 
@@ -92,10 +92,10 @@ SetsAside was claims now (Answers task (Trap end)) = claims + set_aside was ≡ 
 SetsAside was claims now (Marks asked) = ⊤
 
 abbrev pub ClaimsAreSetAside : Type 0
-ClaimsAreSetAside = (n mutators k : ℕ) (x : Held) (reply : Reply) → Fits n mutators k x → SetsAside x (claimed x reply) (turned x reply) (told x reply)
+ClaimsAreSetAside = (n mutators k : ℕ) (x : Held) (reply : Reply) → Fits n mutators k x → SetsAside x (words_claimed x reply) (turned x reply) (told x reply)
 
 -- The mutator's plain one has no end, and the record that its task makes takes so many pages.
-pub record Makes (p : Plain) (k : ℕ) (x : Held) (pages : ℕ) : Type 0 where
+pub record MakesRecord (p : Plain) (k : ℕ) (x : Held) (pages : ℕ) : Type 0 where
   pub mutator : Mutator
   pub is : slice_get p.mutators k ≡ Some mutator
   pub no_end : mutator.end ≡ None
@@ -105,8 +105,8 @@ pub record Makes (p : Plain) (k : ℕ) (x : Held) (pages : ℕ) : Type 0 where
 
 -- it is set aside for the record that the plain mutator's next instruction makes
 pub record IsForRecord (p : Plain) (k : ℕ) (x : Held) : Type 0 where
-  pub few : set_aside x ≤ PAGE_WORDS * asked_by x
-  pub makes : 0 < set_aside x → Makes p k x (asked_by x)
+  pub few : set_aside x ≤ PAGE_WORDS * pages_needed x
+  pub makes : 0 < set_aside x → MakesRecord p k x (pages_needed x)
 
 abbrev pub SetAsideIsForRecords : Type 0
 SetAsideIsForRecords = (h : Heap) (p o : Plain) (k : ℕ) (x : Held) → WorkersStand h p o → k < length h.workers → held_at h k ≡ x → IsForRecord p k x

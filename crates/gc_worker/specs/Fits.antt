@@ -5,7 +5,7 @@ use Rattle.space_map.specs.declared.spaces.TheConstants.{LAST_WORKER}
 use Rattle.space_map.specs.Spaces.{Layout, IsPageCount, board_page, first_word, space_start, to_space}
 use Rattle.alloc_end.specs.declared.run.Run.{Run}
 use Rattle.alloc_end.specs.Place as place
-use Rattle.alloc_end.specs.Soundness.{IsRun, IsPlacingGoing, IsSoundPlacing}
+use Rattle.alloc_end.specs.Soundness.{RunLiesInSpaces, IsPlacingGoing, IsSoundPlacing}
 use Rattle.fault_duty.specs.declared.caller.Caller.{Caller}
 use Rattle.fault_duty.specs.declared.caller.Caller.TheVariants as callers
 use Rattle.fault_duty.specs.Duty as duty
@@ -40,7 +40,7 @@ use Rattle.gc_worker.specs.declared.task.Task.TheVariants.{Calls, Stops}
 use Rattle.gc_worker.specs.Access.{IsSoundAccess, IsAccessOf}
 use Rattle.gc_worker.specs.Access as access
 use Rattle.gc_worker.specs.Seen.{IsValueWord, Making, making_in, seen}
-use Rattle.gc_worker.specs.Held.{Held, asked_by, header_for}
+use Rattle.gc_worker.specs.Held.{Held, pages_needed, header_for}
 use Rattle.plain_state.specs.declared.end.End.{End}
 use Rattle.plain_state.specs.declared.end.End.TheVariants.{HeapFull}
 use Rattle.plain_state.specs.declared.sizes.TheConstants.{REGISTERS, MOST_PRINTED}
@@ -150,8 +150,8 @@ HasEnded (scan_stage.Ended ending) = ⊤
 HasEnded stage = ⊥
 
 -- a scan that goes on by itself has a next step
-abbrev pub GoesOn : ScanStage → Type 0
-GoesOn stage = scan.HasStep stage
+abbrev pub ScanHasStep : ScanStage → Type 0
+ScanHasStep stage = scan.HasStep stage
 
 pub record FitsOpening (x : Held) (o : open_page.Opening) (s : scan.Scanning) : Type 0 where
   pub layout : o.layout ≡ x.layout
@@ -170,7 +170,7 @@ FitsStage x (Forwards w) = FitsRegister x w
 FitsStage x (Accesses a) = FitsAccess x.layout x.epoch a
 FitsStage x (Places p) = FitsPlace x p
 FitsStage x (Serves d back) = FitsRound x d back × FitsBack x back
-FitsStage x (Scans s back) = FitsScan x s × GoesOn s.stage × FitsBack x back
+FitsStage x (Scans s back) = FitsScan x s × ScanHasStep s.stage × FitsBack x back
 FitsStage x (Evacuates v s back) = FitsCopy x x.epoch v × FitsScan x s × HasAsked v s.stage × FitsBack x back
 FitsStage x (Opens o s back) = FitsOpening x o s × FitsScan x s × HasEnded s.stage × FitsBack x back
 FitsStage x Gone = ⊤
@@ -208,7 +208,7 @@ MayBegin account registers (Some (Calls instr)) = FitsCall account registers ins
 MayBegin account registers (Some (Stops end)) = MayStop end
 
 -- it executes an instruction whose action is this
-pub record Executes (account : Account) (registers : List ℕ) (task : Option Task) (act : Action) : Type 0 where
+pub record ExecutesAction (account : Account) (registers : List ℕ) (task : Option Task) (act : Action) : Type 0 where
   pub instr : Instr
   pub task_is : task ≡ Some (Calls instr)
   pub call : FitsCall account registers instr
@@ -217,12 +217,12 @@ pub record Executes (account : Account) (registers : List ℕ) (task : Option Ta
 -- it executes one that makes a record
 pub record IsMaking (account : Account) (registers : List ℕ) (task : Option Task) : Type 0 where
   pub making : Making
-  pub executes : Executes account registers task (Makes making.kind making.into making.len)
+  pub executes : ExecutesAction account registers task (Makes making.kind making.into making.len)
 
 -- it executes one whose access is at this stage
 pub record IsAccessing (account : Account) (registers : List ℕ) (task : Option Task) (stage : AccessStage) : Type 0 where
   pub act : Action
-  pub executes : Executes account registers task act
+  pub executes : ExecutesAction account registers task act
   pub is : IsAccessOf act stage
 
 abbrev pub FitsTaskAfter : Held → After → Type 0
@@ -247,7 +247,7 @@ FitsTaskBefore x passages.Look after = ⊥
 abbrev pub FitsTask : Held → Stage → Type 0
 FitsTask x Looks = MayBegin x.account x.registers x.task
 FitsTask x (Passes g after) = FitsTaskBefore x g.passage after
-FitsTask x (Flips f) = IsMaking x.account x.registers x.task × (f.asked ≡ asked_by x)
+FitsTask x (Flips f) = IsMaking x.account x.registers x.task × (f.asked ≡ pages_needed x)
 FitsTask x (Forwards w) = FitsTaskAfter x w.after
 FitsTask x (Accesses a) = IsAccessing x.account x.registers x.task a.stage
 FitsTask x (Places p) = IsMaking x.account x.registers x.task × (header_for x ≡ Some p.header)
@@ -282,7 +282,7 @@ IsOnSide stage is_mutator ended = is_mutator ≡ true
 
 abbrev pub FitsRun : (pages : ℕ) → Option Run → Type 0
 FitsRun n None = ⊤
-FitsRun n (Some run) = IsRun n run
+FitsRun n (Some run) = RunLiesInSpaces n run
 
 abbrev pub AreValues : List ℕ → Type 0
 AreValues registers = (r : ℕ) → r < REGISTERS → IsValueWord (slice_index registers r)
@@ -319,7 +319,7 @@ TakesAt Looks reply = ⊤
 TakesAt (Passes g after) reply = IsSoundPassing (gate.taken g reply)
 TakesAt (Flips f) reply = IsSoundFlipping (flip.taken f reply)
 TakesAt (Forwards w) reply = evac_sound.IsSound (evac_taken.taken w.evac reply)
-TakesAt (Accesses a) reply = access.Takes a.stage reply
+TakesAt (Accesses a) reply = access.AccessTakes a.stage reply
 TakesAt (Places p) reply = IsSoundPlacing (place.taken p reply)
 TakesAt (Serves d back) reply = IsSoundRound (duty.taken d reply)
 TakesAt (Scans s back) reply = scan_sound.IsSound (scan_taken.taken s reply)

@@ -12,7 +12,7 @@ use Rattle.gc_worker.specs.declared.stage.Stage.TheVariants.{Places}
 use Rattle.gc_worker.specs.declared.task.Task.{Task}
 use Rattle.gc_worker.specs.Fits.{Fits}
 use Rattle.gc_worker.specs.Full.{FindsNoRoom}
-use Rattle.gc_worker.specs.Held.{Held, at_stage, asked_by}
+use Rattle.gc_worker.specs.Held.{Held, at_stage, pages_needed}
 use Rattle.gc_worker.specs.declared.did.Did.TheVariants.{Trap}
 use Rattle.gc_worker.specs.Turned.{Answers, told}
 
@@ -24,9 +24,9 @@ found_traced z = Places (record z { stage = LoadsArea true })
 pub record TellsFull (words : List ℕ) (n : ℕ) (x : Held) (z : Placing) (room live : ℕ) : Type 0 where
   pub task : Task
   pub is : x.task ≡ Some task
-  pub tells : told (at_stage x (found_traced z)) (Value (word_in n words (Area (to_space x.epoch)))) ≡ Answers task (Trap (HeapFull (asked_by x) room live))
+  pub tells : told (at_stage x (found_traced z)) (Value (word_in n words (Area (to_space x.epoch)))) ≡ Answers task (Trap (HeapFull (pages_needed x) room live))
 
 -- a mutator that found its epoch traced tells that the heap is full where it finds no room for the pages that its task asks for
 abbrev pub FullIsTold : Type 0
 FullIsTold = (n mutators k : ℕ) (words : List ℕ) (x : Held) (z : Placing) (room live : ℕ) → Fits n mutators k (at_stage x (found_traced z))
-    → FindsNoRoom n words x (asked_by x) room live → TellsFull words n x z room live
+    → FindsNoRoom n words x (pages_needed x) room live → TellsFull words n x z room live

@@ -11,7 +11,7 @@ use Rattle.space_map.specs.declared.gate_word.GateWord.{GateWord}
 use Rattle.space_map.specs.GateWord.{decode_gate, encode_gate}
 use Rattle.space_map.specs.Table.{Gate, place_of}
 use Rattle.space_map.specs.TableWords.{row_word}
-use Rattle.gc_worker.specs.Between.{opening}
+use Rattle.gc_worker.specs.Between.{opening_heap}
 use Rattle.gc_worker.specs.Fits.{Fits}
 use Rattle.gc_worker.specs.Held.{Held}
 use Rattle.gc_worker.specs.Law.{Heap, WorkersStand, held_at, moved}
@@ -47,7 +47,7 @@ ScannersAreLast h = (k m : ℕ) → k < length h.workers → h.mutators ≤ k �
 
 -- it is so at the opening, and each step of a worker keeps it
 abbrev pub ScannersBeginLast : Type 0
-ScannersBeginLast = (n mutators scanners : ℕ) → ScannersAreLast (opening n mutators scanners)
+ScannersBeginLast = (n mutators scanners : ℕ) → ScannersAreLast (opening_heap n mutators scanners)
 
 abbrev pub ScannersStayLast : Type 0
 ScannersStayLast = (h : Heap) (p o : Plain) (k : ℕ) (x : Held) (q : Step) → WorkersStand h p o → k < length h.workers → held_at h k ≡ x → wanted x ≡ Some q

@@ -54,8 +54,8 @@ pages_asked (Some header) = pages_for (size_of header)
 pages_asked None = 0
 
 -- the pages that it needs
-abbrev pub asked_by : Held → ℕ
-asked_by x = pages_asked (header_for x)
+abbrev pub pages_needed : Held → ℕ
+pages_needed x = pages_asked (header_for x)
 
 -- ---- the run
 
@@ -64,5 +64,5 @@ abbrev pub run_in : Option Run → Run
 run_in (Some run) = run
 run_in None = record { at = 0; end = 0 }
 
-abbrev pub run_of : Held → Run
-run_of x = run_in x.run
+abbrev pub run_held : Held → Run
+run_held x = run_in x.run

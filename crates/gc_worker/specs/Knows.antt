@@ -33,7 +33,7 @@ use Rattle.page_slots.specs.declared.claim_stage.ClaimStage.{ClaimStage}
 use Rattle.page_slots.specs.declared.claim_stage.ClaimStage.TheVariants as claim_stage
 use Rattle.page_slots.specs.Claim.{Claiming}
 use Rattle.heap_laws.specs.Copying.{begun}
-use Rattle.heap_state.specs.Worker.{Worker, Post, Outside, Running, Stopped, Flipping, Passage, Enter, Park, Request, Forwarded, Resume, Leave, GateStep, Reset, Stock, Seen, Role, FieldRole, NumberRole, Origin, Register, Scanned, Quest, Copy, Scan, Round, Claim, Look, LastLook}
+use Rattle.heap_state.specs.Worker.{Worker, Post, Outside, Running, Stopped, Flipping, Passage, Enter, Park, Request, Forwarded, Resume, Leave, GateStep, Reset, Stock, SeenRecord, Role, FieldRole, NumberRole, Origin, Register, Scanned, Quest, Copy, Scan, Round, Claim, Look, LastLook}
 use Rattle.heap_state.specs.Worker as workers
 use Rattle.heap_state.specs.Worker.{Access}
 use Rattle.gc_worker.specs.declared.access_stage.AccessStage.{AccessStage}
@@ -44,7 +44,7 @@ use Rattle.gc_worker.specs.declared.field_access.FieldAccess.{FieldAccess}
 use Rattle.gc_worker.specs.Access.{role_of, field_at}
 use Rattle.gc_worker.specs.declared.stage.Stage.{Stage}
 use Rattle.gc_worker.specs.declared.stage.Stage.TheVariants.{Looks, Passes, Flips, Forwards, Accesses, Places, Serves, Scans, Evacuates, Opens, Gone}
-use Rattle.gc_worker.specs.Held.{Held, asked_by}
+use Rattle.gc_worker.specs.Held.{Held, pages_needed}
 
 -- ---- at the gate
 
@@ -101,7 +101,7 @@ gate_step_at asked passage gate_stage.Loads = None
 gate_step_at asked passage (gate_stage.Ended result) = None
 
 abbrev pub gate_step_in : Held → Stage → Option GateStep
-gate_step_in x (Passes g after) = gate_step_at (asked_by x) g.passage g.stage
+gate_step_in x (Passes g after) = gate_step_at (pages_needed x) g.passage g.stage
 gate_step_in x stage = None
 
 -- the flip so far
@@ -189,13 +189,13 @@ traced_seen_in stage = false
 
 -- ---- accesses
 
-abbrev pub access_of : FieldAccess → Access
-access_of f = record { at = f.at; word = f.word; role = role_of f.role }
+abbrev pub known_access : FieldAccess → Access
+known_access f = record { at = f.at; word = f.word; role = role_of f.role }
 
 abbrev pub access_at : AccessStage → Option Access
-access_at (LooksAtField f usage) = Some (access_of f)
-access_at (LoadsField f into) = Some (access_of f)
-access_at (StoresField f new) = Some (access_of f)
+access_at (LooksAtField f usage) = Some (known_access f)
+access_at (LoadsField f into) = Some (known_access f)
+access_at (StoresField f new) = Some (known_access f)
 access_at stage = None
 
 -- the page found open: the header's, then the field's; or the board's
@@ -295,14 +295,14 @@ quest_for origin v = record { old = v.addr; origin = origin; found = found_in v.
 
 -- ---- scans
 
-abbrev pub seen_of : ScannedRecord → Seen
-seen_of r = record { at = r.at; fields_end = r.fields_end; next = r.next }
+abbrev pub seen_record : ScannedRecord → SeenRecord
+seen_record r = record { at = r.at; fields_end = r.fields_end; next = r.next }
 
-abbrev pub current_at : Spot → Option Seen
+abbrev pub current_at : Spot → Option SeenRecord
 current_at (OnBoard x) = None
-current_at (InRecord r x) = Some (seen_of r)
+current_at (InRecord r x) = Some (seen_record r)
 
-abbrev pub scan_with : scan.Scanning → (cursor : ℕ) (over : Option ℕ) (current : Option Seen) (inner ended : Bool) → Scan
+abbrev pub scan_with : scan.Scanning → (cursor : ℕ) (over : Option ℕ) (current : Option SeenRecord) (inner ended : Bool) → Scan
 scan_with s cursor over current inner ended = record {
   page = s.page;
   cursor = cursor;
@@ -323,8 +323,8 @@ scan_of s (scan_stage.LoadsFirst at) = scan_with s (first_word s.page) (Some at)
 scan_of s (scan_stage.LoadsWord spot) = scan_at s spot
 scan_of s (scan_stage.Asks asked) = scan_at s asked.spot
 scan_of s (scan_stage.StoresCopy asked to) = scan_at s asked.spot
-scan_of s (scan_stage.LoadsFront r) = scan_with s r.next None (Some (seen_of r)) false false
-scan_of s (scan_stage.LoadsNext r) = scan_with s r.next None (Some (seen_of r)) s.in_place false
+scan_of s (scan_stage.LoadsFront r) = scan_with s r.next None (Some (seen_record r)) false false
+scan_of s (scan_stage.LoadsNext r) = scan_with s r.next None (Some (seen_record r)) s.in_place false
 scan_of s (scan_stage.Ended ending) = scan_with s ending.cursor None None false true
 
 abbrev pub scan_in : Stage → Option Scan

@@ -11,14 +11,14 @@ use Rattle.gate_core.specs.declared.reset.Reset.{Reset}
 use Rattle.gate_core.specs.Flip.{Flipping}
 use Rattle.heap_state.specs.Configuration.{Configuration, Stands, era, memory, team}
 use Rattle.heap_state.specs.Cycle.{Cycle}
-use Rattle.heap_state.specs.Table.{word_in, page_said}
+use Rattle.heap_state.specs.Table.{word_in, page_in}
 use Rattle.space_map.specs.Spaces.{IsInSpace, to_space}
 use Rattle.gc_worker.specs.declared.forwarding_register.ForwardingRegister.{ForwardingRegister}
 use Rattle.gc_worker.specs.declared.stage.Stage.TheVariants.{Flips, Forwards, Gone}
 use Rattle.gc_worker.specs.Fits.{Fits, Takes}
 use Rattle.gc_worker.specs.Answer.{IsAnswered, after_told}
 use Rattle.gc_worker.specs.Full.{FullWhereTold}
-use Rattle.gc_worker.specs.Held.{Held, asked_by}
+use Rattle.gc_worker.specs.Held.{Held, pages_needed}
 use Rattle.gc_worker.specs.Knows.{knows}
 use Rattle.gc_worker.specs.Turned.{Told, Silent, Answers, Marks, PageWon, epoch_said, turned, told, won}
 use Rattle.gc_worker.specs.Wanted.{wanted}
@@ -77,7 +77,7 @@ epoch_of n words = epoch_said 0 (word_in n words Gate)
 
 -- the epoch that a page's word says, and one more, or 0
 abbrev pub age : ℕ → List ℕ → (page : ℕ) → ℕ
-age n words page = age_of (page_said (word_in n words (Page page)))
+age n words page = age_of (page_in (word_in n words (Page page)))
 
 -- somebody won the page in this epoch, or it is too late to
 pub record IsOut (n : ℕ) (words : List ℕ) (w : PageWon) : Type 0 where
@@ -90,7 +90,7 @@ WinsOne n words later (Some w) = ¬ (IsOut n words w) × IsOut n later w
 
 -- A flip is for the pages that the flipper's task asks for, and is the gate's step into the next epoch.
 pub record FlipsOnce (n : ℕ) (words later : List ℕ) (x : Held) (asked : ℕ) : Type 0 where
-  pub asked_is : asked ≡ asked_by x
+  pub asked_is : asked ≡ pages_needed x
   pub epoch : epoch_of n words ≡ x.epoch
   pub next : epoch_of n later ≡ x.epoch + 1
 

@@ -17,16 +17,16 @@ pub record Made : Type 0 where
   pub told : Stepped
 
 -- a worker makes this step, or none
-abbrev pub made_by : Held → List ℕ → Option Step → Made
-made_by x words None = record { held = x; words = words; told = Idle }
-made_by x words (Some q) = record {
+abbrev pub step_made_by : Held → List ℕ → Option Step → Made
+step_made_by x words None = record { held = x; words = words; told = Idle }
+step_made_by x words (Some q) = record {
   held = turned x (reply_of q words);
   words = words_after q words;
   told = stepped_by x.number (told x (reply_of q words));
 }
 
-abbrev pub made : Held → List ℕ → Made
-made x words = made_by x words (wanted x)
+abbrev pub step_made : Held → List ℕ → Made
+step_made x words = step_made_by x words (wanted x)
 
 -- the words have the step's place, and the worker may take the reply and is sound then
 pub record Allows (x : Held) (words : List ℕ) (q : Step) : Type 0 where

@@ -46,11 +46,11 @@ mark_of (Ended m why) = Some (end_mark m why)
 
 -- A mark acts: it is of a mutator that had no end. An end for want of room comes only where the mutator's next step asks for more
 -- than there is. A flip changes nothing.
-abbrev pub Acts : List (List Instr) → ℕ → Plain → Mark → Type 0
-Acts code turns s (marks.Step m) = end_of s m ≡ Some None
-Acts code turns s (marks.Flip asked) = ⊤
-Acts code turns s (marks.Full m asked room live) = (end_of s m ≡ Some None) × (asked_by code turns s m ≡ Some asked) × (room < PAGE_WORDS * asked)
+abbrev pub MarkActs : List (List Instr) → ℕ → Plain → Mark → Type 0
+MarkActs code turns s (marks.Step m) = end_of s m ≡ Some None
+MarkActs code turns s (marks.Flip asked) = ⊤
+MarkActs code turns s (marks.Full m asked room live) = (end_of s m ≡ Some None) × (asked_by code turns s m ≡ Some asked) × (room < PAGE_WORDS * asked)
 
 -- each mark of an order acts on the state that the marks before it leave
 abbrev pub EachActs : List (List Instr) → ℕ → Plain → List Mark → Type 0
-EachActs code turns s order = EachMark (Acts code turns) code turns s order
+EachActs code turns s order = EachMark (MarkActs code turns) code turns s order

@@ -13,7 +13,7 @@ use Rattle.fault_duty.specs.declared.round_end.RoundEnd.TheVariants.{NothingNow}
 use Rattle.fault_duty.specs.Duty as duty
 use Rattle.fault_duty.specs.Duty.{Round}
 use Rattle.heap_state.specs.Table.{word_in}
-use Rattle.gc_worker.specs.Claims.{epoch_in}
+use Rattle.gc_worker.specs.Claims.{epoch_of_heap}
 use Rattle.gc_worker.specs.Held.{Held}
 use Rattle.gc_worker.specs.Law.{Heap, IsOut, WorkersStand, held_at}
 use Rattle.gc_worker.specs.Turned.{PageWon, Silent, back_from, of_round, told, turned, won}
@@ -32,17 +32,17 @@ pub record IsLost (words : List ℕ) (x : Held) (d : Round) (back : Back) (q : S
   pub goes_back : turned x (Lost word) ≡ back_from (of_round x d) back
 
 -- the round of a claim that exchanges the page's word next
-abbrev pub claims_next : Round → Claiming → Round
-claims_next d c = record d { stage = Claims (record c { stage = Exchanges }) }
+abbrev pub exchanges_next : Round → Claiming → Round
+exchanges_next d c = record d { stage = Claims (record c { stage = Exchanges }) }
 
 -- Where the round's epoch is below the gate's, a claim's exchange is lost: the page's word is of the round's epoch or a later one.
 pub record LosesPage (h : Heap) (x : Held) (d : Round) (back : Back) (c : Claiming) (q : Step) : Type 0 where
   pub out : IsOut h.pages h.words (record { page = c.page; epoch = d.epoch })
-  pub lost : IsLost h.words x (claims_next d c) back q (word_in h.pages h.words (Page c.page))
+  pub lost : IsLost h.words x (exchanges_next d c) back q (word_in h.pages h.words (Page c.page))
 
 abbrev pub PastClaimsAreLost : Type 0
 PastClaimsAreLost = (h : Heap) (p o : Plain) (k : ℕ) (x : Held) (d : Round) (back : Back) (c : Claiming) (q : Step) → WorkersStand h p o → k < length h.workers → held_at h k ≡ x
-    → x.stage ≡ Serves (claims_next d c) back → d.epoch < epoch_in h → wanted x ≡ Some q → LosesPage h x d back c q
+    → x.stage ≡ Serves (exchanges_next d c) back → d.epoch < epoch_of_heap h → wanted x ≡ Some q → LosesPage h x d back c q
 
 -- the round that exchanges TRACED next, which it has read as this word
 abbrev pub traces_next : Round → (found : ℕ) → Round
@@ -55,9 +55,9 @@ pub record LosesTraced (h : Heap) (x : Held) (d : Round) (back : Back) (found : 
 
 abbrev pub PastMarksAreLost : Type 0
 PastMarksAreLost = (h : Heap) (p o : Plain) (k : ℕ) (x : Held) (d : Round) (back : Back) (found : ℕ) (q : Step) → WorkersStand h p o → k < length h.workers → held_at h k ≡ x
-    → x.stage ≡ Serves (traces_next d found) back → d.epoch < epoch_in h → wanted x ≡ Some q → LosesTraced h x d back found q
+    → x.stage ≡ Serves (traces_next d found) back → d.epoch < epoch_of_heap h → wanted x ≡ Some q → LosesTraced h x d back found q
 
 -- So a page is won in the gate's epoch alone.
 abbrev pub PagesAreWonNow : Type 0
 PagesAreWonNow = (h : Heap) (p o : Plain) (k : ℕ) (x : Held) (q : Step) (w : PageWon) → WorkersStand h p o → k < length h.workers → held_at h k ≡ x
-    → wanted x ≡ Some q → won x (reply_of q h.words) ≡ Some w → w.epoch ≡ epoch_in h
+    → wanted x ≡ Some q → won x (reply_of q h.words) ≡ Some w → w.epoch ≡ epoch_of_heap h

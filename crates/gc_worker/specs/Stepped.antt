@@ -51,8 +51,8 @@ abbrev pub IsSound : Held → Type 0
 IsSound x = Fits x.layout.pages x.mutators x.number x
 
 -- a mutator has room for all that it may print
-abbrev pub HasRoom : (number mutators capacity : ℕ) → Type 0
-HasRoom number mutators capacity = nat_lt number mutators ≡ true → MOST_PRINTED ≤ capacity
+abbrev pub HasRoomToPrint : (number mutators capacity : ℕ) → Type 0
+HasRoomToPrint number mutators capacity = nat_lt number mutators ≡ true → MOST_PRINTED ≤ capacity
 
 -- what is told of a step of worker k
 abbrev pub stepped_by : (k : ℕ) → turned.Told → Stepped
@@ -98,9 +98,9 @@ abbrev pub IsServing : Stage → Type 0
 IsServing (Serves d back) = ⊤
 IsServing _ = ⊥
 
-abbrev pub IsScanning : Stage → Type 0
-IsScanning (Scans s back) = ⊤
-IsScanning _ = ⊥
+abbrev pub IsAtScan : Stage → Type 0
+IsAtScan (Scans s back) = ⊤
+IsAtScan _ = ⊥
 
 abbrev pub IsEvacuating : Stage → Type 0
 IsEvacuating (Evacuates v s back) = ⊤

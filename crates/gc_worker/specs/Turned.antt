@@ -57,7 +57,7 @@ use Rattle.gc_worker.specs.declared.did.Did.{Did}
 use Rattle.gc_worker.specs.declared.did.Did.TheVariants.{Done, Trap}
 use Rattle.gc_worker.specs.declared.task.Task.TheVariants.{Calls, Stops}
 use Rattle.gc_worker.specs.Access as access
-use Rattle.gc_worker.specs.Held.{Held, at_stage, making_for, header_for, asked_by, run_of}
+use Rattle.gc_worker.specs.Held.{Held, at_stage, making_for, header_for, pages_needed, run_held}
 use Rattle.gc_worker.specs.Seen.{Making, seen, word_for}
 use Rattle.plain_heap.specs.declared.action.Action.{Action}
 use Rattle.plain_heap.specs.declared.action.Action.TheVariants.{Sets, Jumps, Links, Prints, Makes}
@@ -72,7 +72,7 @@ passes x passage after = Passes (gate.begun x.layout passage) after
 
 -- the allocation of the record that the task asks for
 abbrev pub places : Held → Option Header → Stage
-places x (Some header) = Places (place.begun x.layout (run_of x) header x.epoch)
+places x (Some header) = Places (place.begun x.layout (run_held x) header x.epoch)
 places x None = Looks
 
 -- a mutator that stopped goes on there
@@ -112,13 +112,13 @@ forwards_from x after j = forwards_it x after (first_pointer x.registers (8 - j)
 
 -- ---- at the gate
 
-abbrev pub epoch_in : ℕ → Option GateWord → ℕ
-epoch_in own (Some gate) = gate.epoch
-epoch_in own None = own
+abbrev pub epoch_in_gate : ℕ → Option GateWord → ℕ
+epoch_in_gate own (Some gate) = gate.epoch
+epoch_in_gate own None = own
 
 -- the epoch that a gate's word says
 abbrev pub epoch_said : (own word : ℕ) → ℕ
-epoch_said own word = epoch_in own (decode_gate word)
+epoch_said own word = epoch_in_gate own (decode_gate word)
 
 -- a mutator comes into an epoch
 abbrev pub in_epoch : Held → ℕ → Held
@@ -142,7 +142,7 @@ passed_by x after Attach (passed.Went word) = attached x word
 passed_by x after Attach (passed.NotYet word) = at_stage x (passes x Attach after)
 passed_by x after Park (passed.Went word) = at_stage x (passes x (Resume x.epoch) after)
 passed_by x after Park (passed.NotYet word) = at_stage x (goes_on x after)
-passed_by x after Request (passed.Went word) = at_stage x (Flips (flip.begun x.layout x.epoch (asked_by x)))
+passed_by x after Request (passed.Went word) = at_stage x (Flips (flip.begun x.layout x.epoch (pages_needed x)))
 passed_by x after Request (passed.NotYet word) = at_stage x (passes x Park after)
 passed_by x after (Resume epoch) (passed.Went word) = at_stage x (goes_on x after)
 passed_by x after (Resume epoch) (passed.NotYet word) = stopped x after word
@@ -171,12 +171,12 @@ next_of x = plain_action.next_of (seen x.account x.registers)
 abbrev pub went_on : Held → Held
 went_on x = jumped x (next_of x)
 
-abbrev pub with_word : Held → (register word : ℕ) → Held
-with_word x register word = record x { registers = slice_set x.registers register word }
+abbrev pub with_register_word : Held → (register word : ℕ) → Held
+with_register_word x register word = record x { registers = slice_set x.registers register word }
 
 -- a register gets a word, and the mutator goes on
 abbrev pub loads : Held → (into word : ℕ) → Held
-loads x into word = went_on (with_word x into word)
+loads x into word = went_on (with_register_word x into word)
 
 abbrev pub prints : Held → ℕ → Held
 prints x n = went_on (record x { account = record x.account { printed = x.account.printed ++ n ∷ [] } })
@@ -203,7 +203,7 @@ accesses x None = x
 abbrev pub acts : Held → Action → Held
 acts x (Sets d v) = loads x d (word_for v)
 acts x (Jumps target) = jumped x target
-acts x (Links d target) = jumped (with_word x d (number_word (next_of x))) target
+acts x (Links d target) = jumped (with_register_word x d (number_word (next_of x))) target
 acts x (Prints n) = prints x n
 acts x (Makes kind d n) = at_stage x (places x (header_for x))
 acts x act = accesses x (access.begun act)
@@ -242,7 +242,7 @@ turned_flip x f (Finished result) = flipped_by x f result
 
 -- the register gets the copy's address, and the next ones are forwarded
 abbrev pub with_copy : Held → (register to : ℕ) → Held
-with_copy x register to = with_word x register (pointer_word to)
+with_copy x register to = with_register_word x register (pointer_word to)
 
 abbrev pub forwarded_to : Held → ForwardingRegister → To → Held
 forwarded_to x w to =
@@ -256,15 +256,15 @@ turned_register x w (Finished to) = forwarded_to x w to
 
 -- the heap is full where the epoch was found traced, and no flip can help: one was seen since the instruction began, or the
 -- epoch is the last
-abbrev pub is_full : Held → Bool
-is_full x = nat_lt x.begun x.epoch || (x.epoch == 2 ^ 32 - 1)
+abbrev pub finds_full : Held → Bool
+finds_full x = nat_lt x.begun x.epoch || (x.epoch == 2 ^ 32 - 1)
 
-abbrev pub end_of : Shortage → End
-end_of s = HeapFull s.asked s.room s.live
+abbrev pub end_by_shortage : Shortage → End
+end_by_shortage s = HeapFull s.asked s.room s.live
 
 abbrev pub full_by : Held → Shortage → (traced : Bool) → Held
 full_by x s false = at_stage x (Serves (duty.begun x.layout callers.Allocates x.epoch x.number) ToPlace)
-full_by x s true = if is_full x then ended x (end_of s) else at_stage x (passes x Request afters.Places)
+full_by x s true = if finds_full x then ended x (end_by_shortage s) else at_stage x (passes x Request afters.Places)
 
 -- the record stands, and the register that the task names leads to it
 abbrev pub with_record : Held → Run → (at : ℕ) → Option Making → Held
@@ -376,7 +376,7 @@ told_end None end = Silent
 
 abbrev pub told_full : Held → Shortage → (traced : Bool) → Told
 told_full x s false = Silent
-told_full x s true = if is_full x then told_end x.task (end_of s) else Silent
+told_full x s true = if finds_full x then told_end x.task (end_by_shortage s) else Silent
 
 -- the task is done
 abbrev pub told_effect : Option Task → Told

@@ -5,7 +5,7 @@ ghost use Rattle.mmu_model.specs.Access.{access_of};
 ghost use Rattle.space_map.specs.PageWord.{decode_page};
 ghost use Rattle.space_map.specs.Table.{table_length};
 ghost use Rattle.plain_heap.specs.Action.{in_record};
-ghost use Rattle.gc_worker.specs.Access.{FitsRecordUse, IsInHeap, IsSoundAccess, Takes, advances_at, at_stage, board_at, field_at, goes_by, goes_to_field, left, let_through, loading, looked, may_store, read_header, role_in, storing, taken, told, turn_by, used_by, uses_board, uses_field, wanted};
+ghost use Rattle.gc_worker.specs.Access.{FitsRecordUse, IsHeapAddress, IsSoundAccess, AccessTakes, advances_at, at_stage, board_at, field_at, goes_by, goes_to_field, left, let_through, loading, looked, may_store, read_header, role_in, storing, taken, told, turn_by, used_by, uses_board, uses_field, wanted};
 ghost use Rattle.gc_worker.specs.Seen.{IsValueWord};
 
 use crate::access_stage::AccessStage;
@@ -66,7 +66,7 @@ impl Access {
     #[inline(always)]
     pub fn take(&mut self, reply: Reply) -> Turn<Accessed>
         requires sound { IsSoundAccess self.old }
-        requires takes { Takes self.old.stage reply }
+        requires takes { AccessTakes self.old.stage reply }
         ensures state { self.new ≡ taken self.old reply }
         ensures tells { result ≡ told self.old reply }
         ensures lowers { result ≡ Turn.More → IsTrue (advances_at self.old.stage reply) → left self.new < left self.old }
@@ -81,7 +81,7 @@ impl Access {
     #[inline(always)]
     fn read(&mut self, word: u64) -> Turn<Accessed>
         requires sound { IsSoundAccess self.old }
-        requires takes { Takes self.old.stage (Reply.Value word) }
+        requires takes { AccessTakes self.old.stage (Reply.Value word) }
         ensures state { self.new ≡ taken self.old (Reply.Value word) }
         ensures tells { result ≡ told self.old (Reply.Value word) }
         ensures lowers { result ≡ Turn.More → IsTrue (advances_at self.old.stage (Reply.Value word)) → left self.new < left self.old }
@@ -114,7 +114,7 @@ impl Access {
     #[inline(always)]
     fn hear(&mut self, reply: Reply) -> Turn<Accessed>
         requires sound { IsSoundAccess self.old }
-        requires takes { Takes self.old.stage reply }
+        requires takes { AccessTakes self.old.stage reply }
         requires no_word { (word : ℕ) → reply ≢ Reply.Value word }
         ensures state { self.new ≡ taken self.old reply }
         ensures tells { result ≡ told self.old reply }
@@ -150,7 +150,7 @@ impl Access {
     #[tactic(auto, using(crate::proofs::Reading::headers_are_read, crate::proofs::Reading::others_are_not_read))]
     #[inline(always)]
     fn read_header(&mut self, r: RecordAccess, word: u64) -> Turn<Accessed>
-        requires in_heap { IsInHeap self.old.spaces.pages r.at }
+        requires in_heap { IsHeapAddress self.old.spaces.pages r.at }
         requires fits { FitsRecordUse r.usage }
         ensures state { self.new ≡ goes_by self.old (read_header r (decode word)) }
         ensures tells { result ≡ turn_by (read_header r (decode word)) }
@@ -163,7 +163,7 @@ impl Access {
 
     #[inline(always)]
     fn use_record(&mut self, r: RecordAccess, header: Header) -> Turn<Accessed>
-        requires in_heap { IsInHeap self.old.spaces.pages r.at }
+        requires in_heap { IsHeapAddress self.old.spaces.pages r.at }
         requires fits { FitsRecordUse r.usage }
         ensures state { self.new ≡ goes_by self.old (used_by r (role_in header.kind) header.len r.usage) }
         ensures tells { result ≡ turn_by (used_by r (role_in header.kind) header.len r.usage) }
@@ -181,7 +181,7 @@ impl Access {
 
     #[inline(always)]
     fn load(&mut self, r: RecordAccess, role: Role, len: u16, into: u8) -> Turn<Accessed>
-        requires in_heap { IsInHeap self.old.spaces.pages r.at }
+        requires in_heap { IsHeapAddress self.old.spaces.pages r.at }
         requires short { len ≤ 4095 }
         ensures state { self.new ≡ goes_by self.old (loading r.at role into (in_record len r.value)) }
         ensures tells { result ≡ turn_by (loading r.at role into (in_record len r.value)) }
@@ -195,7 +195,7 @@ impl Access {
 
     #[inline(always)]
     fn store(&mut self, r: RecordAccess, role: Role, len: u16, new: u64) -> Turn<Accessed>
-        requires in_heap { IsInHeap self.old.spaces.pages r.at }
+        requires in_heap { IsHeapAddress self.old.spaces.pages r.at }
         requires short { len ≤ 4095 }
         requires is_value { IsValueWord new }
         ensures state { self.new ≡ goes_by self.old (storing r.at role r.value (may_store role new (in_record len r.value))) }

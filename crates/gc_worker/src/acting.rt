@@ -4,7 +4,7 @@ ghost use Rattle.std.specs.Prelude.{◌≡◌, ◌<◌, Some, length, true, nat_
 ghost use Rattle.plain_state.specs.declared.sizes.TheConstants.{MOST_PRINTED};
 ghost use Rattle.heap_words.specs.Word.{number_word};
 ghost use Rattle.gc_worker.specs.Stepped.{uncounted};
-ghost use Rattle.gc_worker.specs.Turned.{accesses, ended, jumped, loads, next_of, prints, went_on, with_word};
+ghost use Rattle.gc_worker.specs.Turned.{accesses, ended, jumped, loads, next_of, prints, went_on, with_register_word};
 
 use crate::access::Access;
 use crate::access_stage::AccessStage;
@@ -34,7 +34,7 @@ impl State {
     #[inline(always)]
     pub fn link(&mut self, d: u8, target: u64) -> Stepped
         requires at { self.old.stage ≡ Stage.Looks }
-        ensures state { self.new ≡ uncounted (jumped (with_word self.old d (number_word (next_of self.old))) target) }
+        ensures state { self.new ≡ uncounted (jumped (with_register_word self.old d (number_word (next_of self.old))) target) }
         ensures tells { result ≡ Stepped.Effect self.old.number }
     {
         self.set(d, Word::number(self.next()).0);
@@ -53,7 +53,7 @@ impl State {
     /// Puts a word into a register. Where there is no such register, nothing changes.
     #[inline(always)]
     pub fn set(&mut self, d: u8, word: u64)
-        ensures { self.new ≡ with_word self.old d word }
+        ensures { self.new ≡ with_register_word self.old d word }
     {
         let d = d as usize;
         if d < self.registers.len() {

@@ -6,7 +6,7 @@ ghost use Rattle.record_layout.specs.Layout.{header_in};
 ghost use Rattle.heap_state.specs.Ghost.{header_kind};
 ghost use Rattle.plain_heap.specs.Action.{action, allocates};
 ghost use Rattle.gc_worker.specs.Fits.{FitsStage, IsMaking, Takes};
-ghost use Rattle.gc_worker.specs.Held.{asked_by, at_stage, header_for, making_for};
+ghost use Rattle.gc_worker.specs.Held.{pages_needed, at_stage, header_for, making_for};
 ghost use Rattle.gc_worker.specs.Seen.{making_in};
 ghost use Rattle.gc_worker.specs.Stepped.{IsPlacing, IsSound, seen_by, stepped_by, uncounted};
 ghost use Rattle.gc_worker.specs.Turned.{full_by, places, told, told_effect, told_full, turned, with_record};
@@ -78,7 +78,7 @@ impl State {
 
     /// The pages that it needs.
     pub fn asked(&self) -> u32
-        ensures { result ≡ asked_by self.now }
+        ensures { result ≡ pages_needed self.now }
     {
         match self.header() {
             Some(header) => (u32::from(header.len) + 1).div_ceil(PAGE_WORDS),

@@ -2,8 +2,8 @@
 //! scans and copies are put into the loop that steps the workers; with all the others the compiler would put none there.
 
 ghost use Rattle.std.specs.Prelude.{◌≡◌};
-ghost use Rattle.gc_worker.specs.Made.{MayMake, made};
-ghost use Rattle.gc_worker.specs.Stepped.{IsAtAccess, IsAtGate, IsEvacuating, IsFlipping, IsForwarding, IsOpening, IsPlacing, IsScanning, IsServing, IsSound, uncounted};
+ghost use Rattle.gc_worker.specs.Made.{MayMake, step_made};
+ghost use Rattle.gc_worker.specs.Stepped.{IsAtAccess, IsAtGate, IsEvacuating, IsFlipping, IsForwarding, IsOpening, IsPlacing, IsAtScan, IsServing, IsSound, uncounted};
 
 use crate::stage::Stage;
 use crate::state::State;
@@ -16,9 +16,9 @@ impl State {
     pub fn step(&mut self, on: &mut PlainAtoms) -> Stepped
         requires sound { IsSound self.old }
         requires may { MayMake self.old on.old }
-        ensures state { self.new ≡ uncounted (made self.old on.old).held }
-        ensures words { on.new ≡ (made self.old on.old).words }
-        ensures tells { result ≡ (made self.old on.old).told }
+        ensures state { self.new ≡ uncounted (step_made self.old on.old).held }
+        ensures words { on.new ≡ (step_made self.old on.old).words }
+        ensures tells { result ≡ (step_made self.old on.old).told }
     {
         match self.stage {
             Stage::Looks => self.look_on(on),
@@ -58,9 +58,9 @@ impl State {
         requires at { self.old.stage ≡ Stage.Looks }
         requires sound { IsSound self.old }
         requires may { MayMake self.old on.old }
-        ensures state { self.new ≡ uncounted (made self.old on.old).held }
-        ensures words { on.new ≡ (made self.old on.old).words }
-        ensures tells { result ≡ (made self.old on.old).told }
+        ensures state { self.new ≡ uncounted (step_made self.old on.old).held }
+        ensures words { on.new ≡ (step_made self.old on.old).words }
+        ensures tells { result ≡ (step_made self.old on.old).told }
     {
         let reply = on.act(Step::Load(self.spaces.gate_place()));
         self.look(reply)
@@ -71,8 +71,8 @@ impl State {
         requires at { IsAtGate self.old.stage }
         requires sound { IsSound self.old }
         requires may { MayMake self.old on.old }
-        ensures state { self.new ≡ uncounted (made self.old on.old).held }
-        ensures words { on.new ≡ (made self.old on.old).words }
+        ensures state { self.new ≡ uncounted (step_made self.old on.old).held }
+        ensures words { on.new ≡ (step_made self.old on.old).words }
     {
         let Stage::Passes(gate, _) = &self.stage else {
             unreachable!()
@@ -86,9 +86,9 @@ impl State {
         requires at { IsFlipping self.old.stage }
         requires sound { IsSound self.old }
         requires may { MayMake self.old on.old }
-        ensures state { self.new ≡ uncounted (made self.old on.old).held }
-        ensures words { on.new ≡ (made self.old on.old).words }
-        ensures tells { result ≡ (made self.old on.old).told }
+        ensures state { self.new ≡ uncounted (step_made self.old on.old).held }
+        ensures words { on.new ≡ (step_made self.old on.old).words }
+        ensures tells { result ≡ (step_made self.old on.old).told }
     {
         let Stage::Flips(flip) = &self.stage else {
             unreachable!()
@@ -102,8 +102,8 @@ impl State {
         requires at { IsForwarding self.old.stage }
         requires sound { IsSound self.old }
         requires may { MayMake self.old on.old }
-        ensures state { self.new ≡ uncounted (made self.old on.old).held }
-        ensures words { on.new ≡ (made self.old on.old).words }
+        ensures state { self.new ≡ uncounted (step_made self.old on.old).held }
+        ensures words { on.new ≡ (step_made self.old on.old).words }
     {
         let Stage::Forwards(w) = &self.stage else {
             unreachable!()
@@ -117,9 +117,9 @@ impl State {
         requires at { IsAtAccess self.old.stage }
         requires sound { IsSound self.old }
         requires may { MayMake self.old on.old }
-        ensures state { self.new ≡ uncounted (made self.old on.old).held }
-        ensures words { on.new ≡ (made self.old on.old).words }
-        ensures tells { result ≡ (made self.old on.old).told }
+        ensures state { self.new ≡ uncounted (step_made self.old on.old).held }
+        ensures words { on.new ≡ (step_made self.old on.old).words }
+        ensures tells { result ≡ (step_made self.old on.old).told }
     {
         let Stage::Accesses(access) = &self.stage else {
             unreachable!()
@@ -133,9 +133,9 @@ impl State {
         requires at { IsPlacing self.old.stage }
         requires sound { IsSound self.old }
         requires may { MayMake self.old on.old }
-        ensures state { self.new ≡ uncounted (made self.old on.old).held }
-        ensures words { on.new ≡ (made self.old on.old).words }
-        ensures tells { result ≡ (made self.old on.old).told }
+        ensures state { self.new ≡ uncounted (step_made self.old on.old).held }
+        ensures words { on.new ≡ (step_made self.old on.old).words }
+        ensures tells { result ≡ (step_made self.old on.old).told }
     {
         let Stage::Places(place) = &self.stage else {
             unreachable!()
@@ -149,8 +149,8 @@ impl State {
         requires at { IsServing self.old.stage }
         requires sound { IsSound self.old }
         requires may { MayMake self.old on.old }
-        ensures state { self.new ≡ uncounted (made self.old on.old).held }
-        ensures words { on.new ≡ (made self.old on.old).words }
+        ensures state { self.new ≡ uncounted (step_made self.old on.old).held }
+        ensures words { on.new ≡ (step_made self.old on.old).words }
     {
         let Stage::Serves(duty, _) = &self.stage else {
             unreachable!()
@@ -161,11 +161,11 @@ impl State {
 
     #[inline(always)]
     fn scan_on(&mut self, on: &mut PlainAtoms)
-        requires at { IsScanning self.old.stage }
+        requires at { IsAtScan self.old.stage }
         requires sound { IsSound self.old }
         requires may { MayMake self.old on.old }
-        ensures state { self.new ≡ uncounted (made self.old on.old).held }
-        ensures words { on.new ≡ (made self.old on.old).words }
+        ensures state { self.new ≡ uncounted (step_made self.old on.old).held }
+        ensures words { on.new ≡ (step_made self.old on.old).words }
     {
         let Stage::Scans(scan, _) = &self.stage else {
             unreachable!()
@@ -179,8 +179,8 @@ impl State {
         requires at { IsEvacuating self.old.stage }
         requires sound { IsSound self.old }
         requires may { MayMake self.old on.old }
-        ensures state { self.new ≡ uncounted (made self.old on.old).held }
-        ensures words { on.new ≡ (made self.old on.old).words }
+        ensures state { self.new ≡ uncounted (step_made self.old on.old).held }
+        ensures words { on.new ≡ (step_made self.old on.old).words }
     {
         let Stage::Evacuates(evac, _, _) = &self.stage else {
             unreachable!()
@@ -194,8 +194,8 @@ impl State {
         requires at { IsOpening self.old.stage }
         requires sound { IsSound self.old }
         requires may { MayMake self.old on.old }
-        ensures state { self.new ≡ uncounted (made self.old on.old).held }
-        ensures words { on.new ≡ (made self.old on.old).words }
+        ensures state { self.new ≡ uncounted (step_made self.old on.old).held }
+        ensures words { on.new ≡ (step_made self.old on.old).words }
     {
         let Stage::Opens(open, _, _) = &self.stage else {
             unreachable!()

@@ -3,7 +3,7 @@
 ghost use Rattle.std.specs.Prelude.{◌≡◌, ◌^◌, ◌<◌, IfOk, if◌then◌else◌};
 ghost use Rattle.plain_state.specs.declared.value.Value.TheVariants.{Number};
 ghost use Rattle.plain_state.specs.Operation.{one_if};
-ghost use Rattle.plain_heap.specs.Action.{are_same, board_place, is_reference, is_zero, next_of, number_in, operand, reference_in, register};
+ghost use Rattle.plain_heap.specs.Action.{are_same, board_place, is_reference, is_zero, next_of, as_number, operand, reference_in, register};
 ghost use Rattle.gc_worker.specs.Seen.{length_named};
 ghost use Rattle.gc_worker.specs.Stepped.{FitsValue, seen_by};
 
@@ -27,7 +27,7 @@ impl State {
 
     /// The number in a register, else the end for a pointer.
     pub fn number(&self, r: u8) -> Result<u64, End>
-        ensures exact { result ≡ number_in (register (seen_by self.now) r) }
+        ensures exact { result ≡ as_number (register (seen_by self.now) r) }
         ensures fits { IfOk result (λ n. n < NUMBERS) }
     {
         match self.value(r) {

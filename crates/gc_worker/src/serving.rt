@@ -5,7 +5,7 @@ ghost use Rattle.space_map.specs.declared.spaces.TheConstants.{LAST_WORKER};
 ghost use Rattle.space_map.specs.Spaces.{board_page};
 ghost use Rattle.gc_worker.specs.declared.access_stage.AccessStage.{AccessStage};
 ghost use Rattle.gc_worker.specs.Fits.{FitsStage, IsAccessing, Takes};
-ghost use Rattle.gc_worker.specs.Stepped.{IsAtAccess, IsEvacuating, IsOpening, IsScanning, IsServing, IsSound, back_at, served_in, stepped_by, uncounted};
+ghost use Rattle.gc_worker.specs.Stepped.{IsAtAccess, IsEvacuating, IsOpening, IsAtScan, IsServing, IsSound, back_at, served_in, stepped_by, uncounted};
 ghost use Rattle.gc_worker.specs.Turned.{accessed_by, back_from, goes_back, scans, told, told_access, turned};
 
 use crate::access::Access;
@@ -172,7 +172,7 @@ impl State {
     /// A step of a scan.
     #[inline(always)]
     pub fn scan(&mut self, reply: Reply)
-        requires at { IsScanning self.old.stage }
+        requires at { IsAtScan self.old.stage }
         requires fits { IsSound self.old }
         requires takes { Takes self.old reply }
         requires after { IsSound (turned self.old reply) }

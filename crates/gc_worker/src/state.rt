@@ -45,7 +45,7 @@ impl State {
 impl Model for State {
     ghost use Rattle.std.specs.Prelude.{vec_capacity};
     ghost use Rattle.gc_worker.specs.Held.{Held};
-    ghost use Rattle.gc_worker.specs.Stepped.{task_due, HasRoom};
+    ghost use Rattle.gc_worker.specs.Stepped.{task_due, HasRoomToPrint};
 
     ghost Value = { Held };
 
@@ -62,5 +62,5 @@ impl Model for State {
       stage = s.stage;
     } };
 
-    ghost invariant = { λ s. HasRoom s.number s.mutators (vec_capacity s.printed) };
+    ghost invariant = { λ s. HasRoomToPrint s.number s.mutators (vec_capacity s.printed) };
 }

@@ -8,7 +8,7 @@ ghost use Rattle.gc_worker.specs.declared.task.Task.TheVariants.{Calls, Stops};
 ghost use Rattle.gc_worker.specs.Between.{fresh, fresh_mutator, fresh_scanner, with_task};
 ghost use Rattle.gc_worker.specs.Fits.{Takes};
 ghost use Rattle.gc_worker.specs.Held.{at_stage};
-ghost use Rattle.gc_worker.specs.Stepped.{HasRoom, IsSound, stepped_by, uncounted};
+ghost use Rattle.gc_worker.specs.Stepped.{HasRoomToPrint, IsSound, stepped_by, uncounted};
 ghost use Rattle.gc_worker.specs.Turned.{told, turned};
 ghost use Rattle.gc_worker.specs.Wanted.{wanted};
 
@@ -28,7 +28,7 @@ use space_map::Spaces;
 impl State {
     /// A mutator that is about to come to a heap.
     pub fn mutator(spaces: Spaces, number: u8, mutators: u8, printed: Vec<u64>) -> State
-        requires room { HasRoom number mutators (vec_capacity printed) }
+        requires room { HasRoomToPrint number mutators (vec_capacity printed) }
         requires empty { printed.items ≡ [] }
         ensures { result ≡ fresh_mutator spaces.pages mutators number }
     {
@@ -39,7 +39,7 @@ impl State {
     /// A scanner before its first round.
     pub fn scanner(spaces: Spaces, number: u8, mutators: u8, printed: Vec<u64>) -> State
         requires few { number ≤ LAST_WORKER }
-        requires room { HasRoom number mutators (vec_capacity printed) }
+        requires room { HasRoomToPrint number mutators (vec_capacity printed) }
         requires empty { printed.items ≡ [] }
         ensures { result ≡ fresh_scanner spaces.pages mutators number }
     {
@@ -55,7 +55,7 @@ impl State {
 
     /// A worker before its first step, which is about to do this.
     fn new(spaces: Spaces, number: u8, mutators: u8, printed: Vec<u64>, stage: Stage) -> State
-        requires room { HasRoom number mutators (vec_capacity printed) }
+        requires room { HasRoomToPrint number mutators (vec_capacity printed) }
         requires empty { printed.items ≡ [] }
         ensures { result ≡ at_stage (fresh spaces.pages mutators number) stage }
     {

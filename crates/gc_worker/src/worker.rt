@@ -5,7 +5,7 @@ ghost use Rattle.space_map.specs.Table.{table_length};
 ghost use Rattle.gc_worker.specs.declared.task.Task.TheVariants.{Calls, Stops};
 ghost use Rattle.gc_worker.specs.Between.{IsIdle, fresh_mutator, fresh_scanner, with_task};
 ghost use Rattle.gc_worker.specs.Fits.{MayBegin, MayStop, Takes};
-ghost use Rattle.gc_worker.specs.Made.{MayMake, made};
+ghost use Rattle.gc_worker.specs.Made.{MayMake, step_made};
 ghost use Rattle.gc_worker.specs.Stepped.{IsSound, awaits, header_kept, place_kept, stepped_by, uncounted};
 ghost use Rattle.gc_worker.specs.Turned.{told, turned};
 ghost use Rattle.gc_worker.specs.Wanted.{wanted};
@@ -104,9 +104,9 @@ impl Worker {
     #[inline(always)]
     pub fn step(&mut self, on: &mut PlainAtoms) -> Stepped
         requires may { MayMake self.old on.old }
-        ensures state { self.new ≡ uncounted (made self.old on.old).held }
-        ensures words { on.new ≡ (made self.old on.old).words }
-        ensures tells { result ≡ (made self.old on.old).told }
+        ensures state { self.new ≡ uncounted (step_made self.old on.old).held }
+        ensures words { on.new ≡ (step_made self.old on.old).words }
+        ensures tells { result ≡ (step_made self.old on.old).told }
     {
         self.state.step(on)
     }

@@ -12,7 +12,7 @@ use Rattle.heap_state.specs.Configuration.{Configuration, Stands, table, era, me
 use Rattle.heap_state.specs.Era.{Era, Memory}
 use Rattle.heap_state.specs.Ghost.{Ghost, Lands}
 use Rattle.heap_state.specs.Parts.Knowledge.{Passes}
-use Rattle.heap_state.specs.Worker.{Team, Passage, Enter, Park, Request, Forwarded, Resume, Leave, Quest, Copy, Scan, Seen}
+use Rattle.heap_state.specs.Worker.{Team, Passage, Enter, Park, Request, Forwarded, Resume, Leave, Quest, Copy, Scan, SeenRecord}
 use Rattle.heap_laws.specs.Gate.{gate_after}
 use Rattle.heap_laws.specs.Scanning.Words.{AtField, IsScanning}
 use Rattle.heap_laws.specs.Steps.{Ready, IsAreaNow}
@@ -63,7 +63,7 @@ pub record MeetsHeader (m : Memory) (a : ℕ) : Type 0 where
 pub record ScanAnswers (E : Era) (m : Memory) (g : Ghost) (s : Scan) : Type 0 where
   pub crossing : s.page ≢ page_of E.board → (s.page < page_of E.board) × (E.start ≤ m.cross s.page) × (m.cross s.page ≤ first_word s.page)
   pub first : (a : ℕ) → s.page ≢ page_of E.board → s.over ≡ Some a → (a ≤ first_word s.page) × ((h : MeetsHeader m a) × (first_word s.page < a + (h.len + 1)))
-  pub next : (r : Seen) → s.page ≢ page_of E.board → s.current ≡ Some r → s.cursor ≡ r.next → s.cursor < first_word s.page + PAGE_WORDS → (s.inner ≡ true) ⊎ (s.in_place ≡ false) → MeetsHeader m s.cursor
+  pub next : (r : SeenRecord) → s.page ≢ page_of E.board → s.current ≡ Some r → s.cursor ≡ r.next → s.cursor < first_word s.page + PAGE_WORDS → (s.inner ≡ true) ⊎ (s.in_place ≡ false) → MeetsHeader m s.cursor
   pub field : AtField E s → (s.cursor < E.board + PAGE_WORDS) × Lands g.size g.writer (m.heap s.cursor)
   pub front : m.front ≤ E.board
 

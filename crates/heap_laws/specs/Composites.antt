@@ -10,7 +10,7 @@ use Rattle.heap_state.specs.Ghost.{Ghost, Leads}
 use Rattle.heap_state.specs.Worker.{Worker, Team, Register, Quest, Look, is_late}
 use Rattle.heap_laws.specs.Composing.{ends_round}
 use Rattle.heap_laws.specs.Flipping.Registers.{HasFoundCopy}
-use Rattle.heap_laws.specs.Scanning.Claims.{MayClaim, claiming, claim_of}
+use Rattle.heap_laws.specs.Scanning.Claims.{MayClaim, claiming, claim_by_word}
 use Rattle.heap_laws.specs.Steps.{Ready, Steps}
 use Rattle.heap_laws.specs.Tracing.{IsLooking, looking}
 use Rattle.space_map.specs.Spaces.{first_word}
@@ -68,7 +68,7 @@ LookingAtLastPageKeeps = (E : Era) (m : Memory) (team : Team) (g : Ghost) (k : �
 -- a claim begins, and what the round has read is forgotten
 abbrev pub ClaimsBegin : Type 0
 ClaimsBegin = (E : Era) (m : Memory) (team : Team) (g : Ghost) (k p : ℕ) (old : PageWord) → Ready E m team g k → MayClaim E m team k p old
-    → Steps E m team g k None (claiming (ends_round (team.worker k)) (claim_of old p)) g
+    → Steps E m team g k None (claiming (ends_round (team.worker k)) (claim_by_word old p)) g
 
 -- a round ends, whatever it was about to do
 abbrev pub RoundsEnd : Type 0

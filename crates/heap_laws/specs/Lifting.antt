@@ -17,9 +17,9 @@ use Rattle.heap_laws.specs.Flipping.Flip.{Flips, flipped_gate, after_flip, next_
 -- ---- one step
 
 -- the words after a row is written, or none
-abbrev pub words_after : ℕ → List ℕ → Option Entry → List ℕ
-words_after n words None = words
-words_after n words (Some e) = slice_set words (place_of n (row_of e)) (word_of e)
+abbrev pub words_after_row : ℕ → List ℕ → Option Entry → List ℕ
+words_after_row n words None = words
+words_after_row n words (Some e) = slice_set words (place_of n (row_of e)) (word_of e)
 
 -- what the table says then
 abbrev pub table_after : Table → Option Entry → Table
@@ -32,8 +32,8 @@ RowFits n None = ⊤
 RowFits n (Some e) = EntryFits n e
 
 -- a row is written, or none, and worker k becomes another
-abbrev pub stepped : Configuration → Option Entry → ℕ → Worker → Configuration
-stepped c e k w = record c { words = words_after c.pages c.words e; workers = slice_set c.workers k w }
+abbrev pub configuration_after : Configuration → Option Entry → ℕ → Worker → Configuration
+configuration_after c e k w = record c { words = words_after_row c.pages c.words e; workers = slice_set c.workers k w }
 
 -- ---- the lifting
 
@@ -49,31 +49,31 @@ pub record StandsWith (c : Configuration) (p : Plain) (g : Ghost) : Type 0 where
 
 -- The step of worker k leaves a configuration that stands for the plain state q. The row that it writes is one of the table, what
 -- a cycle kept of the earlier configuration it keeps of this, no page word's epoch fell, and the gate's epoch is as it was.
-pub record Leaves (c : Configuration) (e : Option Entry) (k : ℕ) (w : Worker) (q : Plain) (g h : Ghost) : Type 0 where
+pub record LeavesConfiguration (c : Configuration) (e : Option Entry) (k : ℕ) (w : Worker) (q : Plain) (g h : Ghost) : Type 0 where
   pub fits : RowFits c.pages e
-  pub standing : StandsWith (stepped c e k w) q h
-  pub cycle : (o : Plain) → Cycle (era c) (memory c) (team c) g o → Cycle (era (stepped c e k w)) (memory (stepped c e k w)) (team (stepped c e k w)) h o
-  pub ages : (page : ℕ) → age_of ((table c).page page) ≤ age_of ((table (stepped c e k w)).page page)
-  pub epoch : (era (stepped c e k w)).epoch ≡ (era c).epoch
+  pub standing : StandsWith (configuration_after c e k w) q h
+  pub cycle : (o : Plain) → Cycle (era c) (memory c) (team c) g o → Cycle (era (configuration_after c e k w)) (memory (configuration_after c e k w)) (team (configuration_after c e k w)) h o
+  pub ages : (page : ℕ) → age_of ((table c).page page) ≤ age_of ((table (configuration_after c e k w)).page page)
+  pub epoch : (era (configuration_after c e k w)).epoch ≡ (era c).epoch
 
 -- what a law says of a step is so of each configuration that stands
 abbrev pub StepsAreLifted : Type 0
 StepsAreLifted = (c : Configuration) (p : Plain) (s : Stands c p) (e : Option Entry) (k : ℕ) (w : Worker) (h : Ghost) → k < length c.workers
-    → Steps (era c) (memory c) (team c) s.ghost k e w h → Leaves c e k w p s.ghost h
+    → Steps (era c) (memory c) (team c) s.ghost k e w h → LeavesConfiguration c e k w p s.ghost h
 
 -- the same of a step of the plain machine
 abbrev pub PlainStepsAreLifted : Type 0
 PlainStepsAreLifted = (c : Configuration) (p q : Plain) (s : Stands c p) (e : Option Entry) (k : ℕ) (w : Worker) (h : Ghost) → k < length c.workers
-    → StepsTo (era c) (memory c) (team c) s.ghost k e w h q → Leaves c e k w q s.ghost h
+    → StepsTo (era c) (memory c) (team c) s.ghost k e w h q → LeavesConfiguration c e k w q s.ghost h
 
 -- The flip leaves a configuration that stands for the same plain state, of which a cycle begins. The gate's word fits and says
 -- the next epoch, and no page word changed.
 pub record Flipped (c : Configuration) (gate : GateWord) (k : ℕ) (w : Worker) (p : Plain) (h : Ghost) : Type 0 where
   pub fits : GateFits gate
-  pub standing : StandsWith (stepped c (Some (GateIs gate)) k w) p h
-  pub begins : Cycle (era (stepped c (Some (GateIs gate)) k w)) (memory (stepped c (Some (GateIs gate)) k w)) (team (stepped c (Some (GateIs gate)) k w)) h p
-  pub pages : (table (stepped c (Some (GateIs gate)) k w)).page ≡ (table c).page
-  pub epoch : (era (stepped c (Some (GateIs gate)) k w)).epoch ≡ (era c).epoch + 1
+  pub standing : StandsWith (configuration_after c (Some (GateIs gate)) k w) p h
+  pub begins : Cycle (era (configuration_after c (Some (GateIs gate)) k w)) (memory (configuration_after c (Some (GateIs gate)) k w)) (team (configuration_after c (Some (GateIs gate)) k w)) h p
+  pub pages : (table (configuration_after c (Some (GateIs gate)) k w)).page ≡ (table c).page
+  pub epoch : (era (configuration_after c (Some (GateIs gate)) k w)).epoch ≡ (era c).epoch + 1
 
 abbrev pub FlipsAreLifted : Type 0
 FlipsAreLifted = (c : Configuration) (p : Plain) (s : Stands c p) (k : ℕ) (r : Reset) → k < length c.workers → Flips (era c) (team c) k r

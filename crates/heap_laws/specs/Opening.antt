@@ -23,8 +23,8 @@ opening_entries n = TracedIs 1 ∷ AreaIs 0 (whole_area (PAGE_WORDS * n) 0) ∷ 
 abbrev pub opening_workers : (mutators scanners : ℕ) → List Worker
 opening_workers mutators scanners = replicate mutators (fresh Outside) ++ replicate scanners (fresh Scanner)
 
-abbrev pub opening : (n mutators scanners : ℕ) → Configuration
-opening n mutators scanners = record {
+abbrev pub opening_configuration : (n mutators scanners : ℕ) → Configuration
+opening_configuration n mutators scanners = record {
   pages = n;
   words = written n (opening_entries n);
   mutators = mutators;
@@ -46,10 +46,10 @@ opening_plain mutators = record {
 -- ---- the law
 
 -- the configuration stands for the plain state, and keeps what a cycle keeps that begins in it
-pub record Begins (c : Configuration) (p : plain.Plain) : Type 0 where
+pub record BeginsCycle (c : Configuration) (p : plain.Plain) : Type 0 where
   pub stands : Stands c p
   pub cycle : Cycle (era c) (memory c) (team c) stands.ghost p
 
 abbrev pub OpeningStands : Type 0
 OpeningStands = (n mutators scanners : ℕ) → IsPageCount n → mutators ≤ 16 → mutators + scanners ≤ 24
-    → Begins (opening n mutators scanners) (opening_plain mutators)
+    → BeginsCycle (opening_configuration n mutators scanners) (opening_plain mutators)

@@ -71,16 +71,16 @@ abbrev pub with_announced : Memory → (worker place : ℕ) → Memory
 with_announced m worker place = record m { announced = put m.announced worker place }
 
 -- A row of the table is written, or none, and then the epoch sees this memory. What is written fits its word.
-pub data Writes (E : Era) (m : Memory) : Option Entry → Memory → Type 0 where
-  NoRow : Writes E m None m
-  InGate : (gate : GateWord) → GateFits gate → gate.epoch ≡ E.epoch → Writes E m (Some (GateIs gate)) (with_gate m gate)
-  InTraced : (word : ℕ) → Writes E m (Some (TracedIs word)) (with_traced m word)
-  InArea : (area : AreaWord) → AreaFits area → Writes E m (Some (AreaIs (to_space E.epoch) area)) (with_area m (E.start + area.front) (E.start + area.low) area.owed)
-  InOldArea : (area : AreaWord) → AreaFits area → Writes E m (Some (AreaIs (from_space E.epoch) area)) (with_old_area m (E.old_start + area.front) (E.old_start + area.low) area.owed)
-  InPage : (page : ℕ) (word : PageWord) → page ≤ page_of E.board → PageFits word → Writes E m (Some (PageIs page word)) (with_page m page word)
-  InCross : (page place : ℕ) → page < page_of E.board → Writes E m (Some (CrossIs page place)) (with_crossing m page place)
-  InWord : (addr word : ℕ) → addr < E.board + PAGE_WORDS → Writes E m (Some (WordIs addr word)) (with_word m addr word)
-  InAnnounce : (worker place : ℕ) → worker < 24 → Writes E m (Some (AnnounceIs worker place)) (with_announced m worker place)
+pub data WritesRow (E : Era) (m : Memory) : Option Entry → Memory → Type 0 where
+  NoRow : WritesRow E m None m
+  InGate : (gate : GateWord) → GateFits gate → gate.epoch ≡ E.epoch → WritesRow E m (Some (GateIs gate)) (with_gate m gate)
+  InTraced : (word : ℕ) → WritesRow E m (Some (TracedIs word)) (with_traced m word)
+  InArea : (area : AreaWord) → AreaFits area → WritesRow E m (Some (AreaIs (to_space E.epoch) area)) (with_area m (E.start + area.front) (E.start + area.low) area.owed)
+  InOldArea : (area : AreaWord) → AreaFits area → WritesRow E m (Some (AreaIs (from_space E.epoch) area)) (with_old_area m (E.old_start + area.front) (E.old_start + area.low) area.owed)
+  InPage : (page : ℕ) (word : PageWord) → page ≤ page_of E.board → PageFits word → WritesRow E m (Some (PageIs page word)) (with_page m page word)
+  InCross : (page place : ℕ) → page < page_of E.board → WritesRow E m (Some (CrossIs page place)) (with_crossing m page place)
+  InWord : (addr word : ℕ) → addr < E.board + PAGE_WORDS → WritesRow E m (Some (WordIs addr word)) (with_word m addr word)
+  InAnnounce : (worker place : ℕ) → worker < 24 → WritesRow E m (Some (AnnounceIs worker place)) (with_announced m worker place)
 
 -- ---- what is kept
 
@@ -95,7 +95,7 @@ pub record Preserves (E : Era) (m later : Memory) (team after : Team) (g h : Gho
 -- kept. This is what a law says of a step that is none of the plain machine.
 pub record Steps (E : Era) (m : Memory) (team : Team) (g : Ghost) (k : ℕ) (e : Option Entry) (w : Worker) (h : Ghost) : Type 0 where
   pub later : Memory
-  pub writes : Writes E m e later
+  pub writes : WritesRow E m e later
   pub keeps : Preserves E m later team (with_worker team k w) g h
 
 -- A step that is one of the plain machine: the invariant is kept, and the plain state q is shown after it. What a cycle keeps is
@@ -109,7 +109,7 @@ pub record Makes (E : Era) (m later : Memory) (team after : Team) (g h : Ghost) 
 -- the same of such a step: after it the plain state is q
 pub record StepsTo (E : Era) (m : Memory) (team : Team) (g : Ghost) (k : ℕ) (e : Option Entry) (w : Worker) (h : Ghost) (q : Plain) : Type 0 where
   pub later : Memory
-  pub writes : Writes E m e later
+  pub writes : WritesRow E m e later
   pub makes : Makes E m later team (with_worker team k w) g h q
 
 -- ---- what others read of a worker

@@ -53,12 +53,12 @@ pub record BeginsLook (m : Memory) (team : Team) (k : ℕ) (r : Round) : Type 0 
   pub same : m.gate.epoch ≡ (team.worker k).epoch
   pub none : m.gate.behind ≡ 0
 
-abbrev pub first_look : Era → Round → Look
-first_look E r = record { traced = r.traced; start = E.start; front = E.start; board = false; upto = 0; filled = false }
+abbrev pub look_begun : Era → Round → Look
+look_begun E r = record { traced = r.traced; start = E.start; front = E.start; board = false; upto = 0; filled = false }
 
 abbrev pub BeginningLookKeeps : Type 0
 BeginningLookKeeps = (E : Era) (m : Memory) (team : Team) (g : Ghost) (k : ℕ) (r : Round) → Ready E m team g k → BeginsLook m team k r
-    → Steps E m team g k None (looking (team.worker k) (first_look E r)) g
+    → Steps E m team g k None (looking (team.worker k) (look_begun E r)) g
 
 -- FRONT is read, before any page
 abbrev pub LookingAtFrontKeeps : Type 0

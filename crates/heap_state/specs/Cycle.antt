@@ -6,7 +6,7 @@ use Rattle.heap_words.specs.Decoded.{PointerWord, decode}
 use Rattle.plain_state.specs.declared.value.Identity.{Identity}
 use Rattle.plain_state.specs.declared.value.Value.TheVariants.{Reference}
 use Rattle.plain_state.specs.State as plain
-use Rattle.plain_state.specs.Layout.{is_field, word_of, size_of}
+use Rattle.plain_state.specs.Layout.{is_field, word_of_value, size_of}
 use Rattle.heap_state.specs.Era.{Era, Memory}
 use Rattle.heap_state.specs.Ghost.{Ghost, Here}
 use Rattle.heap_state.specs.Reachable.{Reachable}
@@ -50,8 +50,8 @@ pub record Copying (E : Era) (front : ℕ) (size writer copy keeper : ℕ → �
   pub sizes : (b : ℕ) → 0 < size b → E.start ≤ b → b < front
       → (r : plain.Record) × (plain.record_of p.heap (identity b) ≡ Some r) × (size_of r ≡ size b) × (r.kind ≡ kind b)
   pub complete : (b x : ℕ) (r : plain.Record) (i : Identity) → 0 < size b → writer b ≡ 0 → E.start ≤ b → b < front
-      → plain.record_of p.heap (identity b) ≡ Some r → is_field (kind b) (word_of (kind b) x) ≡ true → slice_get r.values x ≡ Some (Reference i)
-      → IsCopied E front size writer identity i ⊎ StillLeads E identity (heap (b + word_of (kind b) x)) i
+      → plain.record_of p.heap (identity b) ≡ Some r → is_field (kind b) (word_of_value (kind b) x) ≡ true → slice_get r.values x ≡ Some (Reference i)
+      → IsCopied E front size writer identity i ⊎ StillLeads E identity (heap (b + word_of_value (kind b) x)) i
   pub only : (b : ℕ) → 0 < size b → E.start ≤ b → b < front → Reachable p (identity b)
 
 -- each root is copied, or a root's word still leads to it; and what a register leads to in the old space is reachable

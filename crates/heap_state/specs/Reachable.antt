@@ -3,14 +3,14 @@ use Rattle.std.specs.Prelude.{◌≡◌, ℕ, ◌+◌, List, [], ◌∷◌, All,
 use Rattle.plain_state.specs.declared.value.Identity.{Identity}
 use Rattle.plain_state.specs.declared.value.Value.TheVariants.{Reference}
 use Rattle.plain_state.specs.State.{Record, Heap, Mutator, Plain, record_of}
-use Rattle.plain_state.specs.Layout.{is_field, word_of, size_of}
+use Rattle.plain_state.specs.Layout.{is_field, word_of_value, size_of}
 
 -- Reachable is what a register of a mutator without an end or a board word refers to, and what a field of a reachable record
 -- refers to.
 pub data Reachable (p : Plain) : Identity → Type 0 where
   FromRegister : (m : ℕ) (q : Mutator) (j : ℕ) (i : Identity) → slice_get p.mutators m ≡ Some q → q.end ≡ None → slice_get q.registers j ≡ Some (Reference i) → Reachable p i
   FromBoard : (x : ℕ) (i : Identity) → slice_get p.heap.board x ≡ Some (Reference i) → Reachable p i
-  FromRecord : (i : Identity) (r : Record) (n : ℕ) (j : Identity) → Reachable p i → record_of p.heap i ≡ Some r → is_field r.kind (word_of r.kind n) ≡ true
+  FromRecord : (i : Identity) (r : Record) (n : ℕ) (j : Identity) → Reachable p i → record_of p.heap i ≡ Some r → is_field r.kind (word_of_value r.kind n) ≡ true
       → slice_get r.values n ≡ Some (Reference j) → Reachable p j
 
 -- the words that a record takes, if there is one

@@ -13,7 +13,7 @@ use Rattle.heap_state.specs.Era.{era_of}
 use Rattle.heap_state.specs.Ghost.{said_kind}
 use Rattle.heap_state.specs.Table.{Table}
 use Rattle.heap_state.specs.Values.{Shows, Accounts}
-use Rattle.heap_state.specs.Walk.{Walked, walk_in, old_walk_in, IsReadable, IsOldReadable}
+use Rattle.heap_state.specs.Walk.{Walked, walk_in, old_walk_in, IsWalkable, IsOldReadable}
 
 -- ---- the heap's records
 
@@ -91,7 +91,7 @@ pub record DumpRepresents (d : Dump) (p : plain.Plain) : Type 0 where
   pub sixteen : length p.heap.board ≡ 16
   pub registers : (m j : ℕ) → j < 8 → RegisterShows d p m j
   pub board : (x : ℕ) → x < 16 → BoardWordShows d p x
-  pub readable : IsReadable d.table d.kept
+  pub readable : IsWalkable d.table d.kept
   pub old_readable : IsCopying d.table → IsOldReadable d.table d.kept
   pub records : (w : Walked) → IsInHeap d w → RecordShows d p w
 

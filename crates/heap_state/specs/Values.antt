@@ -6,7 +6,7 @@ use Rattle.plain_state.specs.declared.value.Identity.{Identity}
 use Rattle.plain_state.specs.declared.value.Value.{Value}
 use Rattle.plain_state.specs.declared.value.Value.TheVariants.{Number, Reference}
 use Rattle.plain_state.specs.State as plain
-use Rattle.plain_state.specs.Layout.{is_field, is_raw, word_of, size_of}
+use Rattle.plain_state.specs.Layout.{is_field, is_raw, word_of_value, size_of}
 use Rattle.heap_state.specs.Era.{Era, Memory}
 use Rattle.heap_state.specs.Ghost.{Ghost}
 use Rattle.heap_state.specs.Worker.{Team, Account}
@@ -29,8 +29,8 @@ value_of identity w = value_said identity (decode w)
 pub record Shows (denotes : ℕ → Option Value) (heap : ℕ → ℕ) (a : ℕ) (k : Kind) (z : ℕ) (r : plain.Record) : Type 0 where
   pub kind : r.kind ≡ k
   pub size : size_of r ≡ z
-  pub fields : (x : ℕ) → x < length r.values → is_field k (word_of k x) ≡ true → denotes (heap (a + word_of k x)) ≡ slice_get r.values x
-  pub numbers : (x : ℕ) → x < length r.values → is_raw k (word_of k x) ≡ true → Some (Number (heap (a + word_of k x))) ≡ slice_get r.values x
+  pub fields : (x : ℕ) → x < length r.values → is_field k (word_of_value k x) ≡ true → denotes (heap (a + word_of_value k x)) ≡ slice_get r.values x
+  pub numbers : (x : ℕ) → x < length r.values → is_raw k (word_of_value k x) ≡ true → Some (Number (heap (a + word_of_value k x))) ≡ slice_get r.values x
 
 -- each record that nobody writes, and that has not been copied to the end, shows the plain record of its identity
 pub record ShowsAll (size writer copy keeper : ℕ → ℕ) (kind : ℕ → Kind) (identity : ℕ → Identity) (heap : ℕ → ℕ) (records : plain.Heap) : Type 0 where

@@ -75,10 +75,10 @@ ReadsAll (suc turns) passes reserved heap end at =
 -- ---- a space's records
 
 -- the page is not open in this epoch
-abbrev pub is_closed : ℕ → PageWord → Bool
-is_closed epoch Unset = true
-is_closed epoch (Open e) = if e == epoch then false else true
-is_closed epoch (Scanning e worker) = true
+abbrev pub is_protected : ℕ → PageWord → Bool
+is_protected epoch Unset = true
+is_protected epoch (Open e) = if e == epoch then false else true
+is_protected epoch (Scanning e worker) = true
 
 -- the page is not open in the epoch before this one; in the first epoch none is
 abbrev pub is_closed_before : ℕ → PageWord → Bool
@@ -102,7 +102,7 @@ ReadsSpace passes reserved heap start front low end =
 -- the walk of the epoch's space, which passes over the pages that are not open in the epoch
 abbrev pub walk_in : Table → List Kept → List Walked
 walk_in t kept =
-    walk_space (λ p. is_closed t.gate.epoch (t.page p)) (reserved_in kept) t.heap (era_of t).start (memory_of t).front (memory_of t).low ((era_of t).start + (era_of t).span)
+    walk_space (λ p. is_protected t.gate.epoch (t.page p)) (reserved_in kept) t.heap (era_of t).start (memory_of t).front (memory_of t).low ((era_of t).start + (era_of t).span)
 
 -- the walk of the old space, as one of the epoch before
 abbrev pub old_walk_in : Table → List Kept → List Walked
@@ -111,9 +111,9 @@ old_walk_in t kept =
     ((era_of t).old_start + (era_of t).old_span)
 
 -- the walk of the epoch's space can read all that it meets
-abbrev pub IsReadable : Table → List Kept → Type 0
-IsReadable t kept =
-    ReadsSpace (λ p. is_closed t.gate.epoch (t.page p)) (reserved_in kept) t.heap (era_of t).start (memory_of t).front (memory_of t).low ((era_of t).start + (era_of t).span)
+abbrev pub IsWalkable : Table → List Kept → Type 0
+IsWalkable t kept =
+    ReadsSpace (λ p. is_protected t.gate.epoch (t.page p)) (reserved_in kept) t.heap (era_of t).start (memory_of t).front (memory_of t).low ((era_of t).start + (era_of t).span)
 
 -- the walk of the old space can read all that it meets
 abbrev pub IsOldReadable : Table → List Kept → Type 0

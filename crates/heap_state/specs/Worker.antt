@@ -72,7 +72,7 @@ pub record Stock : Type 0 where
   pub opened : ℕ
 
 -- a record whose header a scan has read: its address, the one where its fields end, and the one where the next record begins
-pub record Seen : Type 0 where
+pub record SeenRecord : Type 0 where
   pub at : ℕ
   pub fields_end : ℕ
   pub next : ℕ
@@ -126,7 +126,7 @@ pub record Scan : Type 0 where
   pub cursor : ℕ
   pub in_place : Bool
   pub over : Option ℕ
-  pub current : Option Seen
+  pub current : Option SeenRecord
   pub inner : Bool
   pub ended : Bool
 

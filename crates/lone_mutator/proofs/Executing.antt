@@ -19,7 +19,7 @@ use Rattle.gc_worker.specs.declared.did.Did.TheVariants.{Done}
 use Rattle.gc_worker.specs.Turned.{Answers}
 
 -- its plain mutator, with the same account
-pub record IsAs (h : Heap) (p : Plain) (q : Mutator) : Type 0 where
+pub record HasPlain (h : Heap) (p : Plain) (q : Mutator) : Type 0 where
   pub is : slice_get p.mutators 0 ≡ Some q
   pub account : Accounts p.heap 0 (held_at h 0).account q
 
@@ -27,7 +27,7 @@ first_there : (ks : List Mutator) → length ks ≡ 1 → (q : Mutator) × (slic
 first_there [] one = absurd (omega (arith, one))
 first_there (q ∷ ks) one = (q, refl)
 
-plain_one : (h : Heap) (p : Plain) → IsSo h p → h.mutators ≡ 1 → (q : Mutator) × IsAs h p q
+plain_one : (h : Heap) (p : Plain) → IsSo h p → h.mutators ≡ 1 → (q : Mutator) × HasPlain h p q
 plain_one h p so alone =
     let first = first_there p.mutators (so.as_many ∙ alone) in
     (first.0, record { is = first.1; account = (so.mutators 0 first.0 first.1).account })

@@ -12,7 +12,7 @@ use Rattle.gc_worker.specs.declared.back.Back.{Back}
 use Rattle.gc_worker.specs.declared.back.Back.TheVariants.{ToAccess, ToPlace, ToScanner}
 use Rattle.gc_worker.specs.declared.stage.Stage.TheVariants.{Places}
 use Rattle.gc_worker.specs.Fits.{FitsTaskBack, IsMaking}
-use Rattle.gc_worker.specs.Held.{Held, at_stage, header_for, run_of}
+use Rattle.gc_worker.specs.Held.{Held, at_stage, header_for, run_held}
 use Rattle.gc_worker.specs.Turned.{places, back_from}
 use Rattle.gc_worker.proofs.NewRecords.{header_made, header_is}
 use Rattle.lone_mutator.specs.Bound.{longest_placing}
@@ -29,14 +29,14 @@ module _ (n : ℕ) (t : Table) (x : Held) (began : x.begun ≤ x.epoch) (quiet :
 
   module _ (header : Header) where
     abbrev begun_at : PlaceStage → place.Placing
-    begun_at stage = record { layout = x.layout; run = run_of x; header = header; epoch = x.epoch; stage = stage }
+    begun_at stage = record { layout = x.layout; run = run_held x; header = header; epoch = x.epoch; stage = stage }
 
     begins_by : (b : Bool) → GoesAt n t (at_stage x (Places (begun_at (cond b StoresHeader LoadsTraced)))) (longest_placing + flip_left n x + due_in n t)
     begins_by true = record { remembers = record { began = λ past. began; quiet = quiet; stands = tt }; within = omega arith }
     begins_by false = record { remembers = record { began = λ past. began; quiet = quiet; stands = tt }; within = omega arith }
 
     pub begins : GoesAt n t (at_stage x (places x (Some header))) (longest_placing + flip_left n x + due_in n t)
-    begins = begins_by (nat_le ((run_of x).at + place.size_of header) (run_of x).end)
+    begins = begins_by (nat_le ((run_held x).at + place.size_of header) (run_held x).end)
 
   pub goes_placing : IsMaking x.account x.registers x.task → GoesAt n t (at_stage x (places x (header_for x))) (longest_placing + flip_left n x + due_in n t)
   goes_placing making =

@@ -6,7 +6,7 @@ use Rattle.heap_state.proofs.Table.Writing.{writes_tables}
 use Rattle.heap_laws.specs.Opening.{opening_entries}
 use Rattle.heap_laws.proofs.Opening.Heap.{entries_fit}
 use Rattle.space_map.specs.Spaces.{IsPageCount, to_space}
-use Rattle.gc_worker.specs.Between.{fresh_mutator, fresh_workers, opening}
+use Rattle.gc_worker.specs.Between.{fresh_mutator, fresh_workers, opening_heap}
 use Rattle.gc_worker.specs.Held.{Held}
 use Rattle.gc_worker.specs.Law.{held_at}
 use Rattle.lone_mutator.specs.Bound.{most_steps}
@@ -34,7 +34,7 @@ module _ (n : ℕ) (size : IsPageCount n) where
   unfolding fresh_workers
   one = refl
 
-  first : held_at (opening n 1 0) 0 ≡ x
+  first : held_at (opening_heap n 1 0) 0 ≡ x
   unfolding fresh_workers
   first = refl
 
@@ -48,7 +48,7 @@ module _ (n : ℕ) (size : IsPageCount n) where
   cheap : potential_in n opened x < most_steps n
   cheap = let none = nothing_due in let few = costs_lt_most n size.0 in omega (arith, none, few)
 
-  pub opens : IsLone (opening n 1 0) × (potential (opening n 1 0) < most_steps n)
+  pub opens : IsLone (opening_heap n 1 0) × (potential (opening_heap n 1 0) < most_steps n)
   opens = (
     record {
       one = one;

@@ -27,7 +27,7 @@ use Rattle.gc_worker.specs.declared.stage.Stage.TheVariants.{Passes}
 use Rattle.gc_worker.specs.Begun.{IsPastAfter}
 use Rattle.gc_worker.specs.Fits.{FitsTaskAfter, IsMaking}
 use Rattle.gc_worker.specs.Held.{Held, at_stage}
-use Rattle.gc_worker.specs.Turned.{Pointed, epoch_in, first_pointer, forwards_it, goes_on, in_epoch, passes, turned, turned_gate}
+use Rattle.gc_worker.specs.Turned.{Pointed, epoch_in_gate, first_pointer, forwards_it, goes_on, in_epoch, passes, turned, turned_gate}
 use Rattle.gc_worker.proofs.Gate.Passing.{resumes_so}
 use Rattle.gc_worker.proofs.Gate.Words.{gate_now, gate_says}
 use Rattle.lone_mutator.specs.Bound.{longest_placing}
@@ -112,7 +112,7 @@ module _ (c : Configuration) (p : Plain) (s : Stands c p) (y : Held) (l : Layout
         let late : nat_lt y.epoch g.epoch ≡ true = lt-ltb y.epoch g.epoch (omega (arith, before)) in
         let other : g.epoch ≢ epoch = (λ same. let own = a.is.fits.stage.passage in omega (arith, same, own, before)) in
         let test : allows (Resume epoch) g ≡ false = and_false (is_clear g) (g.epoch == epoch) (ne_eqb g.epoch epoch other) in
-        let Stops : Option GateWord → Type 0 = (λ o. Lowers c.pages (table c) (table c) x (at_stage x (cond (nat_lt y.epoch (epoch_in y.epoch o)) (forwards_it x after (first_pointer y.registers 8 0)) (passes x (Resume y.epoch) after)))) in
+        let Stops : Option GateWord → Type 0 = (λ o. Lowers c.pages (table c) (table c) x (at_stage x (cond (nat_lt y.epoch (epoch_in_gate y.epoch o)) (forwards_it x after (first_pointer y.registers 8 0)) (passes x (Resume y.epoch) after)))) in
         let falls : Stops (Some g) = rw late (forwards_falls late (first_pointer y.registers 8 0)) in
         loads_by (Resume epoch) a (rw test (subst Stops (sym (gate_says c p s)) falls))
 
@@ -197,7 +197,7 @@ module _ (c : Configuration) (p : Plain) (s : Stands c p) (y : Held) (l : Layout
         let may = a.is.fits.stage.sound.stage in
         let behind = may.fits.behind_fits in
         let fits : GateFits (gate_after Forwarded g) = record { epoch_fits = may.fits.epoch_fits; live_fits = may.fits.live_fits; running_fits = may.fits.running_fits; behind_fits = omega (arith, behind); left_fits = may.fits.left_fits } in
-        let said : epoch_in y.epoch (decode_gate (encode_gate (gate_after Forwarded g))) ≡ g.epoch = ap (epoch_in y.epoch) (decode_gate-encode_gate (gate_after Forwarded g) fits) in
+        let said : epoch_in_gate y.epoch (decode_gate (encode_gate (gate_after Forwarded g))) ≡ g.epoch = ap (epoch_in_gate y.epoch) (decode_gate-encode_gate (gate_after Forwarded g) fits) in
         won_by Forwarded a fits (subst Comes (sym said) forwarded_falls)
 
   -- ---- each passage

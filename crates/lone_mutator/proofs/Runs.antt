@@ -13,7 +13,7 @@ use Rattle.gc_worker.specs.declared.config.Config.{Config}
 use Rattle.gc_worker.specs.declared.stage.Stage.{Stage}
 use Rattle.gc_worker.specs.declared.stage.Stage.TheVariants.{Looks, Gone}
 use Rattle.gc_worker.specs.declared.task.Task.{Task}
-use Rattle.gc_worker.specs.Between.{fresh_workers, opening, with_task, with_worker}
+use Rattle.gc_worker.specs.Between.{fresh_workers, opening_heap, with_task, with_worker}
 use Rattle.gc_worker.specs.Fits.{Fits, IsGoneBy}
 use Rattle.gc_worker.specs.Held.{Held}
 use Rattle.gc_worker.specs.Law.{Heap, WorkersStand, held_at, moved, nobody}
@@ -25,7 +25,7 @@ use Rattle.gc_worker.proofs.Between.Beginning.{tasks_may_begin}
 use Rattle.gc_worker.proofs.Between.Readying.{readying_stands}
 use Rattle.gc_worker.proofs.Between.Wanting.{workers_want}
 use Rattle.gc_core.specs.Core.{CoreState, opening_core, is_size}
-use Rattle.gc_core.specs.Event.{Event, event_of, core_after, ready, next_task}
+use Rattle.gc_core.specs.Event.{Event, event_of, core_after, ready, fetched_task}
 use Rattle.gc_core.specs.Law.{IsLawful}
 use Rattle.gc_core.specs.Run.{all_ended, run_from}
 use Rattle.gc_core.proofs.Begun.{size_fits}
@@ -53,7 +53,7 @@ ended_is s lone = ended_by s.heap.workers lone.one s lone.alone refl
 
 -- ---- the heap in which it has its task
 
-pub record IsReady (s : CoreState) (p o : Plain) : Type 0 where
+pub record CoreIsReady (s : CoreState) (p o : Plain) : Type 0 where
   pub heap : Heap
   pub stands : WorkersStand heap p o
   pub lone : IsLone heap
@@ -70,7 +70,7 @@ module _ (s : CoreState) (l : IsLawful s) (lone : IsLone s.heap) where
   x = held_at s.heap 0
 
   abbrev task : Task
-  task = next_task s.code s.turns 0 x
+  task = fetched_task s.code s.turns 0 x
 
   abbrev given : Held
   given = with_task x task
@@ -82,7 +82,7 @@ module _ (s : CoreState) (l : IsLawful s) (lone : IsLone s.heap) where
   given_awaits Looks = refl
   given_awaits stage = refl
 
-  ready_by : (b : Bool) → awaits x ≡ b → IsReady s l.plain l.flip
+  ready_by : (b : Bool) → awaits x ≡ b → CoreIsReady s l.plain l.flip
   ready_by true waits =
       let is = readied_awaits s.code s.turns 0 x waits in
       let at = at_look x.stage x.task waits in
@@ -115,7 +115,7 @@ module _ (s : CoreState) (l : IsLawful s) (lone : IsLone s.heap) where
         has_task = ap awaits is ∙ waits;
       }
 
-  is_ready : IsReady s l.plain l.flip
+  is_ready : CoreIsReady s l.plain l.flip
   is_ready = ready_by (awaits x) refl
 
 -- ---- it wants a step
@@ -138,7 +138,7 @@ data Went (s : CoreState) (h : Heap) : Type 0 where
   GoesOn : IsLone h → potential h + 1 + most_steps s.heap.pages * executed_by s 0 ≤ potential s.heap + most_steps s.heap.pages * (held_at h 0).account.executed → Went s h
   Stops : is_some (held_at h 0).account.end ≡ true → Went s h
 
-module _ (s : CoreState) (l : IsLawful s) (r : IsReady s l.plain l.flip) where
+module _ (s : CoreState) (l : IsLawful s) (r : CoreIsReady s l.plain l.flip) where
   was : (held_at r.heap 0).account.executed ≡ executed_by s 0
   was = ap (λ (z : Held). z.account.executed) r.holds ∙ r.counted
 
@@ -219,7 +219,7 @@ pace most steps executed some few =
     let below : steps / most < executed + 1 = (div-lt_iff_lt-mul some).1 (omega (arith, few)) in
     omega (arith, below)
 
-first_executed : (n : ℕ) → (held_at (opening n 1 0) 0).account.executed ≡ 0
+first_executed : (n : ℕ) → (held_at (opening_heap n 1 0) 0).account.executed ≡ 0
 unfolding fresh_workers
 first_executed n = refl
 
@@ -228,8 +228,8 @@ module _ (section : List Instr) (items : List Item) (config : Config) (program :
   abbrev first : CoreState
   first = opening_core (section ∷ []) config
 
-  heap_is : first.heap ≡ opening config.pages 1 0
-  heap_is = ap (opening config.pages 1) none
+  heap_is : first.heap ≡ opening_heap config.pages 1 0
+  heap_is = ap (opening_heap config.pages 1) none
 
   begins : IsLone first.heap × (potential first.heap < most_steps config.pages)
   begins = subst (λ (h : Heap). IsLone h × (potential h < most_steps config.pages)) (sym heap_is) (heaps_open config.pages (size_fits config.pages size))

@@ -18,7 +18,7 @@ use Rattle.gc_worker.specs.declared.stage.Stage.TheVariants.{Looks, Passes, Flip
 use Rattle.gc_worker.specs.declared.task.Task.{Task}
 use Rattle.gc_worker.specs.Answer.{IsAnswered, after_told}
 use Rattle.gc_worker.specs.Begun.{IsPastLook}
-use Rattle.gc_worker.specs.Between.{GoesOn, IsSo}
+use Rattle.gc_worker.specs.Between.{KeepsToTask, IsSo}
 use Rattle.gc_worker.specs.Held.{Held, at_stage}
 use Rattle.gc_worker.specs.Knows.{knows}
 use Rattle.gc_worker.specs.Law.{Heap, StepKeeps, WorkersStand, at_flip, held_at, moved, nobody, read}
@@ -107,7 +107,7 @@ module _ (h : Heap) (p o : Plain) (x : Held) (q : Step) (st : WorkersStand h p o
   keeps : StepKeeps h p o 0 x q
   keeps = steps_keep h p o 0 x q st below holds asked
 
-  goes : GoesOn x r
+  goes : KeepsToTask x r
   goes = workers_go_on h.pages h.mutators 0 x r alone.is.fits
 
   -- the mutator is the one that the step makes of it

@@ -7,7 +7,7 @@ use Rattle.space_map.specs.Spaces.{IsPageCount}
 use Rattle.heap_state.specs.Configuration.{Configuration, table}
 use Rattle.heap_state.specs.Table.{Table, table_of}
 use Rattle.gc_worker.specs.declared.task.Task.{Task}
-use Rattle.gc_worker.specs.Between.{opening, with_task, with_worker}
+use Rattle.gc_worker.specs.Between.{opening_heap, with_task, with_worker}
 use Rattle.gc_worker.specs.Goes.{Is}
 use Rattle.gc_worker.specs.Held.{Held}
 use Rattle.gc_worker.specs.Law.{Heap, WorkersStand, held_at, moved}
@@ -68,4 +68,4 @@ LoneTasksBegin = (h : Heap) (task : Task) → IsLone h
 
 -- a heap of one mutator without scanners opens so
 abbrev pub LoneHeapsOpen : Type 0
-LoneHeapsOpen = (n : ℕ) → IsPageCount n → IsLone (opening n 1 0) × (potential (opening n 1 0) < most_steps n)
+LoneHeapsOpen = (n : ℕ) → IsPageCount n → IsLone (opening_heap n 1 0) × (potential (opening_heap n 1 0) < most_steps n)

@@ -16,21 +16,21 @@ use Rattle.mutator_asm.specs.Labels.{lines_since, before_of, and_line}
 use Rattle.mutator_asm.specs.Line.{Line}
 use Rattle.mutator_asm.specs.Part.{part_view, parts_view}
 use Rattle.mutator_asm.specs.Read.{line_view, lines_view}
-use Rattle.mutator_asm.specs.Text.{begins, counts, items_on, schedule_of, sections_in, section_no, has_label, error_by, error_of, IsCleanUpTo}
+use Rattle.mutator_asm.specs.Text.{begins_section, counts, items_on, schedule_of, sections_in, section_no, has_label, error_by, error_of, IsCleanUpTo}
 use Rattle.mutator_asm.proofs.Clean.{cut_at, error_at}
 use Rattle.mutator_asm.proofs.Seams.{seam, later}
 use Rattle.mutator_asm.proofs.Sections.{part_short}
 
 -- ---- one line more
 
-since_step : (b : Bool) (xs : List Line) (l : Line) (m : ℕ) → begins l ≡ b → m ≡ count_by begins xs + cond b 1 0 → length (get_or (slice_split begins (xs ++ l ∷ [])) m []) ≡ cond b 0 (length (lines_since xs) + 1)
+since_step : (b : Bool) (xs : List Line) (l : Line) (m : ℕ) → begins_section l ≡ b → m ≡ count_by begins_section xs + cond b 1 0 → length (get_or (slice_split begins_section (xs ++ l ∷ [])) m []) ≡ cond b 0 (length (lines_since xs) + 1)
 since_step true xs l m h e =
-    let last : get_or (slice_split begins (l ∷ [])) 1 [] ≡ [] = rw h refl in
-    rw (e, later begins xs (l ∷ []) 0, last) refl
+    let last : get_or (slice_split begins_section (l ∷ [])) 1 [] ≡ [] = rw h refl in
+    rw (e, later begins_section xs (l ∷ []) 0, last) refl
 since_step false xs l m h e =
-    let same : m ≡ count_by begins xs = omega arith in
-    let first : get_or (slice_split begins (l ∷ [])) 0 [] ≡ l ∷ [] = rw h refl in
-    rw (same, seam begins xs (l ∷ []), first) (length-append (lines_since xs) (l ∷ []))
+    let same : m ≡ count_by begins_section xs = omega arith in
+    let first : get_or (slice_split begins_section (l ∷ [])) 0 [] ≡ l ∷ [] = rw h refl in
+    rw (same, seam begins_section xs (l ∷ []), first) (length-append (lines_since xs) (l ∷ []))
 
 items_push : (xs : List Line) (l : Line) → length (schedule_of (xs ++ l ∷ [])) ≡ length (schedule_of xs) + length (items_on l)
 items_push xs l = rw (flat_map-append items_on xs (l ∷ []), append-nil (items_on l)) (length-append (schedule_of xs) (items_on l))
@@ -47,8 +47,8 @@ same_before a b e f g h = same_fields a.sections b.sections a.lines b.lines a.in
 before_push : (xs : List Line) (l : Line) → before_of (xs ++ l ∷ []) ≡ and_line (before_of xs) l
 unfolding before_of
 before_push xs l =
-    let sections = sum_by_push (λ y. cond (begins y) 1 0) xs l in
-    same_before (before_of (xs ++ l ∷ [])) (and_line (before_of xs) l) sections (since_step (begins l) xs l (count_by begins (xs ++ l ∷ [])) refl sections) (sum_by_push (λ y. cond (counts y) 1 0) xs l) (items_push xs l)
+    let sections = sum_by_push (λ y. cond (begins_section y) 1 0) xs l in
+    same_before (before_of (xs ++ l ∷ [])) (and_line (before_of xs) l) sections (since_step (begins_section l) xs l (count_by begins_section (xs ++ l ∷ [])) refl sections) (sum_by_push (λ y. cond (counts y) 1 0) xs l) (items_push xs l)
 
 pub before_more : (lines : List Line) (i : ℕ) (l : Line) → i < length lines → l ≡ get_or lines i l → and_line (before_of (take i lines)) l ≡ before_of (take (i + 1) lines)
 before_more lines i l lt is =
@@ -67,10 +67,10 @@ unfolding before_of
 few_before lines i before le is =
     let xs = take i lines in
     let len : length xs ≡ i = length-take-le i lines le in
-    let inside : count_by begins xs < length (slice_split begins xs) = omega (arith, length-slice_split begins xs) in
+    let inside : count_by begins_section xs < length (slice_split begins_section xs) = omega (arith, length-slice_split begins_section xs) in
     rw is (record {
-      sections = omega (arith, count_by-le-length begins xs);
-      lines = omega (arith, part_short begins xs (count_by begins xs) [] inside);
+      sections = omega (arith, count_by-le-length begins_section xs);
+      lines = omega (arith, part_short begins_section xs (count_by begins_section xs) [] inside);
       instrs = omega (arith, count_by-le-length counts xs);
     })
 
@@ -80,15 +80,15 @@ few_read ls i before lt is = few_before (lines_view ls) i before (omega (arith, 
 
 -- ---- the section of a line
 
-prefix_at : (k : ℕ) (before rest : List Line) → count_by begins before ≡ k → take (length (lines_since before)) (section_no (before ++ rest) k) ≡ section_no before k
+prefix_at : (k : ℕ) (before rest : List Line) → count_by begins_section before ≡ k → take (length (lines_since before)) (section_no (before ++ rest) k) ≡ section_no before k
 prefix_at zero before rest e = take-nil (length (lines_since before))
 prefix_at (suc j) before rest e =
-    let next : 1 + j ≡ count_by begins before = omega arith in
-    rw (get_or_after_one (slice_split begins (before ++ rest)) j [], get_or_after_one (slice_split begins before) j [], next, seam begins before rest) (take-append_seam (lines_since before) (get_or (slice_split begins rest) 0 []))
+    let next : 1 + j ≡ count_by begins_section before = omega arith in
+    rw (get_or_after_one (slice_split begins_section (before ++ rest)) j [], get_or_after_one (slice_split begins_section before) j [], next, seam begins_section before rest) (take-append_seam (lines_since before) (get_or (slice_split begins_section rest) 0 []))
 
 -- the lines of a section that stand before a line of it
-prefix : (before rest : List Line) → take (length (lines_since before)) (section_no (before ++ rest) (count_by begins before)) ≡ section_no before (count_by begins before)
-prefix before rest = prefix_at (count_by begins before) before rest refl
+prefix : (before rest : List Line) → take (length (lines_since before)) (section_no (before ++ rest) (count_by begins_section before)) ≡ section_no before (count_by begins_section before)
+prefix before rest = prefix_at (count_by begins_section before) before rest refl
 
 -- the table, at a line
 pub error_row : (lines : List Line) (i : ℕ) (l : Line) (before : Before) → i < length lines → l ≡ get_or lines i l → before ≡ before_of (take i lines)
@@ -98,7 +98,7 @@ error_row lines i l before lt is b-is =
     let xs = take i lines in
     let rest = get_or lines i l ∷ drop (i + 1) lines in
     let cut : xs ++ rest ≡ lines = sym (cut_at lines i l lt) in
-    let front : take (length (lines_since xs)) (section_no lines (count_by begins xs)) ≡ section_no xs (count_by begins xs) = rw cut at (prefix xs rest) in
+    let front : take (length (lines_since xs)) (section_no lines (count_by begins_section xs)) ≡ section_no xs (count_by begins_section xs) = rw cut at (prefix xs rest) in
     rw (b-is, cut, front, ← is) refl
 
 -- ---- the sections that the code keeps
@@ -110,8 +110,8 @@ part_at parts lines k x e lt is =
 pub parts_enough : (parts : List Part) (lines : List Line) (i : ℕ) (before : Before) → parts_view parts ≡ [] ∷ sections_in lines → before ≡ before_of (take i lines) → before.sections < length parts
 unfolding before_of
 parts_enough parts lines i before e is =
-    let split = slice_split begins lines in
-    rw is (omega (arith, length-map parts part_view, ap length e, length-drop 1 split, length-slice_split begins lines, sum_by-take-le (λ l. cond (begins l) 1 0) lines i))
+    let split = slice_split begins_section lines in
+    rw is (omega (arith, length-map parts part_view, ap length e, length-drop 1 split, length-slice_split begins_section lines, sum_by-take-le (λ l. cond (begins_section l) 1 0) lines i))
 
 -- ---- a line that was read
 
@@ -129,7 +129,7 @@ error_here ls parts i x part before o lt is b-is e part-is here =
 
 -- all lines were read
 pub record IsAllRead (ls : List Read) (before : Before) : Type 0 where
-  pub sections : before.sections ≡ count_by begins (lines_view ls)
+  pub sections : before.sections ≡ count_by begins_section (lines_view ls)
   pub clean : IsCleanUpTo (length (lines_view ls)) (lines_view ls)
 
 pub all_read : (ls : List Read) (i : ℕ) (before : Before) → length ls ≤ i → i ≤ length ls → before ≡ before_of (take i (lines_view ls)) → IsCleanUpTo i (lines_view ls) → IsAllRead ls before
@@ -139,6 +139,6 @@ all_read ls i before ge le is clean =
     let end : i ≡ length lines = omega (arith, length-map ls line_view) in
     let whole : take i lines ≡ lines = take_all i lines (omega arith) in
     record {
-      sections = ap (λ (b : Before). b.sections) is ∙ ap (count_by begins) whole;
+      sections = ap (λ (b : Before). b.sections) is ∙ ap (count_by begins_section) whole;
       clean = rw end at clean;
     }

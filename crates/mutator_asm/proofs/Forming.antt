@@ -18,7 +18,7 @@ use Rattle.mutator_asm.specs.Labels.{before_of}
 use Rattle.mutator_asm.specs.Line.{Word, Nothing, Begins, Schedules, Does, Jumps, Line, line_of, lines_of}
 use Rattle.mutator_asm.specs.Program.{IsWellFormed, is_valid, is_item, leads_within, is_closed}
 use Rattle.mutator_asm.specs.Read.{line_view, lines_view}
-use Rattle.mutator_asm.specs.Text.{begins, counts, is_begin, has_instr, items_on, items_in, defines, has_label, target_of, instr_by, section_of, code_of, schedule_of, IsCleanUpTo, IsText}
+use Rattle.mutator_asm.specs.Text.{begins_section, counts, is_begin, has_instr, items_on, items_in, defines, has_label, target_of, instr_by, section_of, code_of, schedule_of, IsCleanUpTo, IsText}
 use Rattle.mutator_asm.proofs.Limits.{within_up_to}
 use Rattle.mutator_asm.proofs.Passing.{if_passes, all_weaker, count_by-cons}
 use Rattle.mutator_asm.proofs.Sound.{is_plain, is_jump_valid, is_sound, is_sound_line, lines_sound}
@@ -100,10 +100,10 @@ split_step : (b : Bool) (line : Line) (parts : List (List Line)) → is_begin li
 split_step true line parts h = omega (arith, sum_by-cons (count_by counts) [] parts, begin_counts line.word h)
 split_step false line parts h = onto_sum line parts
 
-split_sum : (lines : List Line) → sum_by (count_by counts) (slice_split begins lines) ≡ count_by counts lines
+split_sum : (lines : List Line) → sum_by (count_by counts) (slice_split begins_section lines) ≡ count_by counts lines
 split_sum [] = refl
 split_sum (line ∷ lines) =
-    split_step (begins line) line (slice_split begins lines) refl ∙ ap (λ n. cond (counts line) 1 0 + n) (split_sum lines) ∙ sym (count_by-cons counts line lines)
+    split_step (begins_section line) line (slice_split begins_section lines) refl ∙ ap (λ n. cond (counts line) 1 0 + n) (split_sum lines) ∙ sym (count_by-cons counts line lines)
 
 rest_sum : (parts : List (List Line)) → sum_by (count_by counts) (drop 1 parts) ≤ sum_by (count_by counts) parts
 rest_sum [] = omega arith
@@ -155,15 +155,15 @@ schedule_good (line ∷ lines) h =
 -- ---- a text
 
 -- the program of a text without an error is well formed
-pub well_formed : (text : List ℕ) (lines : List Line) → lines ≡ lines_of text → IsCleanUpTo (length lines) lines → 1 ≤ count_by begins lines → IsWellFormed (code_of lines) (schedule_of lines)
+pub well_formed : (text : List ℕ) (lines : List Line) → lines ≡ lines_of text → IsCleanUpTo (length lines) lines → 1 ≤ count_by begins_section lines → IsWellFormed (code_of lines) (schedule_of lines)
 unfolding code_of before_of
 well_formed text lines e clean begun =
-    let parts = slice_split begins lines in
+    let parts = slice_split begins_section lines in
     let limits = rw (take_all (length lines) lines (omega arith)) at (within_up_to lines (length lines) (length lines) (omega arith) (omega arith) clean) in
-    let sections : length (map section_of (drop 1 parts)) ≡ count_by begins lines = omega (arith, length-map (drop 1 parts) section_of, length-drop 1 parts, length-slice_split begins lines) in
+    let sections : length (map section_of (drop 1 parts)) ≡ count_by begins_section lines = omega (arith, length-map (drop 1 parts) section_of, length-drop 1 parts, length-slice_split begins_section lines) in
     let few : sum_by (count_by counts) (drop 1 parts) ≤ 65536 = omega (arith, rest_sum parts, split_sum lines, limits.instrs) in
     let sound : list_all is_sound_line lines ≡ true = rw e (lines_sound text) in
-    let good = sections_good (drop 1 parts) (rest_all (list_all is_sound_line) parts (split_all is_sound_line begins lines sound)) few in
+    let good = sections_good (drop 1 parts) (rest_all (list_all is_sound_line) parts (split_all is_sound_line begins_section lines sound)) few in
     record {
       a_section = omega arith;
       few_sections = omega (arith, limits.sections);
@@ -186,7 +186,7 @@ lines_few text lines e lt =
 
 -- the lines of a text, as they were checked and read
 pub text_is : (text : List ℕ) (lines : List Read) (code : List (List Instr)) (schedule : List Item) → lines_view lines ≡ lines_of text
-    → IsCleanUpTo (length lines) (lines_view lines) → 1 ≤ count_by begins (lines_view lines) → code ≡ code_of (lines_view lines) → schedule ≡ schedule_of (lines_view lines) → IsText text code schedule
+    → IsCleanUpTo (length lines) (lines_view lines) → 1 ≤ count_by begins_section (lines_view lines) → code ≡ code_of (lines_view lines) → schedule ≡ schedule_of (lines_view lines) → IsText text code schedule
 text_is text lines code schedule e clean begun code-is schedule-is =
     let clean2 : IsCleanUpTo (length (lines_view lines)) (lines_view lines) = rw (length-map lines line_view) clean in
     record {

@@ -7,7 +7,7 @@ use Rattle.mutator_asm.specs.declared.before.Before.{Before}
 use Rattle.mutator_asm.specs.declared.mistake.Mistake.{Mistake}
 use Rattle.mutator_asm.specs.declared.mistake.Mistake.TheVariants.{UnknownInstr, BadOperand, UnknownLabel, LabelTwice, NoMutator, TooManyMutators, CodeTooLong, BadSchedule, NumberTooBig}
 use Rattle.mutator_asm.specs.Labels.{before_of, and_line}
-use Rattle.mutator_asm.specs.Line.{Word, Nothing, Schedules, Line, plain}
+use Rattle.mutator_asm.specs.Line.{Word, Nothing, Schedules, Line, unlabelled}
 use Rattle.mutator_asm.specs.Text.{items_in, is_begin, has_instr, is_instr, is_bad, is_begin_with_more, is_lost, is_again, is_overlong, error_by, section_no, has_label, IsCleanUpTo}
 use Rattle.mutator_asm.proofs.Clean.{clean_at}
 use Rattle.mutator_asm.proofs.Counts.{before_more, error_row}
@@ -72,8 +72,8 @@ pub within_up_to : (lines : List Line) (m n : ℕ) → n ≤ m → n ≤ length 
 within_up_to lines m zero le inside clean = at_first
 within_up_to lines m (suc n) le inside clean =
     let lt : n < length lines = omega arith in
-    let line = get_or lines n (plain Nothing) in
-    let is = get_or_default lines n (plain Nothing) line lt in
+    let line = get_or lines n (unlabelled Nothing) in
+    let is = get_or_default lines n (unlabelled Nothing) line lt in
     let before = before_of (take n lines) in
     let none = clean_at lines m n line clean (omega arith) lt in
     let row = error_row lines n line before lt is refl in

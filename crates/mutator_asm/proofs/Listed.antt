@@ -7,7 +7,7 @@ use Rattle.mutator_asm.specs.declared.instr.Instr.{Instr}
 use Rattle.mutator_asm.specs.declared.instr.Instr.TheVariants.{Jmp, Jz, Jal}
 use Rattle.mutator_asm.specs.declared.item.Item.{Item}
 use Rattle.mutator_asm.specs.declared.jump.Jump.TheVariants.{Always, IfZero, Link}
-use Rattle.mutator_asm.specs.Line.{Word, Nothing, Begins, Schedules, Does, Jumps, Line, plain}
+use Rattle.mutator_asm.specs.Line.{Word, Nothing, Begins, Schedules, Does, Jumps, Line, unlabelled}
 use Rattle.mutator_asm.specs.Listing.{is_target_in, label_name}
 
 -- an instruction, a jump by the label of its target
@@ -39,15 +39,15 @@ abbrev pub body_read : List Instr → List Line
 body_read section = instrs_read section 0 section ++ end_read section
 
 abbrev pub section_read : List Instr → List Line
-section_read section = plain (Begins true) ∷ body_read section
+section_read section = unlabelled (Begins true) ∷ body_read section
 
 abbrev pub schedule_read : List Item → List Line
 schedule_read [] = []
-schedule_read (item ∷ items) = plain (Schedules (item ∷ items)) ∷ []
+schedule_read (item ∷ items) = unlabelled (Schedules (item ∷ items)) ∷ []
 
 -- all lines; a blank one is behind the last LF
 abbrev pub listed : List (List Instr) → List Item → List Line
-listed code schedule = schedule_read schedule ++ flat_map section_read code ++ plain Nothing ∷ []
+listed code schedule = schedule_read schedule ++ flat_map section_read code ++ unlabelled Nothing ∷ []
 
 -- ---- the words of a section's lines
 

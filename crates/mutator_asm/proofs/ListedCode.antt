@@ -13,10 +13,10 @@ use Rattle.std.proofs.lemmas.List.Sums.{sum_by-cons}
 use Rattle.mutator_asm.specs.declared.instr.Instr.{Instr}
 use Rattle.mutator_asm.specs.declared.instr.Instr.TheVariants.{Halt}
 use Rattle.mutator_asm.specs.declared.item.Item.{Item}
-use Rattle.mutator_asm.specs.Line.{Nothing, Begins, Line, plain}
+use Rattle.mutator_asm.specs.Line.{Nothing, Begins, Line, unlabelled}
 use Rattle.mutator_asm.specs.Listing.{leads_to, is_target_in, label_name}
 use Rattle.mutator_asm.specs.Program.{IsWellFormed, is_closed}
-use Rattle.mutator_asm.specs.Text.{begins, counts, is_begin, items_in, items_on, instr_by, target_of, section_of, sections_in, code_of, schedule_of}
+use Rattle.mutator_asm.specs.Text.{begins_section, counts, is_begin, items_in, items_on, instr_by, target_of, section_of, sections_in, code_of, schedule_of}
 use Rattle.mutator_asm.proofs.Forming.{length_section}
 use Rattle.mutator_asm.proofs.Listed.{instr_word, label_line, instrs_read, end_read, body_read, section_read, schedule_read, listed, body_words}
 use Rattle.mutator_asm.proofs.ListedLabels.{target_is}
@@ -25,7 +25,7 @@ use Rattle.mutator_asm.proofs.ListedLabels.{target_is}
 
 -- a line begins no section
 abbrev IsInside : Line → Type 0
-IsInside line = begins line ≡ false
+IsInside line = begins_section line ≡ false
 
 instr_inside : (instr : Instr) → is_begin (instr_word instr) ≡ false
 instr_inside Halt = refl
@@ -34,8 +34,8 @@ instr_inside instr = refl
 body_inside : (section : List Instr) → All IsInside (body_read section)
 body_inside section = body_words (λ word. is_begin word ≡ false) section refl (λ k instr lt. instr_inside _)
 
-pub body_begins : (section : List Instr) → count_by begins (body_read section) ≡ 0
-body_begins section = omega (arith, length-slice_split begins (body_read section), ap length (slice_split_none begins (body_read section) (body_inside section)))
+pub body_begins : (section : List Instr) → count_by begins_section (body_read section) ≡ 0
+body_begins section = omega (arith, length-slice_split begins_section (body_read section), ap length (slice_split_none begins_section (body_read section) (body_inside section)))
 
 schedule_inside : (schedule : List Item) → All IsInside (schedule_read schedule)
 schedule_inside [] = All-nil IsInside
@@ -43,21 +43,21 @@ schedule_inside (item ∷ items) = All-cons IsInside _ [] refl (All-nil IsInside
 
 -- these lines, and then the bodies of these sections; the blank line ends the last
 abbrev parts_from : List Line → List (List Instr) → List (List Line)
-parts_from front [] = (front ++ plain Nothing ∷ []) ∷ []
+parts_from front [] = (front ++ unlabelled Nothing ∷ []) ∷ []
 parts_from front (section ∷ code) = front ∷ parts_from (body_read section) code
 
-split_from : (front : List Line) (code : List (List Instr)) → All IsInside front → slice_split begins (front ++ flat_map section_read code ++ plain Nothing ∷ []) ≡ parts_from front code
+split_from : (front : List Line) (code : List (List Instr)) → All IsInside front → slice_split begins_section (front ++ flat_map section_read code ++ unlabelled Nothing ∷ []) ≡ parts_from front code
 split_from front [] inside =
-    let blank : All IsInside (plain Nothing ∷ []) = All-cons IsInside (plain Nothing) [] refl (All-nil IsInside) in
-    rw (append-nil front) (slice_split_none begins (front ++ plain Nothing ∷ []) (All-append IsInside front (plain Nothing ∷ []) inside blank))
+    let blank : All IsInside (unlabelled Nothing ∷ []) = All-cons IsInside (unlabelled Nothing) [] refl (All-nil IsInside) in
+    rw (append-nil front) (slice_split_none begins_section (front ++ unlabelled Nothing ∷ []) (All-append IsInside front (unlabelled Nothing ∷ []) inside blank))
 split_from front (section ∷ code) inside =
     let rest = body_read section ++ flat_map section_read code in
-    ap (slice_split begins) (append_assoc front (plain (Begins true) ∷ rest) (plain Nothing ∷ []))
-    ∙ slice_split_at begins front (plain (Begins true)) (rest ++ plain Nothing ∷ []) inside refl
+    ap (slice_split begins_section) (append_assoc front (unlabelled (Begins true) ∷ rest) (unlabelled Nothing ∷ []))
+    ∙ slice_split_at begins_section front (unlabelled (Begins true)) (rest ++ unlabelled Nothing ∷ []) inside refl
     ∙ ap (λ parts. front ∷ parts) (split_from (body_read section) code (body_inside section))
 
 -- what stands before the first section, and then the bodies of all sections
-split_listed : (code : List (List Instr)) (schedule : List Item) → slice_split begins (listed code schedule) ≡ parts_from (schedule_read schedule) code
+split_listed : (code : List (List Instr)) (schedule : List Item) → slice_split begins_section (listed code schedule) ≡ parts_from (schedule_read schedule) code
 split_listed code schedule = split_from (schedule_read schedule) code (schedule_inside schedule)
 
 sections_listed : (code : List (List Instr)) (schedule : List Item) → sections_in (listed code schedule) ≡ drop 1 (parts_from (schedule_read schedule) code)
@@ -67,8 +67,8 @@ length_parts : (front : List Line) (code : List (List Instr)) → length (parts_
 length_parts front [] = refl
 length_parts front (section ∷ code) = omega (arith, length_parts (body_read section) code)
 
-count_listed : (code : List (List Instr)) (schedule : List Item) → count_by begins (listed code schedule) ≡ length code
-count_listed code schedule = omega (arith, length-slice_split begins (listed code schedule), ap length (split_listed code schedule), length_parts (schedule_read schedule) code)
+count_listed : (code : List (List Instr)) (schedule : List Item) → count_by begins_section (listed code schedule) ≡ length code
+count_listed code schedule = omega (arith, length-slice_split begins_section (listed code schedule), ap length (split_listed code schedule), length_parts (schedule_read schedule) code)
 
 -- ---- the instructions of a section
 
@@ -104,7 +104,7 @@ body_counts section closed few = sym (length_section (body_read section)) ∙ ap
 sections_back : (section : List Instr) (code : List (List Instr)) → list_all is_closed (section ∷ code) ≡ true → sum_by length (section ∷ code) ≤ 65536 → map section_of (parts_from (body_read section) code) ≡ section ∷ code
 sections_back section [] closed few =
     let sum = sum_by-cons length section [] in
-    ap (λ (s : List Instr). s ∷ []) (section_back section (plain Nothing ∷ []) (and_parts _ _ closed).0 (omega arith) (λ target. refl))
+    ap (λ (s : List Instr). s ∷ []) (section_back section (unlabelled Nothing ∷ []) (and_parts _ _ closed).0 (omega arith) (λ target. refl))
 sections_back section (next ∷ code) closed few =
     let parts = and_parts (is_closed section) (list_all is_closed (next ∷ code)) closed in
     let sum = sum_by-cons length section (next ∷ code) in
@@ -138,7 +138,7 @@ schedule_back (item ∷ items) = append-nil (item ∷ items)
 
 -- ---- what the lines mean
 
-pub listed_begun : (code : List (List Instr)) (schedule : List Item) → IsWellFormed code schedule → 1 ≤ count_by begins (listed code schedule)
+pub listed_begun : (code : List (List Instr)) (schedule : List Item) → IsWellFormed code schedule → 1 ≤ count_by begins_section (listed code schedule)
 listed_begun code schedule w = rw (count_listed code schedule) w.a_section
 
 pub listed_code : (code : List (List Instr)) (schedule : List Item) → IsWellFormed code schedule → code ≡ code_of (listed code schedule)
@@ -147,4 +147,4 @@ listed_code code schedule w = sym (ap (map section_of) (sections_listed code sch
 
 pub listed_schedule : (code : List (List Instr)) (schedule : List Item) → schedule ≡ schedule_of (listed code schedule)
 listed_schedule code schedule =
-    sym (rw (flat_map-append items_on (schedule_read schedule ++ flat_map section_read code) (plain Nothing ∷ []), flat_map-append items_on (schedule_read schedule) (flat_map section_read code), schedule_back schedule, code_idle code, append-nil schedule) (append-nil schedule))
+    sym (rw (flat_map-append items_on (schedule_read schedule ++ flat_map section_read code) (unlabelled Nothing ∷ []), flat_map-append items_on (schedule_read schedule) (flat_map section_read code), schedule_back schedule, code_idle code, append-nil schedule) (append-nil schedule))

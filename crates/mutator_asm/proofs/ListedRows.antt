@@ -7,24 +7,24 @@ use Rattle.std.proofs.lemmas.Bool.{lt-leb, le-ltb, ne_eqb}
 use Rattle.mutator_asm.specs.declared.instr.Instr.{Instr}
 use Rattle.mutator_asm.specs.declared.instr.Instr.TheVariants.{Halt}
 use Rattle.mutator_asm.specs.declared.item.Item.{Item}
-use Rattle.mutator_asm.specs.Line.{Word, Nothing, Begins, Schedules, Does, Jumps, Line, plain}
-use Rattle.mutator_asm.specs.Text.{begins, has_instr, is_lost, is_again, error_by, error_of}
+use Rattle.mutator_asm.specs.Line.{Word, Nothing, Begins, Schedules, Does, Jumps, Line, unlabelled}
+use Rattle.mutator_asm.specs.Text.{begins_section, has_instr, is_lost, is_again, error_by, error_of}
 use Rattle.mutator_asm.proofs.Listed.{instr_word, body_read, body_words}
 
 -- a schedule, before which nothing stands
-pub schedule_row : (items : List Item) (after : List Line) → length items ≤ 65536 → error_of [] (plain (Schedules items)) after ≡ None
+pub schedule_row : (items : List Item) (after : List Line) → length items ≤ 65536 → error_of [] (unlabelled (Schedules items)) after ≡ None
 unfolding error_of
 schedule_row items after le = rw (le-ltb 65536 (0 + length items) (omega arith)) refl
 
 -- the begin of a section, before which fewer than 16 begin
-pub begin_row : (before after : List Line) → count_by begins before < 16 → error_of before (plain (Begins true)) after ≡ None
+pub begin_row : (before after : List Line) → count_by begins_section before < 16 → error_of before (unlabelled (Begins true)) after ≡ None
 unfolding error_of
-begin_row before after lt = rw (and-false (eqb (count_by begins before) 0), lt-leb 16 (count_by begins before) lt) refl
+begin_row before after lt = rw (and-false (eqb (count_by begins_section before) 0), lt-leb 16 (count_by begins_section before) lt) refl
 
 -- a blank line
-pub blank_row : (before after : List Line) → error_of before (plain Nothing) after ≡ None
+pub blank_row : (before after : List Line) → error_of before (unlabelled Nothing) after ≡ None
 unfolding error_of
-blank_row before after = rw (and-false (eqb (count_by begins before) 0)) refl
+blank_row before after = rw (and-false (eqb (count_by begins_section before) 0)) refl
 
 -- ---- the lines of a section
 

@@ -3,7 +3,7 @@ use Rattle.std.proofs.Common.{◌≡◌, ℕ, ◌<◌, ◌^◌, List, ◌∷◌,
 use Rattle.std.specs.List.{flat_map}
 use Rattle.mutator_asm.specs.declared.instr.Instr.{Instr}
 use Rattle.mutator_asm.specs.declared.item.Item.{Item}
-use Rattle.mutator_asm.specs.Line.{Line, Nothing, plain, lines_of}
+use Rattle.mutator_asm.specs.Line.{Line, Nothing, unlabelled, lines_of}
 use Rattle.mutator_asm.specs.Listing.{listing, schedule_lines, section_lines}
 use Rattle.mutator_asm.specs.Program.{IsWellFormed}
 use Rattle.mutator_asm.specs.Text.{IsFault, IsText}
@@ -19,7 +19,7 @@ unfolding listing
 lines_listed code schedule h =
     let lines = schedule_lines schedule ++ flat_map section_lines code in
     let listed_lines = program_listed code schedule h in
-    lines_split lines listed_lines.tokens ∙ ap (λ (read : List Line). read ++ plain Nothing ∷ []) listed_lines.says
+    lines_split lines listed_lines.tokens ∙ ap (λ (read : List Line). read ++ unlabelled Nothing ∷ []) listed_lines.says
 
 -- a listing is short enough to be assembled
 pub listing_short : (code : List (List Instr)) (schedule : List Item) → IsWellFormed code schedule → length (listing code schedule) < 2 ^ 31

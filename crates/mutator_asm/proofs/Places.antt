@@ -10,7 +10,7 @@ use Rattle.std.proofs.lemmas.Slice.Eq.{bytes_eq-Decides}
 use denote.Ref.{Bor}
 use Rattle.mutator_asm.specs.declared.labels.Place.{Place}
 use Rattle.mutator_asm.specs.declared.line.Line.{Line as Read}
-use Rattle.mutator_asm.specs.Labels.{place_of, get_place}
+use Rattle.mutator_asm.specs.Labels.{label_place, get_place}
 use Rattle.mutator_asm.specs.Line.{Line}
 use Rattle.mutator_asm.specs.Read.{label_view, line_view, lines_view}
 use Rattle.mutator_asm.specs.Text.{counts, defines, is_label, has_label}
@@ -45,7 +45,7 @@ from_is : (n k : ℕ) (ls : List Line) (name : List ℕ) → place_from n k ls n
 from_is n k [] name = refl
 from_is n k (l ∷ ls) name = from_step (defines name l) (has_label ls name) n k l (before_first (defines name) ls) _ _ (before_cons (defines name) l ls) (from_is (n + 1) (k + cond (counts l) 1 0) ls name)
 
-pub place_is : (ls : List Line) (name : List ℕ) → place_from 0 0 ls name ≡ place_of ls name
+pub place_is : (ls : List Line) (name : List ℕ) → place_from 0 0 ls name ≡ label_place ls name
 unfolding shifted
 place_is ls name =
     let before = before_first (defines name) ls in
@@ -73,7 +73,7 @@ pub weight-le : (b : Bool) (w : ℕ) → w ≡ cond b 1 0 → w ≤ 1
 weight-le true w e = omega arith
 weight-le false w e = omega arith
 
-pub place_end : (o : Option Place) (ls : List Read) (i k : ℕ) (name : List ℕ) → length ls ≤ i → option_or o (place_from i k (lines_view (drop i ls)) name) ≡ place_from 0 0 (lines_view ls) name → o ≡ place_of (lines_view ls) name
+pub place_end : (o : Option Place) (ls : List Read) (i k : ℕ) (name : List ℕ) → length ls ≤ i → option_or o (place_from i k (lines_view (drop i ls)) name) ≡ place_from 0 0 (lines_view ls) name → o ≡ label_place (lines_view ls) name
 place_end o ls i k name le so_far =
     let over : option_or o (place_from i k (lines_view (drop i ls)) name) ≡ o = rw (drop_of_length-le ls le) (option_or-None o) in
     sym over ∙ so_far ∙ place_is (lines_view ls) name
@@ -126,11 +126,11 @@ within_if : (any : Bool) (ls : List Line) (n : ℕ) (name : List ℕ) → has_la
 within_if true ls n name h = first_within (defines name) ls n h
 within_if false ls n name h = sym (none_within (defines name) ls n h)
 
-within : (ls : List Line) (n : ℕ) (name : List ℕ) → is_before n (place_of ls name) ≡ has_label (take n ls) name
+within : (ls : List Line) (n : ℕ) (name : List ℕ) → is_before n (label_place ls name) ≡ has_label (take n ls) name
 within ls n name = within_if (has_label ls name) ls n name refl
 
-pub within_some : {S : Type 0} (labels : Labels S) (ls : List Line) (n : ℕ) (name : List ℕ) (place : Place) → get_place labels name ≡ place_of ls name → get_place labels name ≡ Some place → ltb place.lines n ≡ has_label (take n ls) name
+pub within_some : {S : Type 0} (labels : Labels S) (ls : List Line) (n : ℕ) (name : List ℕ) (place : Place) → get_place labels name ≡ label_place ls name → get_place labels name ≡ Some place → ltb place.lines n ≡ has_label (take n ls) name
 within_some labels ls n name place knows found = ap (is_before n) (sym found ∙ knows) ∙ within ls n name
 
-pub within_none : {S : Type 0} (labels : Labels S) (ls : List Line) (n : ℕ) (name : List ℕ) → get_place labels name ≡ place_of ls name → get_place labels name ≡ None → false ≡ has_label (take n ls) name
+pub within_none : {S : Type 0} (labels : Labels S) (ls : List Line) (n : ℕ) (name : List ℕ) → get_place labels name ≡ label_place ls name → get_place labels name ≡ None → false ≡ has_label (take n ls) name
 within_none labels ls n name knows found = ap (is_before n) (sym found ∙ knows) ∙ within ls n name

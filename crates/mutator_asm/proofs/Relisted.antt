@@ -15,7 +15,7 @@ use Rattle.mutator_asm.specs.Program.{is_valid, is_item, IsWellFormed}
 use Rattle.mutator_asm.specs.Token.{label_of}
 use Rattle.mutator_asm.specs.Item.{item_of}
 use Rattle.mutator_asm.specs.Instr.{instr_of}
-use Rattle.mutator_asm.specs.Line.{Begins, Schedules, Line, plain, named_of, labelled_of, is_item_token, schedules_of, line_from}
+use Rattle.mutator_asm.specs.Line.{Begins, Schedules, Line, unlabelled, named_of, labelled_of, is_item_token, schedules_of, line_from}
 use Rattle.mutator_asm.specs.Listing.{end_if, is_target_in, label_name, item_token, instr_tokens, label_if, instr_lines, end_lines, section_lines, schedule_lines, line_text}
 use Rattle.mutator_asm.proofs.Listed.{instr_word, label_line, instrs_read, body_read, section_read, schedule_read}
 use Rattle.mutator_asm.proofs.Passing.{all_weaker}
@@ -32,7 +32,7 @@ instr_reread Halt h = refl
 instr_reread instr h = grind (arith, nat_tests, and_parts, register_reread, operand_reread, number_reread, label_is_name)
 
 -- its name is no label and no directive
-plain_from : (instr : Instr) → line_from (instr_tokens instr) ≡ plain (labelled_of (instr_tokens instr))
+plain_from : (instr : Instr) → line_from (instr_tokens instr) ≡ unlabelled (labelled_of (instr_tokens instr))
 unfolding label_of
 plain_from Halt = refl
 plain_from instr = refl
@@ -76,7 +76,7 @@ instr_listed : (b : Bool) (k : ℕ) (instr : Instr) → k ≤ 65536 → is_valid
 instr_listed true k instr le valid =
     one_line ((label_name k ++ codes ":") ∷ instr_tokens instr) _ 126 (omega (arith, instr_few instr)) (and_from _ _ (label_is_token k le) (instr_is_tokens instr valid))
     (labelled_reread k (instr_tokens instr) (omega arith) ∙ ap (λ word. record { label = Some (label_name k); word = word }) (instr_reread instr valid))
-instr_listed false k instr le valid = one_line (instr_tokens instr) _ 126 (omega (arith, instr_few instr)) (instr_is_tokens instr valid) (plain_from instr ∙ ap plain (instr_reread instr valid))
+instr_listed false k instr le valid = one_line (instr_tokens instr) _ 126 (omega (arith, instr_few instr)) (instr_is_tokens instr valid) (plain_from instr ∙ ap unlabelled (instr_reread instr valid))
 
 -- the lines of a section's instructions from number k on
 instrs_listed : (section : List Instr) (k : ℕ) (instrs : List Instr) → list_all is_valid instrs ≡ true → k + length instrs ≤ 65536 → IsListing (instr_lines section k instrs) (instrs_read section k instrs) (126 * length instrs)
@@ -91,7 +91,7 @@ end_listed false k le = no_lines 26
 
 section_listed : (section : List Instr) → list_all is_valid section ≡ true → length section ≤ 65536 → IsListing (section_lines section) (section_read section) (126 * length section + 52)
 section_listed section valid few =
-    let begin : IsListing ((codes ".mutator" ∷ []) ∷ []) (plain (Begins true) ∷ []) 26 = one_line (codes ".mutator" ∷ []) (plain (Begins true)) 26 (omega arith) refl refl in
+    let begin : IsListing ((codes ".mutator" ∷ []) ∷ []) (unlabelled (Begins true) ∷ []) 26 = one_line (codes ".mutator" ∷ []) (unlabelled (Begins true)) 26 (omega arith) refl refl in
     let body : IsListing (instr_lines section 0 section ++ end_lines section) (body_read section) (126 * length section + 26) = more_lines (instrs_listed section 0 section valid (omega arith)) (end_listed (is_target_in section (length section)) (length section) few) (omega arith) in
     more_lines begin body (omega arith)
 
@@ -124,8 +124,8 @@ schedule_listed : (schedule : List Item) → list_all is_item schedule ≡ true 
 schedule_listed [] h = no_lines _
 schedule_listed (item ∷ items) h =
     let all = item ∷ items in
-    one_line (codes ".schedule" ∷ map item_token all) (plain (Schedules all)) (25 * length all + 26) (omega (arith, length-map items item_token)) (and_from _ _ refl (items_are_tokens all h))
-    (ap plain (schedules_if (map item_token all) all (ne_eqb _ 0 (λ e. omega arith)) (items_told all h) (items_reread all h)))
+    one_line (codes ".schedule" ∷ map item_token all) (unlabelled (Schedules all)) (25 * length all + 26) (omega (arith, length-map items item_token)) (and_from _ _ refl (items_are_tokens all h))
+    (ap unlabelled (schedules_if (map item_token all) all (ne_eqb _ 0 (λ e. omega arith)) (items_told all h) (items_reread all h)))
 
 -- ---- all lines
 

@@ -9,7 +9,7 @@ use denote.Ref.{Bor}
 use Rattle.mutator_asm.specs.declared.line.Line.{Line as Read}
 use Rattle.mutator_asm.specs.Line.{Line}
 use Rattle.mutator_asm.specs.Read.{line_view, lines_view}
-use Rattle.mutator_asm.specs.Text.{begins, sections_in}
+use Rattle.mutator_asm.specs.Text.{begins_section, sections_in}
 
 map_twice : {A B : Type 0} (f : List A → B) (xs : List (Bor (List A))) → map (λ x. f x.now) xs ≡ map f (map (λ x. x.now) xs)
 map_twice f [] = refl
@@ -32,9 +32,9 @@ slice_split-map p f [] = refl
 slice_split-map p f (x ∷ xs) = rw (slice_split-map p f xs) (split_step f (p (f x)) x (slice_split (λ x. p (f x)) xs))
 
 -- the sections of the lines that were read, by what the lines say
-pub sections_view : {E : Type 0} (r : Result (Vec (Bor (List Read))) E) (lines : List Read) → IfOk r (λ v. map (λ s. s.now) (vec_items v) ≡ drop 1 (slice_split (λ l. begins (line_view l)) lines)) → IfOk r (λ v. map (λ s. lines_view s.now) v.items ≡ sections_in (lines_view lines))
+pub sections_view : {E : Type 0} (r : Result (Vec (Bor (List Read))) E) (lines : List Read) → IfOk r (λ v. map (λ s. s.now) (vec_items v) ≡ drop 1 (slice_split (λ l. begins_section (line_view l)) lines)) → IfOk r (λ v. map (λ s. lines_view s.now) v.items ≡ sections_in (lines_view lines))
 sections_view (Ok v) lines got =
-    map_twice lines_view v.items ∙ ap (map lines_view) got ∙ sym (drop-map lines_view 1 (slice_split (λ l. begins (line_view l)) lines)) ∙ ap (drop 1) (sym (slice_split-map begins line_view lines))
+    map_twice lines_view v.items ∙ ap (map lines_view) got ∙ sym (drop-map lines_view 1 (slice_split (λ l. begins_section (line_view l)) lines)) ∙ ap (drop 1) (sym (slice_split-map begins_section line_view lines))
 sections_view (Err e) lines got = got
 
 -- ---- how long a section is
@@ -58,10 +58,10 @@ part_short p (x ∷ xs) k d lt = short_step (p x) x (slice_split p xs) k (length
 -- no section is longer than the whole
 pub section_short : (items : List (Bor (List Read))) (lines : List Read) (k : ℕ) (x : Bor (List Read)) → map (λ s. lines_view s.now) items ≡ sections_in (lines_view lines) → k < length items → x ≡ get_or items k x → length x.now ≤ length lines
 section_short items lines k x e lt is =
-    let parts = slice_split begins (lines_view lines) in
+    let parts = slice_split begins_section (lines_view lines) in
     let same : lines_view x.now ≡ get_or parts (1 + k) (lines_view x.now) = ap (λ (y : Bor (List Read)). lines_view y.now) is ∙ sym (get_or-map (λ s. lines_view s.now) items k x (lines_view x.now) lt) ∙ ap (λ (ss : List (List Line)). get_or ss k (lines_view x.now)) e ∙ get_or_after_one parts k (lines_view x.now) in
     let less : 1 + k < length parts = omega (arith, length-map items (λ s. lines_view s.now), ap length e, length-drop 1 parts) in
-    let short = part_short begins (lines_view lines) (1 + k) (lines_view x.now) less in
+    let short = part_short begins_section (lines_view lines) (1 + k) (lines_view x.now) less in
     omega (arith, ap length same, short, length-map lines line_view, length-map x.now line_view)
 
 pub sections_all : (yielded items : List (Bor (List Read))) (sections : List (List Line)) → map (λ s. s) yielded ≡ items → map (λ s. lines_view s.now) items ≡ sections → map (λ s. lines_view s.now) yielded ≡ sections

@@ -16,8 +16,8 @@ use Rattle.mutator_asm.specs.declared.operand.Operand.{Operand}
 use Rattle.mutator_asm.specs.Program.{is_register, is_number, is_operand, is_valid, is_item}
 use Rattle.mutator_asm.specs.Token.{is_register_name, is_numeral, register_of, number_of, number_or, operand_of, is_name, label_of, tokens_of}
 use Rattle.mutator_asm.specs.Instr.{made, nothing, one_register, two_registers, three_registers, register_number, register_operand, operand_register, two_registers_operand, register_operand_register, instr_of}
-use Rattle.mutator_asm.specs.Line.{Word, Nothing, Begins, Schedules, Does, Jumps, Bad, Line, plain, jump_of, register_jump_of, jz_of, jal_of, does_or, named_of, labelled_of, begins_of, schedules_of, line_with, line_from, line_of, lines_of}
-use Rattle.mutator_asm.specs.Item.{is_star, within, worker_of, times_of, item_from, item_of}
+use Rattle.mutator_asm.specs.Line.{Word, Nothing, Begins, Schedules, Does, Jumps, Bad, Line, unlabelled, jump_of, register_jump_of, jz_of, jal_of, does_or, named_of, labelled_of, begins_of, schedules_of, line_with, line_from, line_of, lines_of}
+use Rattle.mutator_asm.specs.Item.{is_star, within, worker_item, times_of, item_from, item_of}
 use Rattle.mutator_asm.proofs.Passing.{if_passes}
 
 -- what was read passes the test
@@ -201,8 +201,8 @@ item_sound : (t : List ℕ) → good_some is_item (item_of t) ≡ true
 unfolding item_of
 item_sound t =
     if_passes (good_some is_item) (list_any is_star t) _ _
-    (item_good (worker_of (before_first is_star t)) (times_of (after_first is_star t)) (within_good 0 23 (number_of (before_first is_star t))) (within_good 1 1000000 (number_of (after_first is_star t))))
-    (item_good (worker_of t) (Some 1) (within_good 0 23 (number_of t)) refl)
+    (item_good (worker_item (before_first is_star t)) (times_of (after_first is_star t)) (within_good 0 23 (number_of (before_first is_star t))) (within_good 1 1000000 (number_of (after_first is_star t))))
+    (item_good (worker_item t) (Some 1) (within_good 0 23 (number_of t)) refl)
 
 cons_sound : (o : Option Item) (items : List Item) → good_some is_item o ≡ true → list_all is_item items ≡ true → list_all is_item (cons_option o items) ≡ true
 cons_sound None items h k = k
@@ -229,8 +229,8 @@ with_sound (Some label) first rest = labelled_sound rest
 from_sound : (tokens : List (List ℕ)) → is_sound_line (line_from tokens) ≡ true
 from_sound [] = refl
 from_sound (first ∷ rest) =
-    if_passes is_sound_line (bytes_eq first (codes ".mutator")) (plain (begins_of rest)) _ (begins_sound rest)
-    (if_passes is_sound_line (bytes_eq first (codes ".schedule")) (plain (schedules_of rest)) (line_with (label_of first) first rest) (schedules_sound rest) (with_sound (label_of first) first rest))
+    if_passes is_sound_line (bytes_eq first (codes ".mutator")) (unlabelled (begins_of rest)) _ (begins_sound rest)
+    (if_passes is_sound_line (bytes_eq first (codes ".schedule")) (unlabelled (schedules_of rest)) (line_with (label_of first) first rest) (schedules_sound rest) (with_sound (label_of first) first rest))
 
 line_sound : (line : List ℕ) → is_sound_line (line_of line) ≡ true
 unfolding line_of

@@ -8,7 +8,7 @@ use Rattle.std.proofs.lemmas.List.Elements.{All-nil, All-cons, All-append, All-w
 use Rattle.std.proofs.lemmas.List.Folds.{list_any_none}
 use Rattle.std.proofs.lemmas.List.Splits.{slice_split_none, slice_split_at}
 use Rattle.std.proofs.lemmas.List.Sums.{AllPass-from_list_all}
-use Rattle.mutator_asm.specs.Line.{Nothing, Line, plain, line_from, line_of, lines_of}
+use Rattle.mutator_asm.specs.Line.{Nothing, Line, unlabelled, line_from, line_of, lines_of}
 use Rattle.mutator_asm.specs.Listing.{line_text}
 use Rattle.mutator_asm.specs.Token.{is_blank, is_semicolon, tokens_of}
 use Rattle.mutator_asm.proofs.Firsts.{whole_before}
@@ -91,12 +91,12 @@ line_first tokens rest h =
     let line = join_with_byte 32 tokens in
     rw (append_assoc line (10 ∷ []) rest, slice_split_at is_end line 10 rest (joined_all (λ b. is_end b ≡ false) (λ b of. of.end) refl tokens h) refl, tokens_joined tokens h) refl
 
-no_line : lines_of [] ≡ plain Nothing ∷ []
+no_line : lines_of [] ≡ unlabelled Nothing ∷ []
 unfolding lines_of line_of tokens_of
 no_line = refl
 
 -- the text of lines of tokens has those lines, and a blank one behind the last LF
-pub lines_split : (lines : List (List (List ℕ))) → list_all (list_all is_token) lines ≡ true → lines_of (flat_map line_text lines) ≡ map line_from lines ++ plain Nothing ∷ []
+pub lines_split : (lines : List (List (List ℕ))) → list_all (list_all is_token) lines ≡ true → lines_of (flat_map line_text lines) ≡ map line_from lines ++ unlabelled Nothing ∷ []
 lines_split [] h = no_line
 lines_split (tokens ∷ lines) h =
     let parts = and_parts (list_all is_token tokens) (list_all (list_all is_token) lines) h in

@@ -16,8 +16,8 @@ within low high (Ok n) = if nat_le low n && nat_le n high then Some n else None
 within low high (Err mistake) = None
 
 -- a worker, by its number
-abbrev pub worker_of : List ℕ → Option ℕ
-worker_of t = within 0 LAST_WORKER (number_of t)
+abbrev pub worker_item : List ℕ → Option ℕ
+worker_item t = within 0 LAST_WORKER (number_of t)
 
 -- how many steps a worker makes
 abbrev pub times_of : List ℕ → Option ℕ
@@ -32,5 +32,5 @@ item_from None times = None
 -- the item that a token writes: w, or w*k
 unfoldable pub item_of : List ℕ → Option Item
 item_of t =
-    if list_any is_star t then item_from (worker_of (before_first is_star t)) (times_of (after_first is_star t))
-    else item_from (worker_of t) (Some 1)
+    if list_any is_star t then item_from (worker_item (before_first is_star t)) (times_of (after_first is_star t))
+    else item_from (worker_item t) (Some 1)

@@ -9,13 +9,13 @@ use Rattle.mutator_asm.specs.declared.labels.Place.{Place}
 use Rattle.mutator_asm.specs.declared.before.Before.{Before}
 use Rattle.mutator_asm.specs.Line.{Line}
 use Rattle.mutator_asm.specs.Listing.{is_target_in}
-use Rattle.mutator_asm.specs.Text.{begins, counts, defines, items_on, has_label, schedule_of}
+use Rattle.mutator_asm.specs.Text.{begins_section, counts, defines, items_on, has_label, schedule_of}
 
 -- ---- labels
 
 -- where a label stands first in a section
-abbrev pub place_of : List Line → List ℕ → Option Place
-place_of section name =
+abbrev pub label_place : List Line → List ℕ → Option Place
+label_place section name =
     let before = before_first (defines name) section in
     if has_label section name then Some (record { lines = length before; instrs = count_by counts before }) else None
 
@@ -25,18 +25,18 @@ get_place labels name = get_by (λ k. bytes_eq name k.now) labels
 
 -- the places that are kept are those of a section's labels
 abbrev pub KnowsLabels : {S : Type 0} → HashMap (Bor (List ℕ)) Place S → List Line → Type 0
-KnowsLabels labels section = (name : List ℕ) → get_place labels name ≡ place_of section name
+KnowsLabels labels section = (name : List ℕ) → get_place labels name ≡ label_place section name
 
 -- ---- the lines before one
 
 -- the lines since the last that begins a section, or all where none does
 abbrev pub lines_since : List Line → List Line
-lines_since lines = slice_index_or (slice_split begins lines) (count_by begins lines) []
+lines_since lines = slice_index_or (slice_split begins_section lines) (count_by begins_section lines) []
 
 -- how much stands before a line
 unfoldable pub before_of : List Line → Before
 before_of lines = record {
-  sections = count_by begins lines;
+  sections = count_by begins_section lines;
   lines = length (lines_since lines);
   instrs = count_by counts lines;
   items = length (schedule_of lines);
@@ -45,8 +45,8 @@ before_of lines = record {
 -- the same with one line more
 abbrev pub and_line : Before → Line → Before
 and_line before line = record {
-  sections = before.sections + (if begins line then 1 else 0);
-  lines = if begins line then 0 else before.lines + 1;
+  sections = before.sections + (if begins_section line then 1 else 0);
+  lines = if begins_section line then 0 else before.lines + 1;
   instrs = before.instrs + (if counts line then 1 else 0);
   items = before.items + length (items_on line);
 }

@@ -88,20 +88,20 @@ schedules_of operands = if not (length operands == 0) && list_all is_item_token 
 -- ---- a line
 
 -- a line without a label
-abbrev pub plain : Word → Line
-plain word = record { label = None; word = word }
+abbrev pub unlabelled : Word → Line
+unlabelled word = record { label = None; word = word }
 
 -- a line whose first token is a label, or else a name
 abbrev pub line_with : Option (List ℕ) → List ℕ → List (List ℕ) → Line
-line_with None first rest = plain (named_of first rest)
+line_with None first rest = unlabelled (named_of first rest)
 line_with (Some label) first rest = record { label = Some label; word = labelled_of rest }
 
 -- what the tokens of a line say
 abbrev pub line_from : List (List ℕ) → Line
-line_from [] = plain Nothing
+line_from [] = unlabelled Nothing
 line_from (first ∷ rest) =
-    if bytes_eq first (codes ".mutator") then plain (begins_of rest)
-    else (if bytes_eq first (codes ".schedule") then plain (schedules_of rest)
+    if bytes_eq first (codes ".mutator") then unlabelled (begins_of rest)
+    else (if bytes_eq first (codes ".schedule") then unlabelled (schedules_of rest)
     else line_with (label_of first) first rest)
 
 -- what a line says

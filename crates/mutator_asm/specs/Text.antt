@@ -39,8 +39,8 @@ is_label name (Some label) = bytes_eq label name
 -- ---- what stands on a line
 
 -- a line begins a section
-abbrev pub begins : Line → Bool
-begins line = is_begin line.word
+abbrev pub begins_section : Line → Bool
+begins_section line = is_begin line.word
 
 -- a line has an instruction
 abbrev pub counts : Line → Bool
@@ -62,7 +62,7 @@ schedule_of lines = flat_map items_on lines
 
 -- the lines of each section: what stands between the lines that begin one, but for what stands before the first
 abbrev pub sections_in : List Line → List (List Line)
-sections_in lines = drop 1 (slice_split begins lines)
+sections_in lines = drop 1 (slice_split begins_section lines)
 
 -- the lines of a section, the first being number 1; no line stands in number 0
 abbrev pub section_no : List Line → ℕ → List Line
@@ -121,7 +121,7 @@ has_label lines name = list_any (defines name) lines
 -- the error of a line between those before and after it
 unfoldable pub error_of : List Line → Line → List Line → Option Mistake
 error_of before line after =
-    let section = count_by begins before in
+    let section = count_by begins_section before in
     error_by (has_label (section_no (before ++ line ∷ after) section)) (has_label (section_no before section)) section (count_by counts before) (length (schedule_of before)) line
 
 -- none of the first n lines has an error
@@ -154,7 +154,7 @@ code_of lines = map section_of (sections_in lines)
 -- items the schedule
 pub record IsText (bytes : List ℕ) (code : List (List Instr)) (schedule : List Item) : Type 0 where
   pub clean : IsCleanUpTo (length (lines_of bytes)) (lines_of bytes)
-  pub begun : 1 ≤ count_by begins (lines_of bytes)
+  pub begun : 1 ≤ count_by begins_section (lines_of bytes)
   pub code_is : code ≡ code_of (lines_of bytes)
   pub schedule_is : schedule ≡ schedule_of (lines_of bytes)
 
@@ -171,7 +171,7 @@ pub record IsFirstError (lines : List Line) (number line : ℕ) : Type 0 where
 -- no line has an error and none begins a section, which counts as an error of line 1
 pub record IsWithoutSection (lines : List Line) (number line : ℕ) : Type 0 where
   pub clean : IsCleanUpTo (length lines) lines
-  pub none_begun : count_by begins lines ≡ 0
+  pub none_begun : count_by begins_section lines ≡ 0
   pub error : number ≡ number_of_mistake NoMutator
   pub place : line ≡ 1
 

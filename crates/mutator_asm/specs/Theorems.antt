@@ -25,14 +25,14 @@ pub record Means (bytes : List ℕ) : Type 0 where
   pub text : IsText bytes code schedule
 
 -- a text has this fault
-pub record Has (bytes : List ℕ) : Type 0 where
+pub record TextHasFault (bytes : List ℕ) : Type 0 where
   pub number : ℕ
   pub line : ℕ
   pub fault : IsFault bytes number line
 
 -- each text means a program or has a fault
-abbrev pub IsReadable : Type 0
-IsReadable = (bytes : List ℕ) → Means bytes ⊎ Has bytes
+abbrev pub EachTextIsRead : Type 0
+EachTextIsRead = (bytes : List ℕ) → Means bytes ⊎ TextHasFault bytes
 
 -- each instruction of a well-formed program has operands that their places allow
 abbrev pub FetchesInstrs : Type 0

@@ -2,7 +2,7 @@
 
 ghost use Rattle.std.specs.Prelude.{◌≡◌};
 ghost use Rattle.std.specs.List.{position};
-ghost use Rattle.mutator_asm.specs.Item.{is_star, within, worker_of, times_of, item_from, item_of};
+ghost use Rattle.mutator_asm.specs.Item.{is_star, within, worker_item, times_of, item_from, item_of};
 
 use crate::mistake::Mistake;
 use crate::token::number;
@@ -41,7 +41,7 @@ impl fmt::Display for Item {
 
 /// The worker of this number.
 fn worker(token: &[u8]) -> Option<u8>
-    ensures { result ≡ worker_of token.now }
+    ensures { result ≡ worker_item token.now }
 {
     match number(token) {
         Ok(worker) if worker <= LAST_WORKER => Some(worker as u8),

@@ -1,6 +1,6 @@
 //! What holds of all texts and programs. Each function here does nothing: its contract is what is proved.
 
-ghost use Rattle.mutator_asm.specs.Theorems.{MeansOneProgram, HasOneFault, HasNoFault, IsReadable, FetchesInstrs, FetchesEarly, MeansWellFormed, ListsText, ReadsBack, ListsNoFault};
+ghost use Rattle.mutator_asm.specs.Theorems.{MeansOneProgram, HasOneFault, HasNoFault, EachTextIsRead, FetchesInstrs, FetchesEarly, MeansWellFormed, ListsText, ReadsBack, ListsNoFault};
 
 /// A text means at most one program.
 pub fn one_program()
@@ -19,7 +19,7 @@ pub fn never_both()
 
 /// Each text means a program or has a fault.
 pub fn some_reading()
-    ensures { IsReadable }
+    ensures { EachTextIsRead }
 {}
 
 /// An instruction that a program holds has registers and numbers of the language, and a number below

@@ -3,7 +3,7 @@
 ghost use Rattle.std.specs.Prelude.{◌≡◌, ◌==◌, ◌∷◌, IfOk};
 ghost use Rattle.std.specs.List.{slice_split};
 ghost use Rattle.mutator_asm.specs.Instr.{instr_of};
-ghost use Rattle.mutator_asm.specs.Line.{jump_of, register_jump_of, jz_of, jal_of, does_or, named_of, labelled_of, begins_of, schedules_of, plain, line_with, line_from, line_of, lines_of};
+ghost use Rattle.mutator_asm.specs.Line.{jump_of, register_jump_of, jz_of, jal_of, does_or, named_of, labelled_of, begins_of, schedules_of, unlabelled, line_with, line_from, line_of, lines_of};
 ghost use Rattle.mutator_asm.specs.Token.{label_of};
 ghost use Rattle.mutator_asm.specs.Read.{word_view, line_view, lines_view, tokens_view};
 
@@ -45,12 +45,12 @@ pub struct Line<'a> {
 
 impl<'a> Line<'a> {
     ghost use Rattle.std.specs.Prelude.{◌≡◌};
-    ghost use Rattle.mutator_asm.specs.Text.{begins, counts, items_on};
+    ghost use Rattle.mutator_asm.specs.Text.{begins_section, counts, items_on};
     ghost use Rattle.mutator_asm.specs.Read.{line_view};
 
     /// Whether it begins a section.
     pub fn begins(&self) -> bool
-        ensures { result ≡ begins (line_view self.now) }
+        ensures { result ≡ begins_section (line_view self.now) }
     {
         matches!(self.word, Word::Begins(_))
     }
@@ -207,7 +207,7 @@ fn schedules<'a>(alloc: Global, operands: &[&'a [u8]]) -> Result<Word<'a>, Alloc
 
 /// A line without a label.
 fn plain<'a>(word: Word<'a>) -> Line<'a>
-    ensures { line_view result ≡ plain (word_view word.entry) }
+    ensures { line_view result ≡ unlabelled (word_view word.entry) }
 {
     Line { label: None, word }
 }

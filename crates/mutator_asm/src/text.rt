@@ -5,7 +5,7 @@ ghost use Rattle.mutator_asm.specs.Line.{lines_of};
 ghost use Rattle.mutator_asm.specs.Part.{part_view, parts_view};
 ghost use Rattle.mutator_asm.specs.Program.{IsWellFormed};
 ghost use Rattle.mutator_asm.specs.Read.{lines_view};
-ghost use Rattle.mutator_asm.specs.Text.{begins, sections_in, section_of, code_of, schedule_of, IsCleanUpTo, IsFaultIn, IsText, NamesFault};
+ghost use Rattle.mutator_asm.specs.Text.{begins_section, sections_in, section_of, code_of, schedule_of, IsCleanUpTo, IsFaultIn, IsText, NamesFault};
 
 use crate::asm_error::AsmError;
 use crate::before::Before;
@@ -26,7 +26,7 @@ fn check(lines: &[Line], parts: &[Part]) -> Result<(), Fault>
     requires few { length lines.now < 2 ^ 32 }
     requires parts { parts_view parts.now ≡ [] ∷ sections_in (lines_view lines.now) }
     ensures clean { OnOk result (IsCleanUpTo (length lines.now) (lines_view lines.now)) }
-    ensures begun { OnOk result (1 ≤ count_by begins (lines_view lines.now)) }
+    ensures begun { OnOk result (1 ≤ count_by begins_section (lines_view lines.now)) }
     ensures fault { IfErr result (λ f. IsFaultIn (lines_view lines.now) f.number f.line) }
 {
     let mut before = Before::first();
@@ -88,7 +88,7 @@ fn schedule(alloc: Global, lines: &[Line]) -> Result<Schedule, AllocError>
 fn program(alloc: Global, lines: &[Line], parts: &[Part]) -> Result<Program, AsmError>
     requires few { length lines.now < 2 ^ 32 }
     requires parts { parts_view parts.now ≡ [] ∷ sections_in (lines_view lines.now) }
-    requires well_formed { IsCleanUpTo (length lines.now) (lines_view lines.now) → 1 ≤ count_by begins (lines_view lines.now) → IsWellFormed (code_of (lines_view lines.now)) (schedule_of (lines_view lines.now)) }
+    requires well_formed { IsCleanUpTo (length lines.now) (lines_view lines.now) → 1 ≤ count_by begins_section (lines_view lines.now) → IsWellFormed (code_of (lines_view lines.now)) (schedule_of (lines_view lines.now)) }
     ensures text { IfOk result (λ p. (text : List ℕ) → lines_view lines.now ≡ lines_of text → IsText text p.code p.schedule) }
     ensures fault { IfErr result (λ e. (text : List ℕ) → lines_view lines.now ≡ lines_of text → NamesFault text e) }
 {

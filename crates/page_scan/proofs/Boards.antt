@@ -16,7 +16,7 @@ use Rattle.page_scan.specs.declared.spot.Spot.TheVariants.{OnBoard, InRecord}
 use Rattle.page_scan.specs.Answering.{LeadsBack, ReplacesPointers, answered_by, answering, heap_in}
 use Rattle.page_scan.specs.Fields.{IsOnBoard}
 use Rattle.page_scan.specs.Scanning.{Scanning, address_of}
-use Rattle.page_scan.specs.Taken.{board_words, by_word, is_old, passes}
+use Rattle.page_scan.specs.Taken.{board_words, by_word, is_old, passes_word}
 use Rattle.page_scan.specs.Theorems.{ScansBoards}
 use Rattle.page_scan.proofs.Replacing.{Replaced, begun-Replaced, unread, passed, stored, ended-Replaced}
 
@@ -41,7 +41,7 @@ module _ (l : Layout) (epoch : ℕ) (in_place : Bool) (words : List ℕ) (answer
   Knows (Ended ending) now = Below ending.cursor now × (64 * board + board_words ≤ ending.cursor)
   Knows _ now = ⊥
 
-  passes-Knows : (x : ℕ) (now : List ℕ) → Below (x + 1) now → Looked x → Knows (answered_by answer (passes board in_place (OnBoard x))) now
+  passes-Knows : (x : ℕ) (now : List ℕ) → Below (x + 1) now → Looked x → Knows (answered_by answer (passes_word board in_place (OnBoard x))) now
   passes-Knows x now replaced looked = ⊎_elim
       (λ (on : x + 1 < 64 * board + board_words). rw (lt-ltb (x + 1) (64 * board + board_words) on) (replaced, (let from = looked.0 in omega arith, on)))
       (λ (off : 64 * board + board_words ≤ x + 1). rw (le-ltb (x + 1) (64 * board + board_words) off) (replaced, off))
@@ -50,7 +50,7 @@ module _ (l : Layout) (epoch : ℕ) (in_place : Bool) (words : List ℕ) (answer
   -- a word that doesn't lead back is passed
   over_word : (x : ℕ) (now : List ℕ) → Below x now → Looked x
       → ((old : ℕ) → decode (heap_in l words x) ≡ PointerWord old → is_old l epoch old ≡ true → ⊥)
-      → Knows (answered_by answer (passes board in_place (OnBoard x))) now
+      → Knows (answered_by answer (passes_word board in_place (OnBoard x))) now
   over_word x now replaced looked other =
       passes-Knows x now
       (passed l epoch answer words Looked x (x + 1) now replaced (omega arith)
@@ -59,7 +59,7 @@ module _ (l : Layout) (epoch : ℕ) (in_place : Bool) (words : List ℕ) (answer
       other old (subst (λ z. decode (heap_in l words z) ≡ PointerWord old) here back.leads) back.is_back)) looked
 
   old-Knows : (x : ℕ) (now : List ℕ) (a : ℕ) (b : Bool) → Below x now → Looked x → decode (heap_in l words x) ≡ PointerWord a → is_old l epoch a ≡ b
-      → Knows (answered_by answer (if b then Asks (record { spot = OnBoard x; old = a }) else passes board in_place (OnBoard x))) now
+      → Knows (answered_by answer (if b then Asks (record { spot = OnBoard x; old = a }) else passes_word board in_place (OnBoard x))) now
   old-Knows x now a true replaced looked leads back = ((replaced, looked), record { looked = looked; leads = leads; is_back = back }, refl)
   old-Knows x now a false replaced looked leads back =
       over_word x now replaced looked (λ old other is. let same : a ≡ old = (let e : PointerWord a ≡ PointerWord old = sym leads ∙ other in cc) in
@@ -87,7 +87,7 @@ module _ (l : Layout) (epoch : ℕ) (in_place : Bool) (words : List ℕ) (answer
   in_table x looked = let below = looked.1 in omega arith
 
   stored-Knows : (spot : Spot) (old to : ℕ) (now : List ℕ) → KnowsSpot spot now → LeadsBack l epoch Looked words (address_of spot) old → to ≡ answer old
-      → Knows (answered_by answer (passes board in_place spot)) (slice_set now (place_of l.pages (HeapWord (address_of spot))) (pointer_word to))
+      → Knows (answered_by answer (passes_word board in_place spot)) (slice_set now (place_of l.pages (HeapWord (address_of spot))) (pointer_word to))
   stored-Knows (OnBoard x) old to now known back is =
       passes-Knows x (slice_set now (place_of l.pages (HeapWord x)) (pointer_word to))
       (subst (λ z. Below (x + 1) (slice_set now (place_of l.pages (HeapWord x)) (pointer_word z))) (sym is)

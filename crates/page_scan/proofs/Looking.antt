@@ -25,7 +25,7 @@ use Rattle.page_scan.specs.declared.spot.Spot.{Spot}
 use Rattle.page_scan.specs.declared.spot.Spot.TheVariants.{OnBoard, InRecord}
 use Rattle.page_scan.specs.Scanning.{Scanning, HasStep, address_of, wanted_at}
 use Rattle.page_scan.specs.Soundness.{IsOnPage, FitsStage}
-use Rattle.page_scan.specs.Taken.{board_words, by_area, by_header, by_word, enters, goes_on, is_old, passes, record_at, scan_end, stage_after, told}
+use Rattle.page_scan.specs.Taken.{board_words, by_area, by_header, by_word, enters, goes_on_at, is_old, passes_word, record_at, scan_end, stage_after, told}
 use Rattle.page_scan.specs.Theorems.{AsksAtWords, AsksOfPointers, CursorRises, EndsInPlace, StoresAnswer, StoresOnlyAnswers, cursor_at}
 
 -- ---- stores
@@ -52,7 +52,7 @@ module _ (P : ScanStage → Type 0) where
       → (r.fields_end ≤ x → r.next < 64 * (page + 1) → P (LoadsFront r))
       → (r.fields_end ≤ x → r.next < 64 * (page + 1) → P (LoadsNext r))
       → (r.fields_end ≤ x → 64 * (page + 1) ≤ r.next → P (Ended (record { cursor = r.next; at_front = false })))
-      → P (goes_on page in_place r x)
+      → P (goes_on_at page in_place r x)
   of_goes_on page in_place r x word end front next behind = ⊎_elim
       (λ (a : x < r.fields_end). rw (lt-ltb x r.fields_end a) (⊎_elim
       (λ (b : x < 64 * (page + 1)). rw (lt-ltb x (64 * (page + 1)) b) (word a b))
@@ -68,8 +68,8 @@ module _ (P : ScanStage → Type 0) where
   pub of_passes : (page : ℕ) (in_place : Bool) (spot : Spot)
       → ((x : ℕ) → spot ≡ OnBoard x → x + 1 < 64 * page + board_words → P (LoadsWord (OnBoard (x + 1))))
       → ((x : ℕ) → spot ≡ OnBoard x → 64 * page + board_words ≤ x + 1 → P (Ended (record { cursor = x + 1; at_front = false })))
-      → ((r : ScannedRecord) (x : ℕ) → spot ≡ InRecord r x → P (goes_on page in_place r (x + 1)))
-      → P (passes page in_place spot)
+      → ((r : ScannedRecord) (x : ℕ) → spot ≡ InRecord r x → P (goes_on_at page in_place r (x + 1)))
+      → P (passes_word page in_place spot)
   of_passes page in_place (OnBoard x) word end goes = ⊎_elim
       (λ (b : x + 1 < 64 * page + board_words). rw (lt-ltb (x + 1) (64 * page + board_words) b) (word x refl b))
       (λ (b : 64 * page + board_words ≤ x + 1). rw (le-ltb (x + 1) (64 * page + board_words) b) (end x refl b))
@@ -92,7 +92,7 @@ module _ (P : ScanStage → Type 0) where
 
   pub of_word : (l : Layout) (page epoch : ℕ) (in_place : Bool) (spot : Spot) (d : Decoded)
       → ((old : ℕ) → d ≡ PointerWord old → is_old l epoch old ≡ true → P (Asks (record { spot = spot; old = old })))
-      → P (passes page in_place spot) → P (by_word l page epoch in_place spot d)
+      → P (passes_word page in_place spot) → P (by_word l page epoch in_place spot d)
   of_word l page epoch in_place spot (PointerWord a) asks other = of_old (is_old l epoch a) _ _ (asks a refl) other
   of_word l page epoch in_place spot (NumberWord n) asks other = other
   of_word l page epoch in_place spot (HeaderWord kind len serial mutator) asks other = other
@@ -120,8 +120,8 @@ pub record OfEachWay (l : Layout) (page epoch : ℕ) (in_place : Bool) (P : Scan
   pub enters_first : (at w : ℕ) (kind : Kind) (len : ℕ) → P (LoadsFirst at) (Value w) (enters page in_place at kind len)
   pub enters_next : (r : ScannedRecord) (w : ℕ) (kind : Kind) (len : ℕ) → P (LoadsNext r) (Value w) (enters page in_place r.next kind len)
   pub asks : (spot : Spot) (w old : ℕ) → decode w ≡ PointerWord old → P (LoadsWord spot) (Value w) (Asks (record { spot = spot; old = old }))
-  pub passes_read : (spot : Spot) (w : ℕ) → P (LoadsWord spot) (Value w) (passes page in_place spot)
-  pub passes_stored : (asked : Asked) (to : ℕ) → P (StoresCopy asked to) Done (passes page in_place asked.spot)
+  pub passes_read : (spot : Spot) (w : ℕ) → P (LoadsWord spot) (Value w) (passes_word page in_place spot)
+  pub passes_stored : (asked : Asked) (to : ℕ) → P (StoresCopy asked to) Done (passes_word page in_place asked.spot)
   pub ends : (r : ScannedRecord) (w : ℕ) (area : AreaWord) → decode_area w ≡ Some area → space_start l.pages (to_space epoch) + area.front ≡ r.next
       → P (LoadsFront r) (Value w) (Ended (record { cursor = r.next; at_front = true }))
   pub is_inside : (r : ScannedRecord) (w : ℕ) → P (LoadsFront r) (Value w) (LoadsNext r)
@@ -142,11 +142,11 @@ of_each_way l p e i P each x reply = each.stays x reply
 
 -- ---- questions
 
-never_asks : (page : ℕ) (in_place : Bool) (r : ScannedRecord) (x : ℕ) (asked : Asked) → goes_on page in_place r x ≡ Asks asked → ⊥
+never_asks : (page : ℕ) (in_place : Bool) (r : ScannedRecord) (x : ℕ) (asked : Asked) → goes_on_at page in_place r x ≡ Asks asked → ⊥
 never_asks page in_place r x asked =
     of_goes_on (λ z. z ≡ Asks asked → ⊥) page in_place r x (λ a b z. cc) (λ a b z. cc) (λ a b z. cc) (λ a b z. cc) (λ a b z. cc)
 
-passes_without_asking : (page : ℕ) (in_place : Bool) (spot : Spot) (asked : Asked) → passes page in_place spot ≡ Asks asked → ⊥
+passes_without_asking : (page : ℕ) (in_place : Bool) (spot : Spot) (asked : Asked) → passes_word page in_place spot ≡ Asks asked → ⊥
 passes_without_asking page in_place spot asked =
     of_passes (λ z. z ≡ Asks asked → ⊥) page in_place spot (λ x is a z. cc) (λ x is a z. cc) (λ r x is. never_asks page in_place r (x + 1) asked)
 
@@ -172,7 +172,7 @@ asks_at_words v reply asked =
       is_inside = λ r w going is. absurd (cc);
     }) v.stage reply
 
-nothing_told : (page : ℕ) (in_place : Bool) (spot : Spot) (old : ℕ) → told (passes page in_place spot) ≡ Finished (comes_to.Ask old) → ⊥
+nothing_told : (page : ℕ) (in_place : Bool) (spot : Spot) (old : ℕ) → told (passes_word page in_place spot) ≡ Finished (comes_to.Ask old) → ⊥
 nothing_told page in_place spot old =
     let P : ScanStage → Type 0 = λ z. told z ≡ Finished (comes_to.Ask old) → ⊥ in
     of_passes P page in_place spot (λ x is a z. cc) (λ x is a z. cc)
@@ -194,11 +194,11 @@ asks_of_pointers v spot word old at =
 
 -- ---- the cursor
 
-goes_on-cursor : (page : ℕ) (in_place : Bool) (r : ScannedRecord) (x from : ℕ) → from ≤ x → from ≤ r.next → from ≤ cursor_at page (goes_on page in_place r x)
+goes_on-cursor : (page : ℕ) (in_place : Bool) (r : ScannedRecord) (x from : ℕ) → from ≤ x → from ≤ r.next → from ≤ cursor_at page (goes_on_at page in_place r x)
 goes_on-cursor page in_place r x from before next =
     of_goes_on (λ z. from ≤ cursor_at page z) page in_place r x (λ a b. before) (λ a b. before) (λ a b. next) (λ a b. next) (λ a b. next)
 
-passes-cursor : (n page : ℕ) (in_place : Bool) (spot : Spot) → IsOnPage n page spot → address_of spot ≤ cursor_at page (passes page in_place spot)
+passes-cursor : (n page : ℕ) (in_place : Bool) (spot : Spot) → IsOnPage n page spot → address_of spot ≤ cursor_at page (passes_word page in_place spot)
 passes-cursor n page in_place (OnBoard x) on =
     of_passes (λ z. x ≤ cursor_at page z) page in_place (OnBoard x)
     (λ y is a. let same : x ≡ y = cc in omega arith) (λ y is a. let same : x ≡ y = cc in omega arith) (λ r y is. absurd (cc))
@@ -255,13 +255,13 @@ module _ (v : Scanning) (ending : Ending) where
   board_end : v.page ≡ 2 * v.layout.pages → (c : ℕ) → 64 * v.page + board_words ≤ c → scan_end v.layout v.page ≤ c
   board_end is c behind = grind (arith, nat_tests)
 
-  goes_on-ends : (x : ScanStage) (reply : Reply) (r : ScannedRecord) (y : ℕ) → v.page < 2 * v.layout.pages → goes_on v.page v.in_place r y ≡ Ended ending → Ends x reply
+  goes_on-ends : (x : ScanStage) (reply : Reply) (r : ScannedRecord) (y : ℕ) → v.page < 2 * v.layout.pages → goes_on_at v.page v.in_place r y ≡ Ended ending → Ends x reply
   goes_on-ends x reply r y within =
       of_goes_on (λ z. z ≡ Ended ending → Ends x reply) v.page v.in_place r y
       (λ a b is. absurd (cc)) (λ a b is. at_end x reply y (page_end within y b) is)
       (λ a b is. absurd (cc)) (λ a b is. absurd (cc)) (λ a b is. at_end x reply r.next (page_end within r.next b) is)
 
-  passes-ends : (x : ScanStage) (reply : Reply) (spot : Spot) → IsOnPage v.layout.pages v.page spot → passes v.page v.in_place spot ≡ Ended ending → Ends x reply
+  passes-ends : (x : ScanStage) (reply : Reply) (spot : Spot) → IsOnPage v.layout.pages v.page spot → passes_word v.page v.in_place spot ≡ Ended ending → Ends x reply
   passes-ends x reply (OnBoard y) on =
       of_passes (λ z. z ≡ Ended ending → Ends x reply) v.page v.in_place (OnBoard y)
       (λ c at a is. absurd (cc)) (λ c at a is. at_end x reply (c + 1) (board_end on.0 (c + 1) a) is) (λ r c at is. absurd (cc))

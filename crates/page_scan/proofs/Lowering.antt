@@ -9,10 +9,10 @@ use Rattle.page_scan.specs.declared.spot.Spot.TheVariants.{OnBoard, InRecord}
 use Rattle.page_scan.specs.Left.{left_at}
 use Rattle.page_scan.specs.Scanning.{address_of}
 use Rattle.page_scan.specs.Soundness.{IsOnPage}
-use Rattle.page_scan.specs.Taken.{by_word, is_old, passes, scan_end}
+use Rattle.page_scan.specs.Taken.{by_word, is_old, passes_word, scan_end}
 
 pub passes-lt : (l : Layout) (p : ℕ) (in_place : Bool) (spot : Spot) → IsOnPage l.pages p spot
-    → left_at (scan_end l p) (passes p in_place spot) < 7 * (scan_end l p - address_of spot)
+    → left_at (scan_end l p) (passes_word p in_place spot) < 7 * (scan_end l p - address_of spot)
 passes-lt l p in_place (OnBoard x) on_page = grind (arith, nat_tests)
 passes-lt l p in_place (InRecord r x) on_page = grind (arith, nat_tests)
 
@@ -22,7 +22,7 @@ asks-lt l p (OnBoard x) on_page = grind (arith, nat_tests)
 asks-lt l p (InRecord r x) on_page = grind (arith, nat_tests)
 
 asked-lt : (l : Layout) (p : ℕ) (in_place is_old : Bool) (spot : Spot) (old : ℕ) → IsOnPage l.pages p spot
-    → left_at (scan_end l p) (if is_old then Asks (record { spot = spot; old = old }) else passes p in_place spot)
+    → left_at (scan_end l p) (if is_old then Asks (record { spot = spot; old = old }) else passes_word p in_place spot)
     < 7 * (scan_end l p - address_of spot)
 asked-lt l p in_place true spot old on_page = asks-lt l p spot on_page
 asked-lt l p in_place false spot old on_page = passes-lt l p in_place spot on_page

@@ -7,7 +7,7 @@ use Rattle.heap_words.specs.Decoded.{Decoded, NumberWord, PointerWord, HeaderWor
 use Rattle.heap_state.specs.FieldSpan.{first_field, fields_end}
 use Rattle.heap_state.specs.Ghost.{said_kind}
 use Rattle.heap_state.specs.Kept.{size_said}
-use Rattle.page_scan.specs.Fields.{IsField, begins, fields_said}
+use Rattle.page_scan.specs.Fields.{IsFieldBelow, record_begins, fields_said}
 
 pub fields_end-le : (kind : Kind) (size : ℕ) → 0 < size → fields_end (said_kind kind 0) size ≤ size
 fields_end-le Fields size some = omega arith
@@ -27,10 +27,10 @@ fields_said-le Malformed = omega arith
 
 module _ (heap : ℕ → ℕ) (from front : ℕ) where
   abbrev at : ℕ → ℕ
-  at n = begins heap from n
+  at n = record_begins heap from n
 
   pub begins-next : (n : ℕ) → at (n + 1) ≡ at n + size_said (decode (heap (at n)))
-  unfolding begins
+  unfolding record_begins
   begins-next n = let e : n + 1 ≡ suc n = omega arith in ap at e
 
   further : (n d : ℕ) → at n ≤ at (n + d)
@@ -42,11 +42,11 @@ module _ (heap : ℕ → ℕ) (from front : ℕ) where
   pub begins-le : (n m : ℕ) → n ≤ m → at n ≤ at m
   begins-le n m le = let e : n + (m - n) ≡ m = omega arith in subst (λ k. at n ≤ at k) e (further n (m - n))
 
-  pub field-below : (x : ℕ) (f : IsField heap from front x) → x < at (f.0 + 1)
+  pub field-below : (x : ℕ) (f : IsFieldBelow heap from front x) → x < at (f.0 + 1)
   field-below x f = let s = begins-next f.0 in let z = fields_said-le (decode (heap (at f.0))) in let b = f.3 in omega arith
 
   -- a field between two records' first words is one of the first's
-  pub field-of : (x k : ℕ) → IsField heap from front x → at k < x → x < at (k + 1) → x < at k + fields_said (decode (heap (at k)))
+  pub field-of : (x k : ℕ) → IsFieldBelow heap from front x → at k < x → x < at (k + 1) → x < at k + fields_said (decode (heap (at k)))
   field-of x k f behind before = ⊎_elim
       (λ (l : f.0 < k). let z = begins-le (f.0 + 1) k (omega arith) in let b = field-below x f in absurd (omega arith))
       (λ (l : k ≤ f.0). ⊎_elim
@@ -56,7 +56,7 @@ module _ (heap : ℕ → ℕ) (from front : ℕ) where
       (cases_lt f.0 k)
 
   -- a record's first word is no field
-  pub no_field-first : (k : ℕ) → IsField heap from front (at k) → ⊥
+  pub no_field-first : (k : ℕ) → IsFieldBelow heap from front (at k) → ⊥
   no_field-first k f = ⊎_elim
       (λ (l : f.0 < k). let z = begins-le (f.0 + 1) k (omega arith) in let b = field-below (at k) f in omega arith)
       (λ (l : k ≤ f.0). let z = begins-le k f.0 l in let b = f.2 in omega arith)

@@ -21,9 +21,9 @@ use Rattle.page_scan.specs.declared.scanned_record.ScannedRecord.{ScannedRecord}
 use Rattle.page_scan.specs.declared.spot.Spot.{Spot}
 use Rattle.page_scan.specs.declared.spot.Spot.TheVariants.{OnBoard, InRecord}
 use Rattle.page_scan.specs.Answering.{IsPacked, LeadsBack, ReplacesPointers, answered_by, answering, crossing_in, heap_in}
-use Rattle.page_scan.specs.Fields.{IsField, IsFieldOn, begins, fields_said}
+use Rattle.page_scan.specs.Fields.{IsFieldBelow, IsFieldOn, record_begins, fields_said}
 use Rattle.page_scan.specs.Scanning.{Scanning, address_of}
-use Rattle.page_scan.specs.Taken.{by_area, by_header, by_word, goes_on, is_old, passes, record_at}
+use Rattle.page_scan.specs.Taken.{by_area, by_header, by_word, goes_on_at, is_old, passes_word, record_at}
 use Rattle.page_scan.specs.Theorems.{ScansPages}
 use Rattle.page_scan.proofs.Packed.{begins-next, begins-le, field-below, field-of, no_field-first, fields_end-le, first_field-is}
 use Rattle.page_scan.proofs.Replacing.{Replaced, begun-Replaced, unread, area_stays, cross_stays, passed, stored, ended-Replaced}
@@ -36,7 +36,7 @@ module _ (l : Layout) (page epoch : ℕ) (in_place : Bool) (words : List ℕ) (f
   from = crossing_in l words page
 
   abbrev at : ℕ → ℕ
-  at n = begins heap from n
+  at n = record_begins heap from n
 
   abbrev Looked : ℕ → Type 0
   Looked x = IsFieldOn page heap from front x
@@ -119,7 +119,7 @@ module _ (l : Layout) (page epoch : ℕ) (in_place : Bool) (words : List ℕ) (f
   behind_record false is k r now stands = let whole = lies.full is in let b = stands.before in (k, stands, omega arith)
 
   goes_on-Knows : (k : ℕ) (r : ScannedRecord) (y : ℕ) (now : List ℕ) → IsNumber k r → Below y now → at k < y → 64 * page ≤ y → y ≤ r.next
-      → Knows (goes_on page in_place r y) now
+      → Knows (goes_on_at page in_place r y) now
   goes_on-Knows k r y now n replaced behind on_page before = ⊎_elim
       (λ (in_fields : y < r.fields_end). rw (lt-ltb y r.fields_end in_fields) (⊎_elim
       (λ (on : y < 64 * (page + 1)). rw (lt-ltb y (64 * (page + 1)) on)
@@ -147,7 +147,7 @@ module _ (l : Layout) (page epoch : ℕ) (in_place : Bool) (words : List ℕ) (f
   -- ---- headers
 
   enters-Knows : (k : ℕ) (r : ScannedRecord) (first : ℕ) (now : List ℕ) → first ≡ 1 → IsNumber k r → Below (max (at k) (64 * page)) now
-      → 64 * page ≤ at (k + 1) → Knows (goes_on page in_place r (max (r.at + first) (64 * page))) now
+      → 64 * page ≤ at (k + 1) → Knows (goes_on_at page in_place r (max (r.at + first) (64 * page))) now
   enters-Knows k r first now is_first n replaced reaches =
       let begins = at-IsNumber k r n in
       let next = next-IsNumber k r n in
@@ -156,7 +156,7 @@ module _ (l : Layout) (page epoch : ℕ) (in_place : Bool) (words : List ℕ) (f
       passed l epoch answer words Looked (max (at k) (64 * page)) (max (r.at + first) (64 * page)) now replaced (omega arith)
       (λ x old back from below.
       let here : x ≡ at k = omega arith in
-      no_field-first heap (crossing_in l words page) front k (subst (λ z. IsField heap (crossing_in l words page) front z) here back.looked.0)) in
+      no_field-first heap (crossing_in l words page) front k (subst (λ z. IsFieldBelow heap (crossing_in l words page) front z) here back.looked.0)) in
       goes_on-Knows k r (max (r.at + first) (64 * page)) now n rest (omega arith) (omega arith) (omega arith)
 
   header-Knows : (k : ℕ) (now : List ℕ) (stage : ScanStage) (d : Decoded) → decode (heap (at k)) ≡ d → IsTrue (is_header d) → at k < front
@@ -179,7 +179,7 @@ module _ (l : Layout) (page epoch : ℕ) (in_place : Bool) (words : List ℕ) (f
       (header-Knows k now stage (decode (heap (at k))) refl (lies.headers k below) below replaced reaches))
 
   at-zero : at 0 ≡ crossing_in l words page
-  unfolding begins
+  unfolding record_begins
   at-zero = refl
 
   first-Knows : (now : List ℕ) (a : ℕ) → Below (64 * page) now → a ≡ crossing_in l words page
@@ -226,7 +226,7 @@ module _ (l : Layout) (page epoch : ℕ) (in_place : Bool) (words : List ℕ) (f
   -- ---- words
 
   passes-Knows : (k : ℕ) (r : ScannedRecord) (x : ℕ) (now before : List ℕ) → StandsAt k r x before → Below (x + 1) now
-      → Knows (passes page in_place (InRecord r x)) now
+      → Knows (passes_word page in_place (InRecord r x)) now
   passes-Knows k r x now before stands replaced =
       let le = fields-le k r stands.number in
       let behind = stands.behind in
@@ -242,16 +242,16 @@ module _ (l : Layout) (page epoch : ℕ) (in_place : Bool) (words : List ℕ) (f
 
   -- a word that doesn't lead back is passed
   over_word : (k : ℕ) (r : ScannedRecord) (x : ℕ) (now : List ℕ) → StandsAt k r x now
-      → ((old : ℕ) → decode (heap x) ≡ PointerWord old → is_old l epoch old ≡ true → ⊥) → Knows (answered_by answer (passes page in_place (InRecord r x))) now
+      → ((old : ℕ) → decode (heap x) ≡ PointerWord old → is_old l epoch old ≡ true → ⊥) → Knows (answered_by answer (passes_word page in_place (InRecord r x))) now
   over_word k r x now stands other =
-      still (passes page in_place (InRecord r x)) now (passes-Knows k r x now now stands
+      still (passes_word page in_place (InRecord r x)) now (passes-Knows k r x now now stands
       (passed l epoch answer words Looked x (x + 1) now stands.replaced (omega arith)
       (λ y old back from below.
       let here : y ≡ x = omega arith in
       other old (subst (λ z. decode (heap z) ≡ PointerWord old) here back.leads) back.is_back)))
 
   old-Knows : (k : ℕ) (r : ScannedRecord) (x : ℕ) (now : List ℕ) (a : ℕ) (b : Bool) → StandsAt k r x now → decode (heap x) ≡ PointerWord a → is_old l epoch a ≡ b
-      → Knows (answered_by answer (if b then Asks (record { spot = InRecord r x; old = a }) else passes page in_place (InRecord r x))) now
+      → Knows (answered_by answer (if b then Asks (record { spot = InRecord r x; old = a }) else passes_word page in_place (InRecord r x))) now
   old-Knows k r x now a true stands leads back =
       ((k, stands), record { looked = looked-at k r x now stands; leads = leads; is_back = back }, refl)
   old-Knows k r x now a false stands leads back =
@@ -280,12 +280,12 @@ module _ (l : Layout) (page epoch : ℕ) (in_place : Bool) (words : List ℕ) (f
   in_table x before = let whole = lies.whole in let within = lies.in_space in omega arith
 
   stored-Knows : (spot : Spot) (old to : ℕ) (now : List ℕ) → KnowsSpot spot now → LeadsBack l epoch Looked words (address_of spot) old → to ≡ answer old
-      → Knows (answered_by answer (passes page in_place spot)) (slice_set now (place_of l.pages (HeapWord (address_of spot))) (pointer_word to))
+      → Knows (answered_by answer (passes_word page in_place spot)) (slice_set now (place_of l.pages (HeapWord (address_of spot))) (pointer_word to))
   stored-Knows (OnBoard x) old to now known back is = absurd known
   stored-Knows (InRecord r x) old to now known back is =
       let stands = known.1 in
       let after : List ℕ = slice_set now (place_of l.pages (HeapWord x)) (pointer_word to) in
-      still (passes page in_place (InRecord r x)) after (passes-Knows known.0 r x after now stands
+      still (passes_word page in_place (InRecord r x)) after (passes-Knows known.0 r x after now stands
       (subst (λ z. Below (x + 1) (slice_set now (place_of l.pages (HeapWord x)) (pointer_word z))) (sym is)
       (stored l epoch answer words Looked x old now stands.replaced back (in_table x stands.before))))
 

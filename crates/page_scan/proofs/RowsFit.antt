@@ -1,6 +1,6 @@
 -- A scan that has a step wants one on a row of the table, and writes words of the heap alone.
 use Rattle.std.proofs.Common.{ℕ, ◌+◌, ◌*◌, ◌≤◌, arith}
-use Rattle.atom_store.specs.StepOn.{IsOn, Writes}
+use Rattle.atom_store.specs.StepOn.{IsOn, WritesOnly}
 use Rattle.space_map.specs.Table.{Row, HeapWord, IsRow}
 use Rattle.page_scan.specs.declared.scan_stage.ScanStage.{ScanStage}
 use Rattle.page_scan.specs.declared.scan_stage.ScanStage.TheVariants.{LoadsCross, LoadsFirst, LoadsWord, Asks, StoresCopy, LoadsFront, LoadsNext, Ended}
@@ -23,6 +23,6 @@ rows_fit n p e (LoadsFront r) fits has = omega arith
 rows_fit n p e (LoadsNext r) fits has = let page = fits.1 in let before = fits.3 in omega (arith, page, before)
 rows_fit n p e (Ended ending) fits has = has
 
-pub writes : (Q : Row → Type 0) → ((addr : ℕ) → Q (HeapWord addr)) → (p e : ℕ) (stage : ScanStage) → Writes Q (wants_at p e stage)
+pub writes : (Q : Row → Type 0) → ((addr : ℕ) → Q (HeapWord addr)) → (p e : ℕ) (stage : ScanStage) → WritesOnly Q (wants_at p e stage)
 writes Q words p e (StoresCopy asked to) = words (address_of asked.spot)
 writes Q words p e stage = tt

@@ -7,14 +7,14 @@ use Rattle.space_map.specs.AreaWord.{decode_area, area_in}
 use Rattle.space_map.specs.Table.{place_of}
 use Rattle.space_map.specs.Worked.{four_pages}
 use Rattle.page_scan.specs.Answering.{IsPacked, crossing_in, heap_in}
-use Rattle.page_scan.specs.Fields.{begins}
+use Rattle.page_scan.specs.Fields.{record_begins}
 use Rattle.page_scan.specs.Theorems.{WorkedArePacked}
 use Rattle.page_scan.specs.Worked.{full_words_with, words_with}
 use Rattle.page_scan.proofs.Packed.{begins-le}
 
 -- where the record of this number begins on a page
 abbrev at : List ℕ → (page : ℕ) → ℕ → ℕ
-at words page n = begins (heap_in four_pages words) (crossing_in four_pages words page) n
+at words page n = record_begins (heap_in four_pages words) (crossing_in four_pages words page) n
 
 abbrev HasHeader : List ℕ → (page : ℕ) → ℕ → Type 0
 HasHeader words page n = IsTrue (is_header (decode (heap_in four_pages words (at words page n))))
@@ -27,11 +27,11 @@ none_behind words page last n front is behind below =
 -- ---- the filling page
 
 behind_first : at (words_with 0x301) 4 1 ≡ 259
-unfolding begins decode tag_of place_of words_with
+unfolding record_begins decode tag_of place_of words_with
 behind_first = refl
 
 filling_headers : (n : ℕ) → at (words_with 0x301) 4 n < 259 → HasHeader (words_with 0x301) 4 n
-unfolding begins decode tag_of place_of words_with
+unfolding record_begins decode tag_of place_of words_with
 filling_headers zero below = refl
 filling_headers (suc n) below = absurd (none_behind (words_with 0x301) 4 1 (suc n) 259 behind_first (omega arith) below)
 
@@ -59,15 +59,15 @@ filling_page = record {
 -- ---- the full page
 
 behind_second : at (full_words_with 0x301) 5 2 ≡ 422
-unfolding begins decode tag_of place_of full_words_with
+unfolding record_begins decode tag_of place_of full_words_with
 behind_second = refl
 
 second : at (full_words_with 0x301) 5 1 ≡ 321
-unfolding begins decode tag_of place_of full_words_with
+unfolding record_begins decode tag_of place_of full_words_with
 second = refl
 
 full_headers : (n : ℕ) → at (full_words_with 0x301) 5 n < 422 → HasHeader (full_words_with 0x301) 5 n
-unfolding begins decode tag_of place_of full_words_with
+unfolding record_begins decode tag_of place_of full_words_with
 full_headers zero below = refl
 full_headers (suc zero) below = refl
 full_headers (suc (suc n)) below = absurd (none_behind (full_words_with 0x301) 5 2 (suc (suc n)) 422 behind_second (omega arith) below)

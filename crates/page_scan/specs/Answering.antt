@@ -11,7 +11,7 @@ use Rattle.space_map.specs.Table.{Area, Cross, HeapWord, place_of, table_length}
 use Rattle.page_scan.specs.declared.scan_stage.ScanStage.{ScanStage}
 use Rattle.page_scan.specs.declared.scan_stage.ScanStage.TheVariants.{Asks, StoresCopy}
 use Rattle.page_scan.specs.declared.scanned.Scanned.{Scanned}
-use Rattle.page_scan.specs.Fields.{begins}
+use Rattle.page_scan.specs.Fields.{record_begins}
 use Rattle.page_scan.specs.Scanning.{Scanning, wanted}
 use Rattle.page_scan.specs.Taken.{is_old, taken, told}
 
@@ -45,12 +45,12 @@ pub record IsPacked (l : Layout) (page epoch : ℕ) (in_place : Bool) (words : L
   pub front_is : front ≡ space_start l.pages (to_space epoch) + area.front
   pub inside : front ≤ 128 * l.pages
   pub over : crossing_in l words page ≤ first_word page
-  pub reaches : first_word page < begins (heap_in l words) (crossing_in l words page) 1
+  pub reaches : first_word page < record_begins (heap_in l words) (crossing_in l words page) 1
   pub below : crossing_in l words page < front
-  pub headers : (n : ℕ) → begins (heap_in l words) (crossing_in l words page) n < front
-      → IsTrue (is_header (decode (heap_in l words (begins (heap_in l words) (crossing_in l words page) n))))
-  pub packed : (n : ℕ) → begins (heap_in l words) (crossing_in l words page) n < front
-      → begins (heap_in l words) (crossing_in l words page) (n + 1) ≤ front
+  pub headers : (n : ℕ) → record_begins (heap_in l words) (crossing_in l words page) n < front
+      → IsTrue (is_header (decode (heap_in l words (record_begins (heap_in l words) (crossing_in l words page) n))))
+  pub packed : (n : ℕ) → record_begins (heap_in l words) (crossing_in l words page) n < front
+      → record_begins (heap_in l words) (crossing_in l words page) (n + 1) ≤ front
   pub full : in_place ≡ false → first_word (page + 1) ≤ front
 
 -- the word at this address is one of those, and leads into the old space, to this address

@@ -13,18 +13,18 @@ fields_said (HeaderWord kind len serial mutator) = fields_end (said_kind kind 0)
 fields_said _ = 0
 
 -- where the record of this number begins, of those that lie packed from an address on
-unfoldable pub begins : (heap : ℕ → ℕ) → ℕ → ℕ → ℕ
-begins heap from zero = from
-begins heap from (suc n) = begins heap from n + size_said (decode (heap (begins heap from n)))
+unfoldable pub record_begins : (heap : ℕ → ℕ) → ℕ → ℕ → ℕ
+record_begins heap from zero = from
+record_begins heap from (suc n) = record_begins heap from n + size_said (decode (heap (record_begins heap from n)))
 
 -- the word is a field of a record that lies below FRONT
-abbrev pub IsField : (heap : ℕ → ℕ) (from front : ℕ) → ℕ → Type 0
-IsField heap from front x =
-    (n : ℕ) × (begins heap from n < front) × (begins heap from n < x) × (x < begins heap from n + fields_said (decode (heap (begins heap from n))))
+abbrev pub IsFieldBelow : (heap : ℕ → ℕ) (from front : ℕ) → ℕ → Type 0
+IsFieldBelow heap from front x =
+    (n : ℕ) × (record_begins heap from n < front) × (record_begins heap from n < x) × (x < record_begins heap from n + fields_said (decode (heap (record_begins heap from n))))
 
 -- the word is such a field, on this page
 abbrev pub IsFieldOn : (page : ℕ) (heap : ℕ → ℕ) (from front : ℕ) → ℕ → Type 0
-IsFieldOn page heap from front x = IsField heap from front x × (first_word page ≤ x) × (x < first_word (page + 1))
+IsFieldOn page heap from front x = IsFieldBelow heap from front x × (first_word page ≤ x) × (x < first_word (page + 1))
 
 -- the word is one of the board
 abbrev pub IsOnBoard : (page : ℕ) → ℕ → Type 0

@@ -10,7 +10,7 @@ use Rattle.page_scan.specs.Scanning.{Scanning}
 use Rattle.page_scan.specs.Taken.{board_words}
 
 -- a record begins before its fields end, and the next one is not before that
-pub record IsRecord (r : ScannedRecord) : Type 0 where
+pub record IsScannedRecord (r : ScannedRecord) : Type 0 where
   pub begins : r.at < r.fields_end
   pub fields : r.fields_end ≤ r.next
   pub short : r.next ≤ r.at + 4096
@@ -20,11 +20,11 @@ pub record IsRecord (r : ScannedRecord) : Type 0 where
 abbrev pub IsOnPage : (pages page : ℕ) → Spot → Type 0
 IsOnPage n p (OnBoard x) = (p ≡ board_page n) × (first_word p ≤ x) × (x < first_word p + board_words)
 IsOnPage n p (InRecord r x) =
-    IsRecord r × (p < board_page n) × (first_word p ≤ x) × (x < first_word (p + 1)) × (r.at < x) × (x < r.fields_end)
+    IsScannedRecord r × (p < board_page n) × (first_word p ≤ x) × (x < first_word (p + 1)) × (r.at < x) × (x < r.fields_end)
 
 -- the next record begins on the page
 abbrev pub NextIsOnPage : (pages page : ℕ) → ScannedRecord → Type 0
-NextIsOnPage n p r = IsRecord r × (p < board_page n) × (first_word p ≤ r.next) × (r.next < first_word (p + 1))
+NextIsOnPage n p r = IsScannedRecord r × (p < board_page n) × (first_word p ≤ r.next) × (r.next < first_word (p + 1))
 
 abbrev pub FitsStage : (pages page : ℕ) → ScanStage → Type 0
 FitsStage n p LoadsCross = p < board_page n

@@ -45,8 +45,8 @@ is_old l epoch address =
 
 -- At a word of a record: a field on the page is loaded. Behind the record's fields the next record is, unless it begins
 -- behind the page.
-abbrev pub goes_on : (page : ℕ) (in_place : Bool) → ScannedRecord → ℕ → ScanStage
-goes_on page in_place r x =
+abbrev pub goes_on_at : (page : ℕ) (in_place : Bool) → ScannedRecord → ℕ → ScanStage
+goes_on_at page in_place r x =
     if nat_lt x r.fields_end
     then (if nat_lt x (first_word (page + 1)) then LoadsWord (InRecord r x) else Ended (record { cursor = x; at_front = false }))
     else if nat_lt r.next (first_word (page + 1))
@@ -54,28 +54,28 @@ goes_on page in_place r x =
     else Ended (record { cursor = r.next; at_front = false })
 
 -- the word at a spot is passed
-abbrev pub passes : (page : ℕ) (in_place : Bool) → Spot → ScanStage
-passes page in_place (OnBoard x) =
+abbrev pub passes_word : (page : ℕ) (in_place : Bool) → Spot → ScanStage
+passes_word page in_place (OnBoard x) =
     if nat_lt (x + 1) (first_word page + board_words)
     then LoadsWord (OnBoard (x + 1))
     else Ended (record { cursor = x + 1; at_front = false })
-passes page in_place (InRecord r x) = goes_on page in_place r (x + 1)
+passes_word page in_place (InRecord r x) = goes_on_at page in_place r (x + 1)
 
 -- a record is entered at its first field on the page
 abbrev pub enters : (page : ℕ) (in_place : Bool) (at : ℕ) → Kind → (len : ℕ) → ScanStage
-enters page in_place at kind len = goes_on page in_place (record_at at kind len) (max (at + first_field (said_kind kind 0)) (first_word page))
+enters page in_place at kind len = goes_on_at page in_place (record_at at kind len) (max (at + first_field (said_kind kind 0)) (first_word page))
 
 -- ---- what a word makes of it
 
 -- by a word of the board, or a field: a pointer into the old space is asked about
 abbrev pub by_word : Layout → (page epoch : ℕ) (in_place : Bool) → Spot → Decoded → ScanStage
 by_word l page epoch in_place spot (PointerWord address) =
-    if is_old l epoch address then Asks (record { spot = spot; old = address }) else passes page in_place spot
-by_word l page epoch in_place spot (NumberWord n) = passes page in_place spot
-by_word l page epoch in_place spot (HeaderWord kind len serial mutator) = passes page in_place spot
-by_word l page epoch in_place spot (ForwardWord len address) = passes page in_place spot
-by_word l page epoch in_place spot (BusyWord len worker) = passes page in_place spot
-by_word l page epoch in_place spot Malformed = passes page in_place spot
+    if is_old l epoch address then Asks (record { spot = spot; old = address }) else passes_word page in_place spot
+by_word l page epoch in_place spot (NumberWord n) = passes_word page in_place spot
+by_word l page epoch in_place spot (HeaderWord kind len serial mutator) = passes_word page in_place spot
+by_word l page epoch in_place spot (ForwardWord len address) = passes_word page in_place spot
+by_word l page epoch in_place spot (BusyWord len worker) = passes_word page in_place spot
+by_word l page epoch in_place spot Malformed = passes_word page in_place spot
 
 -- by the first word at an address: a header is entered; there is no other word
 abbrev pub by_header : (page : ℕ) (in_place : Bool) → (at : ℕ) → ScanStage → Decoded → ScanStage
@@ -101,7 +101,7 @@ abbrev pub stage_after : Layout → (page epoch : ℕ) (in_place : Bool) → Sca
 stage_after l p e in_place LoadsCross (Value w) = LoadsFirst w
 stage_after l p e in_place (LoadsFirst at) (Value w) = by_header p in_place at (LoadsFirst at) (decode w)
 stage_after l p e in_place (LoadsWord spot) (Value w) = by_word l p e in_place spot (decode w)
-stage_after l p e in_place (StoresCopy asked to) Done = passes p in_place asked.spot
+stage_after l p e in_place (StoresCopy asked to) Done = passes_word p in_place asked.spot
 stage_after l p e in_place (LoadsFront r) (Value w) = by_area l e r (decode_area w)
 stage_after l p e in_place (LoadsNext r) (Value w) = by_header p in_place r.next (LoadsNext r) (decode w)
 stage_after l p e in_place stage reply = stage

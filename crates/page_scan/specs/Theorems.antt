@@ -1,6 +1,6 @@
 -- What is proved of the scan of a page.
 use Rattle.std.specs.Prelude.{◌≡◌, ℕ, ◌+◌, ◌≤◌, ◌↔◌, ⊤, Bool, true, false, List, Some, length}
-use Rattle.atom_store.specs.Machine.{ComesTo}
+use Rattle.atom_store.specs.Machine.{RunsTo}
 use Rattle.atom_store.specs.Runs.{Working, alone}
 use Rattle.atom_store.specs.Step.{reply_of}
 use Rattle.atom_store.specs.declared.reply.Reply.{Reply}
@@ -117,12 +117,12 @@ answered_over w to = record { machine = answered w.machine to; words = w.words }
 
 -- where it is replied to so, the scan wants these steps and comes to this
 pub record IsWorkedOut : Type 0 where
-  pub on_board : ComesTo scan_machine board board_loads (comes_to.Ended false)
-  pub on_board_asks : ComesTo scan_machine board board_asks (comes_to.Ask 192)
-  pub on_board_goes_on : ComesTo scan_machine (answered_after board board_asks 256) board_goes_on (comes_to.Ended false)
-  pub on_filling_asks : ComesTo scan_machine filling filling_asks (comes_to.Ask 192)
-  pub on_filling_goes_on : ComesTo scan_machine (answered_after filling filling_asks 256) filling_goes_on (comes_to.Ended true)
-  pub on_full : ComesTo scan_machine full full_loads (comes_to.Ended false)
+  pub on_board : RunsTo scan_machine board board_loads (comes_to.Ended false)
+  pub on_board_asks : RunsTo scan_machine board board_asks (comes_to.Ask 192)
+  pub on_board_goes_on : RunsTo scan_machine (answered_after board board_asks 256) board_goes_on (comes_to.Ended false)
+  pub on_filling_asks : RunsTo scan_machine filling filling_asks (comes_to.Ask 192)
+  pub on_filling_goes_on : RunsTo scan_machine (answered_after filling filling_asks 256) filling_goes_on (comes_to.Ended true)
+  pub on_full : RunsTo scan_machine full full_loads (comes_to.Ended false)
   pub words : alone scan_machine 2 (answered_over (alone scan_machine 4 (record { machine = filling; words = words_with 0x301 })) 256)
       ≡ record { machine = record filling { stage = Ended (record { cursor = 259; at_front = true }) }; words = words_with 0x401 }
   pub full_words : after_steps (λ old. 256) 5 full (full_words_with 0x301)

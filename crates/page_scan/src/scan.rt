@@ -9,7 +9,7 @@ ghost use Rattle.space_map.specs.Table.{table_length};
 ghost use Rattle.page_scan.specs.Left.{advances, left};
 ghost use Rattle.page_scan.specs.Scanning.{HasStep, IsAsking, address_of, begun, wanted};
 ghost use Rattle.page_scan.specs.Soundness.{IsOnPage, IsSound};
-ghost use Rattle.page_scan.specs.Taken.{answered, by_area, by_header, by_word, enters, goes_on, passes, record_at, taken, told};
+ghost use Rattle.page_scan.specs.Taken.{answered, by_area, by_header, by_word, enters, goes_on_at, passes_word, record_at, taken, told};
 
 use crate::asked::Asked;
 use crate::ending::Ending;
@@ -259,9 +259,9 @@ impl Scan {
     /// The word at a spot is passed.
     fn passes(&mut self, spot: Spot) -> Turn<Scanned>
         requires on_page { IsOnPage self.old.layout.pages self.old.page spot }
-        requires sound { IsSound (record self.old { stage = passes self.old.page self.old.in_place spot }) }
-        ensures state { self.new ≡ record self.old { stage = passes self.old.page self.old.in_place spot } }
-        ensures told { result ≡ told (passes self.old.page self.old.in_place spot) }
+        requires sound { IsSound (record self.old { stage = passes_word self.old.page self.old.in_place spot }) }
+        ensures state { self.new ≡ record self.old { stage = passes_word self.old.page self.old.in_place spot } }
+        ensures told { result ≡ told (passes_word self.old.page self.old.in_place spot) }
     {
         match spot {
             Spot::OnBoard(x) => self.passes_on_board(x),
@@ -271,9 +271,9 @@ impl Scan {
 
     fn passes_on_board(&mut self, x: u32) -> Turn<Scanned>
         requires on_page { IsOnPage self.old.layout.pages self.old.page (Spot.OnBoard x) }
-        requires sound { IsSound (record self.old { stage = passes self.old.page self.old.in_place (Spot.OnBoard x) }) }
-        ensures state { self.new ≡ record self.old { stage = passes self.old.page self.old.in_place (Spot.OnBoard x) } }
-        ensures told { result ≡ told (passes self.old.page self.old.in_place (Spot.OnBoard x)) }
+        requires sound { IsSound (record self.old { stage = passes_word self.old.page self.old.in_place (Spot.OnBoard x) }) }
+        ensures state { self.new ≡ record self.old { stage = passes_word self.old.page self.old.in_place (Spot.OnBoard x) } }
+        ensures told { result ≡ told (passes_word self.old.page self.old.in_place (Spot.OnBoard x)) }
     {
         self.spaces.known();
         let end = self.spaces.first_word(self.page) + BOARD_WORDS;
@@ -303,9 +303,9 @@ impl Scan {
     /// At a word of a record: a field on the page is loaded. Behind the fields the next record is, unless it begins behind the
     /// page.
     fn goes_on(&mut self, r: ScannedRecord, x: u32) -> Turn<Scanned>
-        requires sound { IsSound (record self.old { stage = goes_on self.old.page self.old.in_place r x }) }
-        ensures state { self.new ≡ record self.old { stage = goes_on self.old.page self.old.in_place r x } }
-        ensures told { result ≡ told (goes_on self.old.page self.old.in_place r x) }
+        requires sound { IsSound (record self.old { stage = goes_on_at self.old.page self.old.in_place r x }) }
+        ensures state { self.new ≡ record self.old { stage = goes_on_at self.old.page self.old.in_place r x } }
+        ensures told { result ≡ told (goes_on_at self.old.page self.old.in_place r x) }
     {
         self.spaces.known();
         let end = self.spaces.first_word(self.page) + PAGE_WORDS;

@@ -5,7 +5,7 @@ use Rattle.atom_store.specs.declared.reply.Reply.{Reply}
 use Rattle.atom_store.specs.declared.reply.Reply.TheVariants as reply
 use Rattle.atom_store.specs.declared.step.Step.TheVariants.{Exchange}
 use Rattle.atom_store.specs.declared.turn.Turn.TheVariants.{Finished}
-use Rattle.atom_store.specs.Acts.{Acts}
+use Rattle.atom_store.specs.Acts.{MakesStep}
 use Rattle.atom_store.specs.Step.{reply_of}
 use Rattle.atom_store.proofs.Acting.{no_step}
 use Rattle.atom_store.proofs.Steps.{slice_index-words_after, slice_index-won, won_exactly, lost_tells_another, words_after-lost}
@@ -83,7 +83,7 @@ gate_shows epoch loaded word None tells = cc
 -- ---- all
 
 pub wins : (c : Claiming) (stage : ClaimStage) (before after : List ℕ) → IsSoundClaim c → HoldsTable c.layout.pages before
-    → Acts claim_machine (at c stage) before after (Finished Won) → WinsPage c before after
+    → MakesStep claim_machine (at c stage) before after (Finished Won) → WinsPage c before after
 wins c (LooksAtPlace k) before after sound whole acts = absurd (place_never_won c.page k (row_word c.layout.pages (Announce k) before) _ _ acts.tells)
 wins c LooksAtGate before after sound whole acts =
     absurd (gate_never_won c.epoch (row_word c.layout.pages Gate before) (decode_gate (row_word c.layout.pages Gate before)) acts.tells)
@@ -105,7 +105,7 @@ wins c Exchanges before after sound whole acts =
 wins c (Ended result) before after sound whole acts = absurd (no_step acts.has_step)
 
 pub takes : (c : Claiming) (stage : ClaimStage) (before after : List ℕ) (word : ℕ) → IsSoundClaim (at c stage)
-    → Acts claim_machine (at c stage) before after (Finished (Taken word)) → ShowsTaken c before word × (after ≡ before)
+    → MakesStep claim_machine (at c stage) before after (Finished (Taken word)) → ShowsTaken c before word × (after ≡ before)
 takes c (LooksAtPlace k) before after word sound acts =
     let announced : ℕ = row_word c.layout.pages (Announce k) before in
     let shows = place_shows k announced word (names_below_end c.page announced) (nat_eq k 23) acts.tells in

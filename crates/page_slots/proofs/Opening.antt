@@ -2,7 +2,7 @@
 use Rattle.std.proofs.Common.{ℕ, List, slice_index, arith, ap, ◌∙◌}
 use Rattle.atom_store.specs.declared.step.Step.TheVariants.{Store}
 use Rattle.atom_store.specs.declared.turn.Turn.TheVariants.{Finished}
-use Rattle.atom_store.specs.Acts.{Acts}
+use Rattle.atom_store.specs.Acts.{MakesStep}
 use Rattle.atom_store.proofs.Acting.{no_step}
 use Rattle.atom_store.proofs.Steps.{slice_index-words_after, slice_index-stored}
 use Rattle.space_map.specs.declared.page_word.PageWord.TheVariants.{Open}
@@ -19,7 +19,7 @@ use Rattle.page_slots.specs.Soundness.{IsSoundOpening}
 use Rattle.page_slots.specs.Theorems.{OpensPage}
 
 pub opens : (o : Opening) (stage : OpenStage) (before after : List ℕ) (outcome : Opened) → IsSoundOpening o → HoldsTable o.layout.pages before
-    → Acts open_machine (record o { stage = stage }) before after (Finished outcome) → OpensPage o before after
+    → MakesStep open_machine (record o { stage = stage }) before after (Finished outcome) → OpensPage o before after
 opens o StoresOpen before after outcome sound whole acts =
     let place : ℕ = place_of o.layout.pages (Page o.page) in
     let inside = place_of-lt o.layout.pages (Page o.page) sound.page in

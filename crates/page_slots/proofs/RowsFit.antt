@@ -1,6 +1,6 @@
 -- A claim and an opening that go on want a step on a row of the table, and write a page's word alone.
 use Rattle.std.proofs.Common.{ℕ, ◌≤◌}
-use Rattle.atom_store.specs.StepOn.{IsOn, Writes}
+use Rattle.atom_store.specs.StepOn.{IsOn, WritesOnly}
 use Rattle.space_map.specs.Spaces.{board_page}
 use Rattle.space_map.specs.Table.{Row, Page, IsRow}
 use Rattle.page_slots.specs.declared.claim_stage.ClaimStage.{ClaimStage}
@@ -24,10 +24,10 @@ opening_rows_fit o open_stage.StoresOpen low going = low
 opening_rows_fit o (open_stage.Ended result) low going = going
 
 module _ (Q : Row → Type 0) (pages : (page : ℕ) → Q (Page page)) where
-  pub claim_writes : (c : Claiming) (stage : ClaimStage) → Writes Q (claim.wants_at c stage)
+  pub claim_writes : (c : Claiming) (stage : ClaimStage) → WritesOnly Q (claim.wants_at c stage)
   claim_writes c claim_stage.Exchanges = pages c.page
   claim_writes c stage = tt
 
-  pub opening_writes : (o : Opening) (stage : OpenStage) → Writes Q (open_page.wants_at o stage)
+  pub opening_writes : (o : Opening) (stage : OpenStage) → WritesOnly Q (open_page.wants_at o stage)
   opening_writes o open_stage.StoresOpen = pages o.page
   opening_writes o stage = tt

@@ -1,7 +1,7 @@
 -- What is proved of the claim and the opening of a page, by the words on which they make their steps.
 use Rattle.std.specs.Prelude.{◌≡◌, ◌≢◌, ℕ, ◌+◌, ◌<◌, ◌≤◌, List, Some}
 use Rattle.atom_store.specs.declared.turn.Turn.TheVariants.{Finished}
-use Rattle.atom_store.specs.Acts.{Acts}
+use Rattle.atom_store.specs.Acts.{MakesStep}
 use Rattle.space_map.specs.declared.gate_word.GateWord.{GateWord}
 use Rattle.space_map.specs.declared.page_word.PageWord.{PageWord}
 use Rattle.space_map.specs.declared.page_word.PageWord.TheVariants as page_word
@@ -29,7 +29,7 @@ pub record WinsPage (c : Claiming) (before after : List ℕ) : Type 0 where
 
 abbrev pub WonPagesAreClaimed : Type 0
 WonPagesAreClaimed = (c : Claiming) (before after : List ℕ) → IsSoundClaim c → HoldsTable c.layout.pages before
-    → Acts claim_machine c before after (Finished Won) → WinsPage c before after
+    → MakesStep claim_machine c before after (Finished Won) → WinsPage c before after
 
 -- A word of the table shows that a page is not to be had: a place is announced below the page's end, the gate is of another
 -- epoch than the claim, or the page's word is no longer the one that was read.
@@ -40,7 +40,7 @@ pub data ShowsTaken (c : Claiming) (words : List ℕ) (word : ℕ) : Type 0 wher
 
 abbrev pub TakenPagesShowIt : Type 0
 TakenPagesShowIt = (c : Claiming) (before after : List ℕ) (word : ℕ) → IsSoundClaim c
-    → Acts claim_machine c before after (Finished (Taken word)) → ShowsTaken c before word × (after ≡ before)
+    → MakesStep claim_machine c before after (Finished (Taken word)) → ShowsTaken c before word × (after ≡ before)
 
 -- ---- the opening
 
@@ -51,4 +51,4 @@ pub record OpensPage (o : Opening) (before after : List ℕ) : Type 0 where
 
 abbrev pub OpenedPagesAreOpen : Type 0
 OpenedPagesAreOpen = (o : Opening) (before after : List ℕ) (outcome : Opened) → IsSoundOpening o → HoldsTable o.layout.pages before
-    → Acts open_machine o before after (Finished outcome) → OpensPage o before after
+    → MakesStep open_machine o before after (Finished outcome) → OpensPage o before after

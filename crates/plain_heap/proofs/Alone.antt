@@ -26,7 +26,7 @@ after_steps code turns s n m = state_after code turns s (replicate n (Step m))
 
 -- a mutator with an end stays what it is; another executes an instruction, for which it has a turn, or
 -- gets its end
-pub record Follows (turns : ℕ) (k l : Mutator) : Type 0 where
+pub record FollowsTurn (turns : ℕ) (k l : Mutator) : Type 0 where
   pub printed : Grown k.printed l.printed
   pub rests : is_some k.end ≡ true → l ≡ k
   pub goes : is_some l.end ≡ false → (l.executed ≡ k.executed + 1) × (k.executed < turns)
@@ -82,7 +82,7 @@ module _ (code : List (List Instr)) (turns : ℕ) (s : Plain) (m : ℕ) (has : m
   went_as k (Err why) = tt
 
   settled-follows : (o : Result After End) → is_some (mutator_of s m).end ≡ false → executes code turns m s.heap (mutator_of s m) ≡ o → IfOk o (λ after. Went (mutator_of s m) after.mutator)
-      → Follows turns (mutator_of s m) (mutator_of (settled s m (mutator_of s m) o) m)
+      → FollowsTurn turns (mutator_of s m) (mutator_of (settled s m (mutator_of s m) o) m)
   settled-follows (Ok after) no_end is went = rw (get_or-set_same s.mutators m after.mutator fresh within) (record {
     printed = went.printed;
     rests = λ ended. cc;
@@ -94,12 +94,12 @@ module _ (code : List (List Instr)) (turns : ℕ) (s : Plain) (m : ℕ) (has : m
     goes = λ no_end. cc;
   })
 
-  follows_as : (end : Bool) → is_some (mutator_of s m).end ≡ end → Follows turns (mutator_of s m) (mutator_of (stepped code turns s m) m)
+  follows_as : (end : Bool) → is_some (mutator_of s m).end ≡ end → FollowsTurn turns (mutator_of s m) (mutator_of (stepped code turns s m) m)
   follows_as true is = rw (stepped-rests is) (record { printed = grown-refl (mutator_of s m).printed; rests = λ ended. refl; goes = λ no_end. cc })
   follows_as false is = rw (stepped-goes is)
       (settled-follows (executes code turns m s.heap (mutator_of s m)) is refl (went_as (mutator_of s m) (fetch code turns m (mutator_of s m))))
 
-  pub stepped-follows : Follows turns (mutator_of s m) (mutator_of (stepped code turns s m) m)
+  pub stepped-follows : FollowsTurn turns (mutator_of s m) (mutator_of (stepped code turns s m) m)
   stepped-follows = follows_as (is_some (mutator_of s m).end) refl
 
 -- ---- many steps
@@ -117,7 +117,7 @@ no_end_before k l true is rests no_end = absurd (both (sym (ap (λ k. is_some k.
     both e = cc
 no_end_before k l false is rests no_end = is
 
-comes-next : (turns n : ℕ) (k l final : Mutator) → Follows turns k l → Comes turns n l final → Comes turns (suc n) k final
+comes-next : (turns n : ℕ) (k l final : Mutator) → FollowsTurn turns k l → Comes turns n l final → Comes turns (suc n) k final
 comes-next turns n k l final first rest = record {
   printed = grown-trans k.printed l.printed final.printed first.printed rest.printed;
   rests = λ is. rest.rests (ap (λ k. is_some k.end) (first.rests is) ∙ is) ∙ first.rests is;

@@ -19,10 +19,10 @@ use Rattle.plain_state.specs.declared.value.Identity.{Identity}
 use Rattle.plain_state.specs.declared.value.Value.{Value}
 use Rattle.plain_state.specs.declared.value.Value.TheVariants.{Number, Reference}
 use Rattle.plain_state.specs.Consistent.{IsNumber, IsRecord, IsHeap, IsMutator}
-use Rattle.plain_state.specs.Layout.{is_raw, word_of}
+use Rattle.plain_state.specs.Layout.{is_raw, word_of_value}
 use Rattle.plain_state.specs.Operation.{one_if, applied, divided_by}
 use Rattle.plain_state.specs.State.{Record, Heap, Mutator, made_by, record_of, serial_of, IsMade, IsValue}
-use Rattle.plain_state.specs.Writing.{with_word, with_board, stored, gained}
+use Rattle.plain_state.specs.Writing.{with_value, with_board, stored, gained}
 use Rattle.plain_state.proofs.Gained.{gained_made, gained_newest, gained_makers}
 use Rattle.plain_state.proofs.Lists.{slice_get-replicate, slice_get-set_other, set-found}
 use Rattle.plain_state.proofs.Stored.{stored_made, stored_makers}
@@ -40,25 +40,25 @@ use Rattle.plain_heap.proofs.Owning.{read_all, found_serial}
 -- ---- a heap with more records
 
 -- what was allocated in one heap was in the other
-abbrev pub Grows : Heap → Heap → Type 0
-Grows heap next = (i : Identity) → IsMade heap i → IsMade next i
+abbrev pub HeapGrows : Heap → Heap → Type 0
+HeapGrows heap next = (i : Identity) → IsMade heap i → IsMade next i
 
-pub value-grows : (heap next : Heap) → Grows heap next → (v : Value) → IsValue heap v → IsValue next v
+pub value-grows : (heap next : Heap) → HeapGrows heap next → (v : Value) → IsValue heap v → IsValue next v
 value-grows heap next grows (Number n) is = is
 value-grows heap next grows (Reference i) is = grows i is
 
-record-grows : (heap next : Heap) → Grows heap next → (r : Record) → IsRecord heap r → IsRecord next r
+record-grows : (heap next : Heap) → HeapGrows heap next → (r : Record) → IsRecord heap r → IsRecord next r
 record-grows heap next grows r is = record {
   short = is.short;
   values = All-weaker (IsValue heap) (IsValue next) (value-grows heap next grows) r.values is.values;
   raw = is.raw;
 }
 
-pub records-grow : (heap next : Heap) → Grows heap next → (records : List (List Record)) → All (All (IsRecord heap)) records → All (All (IsRecord next)) records
+pub records-grow : (heap next : Heap) → HeapGrows heap next → (records : List (List Record)) → All (All (IsRecord heap)) records → All (All (IsRecord next)) records
 records-grow heap next grows records all =
     All-weaker (All (IsRecord heap)) (All (IsRecord next)) (λ rs. All-weaker (IsRecord heap) (IsRecord next) (record-grows heap next grows) rs) records all
 
-pub mutator-grows : (heap next : Heap) → Grows heap next → (k : Mutator) → IsMutator heap k → IsMutator next k
+pub mutator-grows : (heap next : Heap) → HeapGrows heap next → (k : Mutator) → IsMutator heap k → IsMutator next k
 mutator-grows heap next grows k is = record {
   counter = is.counter;
   register_count = is.register_count;
@@ -67,7 +67,7 @@ mutator-grows heap next grows k is = record {
   printed = is.printed;
 }
 
-grows-board : (heap : Heap) (x : ℕ) (v : Value) → Grows heap (with_board heap x v)
+grows-board : (heap : Heap) (x : ℕ) (v : Value) → HeapGrows heap (with_board heap x v)
 grows-board heap x v i made = record { first = made.first; last = made.last }
 
 -- ---- what is read
@@ -131,17 +131,17 @@ module _ (heap : Heap) (is_heap : IsHeap heap) where
     next : Heap
     next = stored heap i r x v
 
-    raw_as : (y : ℕ) (u : Value) → (y ≡ x) ⊎ (y ≡ x → ⊥) → slice_get (slice_set r.values x v) y ≡ Some u → is_raw r.kind (word_of r.kind y) ≡ true → IsNumber u
+    raw_as : (y : ℕ) (u : Value) → (y ≡ x) ⊎ (y ≡ x → ⊥) → slice_get (slice_set r.values x v) y ≡ Some u → is_raw r.kind (word_of_value r.kind y) ≡ true → IsNumber u
     raw_as y u (inl e) at is_raw_word =
         let within : y < length r.values = omega (arith, slice_get_within (slice_set r.values x v) y u at, length-set r.values x v) in
-        subst IsNumber (set-found r.values x y v u e (omega arith) at) (raw (any_word r.kind (word_of r.kind y) is_raw_word))
+        subst IsNumber (set-found r.values x y v u e (omega arith) at) (raw (any_word r.kind (word_of_value r.kind y) is_raw_word))
       where
         any_word : (kind : Kind) (word : ℕ) → is_raw kind word ≡ true → is_raw kind 0 ≡ true
         any_word Fields word h = h
         any_word Raw word h = h
     raw_as y u (inr other) at is_raw_word = (found-record i r found).raw y u (sym (slice_get-set_other r.values x y v other) ∙ at) is_raw_word
 
-    written-record : IsRecord heap (with_word r x v)
+    written-record : IsRecord heap (with_value r x v)
     written-record = record {
       short = omega (arith, length-set r.values x v, (found-record i r found).short);
       values = All-set (IsValue heap) r.values x v is (found-record i r found).values;
@@ -155,7 +155,7 @@ module _ (heap : Heap) (is_heap : IsHeap heap) where
           board_words = is_heap.board_words;
           board = All-weaker (IsValue heap) (IsValue (stored heap i r x v)) (value-grows heap (stored heap i r x v) grows) heap.board is_heap.board;
           records = records-grow heap (stored heap i r x v) grows (stored heap i r x v).records
-              (All-set (All (IsRecord heap)) heap.records i.mutator _ (All-set (IsRecord heap) (made_by heap i.mutator) _ (with_word r x v) written-record (list-records i.mutator)) is_heap.records);
+              (All-set (All (IsRecord heap)) heap.records i.mutator _ (All-set (IsRecord heap) (made_by heap i.mutator) _ (with_value r x v) written-record (list-records i.mutator)) is_heap.records);
         }
 
   -- a record of zeros
@@ -180,10 +180,10 @@ module _ (heap : Heap) (is_heap : IsHeap heap) where
 -- ---- the instructions
 
 -- the heap and the mutator after an instruction
-pub record Keeps (was : Heap) (after : After) : Type 0 where
+pub record AfterIsConsistent (was : Heap) (after : After) : Type 0 where
   pub heap : IsHeap after.heap
   pub mutator : IsMutator after.heap after.mutator
-  pub grows : Grows was after.heap
+  pub grows : HeapGrows was after.heap
   pub as_many : length after.heap.records ≡ length was.records
 
 module _ (m : ℕ) (heap : Heap) (k : Mutator) (is_heap : IsHeap heap) (is_mutator : IsMutator heap k) (within : m < length heap.records) where
@@ -193,7 +193,7 @@ module _ (m : ℕ) (heap : Heap) (k : Mutator) (is_heap : IsHeap heap) (is_mutat
   next_of-small : next_of k < NUMBERS
   next_of-small = remainder-small (k.counter + 1)
 
-  jumped-kept : (next : Heap) (d target : ℕ) (v : Value) → Grows heap next → IsValue next v → target < NUMBERS → IsMutator next (jumped (set_register k d v) target)
+  jumped-kept : (next : Heap) (d target : ℕ) (v : Value) → HeapGrows heap next → IsValue next v → target < NUMBERS → IsMutator next (jumped (set_register k d v) target)
   jumped-kept next d target v grows is small =
       let kept = mutator-grows heap next grows k is_mutator in
       record {
@@ -204,11 +204,11 @@ module _ (m : ℕ) (heap : Heap) (k : Mutator) (is_heap : IsHeap heap) (is_mutat
         printed = kept.printed;
       }
 
-  same : Grows heap heap
+  same : HeapGrows heap heap
   same i made = made
 
   -- the mutator goes on, and the heap stays
-  jumps-kept : (target : ℕ) → target < NUMBERS → Keeps heap (record { heap = heap; mutator = jumped k target })
+  jumps-kept : (target : ℕ) → target < NUMBERS → AfterIsConsistent heap (record { heap = heap; mutator = jumped k target })
   jumps-kept target small = record {
     heap = is_heap;
     mutator = record { counter = small; register_count = is_mutator.register_count; registers = is_mutator.registers; few_printed = is_mutator.few_printed; printed = is_mutator.printed };
@@ -216,13 +216,13 @@ module _ (m : ℕ) (heap : Heap) (k : Mutator) (is_heap : IsHeap heap) (is_mutat
     as_many = refl;
   }
 
-  links-kept : (d target : ℕ) (v : Value) → IsValue heap v → target < NUMBERS → Keeps heap (record { heap = heap; mutator = jumped (set_register k d v) target })
+  links-kept : (d target : ℕ) (v : Value) → IsValue heap v → target < NUMBERS → AfterIsConsistent heap (record { heap = heap; mutator = jumped (set_register k d v) target })
   links-kept d target v is small = record { heap = is_heap; mutator = jumped-kept heap d target v same is small; grows = same; as_many = refl }
 
-  loads-kept : (d : ℕ) (v : Value) → IsValue heap v → Keeps heap (loads heap k d v)
+  loads-kept : (d : ℕ) (v : Value) → IsValue heap v → AfterIsConsistent heap (loads heap k d v)
   loads-kept d v is = links-kept d (next_of k) v is next_of-small
 
-  allocated-kept : (kind : Kind) (d n : ℕ) → n ≤ LONGEST_RECORD → Keeps heap (allocated m heap k kind d n)
+  allocated-kept : (kind : Kind) (d n : ℕ) → n ≤ LONGEST_RECORD → AfterIsConsistent heap (allocated m heap k kind d n)
   allocated-kept kind d n short = record {
     heap = gained-kept heap is_heap m n kind within short;
     mutator = jumped-kept (gained heap m (zeros kind n)) d (next_of k) (Reference (record { mutator = m; serial = serial_of heap m + 1 }))
@@ -232,7 +232,7 @@ module _ (m : ℕ) (heap : Heap) (k : Mutator) (is_heap : IsHeap heap) (is_mutat
   }
 
   stored-kept_in : (i : Identity) (r : Record) (x : ℕ) (o : Result Value End) → record_of heap i ≡ Some r → IfOk o (λ v. IsValue heap v × (is_raw r.kind 0 ≡ true → IsNumber v))
-      → IfOk ((o >>= (λ v. Ok (stored heap i r x v))) >>= (λ h. Ok (record { heap = h; mutator = went_on k }))) (Keeps heap)
+      → IfOk ((o >>= (λ v. Ok (stored heap i r x v))) >>= (λ h. Ok (record { heap = h; mutator = went_on k }))) (AfterIsConsistent heap)
   stored-kept_in i r x (Ok v) found is = record {
     heap = stored-kept heap is_heap i r x v found is.0 is.1;
     mutator = mutator-grows heap (stored heap i r x v) (stored_made heap i r x v found) (went_on k) (jumps-kept (next_of k) next_of-small).mutator;
@@ -241,11 +241,11 @@ module _ (m : ℕ) (heap : Heap) (k : Mutator) (is_heap : IsHeap heap) (is_mutat
   }
   stored-kept_in i r x (Err why) found is = tt
 
-  stores-kept : (i : Identity) (o : Option Record) (x : ℕ) (v : Value) → record_of heap i ≡ o → IsValue heap v → IfOk (store_in heap i o x v >>= (λ h. Ok (record { heap = h; mutator = went_on k }))) (Keeps heap)
+  stores-kept : (i : Identity) (o : Option Record) (x : ℕ) (v : Value) → record_of heap i ≡ o → IsValue heap v → IfOk (store_in heap i o x v >>= (λ h. Ok (record { heap = h; mutator = went_on k }))) (AfterIsConsistent heap)
   stores-kept i None x v found is = tt
   stores-kept i (Some r) x v found is = stored-kept_in i r x (may_hold r.kind v) found (held-value heap r.kind v is)
 
-  boards-kept : (x : ℕ) (v : Value) (k' : Mutator) → IsValue heap v → IsMutator heap k' → Keeps heap (record { heap = with_board heap x v; mutator = k' })
+  boards-kept : (x : ℕ) (v : Value) (k' : Mutator) → IsValue heap v → IsMutator heap k' → AfterIsConsistent heap (record { heap = with_board heap x v; mutator = k' })
   boards-kept x v k' is is' = record {
     heap = board-kept heap is_heap x v is;
     mutator = mutator-grows heap (with_board heap x v) (grows-board heap x v) k' is';
@@ -253,7 +253,7 @@ module _ (m : ℕ) (heap : Heap) (k : Mutator) (is_heap : IsHeap heap) (is_mutat
     as_many = refl;
   }
 
-  printed-kept : (n : ℕ) → n < NUMBERS → length k.printed < MOST_PRINTED → Keeps heap (record { heap = heap; mutator = went_on (record k { printed = k.printed ++ n ∷ [] }) })
+  printed-kept : (n : ℕ) → n < NUMBERS → length k.printed < MOST_PRINTED → AfterIsConsistent heap (record { heap = heap; mutator = went_on (record k { printed = k.printed ++ n ∷ [] }) })
   printed-kept n small few = record {
     heap = is_heap;
     mutator = record {
@@ -267,15 +267,15 @@ module _ (m : ℕ) (heap : Heap) (k : Mutator) (is_heap : IsHeap heap) (is_mutat
     as_many = refl;
   }
 
-  performed-kept : (act : Action) → Names (IsValue heap) ⊤ k act → IfOk (performed m heap k act) (Keeps heap)
+  performed-kept : (act : Action) → Names (IsValue heap) ⊤ k act → IfOk (performed m heap k act) (AfterIsConsistent heap)
   performed-kept (Sets d v) is = loads-kept d v is
   performed-kept (Jumps target) is = jumps-kept target is
   performed-kept (Links d target) is = links-kept d target (Number (next_of k)) next_of-small is
   performed-kept (Prints n) is = printed-kept n is.0 is.1
   performed-kept (Makes kind d n) is = allocated-kept kind d n is
   performed-kept (Measures d i) is = loads-kept d (Number (length (values_of heap i))) (omega (arith, (values-found heap is_heap i (record_of heap i) refl).1))
-  performed-kept (Loads d i x) is = if_ok-then (IsValue heap) (Keeps heap) (value_in heap i x) _ (value_in-value heap is_heap i x) (λ v is_v. loads-kept d v is_v)
-  performed-kept (Stores i x v) is = if_ok-bind (Keeps heap) (value_in heap i x) _ (λ old. stores-kept i (record_of heap i) x v refl is.1)
+  performed-kept (Loads d i x) is = if_ok-then (IsValue heap) (AfterIsConsistent heap) (value_in heap i x) _ (value_in-value heap is_heap i x) (λ v is_v. loads-kept d v is_v)
+  performed-kept (Stores i x v) is = if_ok-bind (AfterIsConsistent heap) (value_in heap i x) _ (λ old. stores-kept i (record_of heap i) x v refl is.1)
   performed-kept (Gets d x) is = loads-kept d (board_word heap x) (board_word-value heap is_heap x)
   performed-kept (Puts x v) is = boards-kept x v (went_on k) is.2 (jumps-kept (next_of k) next_of-small).mutator
   performed-kept (Swaps d x v) is =
@@ -295,6 +295,6 @@ module _ (m : ℕ) (heap : Heap) (k : Mutator) (is_heap : IsHeap heap) (is_mutat
   action-good : (i : Instr) → is_valid i ≡ true → IfOk (action k i) (Names (IsValue heap) ⊤ k)
   action-good i valid = named (IsValue heap) ⊤ k register-value next_of-small one_if-small (λ operation a b small is. applied-small operation a b small) i (spells i valid)
 
-  pub call-kept : (i : Instr) → is_valid i ≡ true → IfOk (call m heap k i) (Keeps heap)
+  pub call-kept : (i : Instr) → is_valid i ≡ true → IfOk (call m heap k i) (AfterIsConsistent heap)
   unfolding call
-  call-kept i valid = if_ok-then (Names (IsValue heap) ⊤ k) (Keeps heap) (action k i) (performed m heap k) (action-good i valid) performed-kept
+  call-kept i valid = if_ok-then (Names (IsValue heap) ⊤ k) (AfterIsConsistent heap) (action k i) (performed m heap k) (action-good i valid) performed-kept

@@ -19,7 +19,7 @@ use Rattle.mutator_asm.specs.declared.instr.Instr.TheVariants as instrs
 use Rattle.mutator_asm.specs.declared.operand.Operand.{Operand}
 use Rattle.plain_heap.specs.declared.action.Action.{Action}
 use Rattle.plain_heap.specs.declared.action.Action.TheVariants.{Sets, Jumps, Links, Prints, Makes, Measures, Loads, Stores, Gets, Puts, Swaps}
-use Rattle.plain_heap.specs.Action.{◌>>=◌, register, number_in, reference_in, is_zero, is_reference, are_same, operand, next_of, length_of, in_record, on_board, board_place, computes, allocates, prints, action}
+use Rattle.plain_heap.specs.Action.{◌>>=◌, register, as_number, reference_in, is_zero, is_reference, are_same, operand, next_of, length_of, in_record, on_board, board_place, computes, allocates, prints, action}
 use Rattle.plain_heap.proofs.Outcomes.{if_ok-bind, if_ok-then}
 
 -- P holds of the numbers that an instruction spells, and B where it names the board
@@ -61,7 +61,7 @@ module _ (P : Value → Type 0) (B : Type 0) (k : Mutator) (held : (r : ℕ) →
   abbrev Named : Action → Type 0
   Named = Names P B k
 
-  number_as : (v : Value) → P v → IfOk (number_in v) (λ n. P (Number n))
+  number_as : (v : Value) → P v → IfOk (as_number v) (λ n. P (Number n))
   number_as (Number n) is = is
   number_as (Reference i) is = tt
 
@@ -69,8 +69,8 @@ module _ (P : Value → Type 0) (B : Type 0) (k : Mutator) (held : (r : ℕ) →
   reference_as (Number n) is = tt
   reference_as (Reference i) is = is
 
-  with_number : (a : ℕ) (f : ℕ → Result Action End) → ((n : ℕ) → P (Number n) → IfOk (f n) Named) → IfOk (number_in (register k a) >>= f) Named
-  with_number a f next = if_ok-then (λ n. P (Number n)) Named (number_in (register k a)) f (number_as (register k a) (held a)) next
+  with_number : (a : ℕ) (f : ℕ → Result Action End) → ((n : ℕ) → P (Number n) → IfOk (f n) Named) → IfOk (as_number (register k a) >>= f) Named
+  with_number a f next = if_ok-then (λ n. P (Number n)) Named (as_number (register k a)) f (number_as (register k a) (held a)) next
 
   computes-named : (operation : Operation) (d a b : ℕ) → IfOk (computes operation k d a b) Named
   computes-named operation d a b =

@@ -11,27 +11,27 @@ use Rattle.plain_heap.specs.Step.{ended, stepped}
 use Rattle.plain_heap.specs.declared.mark.Mark.{Mark}
 use Rattle.plain_heap.specs.declared.mark.Mark.TheVariants.{Step, Flip, Full}
 use Rattle.plain_heap.specs.Order.{fresh, opening, marked, state_after, plain}
-use Rattle.plain_heap.specs.Alone.{shares_nothing, run_alone, is_full, IsAsAlone}
+use Rattle.plain_heap.specs.Alone.{shares_nothing, run_alone, is_heap_full, IsAsAlone}
 use Rattle.plain_heap.proofs.Stepping.{stepped-past}
 use Rattle.plain_heap.proofs.Counting.{Grown}
 use Rattle.plain_heap.proofs.Alone.{mutator_of, after_steps, stepped-rests, steps-come, steps-end}
-use Rattle.plain_heap.proofs.Apart.{IsApart, Meets, moves-apart, full-moves, ended-mutator, opening-apart, opening-begun}
-use Rattle.plain_heap.proofs.Moving.{step-alike, mover, Fills, fills, marked-apart, marked-other, marked-rests}
+use Rattle.plain_heap.proofs.Apart.{IsApart, HasSameMutator, moves-apart, full-moves, ended-mutator, opening-apart, opening-begun}
+use Rattle.plain_heap.proofs.Moving.{step-alike, mover, GetsFull, fills, marked-apart, marked-other, marked-rests}
 
 -- the numbers of k are the first of those of l, and with an end of its own it is l
-pub record Agrees (k l : Mutator) : Type 0 where
+pub record IsFrontOf (k l : Mutator) : Type 0 where
   pub numbers : Grown k.printed l.printed
-  pub whole : (why : End) → k.end ≡ Some why → is_full why ≡ false → k ≡ l
+  pub whole : (why : End) → k.end ≡ Some why → is_heap_full why ≡ false → k ≡ l
 
 has_end : (k : Mutator) (why : End) → k.end ≡ Some why → is_some k.end ≡ true
 has_end k why is = ap is_some is
 
-full_end : (asked room live : ℕ) (why : End) → Some (HeapFull asked room live) ≡ Some why → is_full why ≡ false → ⊥
+full_end : (asked room live : ℕ) (why : End) → Some (HeapFull asked room live) ≡ Some why → is_heap_full why ≡ false → ⊥
 full_end asked room live why is other = none (ap full_in is ∙ other)
   where
     full_in : Option End → Bool
     full_in None = false
-    full_in (Some why) = is_full why
+    full_in (Some why) = is_heap_full why
 
     none : true ≡ false → ⊥
     none e = cc
@@ -52,8 +52,8 @@ module _ (code : List (List Instr)) (turns : ℕ) (alone : shares_nothing code �
   -- wherever two states have the same mutator m, what it comes to by an order agrees with what it
   -- comes to alone
   abbrev Agree : List Mark → Type 0
-  Agree order = (n : ℕ) (s u : Plain) → IsApart code s → IsApart code u → Meets m s u → is_some (mutator_of (after_steps code turns u n m) m).end ≡ true
-      → Agrees (mutator_of (state_after code turns s order) m) (mutator_of (after_steps code turns u n m) m)
+  Agree order = (n : ℕ) (s u : Plain) → IsApart code s → IsApart code u → HasSameMutator m s u → is_some (mutator_of (after_steps code turns u n m) m).end ≡ true
+      → IsFrontOf (mutator_of (state_after code turns s order) m) (mutator_of (after_steps code turns u n m) m)
 
   agree-none : Agree []
   agree-none n s u apart other meets is =
@@ -67,22 +67,22 @@ module _ (code : List (List Instr)) (turns : ℕ) (alone : shares_nothing code �
   apart_ends e = cc
 
   -- m makes a step both times
-  agree-step : (marks : List Mark) → Agree marks → (n : ℕ) (s u : Plain) → IsApart code s → IsApart code u → Meets m s u → is_some (mutator_of s m).end ≡ false
-      → is_some (mutator_of (after_steps code turns u n m) m).end ≡ true → Agrees (mutator_of (state_after code turns (stepped code turns s m) marks) m) (mutator_of (after_steps code turns u n m) m)
+  agree-step : (marks : List Mark) → Agree marks → (n : ℕ) (s u : Plain) → IsApart code s → IsApart code u → HasSameMutator m s u → is_some (mutator_of s m).end ≡ false
+      → is_some (mutator_of (after_steps code turns u n m) m).end ≡ true → IsFrontOf (mutator_of (state_after code turns (stepped code turns s m) marks) m) (mutator_of (after_steps code turns u n m) m)
   unfolding marked
   agree-step marks rest zero s u apart other meets no_end is = absurd (apart_ends (sym is ∙ ap (λ k. is_some k.end) meets.mutator ∙ no_end))
   agree-step marks rest (suc n) s u apart other meets no_end is =
       let alike = step-alike code turns alone m s u apart other meets has no_end in
       rest n (stepped code turns s m) (stepped code turns u m) (moves-apart code s apart m (stepped code turns s m) alike.one has) (moves-apart code u other m (stepped code turns u m) alike.other has) alike.meets is
 
-  agree-step_as : (marks : List Mark) → Agree marks → (n : ℕ) (s u : Plain) → IsApart code s → IsApart code u → Meets m s u → (end : Bool) → is_some (mutator_of s m).end ≡ end
-      → is_some (mutator_of (after_steps code turns u n m) m).end ≡ true → Agrees (mutator_of (state_after code turns (stepped code turns s m) marks) m) (mutator_of (after_steps code turns u n m) m)
+  agree-step_as : (marks : List Mark) → Agree marks → (n : ℕ) (s u : Plain) → IsApart code s → IsApart code u → HasSameMutator m s u → (end : Bool) → is_some (mutator_of s m).end ≡ end
+      → is_some (mutator_of (after_steps code turns u n m) m).end ≡ true → IsFrontOf (mutator_of (state_after code turns (stepped code turns s m) marks) m) (mutator_of (after_steps code turns u n m) m)
   agree-step_as marks rest n s u apart other meets true ended is = rw (stepped-rests code turns s m has apart.counted ended) (rest n s u apart other meets is)
   agree-step_as marks rest n s u apart other meets false no_end is = agree-step marks rest n s u apart other meets no_end is
 
   -- m gets its end for want of room
-  agree-full : (marks : List Mark) (n asked room live : ℕ) (s u after : Plain) → IsApart code s → IsApart code u → Meets m s u → is_some (mutator_of s m).end ≡ false
-      → after ≡ ended s m (mutator_of s m) (HeapFull asked room live) → Agrees (mutator_of (state_after code turns after marks) m) (mutator_of (after_steps code turns u n m) m)
+  agree-full : (marks : List Mark) (n asked room live : ℕ) (s u after : Plain) → IsApart code s → IsApart code u → HasSameMutator m s u → is_some (mutator_of s m).end ≡ false
+      → after ≡ ended s m (mutator_of s m) (HeapFull asked room live) → IsFrontOf (mutator_of (state_after code turns after marks) m) (mutator_of (after_steps code turns u n m) m)
   agree-full marks n asked room live s u after apart other meets no_end after_is =
       let moves = full-moves code s apart m (HeapFull asked room live) no_end in
       let full = ended s m (mutator_of s m) (HeapFull asked room live) in
@@ -94,21 +94,21 @@ module _ (code : List (List Instr)) (turns : ℕ) (alone : shares_nothing code �
         whole = λ why end_is own. absurd (full_end asked room live why end_is own);
       })
 
-  agree-full_as : (marks : List Mark) → Agree marks → (n asked room live : ℕ) (s u : Plain) → IsApart code s → IsApart code u → Meets m s u
-      → (marked code turns s (Full m asked room live) ≡ s) ⊎ Fills code turns s m asked room live
+  agree-full_as : (marks : List Mark) → Agree marks → (n asked room live : ℕ) (s u : Plain) → IsApart code s → IsApart code u → HasSameMutator m s u
+      → (marked code turns s (Full m asked room live) ≡ s) ⊎ GetsFull code turns s m asked room live
       → is_some (mutator_of (after_steps code turns u n m) m).end ≡ true
-      → Agrees (mutator_of (state_after code turns (marked code turns s (Full m asked room live)) marks) m) (mutator_of (after_steps code turns u n m) m)
+      → IsFrontOf (mutator_of (state_after code turns (marked code turns s (Full m asked room live)) marks) m) (mutator_of (after_steps code turns u n m) m)
   agree-full_as marks rest n asked room live s u apart other meets (inl same) is = rw same (rest n s u apart other meets is)
   agree-full_as marks rest n asked room live s u apart other meets (inr fills) is = agree-full marks n asked room live s u (marked code turns s (Full m asked room live)) apart other meets fills.1 fills.2
 
   -- a mark of m itself
   agree-own : (mark : Mark) (marks : List Mark) → Agree marks → m ≡ mover mark → Agree (mark ∷ marks)
   unfolding marked
-  agree-own (Step j) marks rest e n s u apart other meets is = subst (λ j. Agrees (mutator_of (state_after code turns (stepped code turns s j) marks) m) (mutator_of (after_steps code turns u n m) m)) e
+  agree-own (Step j) marks rest e n s u apart other meets is = subst (λ j. IsFrontOf (mutator_of (state_after code turns (stepped code turns s j) marks) m) (mutator_of (after_steps code turns u n m) m)) e
       (agree-step_as marks rest n s u apart other meets (is_some (mutator_of s m).end) refl is)
   agree-own (Flip asked) marks rest e n s u apart other meets is = rest n s u apart other meets is
   agree-own (Full j asked room live) marks rest e n s u apart other meets is =
-      subst (λ j. Agrees (mutator_of (state_after code turns (marked code turns s (Full j asked room live)) marks) m) (mutator_of (after_steps code turns u n m) m)) e
+      subst (λ j. IsFrontOf (mutator_of (state_after code turns (marked code turns s (Full j asked room live)) marks) m) (mutator_of (after_steps code turns u n m) m)) e
       (agree-full_as marks rest n asked room live s u apart other meets (fills code turns alone s apart m asked room live) is)
 
   agree-mark : (mark : Mark) (marks : List Mark) → Agree marks → (m ≡ mover mark) ⊎ (m ≡ mover mark → ⊥) → Agree (mark ∷ marks)

@@ -21,7 +21,7 @@ use Rattle.plain_heap.specs.Step.{fetch, executes, ended, settled, stepped_if, s
 use Rattle.plain_heap.specs.declared.mark.Mark.{Mark}
 use Rattle.plain_heap.specs.declared.mark.Mark.TheVariants.{Step, Flip, Full}
 use Rattle.plain_heap.specs.Order.{fresh, opening, is_asked, marked, state_after, plain}
-use Rattle.plain_heap.proofs.Consistency.{Keeps, mutator-grows, call-kept}
+use Rattle.plain_heap.proofs.Consistency.{AfterIsConsistent, mutator-grows, call-kept}
 use Rattle.plain_heap.proofs.Outcomes.{if_ok-then}
 use Rattle.plain_heap.proofs.Opening.{opening-replicate}
 use Rattle.plain_heap.proofs.Owning.{found_all}
@@ -70,7 +70,7 @@ module _ (code : List (List Instr)) (turns : ℕ) (valid : list_all (list_all is
       as_many = is.as_many ∙ sym (length-set s.mutators m (record k { end = Some why }));
     }
 
-    settled-consistent : (m : ℕ) (k : Mutator) (o : Result After End) → IsMutator s.heap k → IfOk o (Keeps s.heap) → IsConsistent (settled s m k o)
+    settled-consistent : (m : ℕ) (k : Mutator) (o : Result After End) → IsMutator s.heap k → IfOk o (AfterIsConsistent s.heap) → IsConsistent (settled s m k o)
     settled-consistent m k (Ok after) is_mutator kept = record {
       heap = kept.heap;
       mutators = All-set (IsMutator after.heap) s.mutators m after.mutator kept.mutator
@@ -79,9 +79,9 @@ module _ (code : List (List Instr)) (turns : ℕ) (valid : list_all (list_all is
     }
     settled-consistent m k (Err why) is_mutator kept = ended-consistent m k why is_mutator
 
-    executes-kept : (m : ℕ) (k : Mutator) → IsMutator s.heap k → m < length s.heap.records → IfOk (executes code turns m s.heap k) (Keeps s.heap)
+    executes-kept : (m : ℕ) (k : Mutator) → IsMutator s.heap k → m < length s.heap.records → IfOk (executes code turns m s.heap k) (AfterIsConsistent s.heap)
     executes-kept m k is_mutator within =
-        if_ok-then (λ i. is_valid i ≡ true) (Keeps s.heap) (fetch code turns m k) (λ i. call m s.heap k i) (fetch-valid m k (nat_le turns k.executed) refl)
+        if_ok-then (λ i. is_valid i ≡ true) (AfterIsConsistent s.heap) (fetch code turns m k) (λ i. call m s.heap k i) (fetch-valid m k (nat_le turns k.executed) refl)
         (λ i fetched. call-kept m s.heap k is.heap is_mutator within i fetched)
 
     found-mutator : (m : ℕ) (k : Mutator) → slice_get s.mutators m ≡ Some k → IsMutator s.heap k

@@ -12,7 +12,7 @@ use Rattle.plain_state.specs.declared.value.Identity.{Identity}
 use Rattle.plain_state.specs.declared.value.Value.{Value}
 use Rattle.plain_state.specs.declared.value.Value.TheVariants.{Number, Reference}
 use Rattle.plain_state.specs.State.{Record, Heap, Mutator, made_by, at_serial, record_of}
-use Rattle.plain_state.specs.Writing.{stored, gained, with_word}
+use Rattle.plain_state.specs.Writing.{stored, gained, with_value}
 use Rattle.plain_state.proofs.Gained.{gained_elsewhere}
 use Rattle.plain_state.proofs.Stored.{stored_elsewhere, stored_there}
 use Rattle.plain_heap.specs.declared.action.Action.{Action}
@@ -79,7 +79,7 @@ module _ (heap : Heap) (j : Identity) (r : Record) (y : ℕ) (v : Value) (found 
   same_record : (h : Heap) → j.mutator ≡ i.mutator → j.serial ≡ i.serial → record_of h j ≡ record_of h i
   same_record h e f = λ t. at_serial (made_by h (e t)) (f t)
 
-  it : j.mutator ≡ i.mutator → j.serial ≡ i.serial → record_of after i ≡ Some (with_word r y v)
+  it : j.mutator ≡ i.mutator → j.serial ≡ i.serial → record_of after i ≡ Some (with_value r y v)
   it e f = sym (same_record after e f) ∙ stored_there heap j r y v found
 
   it_was : j.mutator ≡ i.mutator → j.serial ≡ i.serial → record_of heap i ≡ Some r
@@ -88,7 +88,7 @@ module _ (heap : Heap) (j : Identity) (r : Record) (y : ℕ) (v : Value) (found 
   apart : (j.mutator ≡ i.mutator → j.serial ≢ i.serial) → record_of after i ≡ record_of heap i
   apart other = stored_elsewhere heap j r y v found i (λ e f. other (sym e) (sym f))
 
-  same_shape : shape (with_word r y v) ≡ shape r
+  same_shape : shape (with_value r y v) ≡ shape r
   same_shape = λ t. record { kind = r.kind; len = length-set r.values y v t }
 
   stored_shape : shape_of after i ≡ shape_of heap i

@@ -4,10 +4,10 @@ use Rattle.std.specs.List.{list_any}
 use Rattle.mutator_asm.specs.declared.instr.Instr.{Instr}
 use Rattle.plain_heap.specs.declared.mark.Mark.{Mark}
 use Rattle.plain_heap.specs.declared.mark.Mark.TheVariants.{Step, Flip, Full}
-use Rattle.plain_heap.specs.Order.{opening, marked, state_after, plain, Story, turned, story_after, story, is_flip}
+use Rattle.plain_heap.specs.Order.{opening, marked, state_after, plain, Story, story_marked, story_after, story, is_flip}
 
 module _ (code : List (List Instr)) (turns : ℕ) where
-  turned-now : (s : Story) (mark : Mark) → (turned code turns s mark).now ≡ marked code turns s.now mark
+  turned-now : (s : Story) (mark : Mark) → (story_marked code turns s mark).now ≡ marked code turns s.now mark
   unfolding marked
   turned-now s (Step m) = refl
   turned-now s (Flip asked) = refl
@@ -16,17 +16,17 @@ module _ (code : List (List Instr)) (turns : ℕ) where
   pub story_after-now : (s : Story) (order : List Mark) → (story_after code turns s order).now ≡ state_after code turns s.now order
   story_after-now s [] = refl
   story_after-now s (mark ∷ marks) =
-      story_after-now (turned code turns s mark) marks ∙ ap (λ now. state_after code turns now marks) (turned-now s mark)
+      story_after-now (story_marked code turns s mark) marks ∙ ap (λ now. state_after code turns now marks) (turned-now s mark)
 
   story_after-flip : (s : Story) (order : List Mark) → list_any is_flip order ≡ false → (story_after code turns s order).flip ≡ s.flip
   story_after-flip s [] none = refl
-  story_after-flip s (Step m ∷ marks) none = story_after-flip (turned code turns s (Step m)) marks none
+  story_after-flip s (Step m ∷ marks) none = story_after-flip (story_marked code turns s (Step m)) marks none
   story_after-flip s (Flip asked ∷ marks) none = cc
-  story_after-flip s (Full m asked room live ∷ marks) none = story_after-flip (turned code turns s (Full m asked room live)) marks none
+  story_after-flip s (Full m asked room live ∷ marks) none = story_after-flip (story_marked code turns s (Full m asked room live)) marks none
 
   pub story_after-append : (s : Story) (before after : List Mark) → story_after code turns s (before ++ after) ≡ story_after code turns (story_after code turns s before) after
   story_after-append s [] after = refl
-  story_after-append s (mark ∷ before) after = story_after-append (turned code turns s mark) before after
+  story_after-append s (mark ∷ before) after = story_after-append (story_marked code turns s mark) before after
 
 -- the present state is what the plain machine comes to
 pub story-now : (code : List (List Instr)) (turns : ℕ) (order : List Mark) → (story code turns order).now ≡ plain code turns order

@@ -30,9 +30,9 @@ abbrev pub ◌>>=◌ : {A B : Type 0} → Result A End → (A → Result B End) 
 abbrev pub register : Mutator → ℕ → Value
 register k r = slice_index_or k.registers r (Number 0)
 
-abbrev pub number_in : Value → Result ℕ End
-number_in (Number n) = Ok n
-number_in (Reference i) = Err NotNumber
+abbrev pub as_number : Value → Result ℕ End
+as_number (Number n) = Ok n
+as_number (Reference i) = Err NotNumber
 
 abbrev pub reference_in : Value → Result Identity End
 reference_in (Number n) = Err NotPointer
@@ -56,7 +56,7 @@ are_same (Reference i) (Reference j) = (i.mutator == j.mutator) && (i.serial == 
 
 -- a number as it stands, or the number that a register holds
 abbrev pub operand : Mutator → Operand → Result ℕ End
-operand k (operands.Reg r) = number_in (register k r)
+operand k (operands.Reg r) = as_number (register k r)
 operand k (operands.Number n) = Ok n
 
 -- the number of the next instruction
@@ -80,8 +80,8 @@ on_board x = in_record BOARD_WORDS x
 -- register d takes what an operation computes of the numbers in registers a and b
 abbrev pub computes : Operation → Mutator → (d a b : ℕ) → Result Action End
 computes operation k d a b = do
-  a ← number_in (register k a)
-  b ← number_in (register k b)
+  a ← as_number (register k a)
+  b ← as_number (register k b)
   n ← applied operation a b
   Ok (Sets d (Number n))
 
@@ -116,7 +116,7 @@ action k (instrs.Jmp target) = Ok (Jumps target)
 action k (instrs.Jz a target) = Ok (Jumps (if is_zero (register k a) then target else next_of k))
 action k (instrs.Jal d target) = Ok (Links d target)
 action k (instrs.Jr a) = do
-  n ← number_in (register k a)
+  n ← as_number (register k a)
   Ok (Jumps n)
 action k (instrs.New d x) = allocates k Fields d x
 action k (instrs.Raw d x) = allocates k Raw d x
@@ -142,6 +142,6 @@ action k (instrs.Swap d x) = do
   x ← board_place k x
   Ok (Swaps d x (register k d))
 action k (instrs.Out a) = do
-  n ← number_in (register k a)
+  n ← as_number (register k a)
   prints k n
 action k instrs.Halt = Err Halt

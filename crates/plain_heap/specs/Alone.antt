@@ -32,9 +32,9 @@ abbrev pub EndsAlone : Type 0
 EndsAlone = (code : List (List Instr)) (turns m : ℕ) (alone : Mutator) → slice_get (run_alone code turns m).mutators m ≡ Some alone → IsTrue (is_some alone.end)
 
 -- the end is that the heap is full
-abbrev pub is_full : End → Bool
-is_full (HeapFull asked room live) = true
-is_full _ = false
+abbrev pub is_heap_full : End → Bool
+is_heap_full (HeapFull asked room live) = true
+is_heap_full _ = false
 
 -- What a run leaves of mutator m, beside what m run alone comes to: its numbers are the first of
 -- those; and where it has an end, and that isn't that the heap is full, the two are the same.
@@ -42,7 +42,7 @@ pub record IsAsAlone (code : List (List Instr)) (turns m : ℕ) (k : Mutator) : 
   pub alone : Mutator
   pub reached : slice_get (run_alone code turns m).mutators m ≡ Some alone
   pub numbers : StartsWith alone.printed k.printed
-  pub whole : (why : End) → k.end ≡ Some why → is_full why ≡ false → k ≡ alone
+  pub whole : (why : End) → k.end ≡ Some why → is_heap_full why ≡ false → k ≡ alone
 
 -- in a program whose mutators share nothing, whatever the order, each of them is as far as it came alone
 abbrev pub AlwaysTheSame : Type 0

@@ -55,15 +55,15 @@ pub record Story : Type 0 where
   pub now : Plain
 
 -- a flip keeps the present state as that of the last flip; any other mark changes the present one
-abbrev pub turned : List (List Instr) → ℕ → Story → Mark → Story
-turned code turns s (Step m) = record { flip = s.flip; now = marked code turns s.now (Step m) }
-turned code turns s (Flip asked) = record { flip = s.now; now = s.now }
-turned code turns s (Full m asked room live) = record { flip = s.flip; now = marked code turns s.now (Full m asked room live) }
+abbrev pub story_marked : List (List Instr) → ℕ → Story → Mark → Story
+story_marked code turns s (Step m) = record { flip = s.flip; now = marked code turns s.now (Step m) }
+story_marked code turns s (Flip asked) = record { flip = s.now; now = s.now }
+story_marked code turns s (Full m asked room live) = record { flip = s.flip; now = marked code turns s.now (Full m asked room live) }
 
 -- the story after the marks of an order, one after another
 abbrev pub story_after : List (List Instr) → ℕ → Story → List Mark → Story
 story_after code turns s [] = s
-story_after code turns s (mark ∷ marks) = story_after code turns (turned code turns s mark) marks
+story_after code turns s (mark ∷ marks) = story_after code turns (story_marked code turns s mark) marks
 
 -- the story of a program that is run by an order
 abbrev pub story : List (List Instr) → ℕ → List Mark → Story

@@ -8,16 +8,16 @@ use Rattle.plain_heap.specs.declared.mark.Mark.{Mark}
 use Rattle.plain_heap.specs.declared.mark.Mark.TheVariants.{Step, Flip, Full}
 
 -- a line of mutator m
-abbrev pub line_of : ℕ → List ℕ → List ℕ
-line_of m text = decimal m ++ codes ": " ++ text ++ codes "\n"
+abbrev pub printed_line : ℕ → List ℕ → List ℕ
+printed_line m text = decimal m ++ codes ": " ++ text ++ codes "\n"
 
 abbrev pub end_text : Option End → List ℕ
 end_text None = codes "stopped"
 end_text (Some why) = text_of why
 
 -- a line for each number that mutator m printed, and one for its end
-abbrev pub lines_of : ℕ → List ℕ → Option End → List ℕ
-lines_of m numbers end = flat_map (λ n. line_of m (decimal n)) numbers ++ line_of m (end_text end)
+abbrev pub printed_lines : ℕ → List ℕ → Option End → List ℕ
+printed_lines m numbers end = flat_map (λ n. printed_line m (decimal n)) numbers ++ printed_line m (end_text end)
 
 -- what is seen of a mutator: the numbers that it printed, and its end
 pub record Seen : Type 0 where
@@ -33,7 +33,7 @@ plain_seen s = seen_in s.mutators
 -- the lines of mutators whose numbers begin with m, by what is seen of them
 abbrev pub lines_seen : ℕ → List Seen → List ℕ
 lines_seen m [] = []
-lines_seen m (k ∷ ks) = lines_of m k.printed k.end ++ lines_seen (m + 1) ks
+lines_seen m (k ∷ ks) = printed_lines m k.printed k.end ++ lines_seen (m + 1) ks
 
 -- the lines of all mutators
 abbrev pub print_of : Plain → List ℕ

@@ -36,7 +36,7 @@ impl Model for PlainMutator {
 }
 
 impl PlainMutator {
-    ghost use Rattle.plain_heap.specs.Action.{register, number_in, reference_in, operand, next_of};
+    ghost use Rattle.plain_heap.specs.Action.{register, as_number, reference_in, operand, next_of};
     ghost use Rattle.plain_heap.specs.Call.{jumped, went_on, set_register};
     ghost use Rattle.plain_heap.specs.Order.{fresh};
 
@@ -89,7 +89,7 @@ impl PlainMutator {
 
     /// The number in a register, else the end for a reference.
     pub fn number(&self, r: u8) -> Result<u64, End>
-        ensures { result ≡ number_in (register self.now r) }
+        ensures { result ≡ as_number (register self.now r) }
     {
         match self.register(r) {
             Value::Number(n) => Ok(n),

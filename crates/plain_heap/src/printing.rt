@@ -2,7 +2,7 @@
 
 ghost use Rattle.std.specs.Prelude.{◌≡◌, ◌++◌, IfOk, OnOk};
 ghost use Rattle.std.specs.String.{string_bytes};
-ghost use Rattle.plain_heap.specs.Print.{lines_of, print_of, order_line};
+ghost use Rattle.plain_heap.specs.Print.{printed_lines, print_of, order_line};
 
 use crate::mark::Mark;
 use crate::state::PlainState;
@@ -18,7 +18,7 @@ pub fn push_lines(
     numbers: &[u64],
     end: Option<End>,
 ) -> Result<(), NoMemory>
-    ensures { OnOk result (string_bytes out.new ≡ string_bytes out.old ++ lines_of m numbers.now end) }
+    ensures { OnOk result (string_bytes out.new ≡ string_bytes out.old ++ printed_lines m numbers.now end) }
 {
     for number in numbers {
         writeln!(out, "{m}: {number}")?;

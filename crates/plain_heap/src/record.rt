@@ -23,7 +23,7 @@ impl Model for PlainRecord {
 
 impl PlainRecord {
     ghost use Rattle.std.specs.Prelude.{length, slice_get, ok_or};
-    ghost use Rattle.plain_state.specs.Writing.{with_word};
+    ghost use Rattle.plain_state.specs.Writing.{with_value};
     ghost use Rattle.plain_heap.specs.Call.{may_hold, zeros};
 
     /// A record of so many words, each the number 0.
@@ -59,7 +59,7 @@ impl PlainRecord {
 
     /// Puts a value into a word. Where there is no such word, nothing changes.
     pub fn set_word(&mut self, x: u64, value: Value)
-        ensures { self.new ≡ with_word self.old x value }
+        ensures { self.new ≡ with_value self.old x value }
     {
         if let Some(word) = self.values.get_mut(x as usize) {
             *word = value;

@@ -24,7 +24,7 @@ impl Model for RecordList {
 
 impl RecordList {
     ghost use Rattle.plain_state.specs.State.{at_serial};
-    ghost use Rattle.plain_state.specs.Writing.{with_word};
+    ghost use Rattle.plain_state.specs.Writing.{with_value};
 
     pub fn new(alloc: Global) -> RecordList
         ensures { result ≡ [] }
@@ -61,7 +61,7 @@ impl RecordList {
     /// Puts a value into a word of the record with a serial.
     pub fn set_word(&mut self, serial: u64, x: u64, value: Value)
         ensures { IfSome (at_serial self.old serial) (λ r.
-            self.new ≡ slice_set self.old (serial - 1) (with_word r x value)) }
+            self.new ≡ slice_set self.old (serial - 1) (with_value r x value)) }
     {
         let Some(place) = serial.checked_sub(1) else {
             return;

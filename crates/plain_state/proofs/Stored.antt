@@ -6,7 +6,7 @@ use Rattle.std.proofs.lemmas.List.{get_or_past}
 use Rattle.plain_state.specs.State.{Record, Heap, made_by, record_of, serial_of, IsMade}
 use Rattle.plain_state.specs.declared.value.Identity.{Identity}
 use Rattle.plain_state.specs.declared.value.Value.{Value}
-use Rattle.plain_state.specs.Writing.{stored, with_word}
+use Rattle.plain_state.specs.Writing.{stored, with_value}
 use Rattle.plain_state.proofs.Lists.{at_serial_within, at_serial-set_same, at_serial-set_other}
 
 -- an identity that has a record is one of a mutator that there is
@@ -22,7 +22,7 @@ maker_within heap i r e = ⊎_elim
 
 module _ (heap : Heap) (i : Identity) (r : Record) (x : ℕ) (y : Value) (is : record_of heap i ≡ Some r) where
   abbrev changed : List Record
-  changed = slice_set (made_by heap i.mutator) (i.serial - 1) (with_word r x y)
+  changed = slice_set (made_by heap i.mutator) (i.serial - 1) (with_value r x y)
 
   made_same : made_by (stored heap i r x y) i.mutator ≡ changed
   made_same = get_or-set_same heap.records i.mutator changed [] (maker_within heap i r is)
@@ -30,20 +30,20 @@ module _ (heap : Heap) (i : Identity) (r : Record) (x : ℕ) (y : Value) (is : r
   made_other : (m : ℕ) → m ≢ i.mutator → made_by (stored heap i r x y) m ≡ made_by heap m
   made_other m d = get_or-set_other heap.records i.mutator m changed [] d
 
-  pub stored_there : record_of (stored heap i r x y) i ≡ Some (with_word r x y)
+  pub stored_there : record_of (stored heap i r x y) i ≡ Some (with_value r x y)
   stored_there =
       let w = at_serial_within (made_by heap i.mutator) i.serial r is in
-      rw made_same (at_serial-set_same (made_by heap i.mutator) i.serial (with_word r x y) w.0 w.1)
+      rw made_same (at_serial-set_same (made_by heap i.mutator) i.serial (with_value r x y) w.0 w.1)
 
   pub stored_elsewhere : (j : Identity) → (j.mutator ≡ i.mutator → j.serial ≢ i.serial) → record_of (stored heap i r x y) j ≡ record_of heap j
   stored_elsewhere j apart = ⊎_elim
-      (λ (e : j.mutator ≡ i.mutator). rw (e, made_same) (at_serial-set_other (made_by heap i.mutator) i.serial j.serial (with_word r x y) (apart e) (at_serial_within (made_by heap i.mutator) i.serial r is).0))
+      (λ (e : j.mutator ≡ i.mutator). rw (e, made_same) (at_serial-set_other (made_by heap i.mutator) i.serial j.serial (with_value r x y) (apart e) (at_serial_within (made_by heap i.mutator) i.serial r is).0))
       (λ (d : j.mutator ≢ i.mutator). rw (made_other j.mutator d) refl)
       (cases_eq j.mutator i.mutator)
 
   pub stored_serial : (m : ℕ) → serial_of (stored heap i r x y) m ≡ serial_of heap m
   stored_serial m = ⊎_elim
-      (λ (e : m ≡ i.mutator). rw (e, made_same) (length-set (made_by heap i.mutator) (i.serial - 1) (with_word r x y)))
+      (λ (e : m ≡ i.mutator). rw (e, made_same) (length-set (made_by heap i.mutator) (i.serial - 1) (with_value r x y)))
       (λ (d : m ≢ i.mutator). rw (made_other m d) refl)
       (cases_eq m i.mutator)
 

@@ -3,7 +3,7 @@ use Rattle.std.specs.Prelude.{◌≡◌, ℕ, ◌<◌, ◌≤◌, true, length, 
 use Rattle.plain_state.specs.declared.sizes.TheConstants.{NUMBERS, REGISTERS, MOST_PRINTED, LONGEST_RECORD, BOARD_WORDS}
 use Rattle.plain_state.specs.declared.value.Value.{Value}
 use Rattle.plain_state.specs.declared.value.Value.TheVariants.{Number, Reference}
-use Rattle.plain_state.specs.Layout.{is_raw, word_of}
+use Rattle.plain_state.specs.Layout.{is_raw, word_of_value}
 use Rattle.plain_state.specs.State.{Record, Heap, Mutator, Plain, IsValue}
 
 -- a number of the language, and no reference
@@ -15,7 +15,7 @@ IsNumber (Reference i) = ⊥
 pub record IsRecord (heap : Heap) (r : Record) : Type 0 where
   pub short : length r.values ≤ LONGEST_RECORD
   pub values : All (IsValue heap) r.values
-  pub raw : (x : ℕ) (v : Value) → slice_get r.values x ≡ Some v → is_raw r.kind (word_of r.kind x) ≡ true → IsNumber v
+  pub raw : (x : ℕ) (v : Value) → slice_get r.values x ≡ Some v → is_raw r.kind (word_of_value r.kind x) ≡ true → IsNumber v
 
 -- the board has all its words, and these and each record refer to records that were allocated
 pub record IsHeap (heap : Heap) : Type 0 where

@@ -15,8 +15,8 @@ is_raw Fields word = false
 is_raw Raw word = true
 
 -- the word at which value x of a record of this kind stands
-abbrev pub word_of : Kind → (x : ℕ) → ℕ
-word_of kind x = x + 1
+abbrev pub word_of_value : Kind → (x : ℕ) → ℕ
+word_of_value kind x = x + 1
 
 -- how many words the record takes, with its header
 abbrev pub size_of : Record → ℕ

@@ -6,8 +6,8 @@ use Rattle.plain_state.specs.declared.value.Value.{Value}
 use Rattle.plain_state.specs.declared.value.Value.TheVariants.{Number}
 use Rattle.plain_state.specs.State.{Record, Heap, Plain, made_by}
 
-abbrev pub with_word : Record → ℕ → Value → Record
-with_word r x v = record r { values = slice_set r.values x v }
+abbrev pub with_value : Record → ℕ → Value → Record
+with_value r x v = record r { values = slice_set r.values x v }
 
 abbrev pub with_records : Heap → ℕ → List Record → Heap
 with_records heap m records = record heap { records = slice_set heap.records m records }
@@ -17,7 +17,7 @@ with_heap p heap = record p { heap = heap }
 
 -- word x of the record r with identity i takes a value
 abbrev pub stored : Heap → Identity → Record → ℕ → Value → Heap
-stored heap i r x v = with_records heap i.mutator (slice_set (made_by heap i.mutator) (i.serial - 1) (with_word r x v))
+stored heap i r x v = with_records heap i.mutator (slice_set (made_by heap i.mutator) (i.serial - 1) (with_value r x v))
 
 -- word x of the board takes a value
 abbrev pub with_board : Heap → ℕ → Value → Heap

@@ -1,6 +1,6 @@
 -- The two spaces of n pages each and the board after them: where their pages and words lie.
 use Rattle.std.specs.Prelude.{ℕ, ◌+◌, ◌*◌, ◌/◌, ◌%◌, ◌<◌, ◌≤◌, ◌&&◌, Bool, nat_le}
-use Rattle.space_map.specs.declared.spaces.TheConstants.{MAX_PAGES, MIN_PAGES, PAGE_WORDS}
+use Rattle.space_map.specs.declared.spaces.TheConstants.{MOST_PAGES, FEWEST_PAGES, PAGE_WORDS}
 
 -- the layout of a heap: how many pages a space has
 pub record Layout : Type 0 where
@@ -8,11 +8,11 @@ pub record Layout : Type 0 where
 
 -- a space may have this many pages
 abbrev pub IsPageCount : ℕ → Type 0
-IsPageCount n = (MIN_PAGES ≤ n) × (n ≤ MAX_PAGES)
+IsPageCount n = (FEWEST_PAGES ≤ n) × (n ≤ MOST_PAGES)
 
 -- the same as a test
 abbrev pub is_size : ℕ → Bool
-is_size n = nat_le MIN_PAGES n && nat_le n MAX_PAGES
+is_size n = nat_le FEWEST_PAGES n && nat_le n MOST_PAGES
 
 -- the page that a word lies on
 abbrev pub page_of : ℕ → ℕ

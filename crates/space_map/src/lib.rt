@@ -23,5 +23,5 @@ pub use laws::{
 };
 pub use page_word::PageWord;
 pub use spaces::{
-    LAST_WORKER, MAX_PAGES, MIN_PAGES, MOST_MUTATORS, MOST_SCANNERS, PAGE_WORDS, Spaces,
+    LAST_WORKER, MOST_PAGES, FEWEST_PAGES, MOST_MUTATORS, MOST_SCANNERS, PAGE_WORDS, Spaces,
 };

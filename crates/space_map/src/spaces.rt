@@ -9,10 +9,10 @@ use std::marker::Model;
 pub const PAGE_WORDS: u32 = 64;
 
 /// The fewest pages of a space.
-pub const MIN_PAGES: u32 = 4;
+pub const FEWEST_PAGES: u32 = 4;
 
 /// The most pages of a space.
-pub const MAX_PAGES: u32 = 2048;
+pub const MOST_PAGES: u32 = 2048;
 
 /// The most mutators of a heap.
 pub const MOST_MUTATORS: u32 = 16;
@@ -57,7 +57,7 @@ impl Spaces {
         ensures pages { IfOk result (λ spaces. spaces.pages ≡ n) }
         ensures refused_exactly_outside { IsOk result ↔ IsPageCount n }
     {
-        if n < MIN_PAGES || n > MAX_PAGES {
+        if n < FEWEST_PAGES || n > MOST_PAGES {
             return Err(BadPages);
         }
         Ok(Spaces { pages: n })
@@ -76,7 +76,7 @@ impl Spaces {
     pub fn known(self)
         ensures { IsPageCount self.pages }
     {
-        prove!(MIN_PAGES <= self.pages && self.pages <= MAX_PAGES);
+        prove!(FEWEST_PAGES <= self.pages && self.pages <= MOST_PAGES);
     }
 
     pub fn page_of(self, addr: u32) -> u32

@@ -24,10 +24,10 @@ impl<'p> Model for Listing<'p> {
     ghost use Rattle.std.specs.Prelude.{◌<◌, ◌++◌, drop, length, replicate, IsTrue};
     ghost use Rattle.std.specs.List.{list_all};
     ghost use Rattle.mutator_asm.specs.Program.{is_item};
-    ghost use Rattle.ael_commands.specs.Coming.{Round};
+    ghost use Rattle.ael_commands.specs.Coming.{ListedRound};
     ghost use Rattle.ael_commands.specs.Schedule.{steps_listed};
 
-    ghost Value = { Round };
+    ghost Value = { ListedRound };
 
     ghost view = { λ l. record { rest = replicate l.now.times l.now.worker ++ steps_listed (drop l.next l.items.now); steps = steps_listed l.items.now } };
 

@@ -7,7 +7,7 @@ use Rattle.plain_state.specs.declared.end.End.TheVariants.{HeapFull}
 use Rattle.plain_state.specs.State.{Heap, Mutator, Plain}
 use Rattle.mutator_asm.specs.declared.instr.Instr.{Instr}
 use Rattle.plain_heap.specs.Call.{After, call}
-use Rattle.plain_heap.proofs.Alike.{Alike, Same}
+use Rattle.plain_heap.proofs.Alike.{GoAlike, Same}
 use Rattle.gc_worker.specs.declared.task.Task.{Task}
 use Rattle.gc_worker.specs.declared.task.Task.TheVariants.{Calls, Stops}
 use Rattle.gc_worker.specs.Answer.{ComesTo, MayCome, MayEnd, after_answer, after_outcome}
@@ -16,7 +16,7 @@ use Rattle.gc_worker.specs.declared.did.Did.TheVariants.{Done, Trap}
 use Rattle.gc_worker.specs.declared.call.Call.{Call}
 use Rattle.gc_worker.specs.declared.entry.Entry.{Entry}
 use Rattle.gc_worker.specs.declared.entry.Entry.TheVariants.{Made, Exchanged}
-use Rattle.ael_threads.specs.Alone.{LeavesBoard, alone, task_leaves_board}
+use Rattle.ael_threads.specs.Alone.{LeavesBoard, alone_history, task_leaves_board}
 use Rattle.gc_worker.specs.History.Legal.{IsLegal, after_all, after_call, calls_of}
 use Rattle.ael_threads.specs.Histories.{Each}
 use Rattle.ael_threads.proofs.Alone.Matching.{Matches, answers-alike, is_there, other-calls, other-ends, own-calls, own-ends}
@@ -58,10 +58,10 @@ module _ (m : ℕ) (p u : Plain) (same : Matches m p u) (k : Mutator) (is : slic
 
   may_come_too : (task : Task) (outcome : Did) → task_leaves_board task ≡ true → MayCome m p.heap k task outcome → MayCome m u.heap k task outcome
   may_come_too (Calls instr) Done leaves may =
-      executed_too (Alike m p.heap u.heap) (call m p.heap k instr) (call m u.heap k instr) (answers-alike m p u same k is instr leaves) may
+      executed_too (GoAlike m p.heap u.heap) (call m p.heap k instr) (call m u.heap k instr) (answers-alike m p u same k is instr leaves) may
   may_come_too (Calls instr) (Trap end) leaves may =
       may_end_too m p.heap u.heap k instr end
-      (ended_too (Alike m p.heap u.heap) (call m p.heap k instr) (call m u.heap k instr) end (answers-alike m p u same k is instr leaves)) may
+      (ended_too (GoAlike m p.heap u.heap) (call m p.heap k instr) (call m u.heap k instr) end (answers-alike m p u same k is instr leaves)) may
   may_come_too (Stops end) Done leaves may = may
   may_come_too (Stops end) (Trap other) leaves may = may
 
@@ -75,16 +75,16 @@ pub after_is : (p : Plain) (c : Call) (m : ℕ) (k : Mutator) → c.by ≡ m →
 after_is p c m k e is = ap (λ (j : ℕ). after_call p (record { by = j; task = c.task; did = c.did })) e ∙ ap (after_answer p m c.task c.did) is
 
 -- What a history has of mutator m comes to the same from the state u on as the history from the state p on.
-pub record Goes (m : ℕ) (p u : Plain) (log : List Entry) (own : List Call) : Type 0 where
-  pub legal : IsLegal u (alone own)
-  pub same : Matches m (after_all p log) (after_all u (alone own))
+pub record GoesTheSame (m : ℕ) (p u : Plain) (log : List Entry) (own : List Call) : Type 0 where
+  pub legal : IsLegal u (alone_history own)
+  pub same : Matches m (after_all p log) (after_all u (alone_history own))
 
 -- where the two states match, the rest of the history goes so
 abbrev pub Rest : ℕ → List Entry → Type 0
-Rest m es = (p u : Plain) → Matches m p u → IsLegal p es → Each LeavesBoard (calls_of m es) → Goes m p u es (calls_of m es)
+Rest m es = (p u : Plain) → Matches m p u → IsLegal p es → Each LeavesBoard (calls_of m es) → GoesTheSame m p u es (calls_of m es)
 
 module _ (m : ℕ) (p u : Plain) (c : Call) (es : List Entry) (same : Matches m p u) (comes : ComesTo p c.by c.task c.did) (legal : IsLegal (after_call p c) es) (rest : Rest m es) where
-  by_other : c.by ≢ m → Each LeavesBoard (calls_of m es) → Goes m p u (Made c ∷ es) (calls_of m es)
+  by_other : c.by ≢ m → Each LeavesBoard (calls_of m es) → GoesTheSame m p u (Made c ∷ es) (calls_of m es)
   by_other other leaves =
       let k = comes.mutator in
       let next : Matches m (after_call p c) u = subst (λ (s : Plain). Matches m s u) (sym (after_is p c c.by k refl comes.is))
@@ -92,7 +92,7 @@ module _ (m : ℕ) (p u : Plain) (c : Call) (es : List Entry) (same : Matches m 
       let goes = rest (after_call p c) u next legal leaves in
       record { legal = goes.legal; same = goes.same }
 
-  by_itself : c.by ≡ m → LeavesBoard c → Each LeavesBoard (calls_of m es) → Goes m p u (Made c ∷ es) (c ∷ calls_of m es)
+  by_itself : c.by ≡ m → LeavesBoard c → Each LeavesBoard (calls_of m es) → GoesTheSame m p u (Made c ∷ es) (c ∷ calls_of m es)
   by_itself e leaves others =
       let k = comes.mutator in
       let is : slice_get p.mutators m ≡ Some k = ap (λ (j : ℕ). slice_get p.mutators j) (sym e) ∙ comes.is in
@@ -105,7 +105,7 @@ module _ (m : ℕ) (p u : Plain) (c : Call) (es : List Entry) (same : Matches m 
       record { legal = (subst (λ (j : ℕ). ComesTo u j c.task c.did) (sym e) comes_there, goes.legal); same = goes.same }
 
   of_call : (b : Bool) → ((b ≡ true) × (c.by ≡ m)) ⊎ ((b ≡ false) × (c.by ≢ m)) → Each LeavesBoard (cond b (c ∷ calls_of m es) (calls_of m es))
-      → Goes m p u (Made c ∷ es) (cond b (c ∷ calls_of m es) (calls_of m es))
+      → GoesTheSame m p u (Made c ∷ es) (cond b (c ∷ calls_of m es) (calls_of m es))
   of_call true (inl is) leaves = by_itself is.1 leaves.0 leaves.1
   of_call true (inr is) leaves = absurd (apart is.0)
   of_call false (inl is) leaves = absurd (apart (sym is.0))

@@ -15,9 +15,9 @@ use Rattle.mutator_asm.specs.declared.instr.Instr.{Instr}
 use Rattle.plain_heap.specs.Alone.{leaves_board}
 use Rattle.plain_heap.specs.Call.{After, call}
 use Rattle.plain_heap.specs.Step.{ended, settled}
-use Rattle.plain_heap.proofs.Alike.{Alike, Same, call-alike}
+use Rattle.plain_heap.proofs.Alike.{GoAlike, Same, call-alike}
 use Rattle.plain_heap.proofs.Apart.{moved}
-use Rattle.plain_heap.proofs.Owning.{AllOf, IsOf, IsOwn, read_all}
+use Rattle.plain_heap.proofs.Owning.{AllOf, LeadsToOwn, OwnsRecords, read_all}
 use Rattle.ael_threads.proofs.Alone.Sparing.{AllElse, IsElse, IsSpared, Spares, call-spares}
 
 -- Mutator m of state p is that of state u, with the same records; it is led to these alone, and nobody else in p is led to one of them.
@@ -27,7 +27,7 @@ pub record Matches (m : ℕ) (p u : Plain) : Type 0 where
   pub as_many : length p.heap.records ≡ length p.mutators
   pub as_many_there : length u.heap.records ≡ length u.mutators
   pub words : All (AllOf m) (made_by p.heap m)
-  pub registers : (k : Mutator) → slice_get p.mutators m ≡ Some k → All (IsOf m) k.registers
+  pub registers : (k : Mutator) → slice_get p.mutators m ≡ Some k → All (LeadsToOwn m) k.registers
   pub spared : IsSpared m p.heap
   pub others : (j : ℕ) (k : Mutator) → j ≢ m → slice_get p.mutators j ≡ Some k → All (IsElse m) k.registers
 
@@ -72,11 +72,11 @@ module _ (m : ℕ) (p u : Plain) (same : Matches m p u) (k : Mutator) (is : slic
   pub is_there : slice_get u.mutators m ≡ Some k
   is_there = same.mutator ∙ is
 
-  own : IsOwn m (made_by p.heap m) k
+  own : OwnsRecords m (made_by p.heap m) k
   own = record { registers = same.registers k is; words = same.words }
 
   -- in both states it becomes this, with these records
-  moves : (records : List Record) (next : Mutator) → IsOwn m records next → Matches m (moved p m records next) (moved u m records next)
+  moves : (records : List Record) (next : Mutator) → OwnsRecords m records next → Matches m (moved p m records next) (moved u m records next)
   moves records next its =
       let within : m < length p.mutators = slice_get_within p.mutators m k is in
       let within_there : m < length u.mutators = slice_get_within u.mutators m k is_there in
@@ -88,7 +88,7 @@ module _ (m : ℕ) (p u : Plain) (same : Matches m p u) (k : Mutator) (is : slic
         as_many = length-set p.heap.records m records ∙ same.as_many ∙ sym (length-set p.mutators m next);
         as_many_there = length-set u.heap.records m records ∙ same.as_many_there ∙ sym (length-set u.mutators m next);
         words = subst (All (AllOf m)) (sym made) its.words;
-        registers = λ n at. subst (λ (k : Mutator). All (IsOf m) k.registers) (set-found p.mutators m m next n refl within at) its.registers;
+        registers = λ n at. subst (λ (k : Mutator). All (LeadsToOwn m) k.registers) (set-found p.mutators m m next n refl within at) its.registers;
         spared = record {
           board = same.spared.board;
           records = λ j else. subst (All (AllElse m)) (sym (get_or-set_other p.heap.records m j records [] else)) (same.spared.records j else);
@@ -96,7 +96,7 @@ module _ (m : ℕ) (p u : Plain) (same : Matches m p u) (k : Mutator) (is : slic
         others = λ j n else at. same.others j n else (sym (slice_get-set_other p.mutators m j next else) ∙ at);
       }
 
-  comes : (p_after u_after : Plain) (records : List Record) (next : Mutator) → p_after ≡ moved p m records next → u_after ≡ moved u m records next → IsOwn m records next → Matches m p_after u_after
+  comes : (p_after u_after : Plain) (records : List Record) (next : Mutator) → p_after ≡ moved p m records next → u_after ≡ moved u m records next → OwnsRecords m records next → Matches m p_after u_after
   comes p_after u_after records next e f its = rw (e, f) (moves records next its)
 
   -- it has its end
@@ -104,7 +104,7 @@ module _ (m : ℕ) (p u : Plain) (same : Matches m p u) (k : Mutator) (is : slic
   own-ends why = comes (ended p m k why) (ended u m k why) (made_by p.heap m) (record k { end = Some why })
       (rw (set-get_or p.heap.records m []) refl) (rw (← same.records, set-get_or u.heap.records m []) refl) (record { registers = own.registers; words = own.words })
 
-  both_settle : (o v : Result After End) → Same (Alike m p.heap u.heap) o v → Matches m (settled p m k o) (settled u m k v)
+  both_settle : (o v : Result After End) → Same (GoAlike m p.heap u.heap) o v → Matches m (settled p m k o) (settled u m k v)
   both_settle (Ok a) (Ok b) alike = comes (settled p m k (Ok a)) (settled u m k (Ok b)) alike.records a.mutator
       (ap (λ heap. let t : Plain = record { heap = heap; mutators = slice_set p.mutators m a.mutator } in t) alike.heap_is)
       (rw (alike.mutator_is) (ap (λ heap. let t : Plain = record { heap = heap; mutators = slice_set u.mutators m a.mutator } in t) alike.other_is))
@@ -115,7 +115,7 @@ module _ (m : ℕ) (p u : Plain) (same : Matches m p u) (k : Mutator) (is : slic
 
   module _ (instr : Instr) (leaves : leaves_board instr ≡ true) where
     -- both heaps answer the same
-    pub answers-alike : Same (Alike m p.heap u.heap) (call m p.heap k instr) (call m u.heap k instr)
+    pub answers-alike : Same (GoAlike m p.heap u.heap) (call m p.heap k instr) (call m u.heap k instr)
     answers-alike = call-alike m p.heap u.heap k same.records own instr leaves
 
     -- it executes an instruction
@@ -124,7 +124,7 @@ module _ (m : ℕ) (p u : Plain) (same : Matches m p u) (k : Mutator) (is : slic
 
 -- ---- the opening
 
-module _ (m n : ℕ) (board : List Value) (k : Mutator) (of : All (IsOf m) k.registers) (else : All (IsElse m) k.registers) (none : All (IsElse m) board) where
+module _ (m n : ℕ) (board : List Value) (k : Mutator) (of : All (LeadsToOwn m) k.registers) (else : All (IsElse m) k.registers) (none : All (IsElse m) board) where
   -- nobody has a record, and all mutators are this
   abbrev begun : Plain
   begun = record { heap = record { records = replicate n []; board = board }; mutators = replicate n k }
@@ -136,7 +136,7 @@ module _ (m n : ℕ) (board : List Value) (k : Mutator) (of : All (IsOf m) k.reg
     as_many = length-replicate n [] ∙ sym (length-replicate n k);
     as_many_there = length-replicate n [] ∙ sym (length-replicate n k);
     words = read_all (All (AllOf m)) (replicate n []) m [] (All-replicate (All (AllOf m)) n [] (All-nil (AllOf m))) (All-nil (AllOf m));
-    registers = λ q at. subst (λ (q : Mutator). All (IsOf m) q.registers) (sym (slice_get-replicate n m k q at)) of;
+    registers = λ q at. subst (λ (q : Mutator). All (LeadsToOwn m) q.registers) (sym (slice_get-replicate n m k q at)) of;
     spared = record {
       board = none;
       records = λ j apart. read_all (All (AllElse m)) (replicate n []) j [] (All-replicate (All (AllElse m)) n [] (All-nil (AllElse m))) (All-nil (AllElse m));

@@ -8,7 +8,7 @@ use Rattle.plain_state.specs.declared.end.End.TheVariants.{HeapFull}
 use Rattle.plain_state.specs.State.{Heap, Mutator, Plain}
 use Rattle.plain_state.proofs.Lists.{slice_get-set_same}
 use Rattle.mutator_asm.specs.declared.instr.Instr.{Instr}
-use Rattle.plain_heap.specs.Alone.{is_full}
+use Rattle.plain_heap.specs.Alone.{is_heap_full}
 use Rattle.plain_heap.specs.Call.{After, call}
 use Rattle.plain_heap.specs.Order.{fresh}
 use Rattle.gc_worker.specs.declared.task.Task.{Task}
@@ -19,7 +19,7 @@ use Rattle.gc_worker.specs.declared.did.Did.{Did}
 use Rattle.gc_worker.specs.declared.did.Did.TheVariants.{Done, Trap}
 use Rattle.gc_worker.specs.declared.entry.Entry.{Entry}
 use Rattle.gc_worker.specs.declared.entry.Entry.TheVariants.{Made, Exchanged}
-use Rattle.ael_threads.specs.Alone.{EndIsLast, alone, before_full, did_by, is_full_did, replied, replies_alone, replies_of, reply_by, tasks_of}
+use Rattle.ael_threads.specs.Alone.{EndIsLast, alone_history, before_full, did_by, is_full_did, replied, replies_alone, replies_of, reply_by, tasks_of}
 use Rattle.gc_worker.specs.History.Legal.{IsLegal, after_call, calls_of}
 use Rattle.ael_threads.specs.Histories.{Each}
 use Rattle.ael_threads.proofs.Alone.Going.{after_is, apart, is_by}
@@ -45,7 +45,7 @@ done_is (Ok after) is = refl
 done_is (Err why) is = cc
 
 -- an end that is no want of room is the instruction's own
-own_end : (m : ℕ) (heap : Heap) (k : Mutator) (instr : Instr) (end : End) → is_full end ≡ false → MayEnd m heap k instr end → call m heap k instr ≡ Err end
+own_end : (m : ℕ) (heap : Heap) (k : Mutator) (instr : Instr) (end : End) → is_heap_full end ≡ false → MayEnd m heap k instr end → call m heap k instr ≡ Err end
 own_end m heap k instr (HeapFull asked room live) few may = cc
 own_end m heap k instr _ few may = may
 
@@ -88,7 +88,7 @@ module _ (m : ℕ) (u : Plain) (c : Call) (by : c.by ≡ m) (comes : ComesTo u c
 
 -- a mutator with an end makes no call
 none_follows : (m : ℕ) (u : Plain) (k : Mutator) (end : End) (cs : List Call) → slice_get u.mutators m ≡ Some (record k { end = Some end }) → AllBy m cs
-    → IsLegal u (alone cs) → cs ≡ []
+    → IsLegal u (alone_history cs) → cs ≡ []
 none_follows m u k end [] is by legal = refl
 none_follows m u k end (c ∷ cs) is by legal =
     let same : record k { end = Some end } ≡ legal.0.mutator = same_Some (record k { end = Some end }) legal.0.mutator (sym is ∙ its m u c by.0 legal.0) in
@@ -97,13 +97,13 @@ none_follows m u k end (c ∷ cs) is by legal =
     no_end : Some end ≡ None → ⊥
     no_end e = cc
 
-pub ends_last : (m : ℕ) (u : Plain) (cs : List Call) → AllBy m cs → IsLegal u (alone cs) → EndIsLast cs
+pub ends_last : (m : ℕ) (u : Plain) (cs : List Call) → AllBy m cs → IsLegal u (alone_history cs) → EndIsLast cs
 ends_last m u [] by legal = tt
 ends_last m u (c ∷ cs) by legal = (
   (λ end e. none_follows m (after_call u c) legal.0.mutator end cs (end_is m u c by.0 legal.0 end e) by.1 legal.1),
   ends_last m (after_call u c) cs by.1 legal.1,
 )
 
-pub replies_so : (m : ℕ) (u : Plain) (cs : List Call) → AllBy m cs → IsLegal u (alone cs) → replies_alone u m (tasks_of (before_full cs)) ≡ replies_of (before_full cs)
+pub replies_so : (m : ℕ) (u : Plain) (cs : List Call) → AllBy m cs → IsLegal u (alone_history cs) → replies_alone u m (tasks_of (before_full cs)) ≡ replies_of (before_full cs)
 replies_so m u [] by legal = refl
 replies_so m u (c ∷ cs) by legal = replies_next m u c by.0 legal.0 (before_full cs) (is_full_did c.did) refl (replies_so m (after_call u c) cs by.1 legal.1)

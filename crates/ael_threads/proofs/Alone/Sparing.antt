@@ -16,7 +16,7 @@ use Rattle.plain_state.specs.declared.value.Value.{Value}
 use Rattle.plain_state.specs.declared.value.Value.TheVariants.{Number, Reference}
 use Rattle.plain_state.specs.Operation.{applied}
 use Rattle.plain_state.specs.State.{Record, Heap, Mutator, made_by, record_of, serial_of}
-use Rattle.plain_state.specs.Writing.{with_board, with_records, with_word, stored}
+use Rattle.plain_state.specs.Writing.{with_board, with_records, with_value, stored}
 use Rattle.mutator_asm.specs.declared.instr.Instr.{Instr}
 use Rattle.mutator_asm.specs.declared.instr.Instr.TheVariants as instrs
 use Rattle.plain_heap.specs.declared.action.Action.{Action}
@@ -117,8 +117,8 @@ module _ (m j : ℕ) (other : j ≢ m) (heap : Heap) (k : Mutator) (spared : IsS
 
   stored_so : (i : Identity) (r : Record) (x : ℕ) (o : Result Value End) → i.mutator ≢ m → record_of heap i ≡ Some r → IfOk o (IsElse m)
       → IfOk ((o >>= (λ v. Ok (stored heap i r x v))) >>= (λ h. Ok (record { heap = h; mutator = went_on k }))) (Spares m heap)
-  stored_so i r x (Ok v) else found is = writes i.mutator (slice_set (made_by heap i.mutator) (i.serial - 1) (with_word r x v)) (went_on k) else
-      (All-set (AllElse m) (made_by heap i.mutator) (i.serial - 1) (with_word r x v) (All-set (IsElse m) r.values x v is (found_else i r else found)) (spared.records i.mutator else))
+  stored_so i r x (Ok v) else found is = writes i.mutator (slice_set (made_by heap i.mutator) (i.serial - 1) (with_value r x v)) (went_on k) else
+      (All-set (AllElse m) (made_by heap i.mutator) (i.serial - 1) (with_value r x v) (All-set (IsElse m) r.values x v is (found_else i r else found)) (spared.records i.mutator else))
       registers
   stored_so i r x (Err why) else found is = tt
 

@@ -3,7 +3,7 @@ use Rattle.std.proofs.Common.{ℕ, replicate}
 use Rattle.std.proofs.lemmas.List.Elements.{All-replicate}
 use Rattle.plain_state.specs.declared.sizes.TheConstants.{BOARD_WORDS, REGISTERS}
 use Rattle.plain_state.specs.declared.value.Value.TheVariants.{Number}
-use Rattle.plain_heap.proofs.Owning.{IsOf}
+use Rattle.plain_heap.proofs.Owning.{LeadsToOwn}
 use Rattle.heap_laws.specs.Opening.{opening_mutator, opening_plain}
 use Rattle.ael_threads.specs.Alone.{LoneCallsComeToTheSame}
 use Rattle.gc_worker.specs.History.Legal.{calls_of}
@@ -14,7 +14,7 @@ use Rattle.ael_threads.proofs.Alone.Replying.{calls_by, ends_last, replies_so}
 
 opens : (m n : ℕ) → Matches m (opening_plain n) (opening_plain n)
 opens m n = begins m n (replicate BOARD_WORDS (Number 0)) opening_mutator
-    (All-replicate (IsOf m) REGISTERS (Number 0) tt) (All-replicate (IsElse m) REGISTERS (Number 0) tt) (All-replicate (IsElse m) BOARD_WORDS (Number 0) tt)
+    (All-replicate (LeadsToOwn m) REGISTERS (Number 0) tt) (All-replicate (IsElse m) REGISTERS (Number 0) tt) (All-replicate (IsElse m) BOARD_WORDS (Number 0) tt)
 
 pub lone_calls_come_to_the_same : LoneCallsComeToTheSame
 lone_calls_come_to_the_same mutators log m legal leaves =

@@ -143,8 +143,8 @@ impl Duty {
     /// Goes on behind a page that is not to be claimed.
     fn pass(&mut self, choice: Choice, page: u32)
         requires page { page ≤ board_page self.old.layout.pages }
-        requires allowed { IsSoundRound (at_stage self.old (round.passed_by self.old choice page)) }
-        ensures { self.new ≡ at_stage self.old (round.passed_by self.old choice page) }
+        requires allowed { IsSoundRound (at_stage self.old (round.passed_page self.old choice page)) }
+        ensures { self.new ≡ at_stage self.old (round.passed_page self.old choice page) }
     {
         let next = self.page_after(page);
         if is_full(choice.front, next) {
@@ -158,8 +158,8 @@ impl Duty {
 
     /// Claims a page whose word says this, if that is of an earlier epoch.
     pub(super) fn claim(&mut self, page: u32, says: PageWord, in_place: bool)
-        requires { IsSoundRound (at_stage self.old (round.claimed_by self.old page says in_place (round.state_of says self.old.epoch))) }
-        ensures { self.new ≡ at_stage self.old (round.claimed_by self.old page says in_place (round.state_of says self.old.epoch)) }
+        requires { IsSoundRound (at_stage self.old (round.claim_by_state self.old page says in_place (round.state_of says self.old.epoch))) }
+        ensures { self.new ≡ at_stage self.old (round.claim_by_state self.old page says in_place (round.state_of says self.old.epoch)) }
     {
         if self.state_of(says) != PageState::Waits {
             return self.end(RoundEnd::NothingNow(says.pack()));

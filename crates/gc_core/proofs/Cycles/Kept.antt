@@ -14,7 +14,7 @@ use Rattle.heap_state.specs.Table.{word_in}
 use Rattle.heap_laws.proofs.Steps.Answers.{areas_are_read}
 use Rattle.gc_worker.specs.Copied.{CopiedWasLive, IsTraced}
 use Rattle.gc_worker.specs.Law.{read, WorkersStand}
-use Rattle.gc_worker.specs.Turned.{epoch_in}
+use Rattle.gc_worker.specs.Turned.{epoch_in_gate}
 use Rattle.gc_worker.proofs.Areas.{area_now, area_says, is_space}
 use Rattle.gc_worker.proofs.Gate.Words.{gate_says}
 use Rattle.gc_core.specs.Core.{CoreState}
@@ -29,7 +29,7 @@ module _ (was_live : CopiedWasLive) (s : CoreState) (p o : Plain) (st : WorkersS
   area = (table c).area (to_space (cycles_of s))
 
   of_now : (era c).epoch ≡ cycles_of s
-  of_now = sym (ap (epoch_in 0) (gate_says c p st.stands))
+  of_now = sym (ap (epoch_in_gate 0) (gate_says c p st.stands))
 
   abbrev traced_word : ℕ
   traced_word = word_in s.heap.pages s.heap.words Traced

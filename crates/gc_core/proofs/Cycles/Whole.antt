@@ -15,7 +15,7 @@ use Rattle.gc_worker.specs.declared.config.Config.{Config}
 use Rattle.gc_worker.specs.declared.entry.Entry.{Entry}
 use Rattle.gc_worker.specs.declared.stepped.Stepped.{Stepped}
 use Rattle.gc_worker.specs.declared.stepped.Stepped.TheVariants.{Idle, Moved, Effect, Flipped, Ended}
-use Rattle.gc_worker.specs.History.Needs.{EachFullIs, EachMayCome, IsFullAt, being_made, made_since, opened}
+use Rattle.gc_worker.specs.History.Needs.{EachFullIs, EachMayCome, IsFullAt, being_made, made_since, first_story}
 use Rattle.gc_worker.specs.History.Order.{entry_mark, order_of}
 use Rattle.gc_worker.specs.History.Tally.{aside_in, tally}
 use Rattle.gc_worker.specs.Law.{WorkersStand}
@@ -33,7 +33,7 @@ use Rattle.gc_core.specs.Needs.{ClaimsAreForRecords, ClaimsAreMadeOrSetAside, La
 use Rattle.gc_core.specs.Run.{run_of, Ran}
 use Rattle.gc_core.specs.Whole.{FullsFollowFlips}
 use Rattle.gc_core.proofs.Begun.{opening_stands, opening_steady, size_fits}
-use Rattle.gc_core.proofs.Cycles.Filling.{Fills, event_fills, full_is_filled}
+use Rattle.gc_core.proofs.Cycles.Filling.{HasClaimed, event_fills, full_is_filled}
 use Rattle.gc_core.proofs.Cycles.Flips.{FlippedOnce, event_once}
 use Rattle.gc_core.proofs.Cycles.Kept.{keeps_what_is_live}
 use Rattle.gc_core.proofs.History.{HasHistory, adds, event_history, first, history_fills, history_made, holds_after, log_from, log_order, order_adds}
@@ -58,14 +58,14 @@ module _ (code : List (List Instr)) (items : List Item) (config : Config) (sched
   steady : IsSteady s
   steady = opening_steady heaps_open code items config program size turns few
 
-  stands : WorkersStand s.heap (opened code).now (opened code).flip
+  stands : WorkersStand s.heap (first_story code).now (first_story code).flip
   stands = opening_stands heaps_open code items config program size turns few
 
-  law : IsRunOf events_keep s (opened code) r
-  law = run_law events_keep schedule 0 n s (opened code) steady stands
+  law : IsRunOf events_keep s (first_story code) r
+  law = run_law events_keep schedule 0 n s (first_story code) steady stands
 
   acts : EachActs code config.turns (opening code) r.order
-  acts = run_acts events_keep schedule 0 n s (opened code) steady stands
+  acts = run_acts events_keep schedule 0 n s (first_story code) steady stands
 
   -- ---- its history
 
@@ -81,12 +81,12 @@ module _ (code : List (List Instr)) (items : List Item) (config : Config) (sched
     fetched = λ m. tt;
   }
 
-  fills : Fills config.pages s 0
+  fills : HasClaimed config.pages s 0
   fills = record { pages = refl; low = (let l = low config.pages (length code) config.scanners (size_fits config.pages size) program.few_sections fits in omega (arith, l)) }
 
   -- a core of this program, its history, and the words that were claimed since the last flip
   abbrev Has : CoreState → List Entry → (claims : ℕ) → Type 0
-  Has t log claims = (t.code ≡ code) × (t.turns ≡ config.turns) × HasHistory t log × Fills config.pages t claims
+  Has t log claims = (t.code ≡ code) × (t.turns ≡ config.turns) × HasHistory t log × HasClaimed config.pages t claims
 
   has_then : (t : CoreState) (w : ℕ) (log : List Entry) (claims : ℕ) → Has t log claims → Has (core_after t w) (log ++ adds t w) (claims_next t w claims)
   has_then t w log claims has = (has.0, has.1, event_history t w log has.2, event_fills config.pages t w log claims has.2 has.3)
@@ -96,12 +96,12 @@ module _ (code : List (List Instr)) (items : List Item) (config : Config) (sched
 
   -- each full heap of it is so
   abbrev Fulls : List Mark → Type 0
-  Fulls order = EachFullIs config.pages code config.turns (opened code) 0 order × EachMayCome (λ j. false) 0 order
+  Fulls order = EachFullIs config.pages code config.turns (first_story code) 0 order × EachMayCome (λ j. false) 0 order
 
   fulls : (t : CoreState) (log : List Entry) (claims : ℕ) → Has t log claims → Fulls (order_of log)
   fulls t log claims has =
       let all = history_fills t log has.2 in
-      (subst (λ (z : ℕ × (List (List Instr) × ℕ)). EachFullIs z.0 z.1.0 z.1.1 (opened z.1.0) 0 (order_of log)) (λ i. (has.3.pages i, (has.0 i, has.1 i))) all.0, all.1)
+      (subst (λ (z : ℕ × (List (List Instr) × ℕ)). EachFullIs z.0 z.1.0 z.1.1 (first_story z.1.0) 0 (order_of log)) (λ i. (has.3.pages i, (has.0 i, has.1 i))) all.0, all.1)
 
   fulls_last : Fulls r.order
   fulls_last = subst Fulls (log_order schedule 0 n s) (fulls r.last log (claims_of code config schedule n) has_last)
@@ -139,7 +139,7 @@ module _ (code : List (List Instr)) (items : List Item) (config : Config) (sched
     full : IsFullAt config.pages code config.turns now (made_since code config.turns r.order) m asked room live
     full =
         let later = has_then r.last w log (claims_of code config schedule n) has_last in
-        at_full config.pages code config.turns (opened code) 0 r.order [] m asked room live
+        at_full config.pages code config.turns (first_story code) 0 r.order [] m asked room live
         (subst Fulls order_then (fulls (core_after r.last w) (log ++ adds r.last w) (claims_next r.last w (claims_of code config schedule n)) later)).0
 
     for_records : claims_of code config schedule n ≤ PAGE_WORDS * (made_since code config.turns r.order + being_made code config.turns now.now m)

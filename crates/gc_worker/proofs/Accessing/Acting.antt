@@ -23,8 +23,8 @@ use Rattle.heap_laws.specs.Fields.Held.{HoldsValue}
 use Rattle.heap_laws.specs.Fields.Words.{IsLedTo}
 use Rattle.heap_laws.proofs.Fields.Shown.{headers_are_read, numbers_are_held}
 use Rattle.gc_worker.specs.declared.access_stage.AccessStage.{AccessStage}
-use Rattle.gc_worker.specs.Access.{IsInHeap}
-use Rattle.gc_worker.specs.Fits.{Executes}
+use Rattle.gc_worker.specs.Access.{IsHeapAddress}
+use Rattle.gc_worker.specs.Fits.{ExecutesAction}
 use Rattle.gc_worker.specs.Goes.{Is}
 use Rattle.gc_worker.specs.Held.{Held}
 use Rattle.gc_worker.specs.Seen.{IsValueAs, IsValueWord, seen}
@@ -84,7 +84,7 @@ module _ (c : Configuration) (p : Plain) (s : Stands c p) (k : ℕ) (y : Held) (
   is_small (Number n) holds = small_number c p s k (at c p s k y stage) is refl (no_end c p s k y stage is) q its n holds
   is_small (Reference i) holds = tt
 
-  module _ (act : Action) (executes : Executes y.account y.registers y.task act) where
+  module _ (act : Action) (executes : ExecutesAction y.account y.registers y.task act) where
     acts : action q executes.instr ≡ Ok (plain_action s.ghost.identity act)
     acts = alike c p s k (at c p s k y stage) is refl (no_end c p s k y stage is) q its executes.instr executes.call.valid ∙ ap (plain_outcome s.ghost.identity) executes.acts
 
@@ -97,7 +97,7 @@ module _ (c : Configuration) (p : Plain) (s : Stands c p) (k : ℕ) (y : Held) (
         (held c p s k (at c p s k y stage) is refl (no_end c p s k y stage is) q its executes.instr executes.call.valid)
 
   -- a record that it names is there
-  pub led : (a : ℕ) → IsInHeap y.layout.pages a → Held_value (Reference (record { mutator = 0; serial = a })) → IsLedTo (era c) (memory c) s.ghost p a
+  pub led : (a : ℕ) → IsHeapAddress y.layout.pages a → Held_value (Reference (record { mutator = 0; serial = a })) → IsLedTo (era c) (memory c) s.ghost p a
   led a inside holds =
       headers_are_read (era c) (memory c) (team c) s.ghost p k (pointer_word a) a (ready c p s k y stage is) s.shown holds.held
       (decode-pointer_word a (let n = is.fits.stage.sound.pages in omega (arith, n.1, inside)))

@@ -19,7 +19,7 @@ use Rattle.heap_state.specs.Configuration.{Configuration, Stands, era, memory, t
 use Rattle.heap_state.specs.Entries.{WordIs}
 use Rattle.heap_state.specs.Table.{word_in}
 use Rattle.heap_state.specs.Worker as workers
-use Rattle.heap_laws.specs.Fields.Held.{GoesOn, HoldsValue}
+use Rattle.heap_laws.specs.Fields.Held.{MutatorGoesOn, HoldsValue}
 use Rattle.heap_laws.specs.Fields.Stores.{IsAs}
 use Rattle.heap_laws.proofs.Fields.Effects.{board_words_are_values}
 use Rattle.heap_laws.proofs.Fields.Laws.{mutators_store_on_board}
@@ -29,7 +29,7 @@ use Rattle.gc_worker.specs.declared.board_access.BoardAccess.{BoardAccess}
 use Rattle.gc_worker.specs.declared.board_access.BoardSwap.{BoardSwap}
 use Rattle.gc_worker.specs.declared.board_access.BoardUse.TheVariants as board_uses
 use Rattle.gc_worker.specs.Access.{begun, board_at}
-use Rattle.gc_worker.specs.Fits.{Executes}
+use Rattle.gc_worker.specs.Fits.{ExecutesAction}
 use Rattle.gc_worker.specs.Goes.{Is, Goes, StepsSo}
 use Rattle.gc_worker.specs.Held.{Held}
 use Rattle.gc_worker.specs.Knows.{knows, opened_at}
@@ -155,7 +155,7 @@ module _ (c : Configuration) (p : Plain) (s : Stands c p) (k : ℕ) (y : Held) (
     found_value = value_word s.ghost.identity found (board_word p.heap word) there.denotes
 
     -- a word is stored there
-    stored : (next : workers.Worker) (now : Mutator) (new : ℕ) (v : Value) → HoldsValue (era c) s.ghost new v → GoesOn (era c) (memory c) s.ghost ((team c).worker k) next → IsAs s.ghost p.heap k next now
+    stored : (next : workers.Worker) (now : Mutator) (new : ℕ) (v : Value) → HoldsValue (era c) s.ghost new v → MutatorGoesOn (era c) (memory c) s.ghost ((team c).worker k) next → IsAs s.ghost p.heap k next now
         → LawTo c p s k x (Some (WordIs addr new)) next s.ghost (record { heap = with_board p.heap word v; mutators = slice_set p.mutators k now })
     stored next now new v holds goes as_it =
         subst (λ (a : ℕ). LawTo c p s k x (Some (WordIs a new)) next s.ghost (record { heap = with_board p.heap word v; mutators = slice_set p.mutators k now })) addr_is
@@ -171,7 +171,7 @@ module _ (c : Configuration) (p : Plain) (s : Stands c p) (k : ℕ) (y : Held) w
       let stage = LoadsBoard word into in
       let fits = is.fits.stage.sound.stage in
       let act = gets is.fits.task.act word into is.fits.task.is in
-      let executes : Executes y.account y.registers y.task (Gets into word) = subst (λ (a : Action). Executes y.account y.registers y.task a) act is.fits.task.executes in
+      let executes : ExecutesAction y.account y.registers y.task (Gets into word) = subst (λ (a : Action). ExecutesAction y.account y.registers y.task a) act is.fits.task.executes in
       let place = board_at y.layout word in
       wants c p s k (at c p s k y stage) (Load (place_of c.pages (HeapWord place))) (ap (λ n. Some (Load (place_of n (HeapWord place)))) is.fits.pages)
       (steps.loads c p s k (at c p s k y stage) (HeapWord place) (in_table c p s k y stage is word fits.0 refl)
@@ -181,7 +181,7 @@ module _ (c : Configuration) (p : Plain) (s : Stands c p) (k : ℕ) (y : Held) w
   -- one is stored
 
   module _ (word new : ℕ) (is : Is c k (at c p s k y (StoresBoard word new))) where
-    stores_it : (v : Value) → word_for v ≡ new → Executes y.account y.registers y.task (Puts word v) → Goes c p s k (Some (WordIs (board_at y.layout word) new)) (at c p s k y (StoresBoard word new)) replies.Done
+    stores_it : (v : Value) → word_for v ≡ new → ExecutesAction y.account y.registers y.task (Puts word v) → Goes c p s k (Some (WordIs (board_at y.layout word) new)) (at c p s k y (StoresBoard word new)) replies.Done
     stores_it v spelled executes =
         let stage = StoresBoard word new in
         let mine = own c p s k y stage is in
@@ -197,7 +197,7 @@ module _ (c : Configuration) (p : Plain) (s : Stands c p) (k : ℕ) (y : Held) w
     stores_board =
         let stage = StoresBoard word new in
         let act = puts is.fits.task.act word new is.fits.task.is in
-        let executes : Executes y.account y.registers y.task (Puts word act.0) = subst (λ (a : Action). Executes y.account y.registers y.task a) act.1 is.fits.task.executes in
+        let executes : ExecutesAction y.account y.registers y.task (Puts word act.0) = subst (λ (a : Action). ExecutesAction y.account y.registers y.task a) act.1 is.fits.task.executes in
         let place = board_at y.layout word in
         wants c p s k (at c p s k y stage) (Store (place_of c.pages (HeapWord place)) new) (ap (λ n. Some (Store (place_of n (HeapWord place)) new)) is.fits.pages)
         (steps.stores c p s k (at c p s k y stage) (WordIs place new) (in_table c p s k y stage is word is.fits.stage.sound.stage refl) (stores_it act.0 act.2 executes))
@@ -225,7 +225,7 @@ module _ (c : Configuration) (p : Plain) (s : Stands c p) (k : ℕ) (y : Held) w
     abbrev here : Held
     here = at c p s k y stage
 
-    won : (v : Value) → word_for v ≡ b.new → Executes y.account y.registers y.task (Swaps b.into b.word v) → found c p s k y stage is b.word is.fits.stage.sound.stage.0 refl ≡ old
+    won : (v : Value) → word_for v ≡ b.new → ExecutesAction y.account y.registers y.task (Swaps b.into b.word v) → found c p s k y stage is b.word is.fits.stage.sound.stage.0 refl ≡ old
         → Goes c p s k (Some (WordIs place b.new)) here replies.Won
     won v spelled executes same =
         let fits = is.fits.stage.sound.stage in
@@ -251,6 +251,6 @@ module _ (c : Configuration) (p : Plain) (s : Stands c p) (k : ℕ) (y : Held) w
     pub swaps_board : StepsSo c p s k here
     swaps_board =
         let act = swaps is.fits.task.act b is.fits.task.is in
-        let executes : Executes y.account y.registers y.task (Swaps b.into b.word act.0) = subst (λ (a : Action). Executes y.account y.registers y.task a) act.1 is.fits.task.executes in
+        let executes : ExecutesAction y.account y.registers y.task (Swaps b.into b.word act.0) = subst (λ (a : Action). ExecutesAction y.account y.registers y.task a) act.1 is.fits.task.executes in
         wants c p s k here (Exchange (place_of c.pages (HeapWord place)) old b.new) (ap (λ n. Some (Exchange (place_of n (HeapWord place)) old b.new)) is.fits.pages)
         (steps.exchanges c p s k here (WordIs place b.new) old (in_table c p s k y stage is b.word is.fits.stage.sound.stage.0 refl) (won act.0 act.2 executes) (λ other. lost))

@@ -40,11 +40,11 @@ use Rattle.gc_worker.specs.declared.field_access.FieldAccess.{FieldAccess}
 use Rattle.gc_worker.specs.declared.field_access.FieldUse.TheVariants as field_uses
 use Rattle.gc_worker.specs.declared.field_access.Role.{Role}
 use Rattle.gc_worker.specs.declared.field_access.Role.TheVariants as roles
-use Rattle.gc_worker.specs.Access.{IsFieldOf, IsInHeap, field_at, field_of, kind_of, role_of, word_as}
-use Rattle.gc_worker.specs.Fits.{Executes}
+use Rattle.gc_worker.specs.Access.{IsFieldOfAction, IsHeapAddress, field_at, field_of, kind_of, role_of, word_as}
+use Rattle.gc_worker.specs.Fits.{ExecutesAction}
 use Rattle.gc_worker.specs.Goes.{Is, Goes, StepsSo}
 use Rattle.gc_worker.specs.Held.{Held}
-use Rattle.gc_worker.specs.Knows.{access_of as known_of, access_at, opened_at}
+use Rattle.gc_worker.specs.Knows.{known_access, access_at, opened_at}
 use Rattle.gc_worker.specs.Seen.{word_for}
 use Rattle.gc_worker.proofs.Alike.{plain_value}
 use Rattle.gc_worker.proofs.Effecting.{moved, moved_goes, moved_as}
@@ -97,10 +97,10 @@ module _ (c : Configuration) (p : Plain) (s : Stands c p) (k : ℕ) (y : Held) w
     abbrev word : ℕ
     word = word_in c.pages c.words (HeapWord (field_at f))
 
-    module _ (stage : AccessStage) (is : Is c k (at c p s k y stage)) (knows_it : access_at stage ≡ Some (known_of f)) (found : opened_at y.layout stage ≡ Some (page_of (field_at f))) where
-      value_is : IsValueOf (era c) (memory c) s.ghost p (known_of f) x
+    module _ (stage : AccessStage) (is : Is c k (at c p s k y stage)) (knows_it : access_at stage ≡ Some (known_access f)) (found : opened_at y.layout stage ≡ Some (page_of (field_at f))) where
+      value_is : IsValueOf (era c) (memory c) s.ghost p (known_access f) x
       value_is =
-          accesses_are_values (era c) (memory c) (team c) s.ghost p k (known_of f) x (ready c p s k y stage is) s.shown (ap (λ (w : Worker). w.access) is.as_known ∙ knows_it)
+          accesses_are_values (era c) (memory c) (team c) s.ghost p k (known_access f) x (ready c p s k y stage is) s.shown (ap (λ (w : Worker). w.access) is.as_known ∙ knows_it)
           (ap (λ (w : Worker). w.opened) is.as_known ∙ found) refl
 
       kind_is : value_is.record_there.kind ≡ kind_of role
@@ -123,7 +123,7 @@ module _ (c : Configuration) (p : Plain) (s : Stands c p) (k : ℕ) (y : Held) w
           let raw : s.ghost.kind j.serial ≡ kind.Raw = sym value_is.kind ∙ (kind_is ∙ ap kind_of same) in
           subst (λ (w : ℕ). w < NUMBERS) (heap_word c (field_at f)) (may.number (rw raw refl))
 
-    module _ (d : ℕ) (is : Is c k (at c p s k y (LoadsField f d))) (executes : Executes y.account y.registers y.task (Loads d j x)) where
+    module _ (d : ℕ) (is : Is c k (at c p s k y (LoadsField f d))) (executes : ExecutesAction y.account y.registers y.task (Loads d j x)) where
       loads_it : Goes c p s k None (at c p s k y (LoadsField f d)) (replies.Value word)
       loads_it =
           let v = value_is (LoadsField f d) is refl refl in
@@ -134,14 +134,14 @@ module _ (c : Configuration) (p : Plain) (s : Stands c p) (k : ℕ) (y : Held) w
 
     -- ---- the store
 
-    module _ (v : Value) (is : Is c k (at c p s k y (StoresField f (word_as role v)))) (executes : Executes y.account y.registers y.task (Stores j x v)) (holding : may_hold (kind_of role) v ≡ Ok v) where
+    module _ (v : Value) (is : Is c k (at c p s k y (StoresField f (word_as role v)))) (executes : ExecutesAction y.account y.registers y.task (Stores j x v)) (holding : may_hold (kind_of role) v ≡ Ok v) where
       abbrev stage : AccessStage
       stage = StoresField f (word_as role v)
 
       abbrev own_x : Held
       own_x = at c p s k y stage
 
-      abbrev there : IsValueOf (era c) (memory c) s.ghost p (known_of f) x
+      abbrev there : IsValueOf (era c) (memory c) s.ghost p (known_access f) x
       there = value_is stage is refl refl
 
       abbrev i : Identity
@@ -180,10 +180,10 @@ module _ (c : Configuration) (p : Plain) (s : Stands c p) (k : ℕ) (y : Held) w
   -- ---- the stages
 
   module _ (f : FieldAccess) where
-    in_table : IsInHeap y.layout.pages (field_at f) → y.layout.pages ≡ c.pages → field_at f ≤ 128 * c.pages + 63
+    in_table : IsHeapAddress y.layout.pages (field_at f) → y.layout.pages ≡ c.pages → field_at f ≤ 128 * c.pages + 63
     in_table inside n = omega (arith, inside, n)
 
-    loads_by : (into : ℕ) (act : Action) → Executes y.account y.registers y.task act → IsFieldOf act f (field_uses.Loads into) → Is c k (at c p s k y (LoadsField f into))
+    loads_by : (into : ℕ) (act : Action) → ExecutesAction y.account y.registers y.task act → IsFieldOfAction act f (field_uses.Loads into) → Is c k (at c p s k y (LoadsField f into))
         → Goes c p s k None (at c p s k y (LoadsField f into)) (replies.Value (word_in c.pages c.words (HeapWord (field_at f))))
     loads_by into (Loads d j x) executes of is =
         let same : into ≡ d = let e = of.1 in cc in
@@ -206,7 +206,7 @@ module _ (c : Configuration) (p : Plain) (s : Stands c p) (k : ℕ) (y : Held) w
         wants c p s k (at c p s k y (LoadsField f into)) (Load (place_of c.pages (HeapWord (field_at f)))) (ap (λ n. Some (Load (place_of n (HeapWord (field_at f))))) is.fits.pages)
         (loads c p s k (at c p s k y (LoadsField f into)) (HeapWord (field_at f)) (in_table is.fits.stage.sound.stage.0 is.fits.pages) (loads_by into is.fits.task.act is.fits.task.executes is.fits.task.is is))
 
-    stores_by : (new : ℕ) (act : Action) → Executes y.account y.registers y.task act → IsFieldOf act f (field_uses.Stores new) → Is c k (at c p s k y (StoresField f new))
+    stores_by : (new : ℕ) (act : Action) → ExecutesAction y.account y.registers y.task act → IsFieldOfAction act f (field_uses.Stores new) → Is c k (at c p s k y (StoresField f new))
         → Goes c p s k (Some (WordIs (field_at f) new)) (at c p s k y (StoresField f new)) replies.Done
     stores_by new (Stores j x v) executes of is =
         let same : new ≡ word_as f.role v = let e = of.2 in cc in

@@ -12,7 +12,7 @@ use Rattle.heap_state.specs.Inductive as inductive
 use Rattle.heap_state.specs.Parts.Knowledge as parts
 use Rattle.heap_state.specs.Worker.{Worker, is_running}
 use Rattle.heap_state.specs.Worker as workers
-use Rattle.heap_laws.specs.Fields.Held.{MayHold, GoesOn}
+use Rattle.heap_laws.specs.Fields.Held.{MayHold, MutatorGoesOn}
 use Rattle.heap_laws.specs.Steps.{Ready}
 use Rattle.heap_laws.proofs.Fields.GoingOn.{runs, timely}
 use Rattle.heap_laws.proofs.Fields.Laws.{goes_on_so, mutators_learn}
@@ -82,8 +82,8 @@ module _ (c : Configuration) (p : Plain) (s : Stands c p) (k : ℕ) (y : Held) w
         → ((page : ℕ) → opened_at y.layout next ≡ Some page → (table c).page page ≡ Open (era c).epoch) → Law c p s k x None (knows (at next)) s.ghost
     learns next accesses opens =
         let w = (team c).worker k in
-        let goes : GoesOn (era c) (memory c) s.ghost (knows x) (knows (at next)) =
-        subst (λ (u : Worker). GoesOn (era c) (memory c) s.ghost u (record u { account = y.account; registers = λ r. slice_index y.registers r; access = access_at next; opened = opened_at y.layout next; gate_step = None })) is.as_known
+        let goes : MutatorGoesOn (era c) (memory c) s.ghost (knows x) (knows (at next)) =
+        subst (λ (u : Worker). MutatorGoesOn (era c) (memory c) s.ghost u (record u { account = y.account; registers = λ r. slice_index y.registers r; access = access_at next; opened = opened_at y.layout next; gate_step = None })) is.as_known
         (goes_on_so (era c) (memory c) (team c) s.ghost k y.account (λ r. slice_index y.registers r) (access_at next) (opened_at y.layout next) ready
         (ap (λ (u : Worker). u.account.serial) (sym is.as_known)) accesses opens (λ _ j small. held j small)) in
         mutators_learn (era c) (memory c) (team c) s.ghost k (knows (at next)) ready running (rw is.as_known goes)
@@ -95,7 +95,7 @@ module _ (c : Configuration) (p : Plain) (s : Stands c p) (k : ℕ) (y : Held) w
         (record { layout = refl; epoch = refl; sound = record { pages = page_count c.pages c.mutators k x is.fits; stage = fits } })
 
     pub goes_to : (next : AccessStage) (reply : Reply) → answered (own stage) reply ≡ GoesTo next → Law c p s k x None (knows (at next)) s.ghost
-        → IsAccessing y.account y.registers y.task next → FitsStage y.layout.pages next → access.Takes stage reply → Goes c p s k None x reply
+        → IsAccessing y.account y.registers y.task next → FitsStage y.layout.pages next → access.AccessTakes stage reply → Goes c p s k None x reply
     goes_to next reply e law task fits takes =
         becomes c p s k x None reply (at next) s.ghost (ap (λ (r : Answered). turned_access x (goes_by (own stage) r) (turn_by r)) e) is.below law
         (ap (λ (r : Answered). told_access y.task (turn_by r)) e) refl takes (next_fits next task fits)
@@ -105,7 +105,7 @@ module _ (c : Configuration) (p : Plain) (s : Stands c p) (k : ℕ) (y : Held) w
     abbrev faulted : ℕ → Held
     faulted page = at_stage x (Serves (duty.begun y.layout (callers.Faulted page) y.epoch y.number) (ToAccess (own stage)))
 
-    pub goes_faulting : (page : ℕ) (reply : Reply) → answered (own stage) reply ≡ Comes (Faults page) → page ≤ board_page y.layout.pages → IsFaulting x page → access.Takes stage reply
+    pub goes_faulting : (page : ℕ) (reply : Reply) → answered (own stage) reply ≡ Comes (Faults page) → page ≤ board_page y.layout.pages → IsFaulting x page → access.AccessTakes stage reply
         → Goes c p s k None x reply
     goes_faulting page reply e within faulting takes =
         becomes c p s k x None reply (faulted page) s.ghost (ap (λ (r : Answered). turned_access x (goes_by (own stage) r) (turn_by r)) e) is.below

@@ -46,11 +46,11 @@ use Rattle.gc_worker.specs.declared.field_access.Role.{Role}
 use Rattle.gc_worker.specs.declared.field_access.Role.TheVariants as roles
 use Rattle.gc_worker.specs.declared.record_access.RecordAccess.{RecordAccess}
 use Rattle.gc_worker.specs.declared.record_access.RecordUse.TheVariants as record_uses
-use Rattle.gc_worker.specs.Access.{GoesTo, Comes, IsInHeap, begun, IsFieldOf, FitsFieldUse, answered, field_at, field_of, kind_of, role_in, role_of, read_header, used_by, to_field, uses_field, loading, storing, may_store, word_as}
-use Rattle.gc_worker.specs.Fits.{Executes}
+use Rattle.gc_worker.specs.Access.{GoesTo, Comes, IsHeapAddress, begun, IsFieldOfAction, FitsFieldUse, answered, field_at, field_of, kind_of, role_in, role_of, read_header, used_by, to_field, uses_field, loading, storing, may_store, word_as}
+use Rattle.gc_worker.specs.Fits.{ExecutesAction}
 use Rattle.gc_worker.specs.Goes.{Is, Goes, StepsSo}
 use Rattle.gc_worker.specs.Held.{Held}
-use Rattle.gc_worker.specs.Knows.{access_of as known_of}
+use Rattle.gc_worker.specs.Knows.{known_access}
 use Rattle.gc_worker.specs.Answer.{MayEnd}
 use Rattle.gc_worker.specs.Full.{FullByEnd}
 use Rattle.gc_worker.specs.Seen.{IsValueWord, by_address, seen_as, word_for, value_seen}
@@ -72,7 +72,7 @@ has_role : (role : Role) (word : ℕ) → parts.HasRole (kind_of role) word (rol
 has_role roles.Field word = refl
 has_role roles.Number word = refl
 
-module _ (c : Configuration) (p : Plain) (s : Stands c p) (k : ℕ) (y : Held) (r : RecordAccess) (is : Is c k (at c p s k y (LoadsHeader r))) (act : Action) (executes : Executes y.account y.registers y.task act)
+module _ (c : Configuration) (p : Plain) (s : Stands c p) (k : ℕ) (y : Held) (r : RecordAccess) (is : Is c k (at c p s k y (LoadsHeader r))) (act : Action) (executes : ExecutesAction y.account y.registers y.task act)
     (holds : Held_value c p s k y (LoadsHeader r) is (Reference (record { mutator = 0; serial = r.at }))) where
   abbrev stage : AccessStage
   stage = LoadsHeader r
@@ -83,7 +83,7 @@ module _ (c : Configuration) (p : Plain) (s : Stands c p) (k : ℕ) (y : Held) (
   abbrev a : ℕ
   a = r.at
 
-  inside : IsInHeap y.layout.pages a
+  inside : IsHeapAddress y.layout.pages a
   inside = is.fits.stage.sound.stage.0
 
   there : IsLedTo (era c) (memory c) s.ghost p a
@@ -124,19 +124,19 @@ module _ (c : Configuration) (p : Plain) (s : Stands c p) (k : ℕ) (y : Held) (
     abbrev f : FieldAccess
     f = field_of a role x_at
 
-    allowed : parts.Accesses (era c) s.ghost.size s.ghost.writer s.ghost.kind (known_of f)
+    allowed : parts.Accesses (era c) s.ghost.size s.ghost.writer s.ghost.kind (known_access f)
     allowed = says.access x_at (role_of role) within (rw kind_is (has_role role (x_at + 1)))
 
-    in_heap : IsInHeap y.layout.pages (field_at f)
+    in_heap : IsHeapAddress y.layout.pages (field_at f)
     in_heap = let b = below_board c p s a there.stands.0 in let n = is.fits.pages in omega (arith, b, n, within)
 
-    it_only : (g : workers.Access) → Some (known_of f) ≡ Some g → parts.Accesses (era c) s.ghost.size s.ghost.writer s.ghost.kind g
-    it_only g e = subst (parts.Accesses (era c) s.ghost.size s.ghost.writer s.ghost.kind) (same_Some (known_of f) g e) allowed
+    it_only : (g : workers.Access) → Some (known_access f) ≡ Some g → parts.Accesses (era c) s.ghost.size s.ghost.writer s.ghost.kind g
+    it_only g e = subst (parts.Accesses (era c) s.ghost.size s.ghost.writer s.ghost.kind) (same_Some (known_access f) g e) allowed
 
     own_page : (page_of a == page_of (field_at f)) ≡ true → (page : ℕ) → Some (page_of (field_at f)) ≡ Some page → (table c).page page ≡ Open (era c).epoch
     own_page same page e = knew_opened c p s k y stage is page (ap Some (eqb-true (page_of a) (page_of (field_at f)) same) ∙ e)
 
-    field_by : (usage : FieldUse) (b : Bool) → (page_of a == page_of (field_at f)) ≡ b → IsFieldOf act f usage → FitsFieldUse usage
+    field_by : (usage : FieldUse) (b : Bool) → (page_of a == page_of (field_at f)) ≡ b → IsFieldOfAction act f usage → FitsFieldUse usage
         → answered (own c p s k y stage) (replies.Value word) ≡ GoesTo (cond b (uses_field f usage) (LooksAtField f usage)) → Goes c p s k None x (replies.Value word)
     field_by (field_uses.Loads into) true same of fits comes =
         goes_to c p s k y stage is (LoadsField f into) (replies.Value word) comes (learns c p s k y stage is (LoadsField f into) it_only (own_page same))
@@ -148,7 +148,7 @@ module _ (c : Configuration) (p : Plain) (s : Stands c p) (k : ℕ) (y : Held) (
         goes_to c p s k y stage is (LooksAtField f usage) (replies.Value word) comes (learns c p s k y stage is (LooksAtField f usage) it_only (knew_opened c p s k y stage is))
         (record { act = act; executes = executes; is = of }) (in_heap, fits) tt
 
-    goes_to_it : (usage : FieldUse) → IsFieldOf act f usage → FitsFieldUse usage → answered (own c p s k y stage) (replies.Value word) ≡ to_field usage f → Goes c p s k None x (replies.Value word)
+    goes_to_it : (usage : FieldUse) → IsFieldOfAction act f usage → FitsFieldUse usage → answered (own c p s k y stage) (replies.Value word) ≡ to_field usage f → Goes c p s k None x (replies.Value word)
     goes_to_it usage of fits comes = field_by usage (page_of a == page_of (field_at f)) refl of fits comes
 
   -- ---- the plain record
@@ -199,7 +199,7 @@ module _ (c : Configuration) (p : Plain) (s : Stands c p) (k : ℕ) (y : Held) w
     abbrev of_length : RecordAccess
     of_length = record { at = j.serial; value = 0; usage = record_uses.TellsLength d }
 
-    measures : Is c k (at c p s k y (LoadsHeader of_length)) → Executes y.account y.registers y.task (Measures d j) → Answers of_length
+    measures : Is c k (at c p s k y (LoadsHeader of_length)) → ExecutesAction y.account y.registers y.task (Measures d j) → Answers of_length
     measures is executes =
         let holds = names c p s k y (LoadsHeader of_length) is (Measures d j) executes in
         let n = len c p s k y of_length is (Measures d j) executes holds in
@@ -213,7 +213,7 @@ module _ (c : Configuration) (p : Plain) (s : Stands c p) (k : ℕ) (y : Held) w
     abbrev of_value : RecordAccess
     of_value = record { at = j.serial; value = at_value; usage = record_uses.Loads d }
 
-    module _ (is : Is c k (at c p s k y (LoadsHeader of_value))) (executes : Executes y.account y.registers y.task (Loads d j at_value)) where
+    module _ (is : Is c k (at c p s k y (LoadsHeader of_value))) (executes : ExecutesAction y.account y.registers y.task (Loads d j at_value)) where
       holds_it : Held_value c p s k y (LoadsHeader of_value) is (Reference j)
       holds_it = names c p s k y (LoadsHeader of_value) is (Loads d j at_value) executes
 
@@ -236,7 +236,7 @@ module _ (c : Configuration) (p : Plain) (s : Stands c p) (k : ℕ) (y : Held) w
     abbrev of_new : RecordAccess
     of_new = record { at = j.serial; value = at_value; usage = record_uses.Stores (word_for v) }
 
-    module _ (is : Is c k (at c p s k y (LoadsHeader of_new))) (executes : Executes y.account y.registers y.task (Stores j at_value v)) where
+    module _ (is : Is c k (at c p s k y (LoadsHeader of_new))) (executes : ExecutesAction y.account y.registers y.task (Stores j at_value v)) where
       holds_both : Held_value c p s k y (LoadsHeader of_new) is (Reference j) × Held_value c p s k y (LoadsHeader of_new) is v
       holds_both = names c p s k y (LoadsHeader of_new) is (Stores j at_value v) executes
 
@@ -286,7 +286,7 @@ module _ (c : Configuration) (p : Plain) (s : Stands c p) (k : ℕ) (y : Held) w
   begun_with r u e goes is =
       subst (λ (z : RecordAccess). Is c k (at c p s k y (LoadsHeader z)) → StepsSo c p s k (at c p s k y (LoadsHeader z))) (same_access r u e) (λ its. steps r its (goes its)) is
 
-  by_action : (r : RecordAccess) (act : Action) → Executes y.account y.registers y.task act → begun act ≡ Some (LooksAtRecord r) → Is c k (at c p s k y (LoadsHeader r))
+  by_action : (r : RecordAccess) (act : Action) → ExecutesAction y.account y.registers y.task act → begun act ≡ Some (LooksAtRecord r) → Is c k (at c p s k y (LoadsHeader r))
       → StepsSo c p s k (at c p s k y (LoadsHeader r))
   by_action r (Measures d j) executes e is = begun_with (of_length d j) r e (λ its. measures d j its executes) is
   by_action r (Loads d j x) executes e is =

@@ -22,12 +22,12 @@ use Rattle.gc_worker.specs.declared.field_access.FieldAccess.{FieldAccess}
 use Rattle.gc_worker.specs.declared.field_access.FieldUse.{FieldUse}
 use Rattle.gc_worker.specs.declared.field_access.FieldUse.TheVariants as field_uses
 use Rattle.gc_worker.specs.declared.record_access.RecordAccess.{RecordAccess}
-use Rattle.gc_worker.specs.Access.{GoesTo, Comes, IsInHeap, FitsStage, answered, let_through, looked, page_step, field_at}
+use Rattle.gc_worker.specs.Access.{GoesTo, Comes, IsHeapAddress, FitsStage, answered, let_through, looked, page_step, field_at}
 use Rattle.gc_worker.specs.Access as access
 use Rattle.gc_worker.specs.Fits.{IsAccessing, IsFaulting}
 use Rattle.gc_worker.specs.Goes.{Is, Goes, StepsSo}
 use Rattle.gc_worker.specs.Held.{Held}
-use Rattle.gc_worker.specs.Knows.{access_at, opened_at, access_of as known_of}
+use Rattle.gc_worker.specs.Knows.{access_at, opened_at, known_access}
 use Rattle.gc_worker.proofs.Eras.{start_is}
 use Rattle.gc_worker.proofs.Gate.Words.{wants}
 use Rattle.gc_worker.proofs.Rounds.Words.{page_now, page_says}
@@ -53,7 +53,7 @@ module _ (page e : ℕ) (next : AccessStage) where
 
 -- ---- pages
 
-page_within : (n a : ℕ) → IsInHeap n a → page_of a ≤ board_page n
+page_within : (n a : ℕ) → IsHeapAddress n a → page_of a ≤ board_page n
 page_within n a inside = omega (arith, inside)
 
 page_from : (m a : ℕ) → first_word m ≤ a → first_word m ≤ first_word (page_of a)
@@ -68,7 +68,7 @@ module _ (c : Configuration) (p : Plain) (s : Stands c p) (k : ℕ) (y : Held) w
         inr (page_from (y.layout.pages * to_space y.epoch) a (omega (arith, start, low)))
 
     module _ (next : AccessStage) (page : ℕ) (asks : access.wanted_at y.layout stage ≡ page_step y.layout page)
-        (comes : (word : ℕ) → answered (own c p s k y stage) (Value word) ≡ looked page y.epoch word next) (takes : (word : ℕ) → access.Takes stage (Value word))
+        (comes : (word : ℕ) → answered (own c p s k y stage) (Value word) ≡ looked page y.epoch word next) (takes : (word : ℕ) → access.AccessTakes stage (Value word))
         (within : page ≤ board_page y.layout.pages) (faulting : IsFaulting (at c p s k y stage) page) (opens : opened_at y.layout next ≡ Some page)
         (accesses : (f : workers.Access) → access_at next ≡ Some f → parts.Accesses (era c) s.ghost.size s.ghost.writer s.ghost.kind f)
         (task : IsAccessing y.account y.registers y.task next) (fits : FitsStage y.layout.pages next) where
@@ -107,14 +107,14 @@ module _ (c : Configuration) (p : Plain) (s : Stands c p) (k : ℕ) (y : Held) w
   -- ---- a field
 
   module _ (f : FieldAccess) where
-    in_field : (usage : FieldUse) (is : Is c k (at c p s k y (LooksAtField f usage))) → parts.Accesses (era c) s.ghost.size s.ghost.writer s.ghost.kind (known_of f)
-    in_field usage is = knew_access c p s k y (LooksAtField f usage) is (known_of f) refl
+    in_field : (usage : FieldUse) (is : Is c k (at c p s k y (LooksAtField f usage))) → parts.Accesses (era c) s.ghost.size s.ghost.writer s.ghost.kind (known_access f)
+    in_field usage is = knew_access c p s k y (LooksAtField f usage) is (known_access f) refl
 
     low : (usage : FieldUse) (is : Is c k (at c p s k y (LooksAtField f usage))) → (era c).start ≤ field_at f
     low usage is = let i = (in_field usage is).inside.0 in omega (arith, i)
 
-    it_only : parts.Accesses (era c) s.ghost.size s.ghost.writer s.ghost.kind (known_of f) → (g : workers.Access) → Some (known_of f) ≡ Some g → parts.Accesses (era c) s.ghost.size s.ghost.writer s.ghost.kind g
-    it_only knew g e = subst (parts.Accesses (era c) s.ghost.size s.ghost.writer s.ghost.kind) (same_Some (known_of f) g e) knew
+    it_only : parts.Accesses (era c) s.ghost.size s.ghost.writer s.ghost.kind (known_access f) → (g : workers.Access) → Some (known_access f) ≡ Some g → parts.Accesses (era c) s.ghost.size s.ghost.writer s.ghost.kind g
+    it_only knew g e = subst (parts.Accesses (era c) s.ghost.size s.ghost.writer s.ghost.kind) (same_Some (known_access f) g e) knew
 
     pub looks_at_field : (usage : FieldUse) → Is c k (at c p s k y (LooksAtField f usage)) → StepsSo c p s k (at c p s k y (LooksAtField f usage))
     looks_at_field (field_uses.Loads into) is =

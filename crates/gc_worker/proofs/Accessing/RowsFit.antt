@@ -1,6 +1,6 @@
 -- An access wants a step on a row of the table, and writes words of the heap alone.
 use Rattle.std.proofs.Common.{ℕ, Some, arith}
-use Rattle.atom_store.specs.StepOn.{IsOn, Writes}
+use Rattle.atom_store.specs.StepOn.{IsOn, WritesOnly}
 use Rattle.space_map.specs.Spaces.{Layout}
 use Rattle.space_map.specs.Table.{Row, HeapWord, IsRow}
 use Rattle.gc_worker.specs.declared.access_stage.AccessStage.{AccessStage}
@@ -19,7 +19,7 @@ rows_fit l (StoresBoard word new) fits = omega (arith, fits)
 rows_fit l (LoadsForSwap s) fits = let inside = fits.0 in omega (arith, inside)
 rows_fit l (SwapsBoard s old) fits = let inside = fits.0 in omega (arith, inside)
 
-pub writes : (Q : Row → Type 0) → ((addr : ℕ) → Q (HeapWord addr)) → (l : Layout) (stage : AccessStage) → Writes Q (Some (wants_at l stage))
+pub writes : (Q : Row → Type 0) → ((addr : ℕ) → Q (HeapWord addr)) → (l : Layout) (stage : AccessStage) → WritesOnly Q (Some (wants_at l stage))
 writes Q words l (StoresField f new) = words (field_at f)
 writes Q words l (StoresBoard word new) = words (board_at l word)
 writes Q words l (SwapsBoard s old) = words (board_at l s.word)

@@ -12,7 +12,7 @@ use Rattle.gc_worker.specs.declared.access_stage.AccessStage.TheVariants.{LooksA
 use Rattle.gc_worker.specs.declared.record_access.RecordAccess.{RecordAccess}
 use Rattle.gc_worker.specs.declared.stage.Stage.TheVariants.{Accesses}
 use Rattle.gc_worker.specs.Access.{begun, is_header}
-use Rattle.gc_worker.specs.Fits.{Executes}
+use Rattle.gc_worker.specs.Fits.{ExecutesAction}
 use Rattle.gc_worker.specs.Goes.{Is, StepsSo}
 use Rattle.gc_worker.specs.Held.{Held, at_stage}
 use Rattle.gc_worker.proofs.Accessing.Acting.{led, names, Held_value}
@@ -32,7 +32,7 @@ module _ (c : Configuration) (p : Plain) (s : Stands c p) (k : ℕ) (x : Held) w
     at_address : (u : RecordAccess) → Some (LooksAtRecord u) ≡ Some (LooksAtRecord r) → Holds_it u.at → Holds_it r.at
     at_address u e holds = let same : u.at ≡ r.at = cc in subst Holds_it same holds
 
-    named_by : (act : Action) → Executes x.account x.registers x.task act → begun act ≡ Some (LooksAtRecord r) → Holds_it r.at
+    named_by : (act : Action) → ExecutesAction x.account x.registers x.task act → begun act ≡ Some (LooksAtRecord r) → Holds_it r.at
     named_by (Measures d j) executes e = at_address _ e (names c p s k x stage is (Measures d j) executes)
     named_by (Loads d j y) executes e = at_address _ e (names c p s k x stage is (Loads d j y) executes)
     named_by (Stores j y v) executes e = at_address _ e (names c p s k x stage is (Stores j y v) executes).0

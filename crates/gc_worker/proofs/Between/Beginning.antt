@@ -16,7 +16,7 @@ use Rattle.gc_worker.specs.declared.stage.Stage.TheVariants.{Looks, Passes, Flip
 use Rattle.gc_worker.specs.declared.task.Task.{Task}
 use Rattle.gc_worker.specs.Between.{IsIdle, TasksMayBegin, with_task}
 use Rattle.gc_worker.specs.Fits.{Fits, FitsEnd, FitsRegister, FitsStage, FitsTask, FitsTaskAfter, FitsTaskBack, FitsTaskBefore, IsAccessing, IsEndBefore, IsMaking, IsOnSide, IsOnSideBack, MayBegin}
-use Rattle.gc_worker.specs.Held.{Held, asked_by}
+use Rattle.gc_worker.specs.Held.{Held, pages_needed}
 use Rattle.gc_worker.specs.Knows.{known_at, passage_in, step_from, gate_step_at}
 
 -- ---- where it stands
@@ -92,7 +92,7 @@ module _ (x : Held) (task : Task) where
   y = with_task x task
 
   -- no passage but a request says for what it is made
-  same_passage : (passage : Passage) (after : After) → IsOnTheWay passage after → passage_in (asked_by y) passage ≡ passage_in (asked_by x) passage
+  same_passage : (passage : Passage) (after : After) → IsOnTheWay passage after → passage_in (pages_needed y) passage ≡ passage_in (pages_needed x) passage
   same_passage Attach after on = refl
   same_passage Park after on = refl
   same_passage (Resume epoch) after on = refl
@@ -101,7 +101,7 @@ module _ (x : Held) (task : Task) where
   same_passage Request after on = absurd on
   same_passage Leave after on = refl
 
-  same_step : (passage : Passage) (after : After) (stage : GateStage) → IsOnTheWay passage after → gate_step_at (asked_by y) passage stage ≡ gate_step_at (asked_by x) passage stage
+  same_step : (passage : Passage) (after : After) (stage : GateStage) → IsOnTheWay passage after → gate_step_at (pages_needed y) passage stage ≡ gate_step_at (pages_needed x) passage stage
   same_step passage after (gate_stage.Exchanges gate) on = ap (step_from gate) (same_passage passage after on)
   same_step passage after gate_stage.Loads on = refl
   same_step passage after (gate_stage.Ended result) on = refl

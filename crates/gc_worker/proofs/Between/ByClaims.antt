@@ -21,7 +21,7 @@ use Rattle.gc_worker.proofs.Between.Claims.{of_now, for_copies_within}
 use Rattle.gc_worker.proofs.Rounds.Words.{page_age}
 use Rattle.gc_worker.proofs.Whole.{steps_keep}
 use Rattle.gc_worker.proofs.Between.PageWords.{leaves}
-use Rattle.gc_worker.proofs.Between.Leaving.{ByClaim, Same, New, Wins, Leaves}
+use Rattle.gc_worker.proofs.Between.Leaving.{ByClaim, Same, New, Wins, LeavesPages}
 
 -- ---- the law
 
@@ -41,7 +41,7 @@ module _ (h : Heap) (p o : Plain) (k : ℕ) (x : Held) (q : Step) (st : WorkersS
   abbrev w : Option PageWon
   w = won x (reply_of q h.words)
 
-  went : Leaves c later w
+  went : LeavesPages c later w
   went = leaves c p st.stands k x (member h p o k x st l holds) q asked
 
   keeps : StepKeeps h p o k x q

@@ -36,13 +36,13 @@ use Rattle.gc_worker.specs.declared.stage.Stage.TheVariants.{Looks, Passes, Flip
 use Rattle.gc_worker.specs.declared.task.Task.{Task}
 use Rattle.gc_worker.specs.declared.task.Task.TheVariants.{Calls, Stops}
 use Rattle.gc_worker.specs.Access as access
-use Rattle.gc_worker.specs.Claims.{IsBelowLow, IsCopiedPage, IsForCopies, CopiedPagesAreBelowLow, TracedPagesAreOpen, FlipsAreOfTraced, epoch_in}
+use Rattle.gc_worker.specs.Claims.{IsBelowLow, IsCopiedPage, IsForCopies, CopiedPagesAreBelowLow, TracedPagesAreOpen, FlipsAreOfTraced, epoch_of_heap}
 use Rattle.gc_worker.specs.Copied.{IsTraced}
 use Rattle.gc_worker.specs.Held.{Held}
 use Rattle.gc_worker.specs.Knows.{traced_seen_in}
 use Rattle.gc_worker.specs.Law.{Heap, read, WorkersStand}
 use Rattle.gc_worker.specs.Seen.{seen}
-use Rattle.gc_worker.specs.Turned.{Told, Silent, Answers, Marks, told_at, told_look, told_gate, told_start, told_acted, told_action, told_access, told_place, told_full, told_effect, told_end, is_full, end_of}
+use Rattle.gc_worker.specs.Turned.{Told, Silent, Answers, Marks, told_at, told_look, told_gate, told_start, told_acted, told_action, told_access, told_place, told_full, told_effect, told_end, finds_full, end_by_shortage}
 use Rattle.gc_worker.specs.Turned as turning
 use Rattle.gc_worker.proofs.Areas.{area_now, area_says, is_space}
 use Rattle.gc_worker.proofs.Eras.{board_is, start_is}
@@ -56,15 +56,15 @@ module _ (h : Heap) (p o : Plain) (st : WorkersStand h p o) where
   abbrev c : Configuration
   c = read h
 
-  pub of_now : (era c).epoch ≡ epoch_in h
-  of_now = sym (ap (turning.epoch_in 0) (gate_says c p st.stands))
+  pub of_now : (era c).epoch ≡ epoch_of_heap h
+  of_now = sym (ap (turning.epoch_in_gate 0) (gate_says c p st.stands))
 
   -- the area of the gate's epoch, as its word says it
-  areas : (area : AreaWord) → decode_area (area_now c (to_space (epoch_in h))) ≡ Some area → AreaAnswers h.pages area
+  areas : (area : AreaWord) → decode_area (area_now c (to_space (epoch_of_heap h))) ≡ Some area → AreaAnswers h.pages area
   areas area is =
-      let space = to_space (epoch_in h) in
-      subst (AreaAnswers h.pages) (same_Some ((table c).area space) area (sym (area_says c p st.stands space (is_space (epoch_in h))) ∙ is))
-      ((areas_are_read c p st.stands).each space (is_space (epoch_in h)))
+      let space = to_space (epoch_of_heap h) in
+      subst (AreaAnswers h.pages) (same_Some ((table c).area space) area (sym (area_says c p st.stands space (is_space (epoch_of_heap h))) ∙ is))
+      ((areas_are_read c p st.stands).each space (is_space (epoch_of_heap h)))
 
   -- the pages that were copied into lie below LOW
   copied_below : (page : ℕ) → IsCopiedPage h page → IsBelowLow h.pages h.words page
@@ -78,7 +78,7 @@ module _ (h : Heap) (p o : Plain) (st : WorkersStand h p o) where
   below_within page is =
       let a = (areas is.area is.area_is).order in
       let b = is.below in
-      let start = start_within (to_space (epoch_in h)) (is_space (epoch_in h)) in
+      let start = start_within (to_space (epoch_of_heap h)) (is_space (epoch_of_heap h)) in
       omega (arith, a, b, start)
     where
       start_within : (space : ℕ) → space < 2 → space_start h.pages space ≤ 64 * h.pages
@@ -99,7 +99,7 @@ module _ (h : Heap) (p o : Plain) (st : WorkersStand h p o) where
     quiet = st.stands.invariant.tracing.quiet as_traced
 
     -- what its word says
-    says : (page : ℕ) → page ≤ 2 * h.pages → (table c).page page ≡ Open (era c).epoch → decode_page (page_now c page) ≡ Some (Open (epoch_in h))
+    says : (page : ℕ) → page ≤ 2 * h.pages → (table c).page page ≡ Open (era c).epoch → decode_page (page_now c page) ≡ Some (Open (epoch_of_heap h))
     says page within is = page_says c p st.stands page within ∙ (ap Some is ∙ ap (λ (e : ℕ). Some (Open e)) of_now)
 
     board_open : (table c).page (board_page h.pages) ≡ Open (era c).epoch
@@ -116,7 +116,7 @@ module _ (h : Heap) (p o : Plain) (st : WorkersStand h p o) where
           same_Some ((table c).area space) copied.area (sym (area_says c p st.stands space (is_space (era c).epoch)) ∙ (ap (λ (e : ℕ). decode_area (area_now c (to_space e))) of_now ∙ copied.area_is)) in
           (areas_are_read c p st.stands).now.front ∙ ap (λ (a : AreaWord). (era c).start + a.front) same
 
-      start_as : (era c).start ≡ space_start h.pages (to_space (epoch_in h))
+      start_as : (era c).start ≡ space_start h.pages (to_space (epoch_of_heap h))
       start_as = start_is c ∙ ap (λ (e : ℕ). space_start h.pages (to_space e)) of_now
 
       is_open : (table c).page page ≡ Open (era c).epoch
@@ -125,7 +125,7 @@ module _ (h : Heap) (p o : Plain) (st : WorkersStand h p o) where
           (λ (full : first_word page + 64 ≤ (memory c).front). quiet.full page (let s = start_as in let f = copied.from in omega (arith, s, f)) full)
           (cases_lt (memory c).front (first_word page + 64))
 
-    open_by : (page : ℕ) → (page ≡ board_page h.pages) ⊎ IsCopiedPage h page → decode_page (page_now c page) ≡ Some (Open (epoch_in h))
+    open_by : (page : ℕ) → (page ≡ board_page h.pages) ⊎ IsCopiedPage h page → decode_page (page_now c page) ≡ Some (Open (epoch_of_heap h))
     open_by page (inl board) = says page (omega (arith, board)) (subst (λ (n : ℕ). (table c).page n ≡ Open (era c).epoch) (sym board) board_open)
     open_by page (inr copied) = says page (below_within page (copied_below page copied)) (is_open page copied)
 
@@ -189,7 +189,7 @@ accesses_unmarked o More = tt
 
 full_unmarked : (x : Held) (s : Shortage) (traced : Bool) → NoMark (told_full x s traced)
 full_unmarked x s false = tt
-full_unmarked x s true = either_unmarked (is_full x) (told_end x.task (end_of s)) Silent (ends_unmarked x.task (end_of s)) tt
+full_unmarked x s true = either_unmarked (finds_full x) (told_end x.task (end_by_shortage s)) Silent (ends_unmarked x.task (end_by_shortage s)) tt
 
 places_unmarked : (x : Held) (t : Turn Allocated) → NoMark (told_place x t)
 places_unmarked x (Finished (Placed at)) = effects_unmarked x.task

@@ -14,7 +14,7 @@ use Rattle.gc_worker.specs.Copied.{CopiedWasLive, FullTellsLive}
 use Rattle.gc_worker.specs.Full.{FindsNoRoom}
 use Rattle.gc_worker.specs.Held.{Held}
 use Rattle.gc_worker.specs.Law.{Heap, read, WorkersStand}
-use Rattle.gc_worker.specs.Turned.{epoch_in}
+use Rattle.gc_worker.specs.Turned.{epoch_in_gate}
 use Rattle.gc_worker.proofs.Areas.{area_says, is_space}
 use Rattle.gc_worker.proofs.Gate.Words.{gate_says}
 use Rattle.gc_worker.proofs.Rounds.Words.{traced_word}
@@ -22,7 +22,7 @@ use Rattle.gc_worker.proofs.Rounds.Words.{traced_word}
 pub copied_was_live : CopiedWasLive
 copied_was_live h p o st traced =
     traced_is_live (read h) p o (record { stands = st.stands; cycle = st.cycle })
-    (traced_word (read h) ∙ (traced ∙ ap (λ (w : Option GateWord). epoch_in 0 w + 1) (gate_says (read h) p st.stands)))
+    (traced_word (read h) ∙ (traced ∙ ap (λ (w : Option GateWord). epoch_in_gate 0 w + 1) (gate_says (read h) p st.stands)))
 
 -- ---- where the heap is full
 
@@ -41,7 +41,7 @@ module _ (h : Heap) (p o : Plain) (x : Held) (asked room live : ℕ) (st : Worke
       ∙ same_Some ((table c).area (to_space x.epoch)) full.area (sym (area_says c p st.stands (to_space x.epoch) (is_space x.epoch)) ∙ full.area_is)
 
   copied : CopiedIsLive c o
-  copied = copied_was_live h p o st (full.traced ∙ ap (λ (e : ℕ). e + 1) (sym of_now ∙ sym (ap (epoch_in 0) (gate_says c p st.stands))))
+  copied = copied_was_live h p o st (full.traced ∙ ap (λ (e : ℕ). e + 1) (sym of_now ∙ sym (ap (epoch_in_gate 0) (gate_says c p st.stands))))
 
   words_are : words_copied c ≡ live
   words_are =

@@ -8,7 +8,7 @@ use Rattle.atom_store.specs.declared.step.Step.{Step}
 use Rattle.atom_store.specs.declared.step.Step.TheVariants.{Load, Exchange}
 use Rattle.atom_store.specs.declared.turn.Turn.{Turn}
 use Rattle.atom_store.specs.declared.turn.Turn.TheVariants.{More, Finished}
-use Rattle.atom_store.specs.Acts.{Acts}
+use Rattle.atom_store.specs.Acts.{MakesStep}
 use Rattle.atom_store.specs.Runs.{after_step, words_then}
 use Rattle.atom_store.specs.Step.{reply_of}
 use Rattle.plain_state.specs.declared.end.End.{End}
@@ -71,7 +71,7 @@ use Rattle.gc_worker.specs.Fits.{FitsStage, IsCallerOf, IsOnSide, IsOnSideBack}
 use Rattle.gc_worker.specs.Gone.{HasLeft, SawAllLeave, WhoIsGoneSawWhy}
 use Rattle.gc_worker.specs.Held.{Held, at_stage, header_for, making_for}
 use Rattle.gc_worker.specs.Seen.{Making, seen}
-use Rattle.gc_worker.specs.Turned.{Pointed, acted, acts, begins, end_of, ended, epoch_said, first_pointer, forwards_from, forwards_it, full_by, goes_back, goes_on, is_full, looked_by, passed_by, passes, places, served_by, started, turned_access, turned_at, turned_copy, turned_flip, turned_gate, turned_look, turned_opening, turned_place, turned_register, turned_round, turned_scan, with_copy, with_evac, with_record}
+use Rattle.gc_worker.specs.Turned.{Pointed, acted, acts, begins, end_by_shortage, ended, epoch_said, first_pointer, forwards_from, forwards_it, full_by, goes_back, goes_on, finds_full, looked_by, passed_by, passes, places, served_by, started, turned_access, turned_at, turned_copy, turned_flip, turned_gate, turned_look, turned_opening, turned_place, turned_register, turned_round, turned_scan, with_copy, with_evac, with_record}
 use Rattle.gc_worker.specs.Wanted.{wanted_at}
 
 -- any stage but the last
@@ -187,7 +187,7 @@ module _ (x : Held) (here : IsHere x.stage) where
 
   full_here : (s : Shortage) (traced : Bool) → IsHere (full_by x s traced).stage
   full_here s false = tt
-  full_here s true = requested_here (is_full x) (ended x (end_of s)) (at_stage x (passes x Request afters.Places)) tt tt
+  full_here s true = requested_here (finds_full x) (ended x (end_by_shortage s)) (at_stage x (passes x Request afters.Places)) tt tt
 
   record_here : (run : Run) (at : ℕ) (made : Option Making) → IsHere (with_record x run at made).stage
   record_here run at (Some m) = tt
@@ -284,7 +284,7 @@ module _ (x : Held) (q : Step) (words : List ℕ) (here : IsHere x.stage) where
   by_round d back More told fits side asked gone = not_gone (Serves (duty.taken d r) back) tt gone
   by_round d back (Finished result) told fits side asked gone =
       let all = served_here x here (duty.taken d r) back result gone in
-      let acts : Acts duty.duty_machine d words (words_then (duty.wanted d) words) (Finished (AllLeft all.0)) = record {
+      let acts : MakesStep duty.duty_machine d words (words_then (duty.wanted d) words) (Finished (AllLeft all.0)) = record {
         has_step = subst IsSome (sym asked) refl;
         makes = refl;
         tells = ap (λ (o : Option Step). duty.told (after_step duty.duty_machine d o words)) asked ∙ (told ∙ ap (λ (e : RoundEnd). Finished e) all.1);

@@ -23,7 +23,7 @@ use Rattle.gc_worker.specs.declared.back.Back.{Back}
 use Rattle.gc_worker.specs.declared.back.Back.TheVariants.{ToAccess, ToPlace, ToScanner}
 use Rattle.gc_worker.specs.declared.stage.Stage.{Stage}
 use Rattle.gc_worker.specs.declared.stage.Stage.TheVariants.{Looks, Passes, Flips, Forwards, Accesses, Places, Serves, Scans, Evacuates, Opens, Gone}
-use Rattle.gc_worker.specs.Between.{fresh_mutator, fresh_scanner, opening, with_worker}
+use Rattle.gc_worker.specs.Between.{fresh_mutator, fresh_scanner, opening_heap, with_worker}
 use Rattle.gc_worker.specs.Fits.{Fits}
 use Rattle.gc_worker.specs.Gone.{HasLeft, SawAllLeave, ScannersAreLast, ScannersBeginLast, ScannersStayLast}
 use Rattle.gc_worker.specs.Goes.{Is}
@@ -184,6 +184,6 @@ scanners_last_with h k now l same last j m below scanner gone l_m =
 pub scanners_begin_last : ScannersBeginLast
 scanners_begin_last n mutators scanners k m below scanner gone l_m =
     let there : k < mutators + scanners = (let e = many n mutators 0 (mutators + scanners) in omega (arith, below, e)) in
-    let is : held_at (opening n mutators scanners) k ≡ fresh_scanner n mutators k =
+    let is : held_at (opening_heap n mutators scanners) k ≡ fresh_scanner n mutators k =
     is_there n mutators 0 (mutators + scanners) k k there (omega arith) ∙ ap (λ (b : Bool). cond b (fresh_mutator n mutators k) (fresh_scanner n mutators k)) (le-ltb k mutators scanner) in
     absurd (let e = sym (ap (λ (z : Held). z.stage) is) ∙ gone in cc)

@@ -9,7 +9,7 @@ use Rattle.atom_store.specs.declared.reply.Reply.TheVariants as replies
 use Rattle.atom_store.specs.declared.step.Step.{Step}
 use Rattle.atom_store.specs.declared.step.Step.TheVariants.{Store, Exchange}
 use Rattle.atom_store.specs.Step.{place_in, words_after, reply_of}
-use Rattle.atom_store.specs.StepOn.{StepOn, Writes, step_at}
+use Rattle.atom_store.specs.StepOn.{StepOn, WritesOnly, step_at}
 use Rattle.space_map.specs.declared.area_word.AreaWord.{AreaWord}
 use Rattle.space_map.specs.declared.page_word.PageWord.{PageWord}
 use Rattle.space_map.specs.declared.page_word.PageWord.TheVariants.{Unset}
@@ -21,7 +21,7 @@ use Rattle.space_map.proofs.AreaWords.{decode_area-encode_area}
 use Rattle.space_map.proofs.PageWords.{decode_page-encode_page}
 use Rattle.space_map.proofs.Rows.{place_of-apart}
 use Rattle.heap_state.specs.Configuration.{Configuration, Stands, table, era, memory}
-use Rattle.heap_state.specs.Table.{page_said, word_in}
+use Rattle.heap_state.specs.Table.{page_in, word_in}
 use Rattle.heap_state.proofs.Table.Places.{word_in-row, word_in-same, word_in-other}
 use Rattle.gc_worker.specs.Law.{age}
 use Rattle.gc_worker.specs.Turned.{PageWon}
@@ -43,17 +43,17 @@ space_now c = to_space (era c).epoch
 abbrev pub NoHigher : Configuration → List ℕ → Type 0
 NoHigher c later = (a : AreaWord) → decode_area (word_in c.pages later (Area (space_now c))) ≡ Some a → a.low ≤ ((table c).area (space_now c)).low
 
-pub record Leaves (c : Configuration) (later : List ℕ) (w : Option PageWon) : Type 0 where
+pub record LeavesPages (c : Configuration) (later : List ℕ) (w : Option PageWon) : Type 0 where
   pub page : (page : ℕ) → page ≤ 2 * c.pages → ByClaim c later w page
   pub low : NoHigher c later
 
 -- so does the step, if there is one, with the page that it wins by its reply
 abbrev pub LeavesBy : Configuration → Option Step → (Reply → Option PageWon) → Type 0
-LeavesBy c o w = (q : Step) → o ≡ Some q → Leaves c (words_after q c.words) (w (reply_of q c.words))
+LeavesBy c o w = (q : Step) → o ≡ Some q → LeavesPages c (words_after q c.words) (w (reply_of q c.words))
 
 module _ (c : Configuration) (p : Plain) (s : Stands c p) where
   same_age : (later : List ℕ) (page : ℕ) → word_in c.pages later (Page page) ≡ word_in c.pages c.words (Page page) → age c.pages later page ≡ age c.pages c.words page
-  same_age later page same = ap (λ (n : ℕ). age_of (page_said n)) same
+  same_age later page same = ap (λ (n : ℕ). age_of (page_in n)) same
 
   same_low : (later : List ℕ) → word_in c.pages later (Area (space_now c)) ≡ word_in c.pages c.words (Area (space_now c)) → NoHigher c later
   same_low later same a is =
@@ -63,14 +63,14 @@ module _ (c : Configuration) (p : Plain) (s : Stands c p) where
       omega (arith, low)
 
   -- so does this one
-  pub this : (step : Step) (w : Reply → Option PageWon) → Leaves c (words_after step c.words) (w (reply_of step c.words)) → LeavesBy c (Some step) w
-  this step w leaves q asked = subst (λ (z : Step). Leaves c (words_after z c.words) (w (reply_of z c.words))) (same_Some step q asked) leaves
+  pub this : (step : Step) (w : Reply → Option PageWon) → LeavesPages c (words_after step c.words) (w (reply_of step c.words)) → LeavesBy c (Some step) w
+  this step w leaves q asked = subst (λ (z : Step). LeavesPages c (words_after z c.words) (w (reply_of z c.words))) (same_Some step q asked) leaves
 
-  pub nothing_left : (w : Option PageWon) → Leaves c c.words w
+  pub nothing_left : (w : Option PageWon) → LeavesPages c c.words w
   nothing_left w = record { page = λ page within. Same refl; low = same_low c.words refl }
 
   -- most steps leave all as it was
-  pub spares : (n : ℕ) → n ≡ c.pages → (o : Option (StepOn Row)) (w : Reply → Option PageWon) → Writes IsOther o → LeavesBy c (option_map (step_at (place_of n)) o) w
+  pub spares : (n : ℕ) → n ≡ c.pages → (o : Option (StepOn Row)) (w : Reply → Option PageWon) → WritesOnly IsOther o → LeavesBy c (option_map (step_at (place_of n)) o) w
   spares n same None w writes = λ q asked. absurd (cc)
   spares n same (Some on) w writes =
       let later : List ℕ = words_after (step_at (place_of c.pages) on) c.words in
@@ -138,10 +138,10 @@ module _ (c : Configuration) (p : Plain) (s : Stands c p) where
 
     pub age_now : age c.pages written page ≡ age_of word
     age_now =
-        ap (λ (n : ℕ). age_of (page_said n)) (word_in-same c.pages c.words (Page page) (encode_page word) within s.formed.whole)
+        ap (λ (n : ℕ). age_of (page_in n)) (word_in-same c.pages c.words (Page page) (encode_page word) within s.formed.whole)
         ∙ ap (λ (o : Option PageWord). age_of (unwrap_or o Unset)) (decode_page-encode_page word fits)
 
-    pub writes_page : (w : Option PageWon) → ByClaim c written w page → Leaves c written w
+    pub writes_page : (w : Option PageWon) → ByClaim c written w page → LeavesPages c written w
     writes_page w own = record {
       page = λ other is. ⊎_elim
           (λ (e : other ≡ page). subst (ByClaim c written w) (sym e) own)

@@ -13,7 +13,7 @@ use Rattle.heap_laws.specs.Opening.{opening_plain}
 use Rattle.heap_laws.specs.Opening as laws
 use Rattle.heap_laws.proofs.Frames.Values.{zero_word}
 use Rattle.heap_laws.proofs.Opening.Heap.{opening_stands}
-use Rattle.gc_worker.specs.Between.{HeapsOpen, fresh_mutator, fresh_scanner, fresh_worker, fresh_workers, opening}
+use Rattle.gc_worker.specs.Between.{HeapsOpen, fresh_mutator, fresh_scanner, fresh_worker, fresh_workers, opening_heap}
 use Rattle.gc_worker.specs.Fits.{Fits}
 use Rattle.gc_worker.specs.Held.{Held}
 use Rattle.gc_worker.specs.Knows.{knows}
@@ -112,8 +112,8 @@ module _ (n mutators : ℕ) where
 -- ---- the heap
 
 module _ (n mutators scanners : ℕ) (size : IsPageCount n) (all : mutators + scanners ≤ 24) where
-  as_read : laws.opening n mutators scanners ≡ read (opening n mutators scanners)
-  as_read = λ i. record (laws.opening n mutators scanners) { workers = sym (known n mutators 0 mutators scanners (mutators + scanners) (omega arith) refl) i }
+  as_read : laws.opening_configuration n mutators scanners ≡ read (opening_heap n mutators scanners)
+  as_read = λ i. record (laws.opening_configuration n mutators scanners) { workers = sym (known n mutators 0 mutators scanners (mutators + scanners) (omega arith) refl) i }
 
   fits : (k : ℕ) → k < length (fresh_workers n mutators 0 (mutators + scanners)) → Fits n mutators k (get_or (fresh_workers n mutators 0 (mutators + scanners)) k nobody)
   fits k l =
@@ -124,7 +124,7 @@ module _ (n mutators scanners : ℕ) (size : IsPageCount n) (all : mutators + sc
   abbrev Begins : Configuration → Type 0
   Begins c = (s : Stands c (opening_plain mutators)) × Cycle (era c) (memory c) (team c) s.ghost (opening_plain mutators)
 
-  begins : mutators ≤ 16 → Begins (read (opening n mutators scanners))
+  begins : mutators ≤ 16 → Begins (read (opening_heap n mutators scanners))
   begins few = let o = opening_stands n mutators scanners size few all in subst Begins as_read (o.stands, o.cycle)
 
 pub heaps_open : HeapsOpen

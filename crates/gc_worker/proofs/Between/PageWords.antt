@@ -52,7 +52,7 @@ use Rattle.gc_worker.proofs.Eras.{board_is}
 use Rattle.gc_worker.proofs.Opening.{of_page}
 use Rattle.gc_worker.proofs.Rounds.Words.{page_age}
 use Rattle.gc_worker.proofs.Between.Written.{IsOther}
-use Rattle.gc_worker.proofs.Between.Leaving.{Same, New, Wins, Leaves, LeavesBy, nothing_left, this, spares, stores_other, exchanges_area, written, age_now, writes_page, stores_page}
+use Rattle.gc_worker.proofs.Between.Leaving.{Same, New, Wins, LeavesPages, LeavesBy, nothing_left, this, spares, stores_other, exchanges_area, written, age_now, writes_page, stores_page}
 
 module _ (c : Configuration) (p : Plain) (s : Stands c p) (k : ℕ) (x : Held) where
   abbrev none : Reply → Option PageWon
@@ -153,7 +153,7 @@ module _ (c : Configuration) (p : Plain) (s : Stands c p) (k : ℕ) (x : Held) w
       (by_test within fits (slice_index c.words (place_of c.pages (Page q.page)) == encode_page q.found)))
     where
       by_test : (within : q.page ≤ 2 * c.pages) (fits : (q.epoch < 2 ^ 32) × (q.worker < 2 ^ 8)) (b : Bool)
-          → Leaves c (cond b (written c p s q.page within (Scanning q.epoch q.worker) fits) c.words) (won_by q claim_stage.Exchanges (cond b replies.Won (replies.Lost (slice_index c.words (place_of c.pages (Page q.page))))))
+          → LeavesPages c (cond b (written c p s q.page within (Scanning q.epoch q.worker) fits) c.words) (won_by q claim_stage.Exchanges (cond b replies.Won (replies.Lost (slice_index c.words (place_of c.pages (Page q.page))))))
       by_test within fits true =
           writes_page c p s q.page within (Scanning q.epoch q.worker) fits (Some (record { page = q.page; epoch = q.epoch }))
           (Wins q.epoch refl (age_now c p s q.page within (Scanning q.epoch q.worker) fits))

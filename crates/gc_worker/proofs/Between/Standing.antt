@@ -17,7 +17,7 @@ use Rattle.heap_state.specs.Values.{Accounts, value_of}
 use Rattle.heap_state.specs.Worker.{Worker, Account, is_mutator, is_running, is_late}
 use Rattle.heap_state.proofs.Holds.Keeping.{holds}
 use Rattle.heap_state.proofs.Represents.Representing.{represents}
-use Rattle.heap_laws.specs.Fields.Effects.{IsMutator, RegisterHolds}
+use Rattle.heap_laws.specs.Fields.Effects.{IsLikePlain, RegisterHolds}
 use Rattle.heap_laws.specs.Fields.Words.{IsLedTo}
 use Rattle.heap_laws.specs.Steps.{Ready}
 use Rattle.heap_laws.proofs.Fields.Effects.{registers_hold}
@@ -29,13 +29,13 @@ use Rattle.heap_laws.proofs.Lifting.Configurations.{ready}
 use Rattle.gc_worker.specs.declared.back.Back.TheVariants.{ToAccess, ToPlace, ToScanner}
 use Rattle.gc_worker.specs.declared.stage.Stage.{Stage}
 use Rattle.gc_worker.specs.declared.stage.Stage.TheVariants.{Looks, Passes, Flips, Forwards, Accesses, Places, Serves, Scans, Evacuates, Opens, Gone}
-use Rattle.gc_worker.specs.Between.{Shows, Lands, AreAlike, IsAsPlain, WhatStandsIsSo}
+use Rattle.gc_worker.specs.Between.{ShowsRegisters, RegistersLand, AreAlike, IsAsPlain, WhatStandsIsSo}
 use Rattle.gc_worker.specs.Fits.{FitsStage}
 use Rattle.gc_worker.specs.Goes.{Is}
 use Rattle.gc_worker.specs.Held.{Held}
 use Rattle.gc_worker.specs.Knows.{knows, post_in, epoch_at, epoch_in}
 use Rattle.gc_worker.specs.Law.{Heap, read, held_at, WorkersStand, epoch_of}
-use Rattle.gc_worker.specs.Turned.{epoch_in as epoch_in_gate}
+use Rattle.gc_worker.specs.Turned.{epoch_in_gate}
 use Rattle.gc_worker.proofs.Copying.Words.{heap_word}
 use Rattle.gc_worker.proofs.Eras.{start_is, span_is}
 use Rattle.gc_worker.proofs.Gate.Words.{gate_says}
@@ -102,7 +102,7 @@ module _ (h : Heap) (p o : Plain) (st : WorkersStand h p o) (k : ℕ) (q : Mutat
   is_mutator_there : is_mutator w.post ≡ true
   is_mutator_there = st.stands.invariant.staffed.posts k there.below ∙ lt-ltb k h.mutators is_one
 
-  as_plain : IsMutator (era c) (memory c) (team c) g p k q
+  as_plain : IsLikePlain (era c) (memory c) (team c) g p k q
   as_plain = record { is = here; same = record { account = st.stands.shown.accounts k q here; registers = st.stands.shown.registers k q here } }
 
   account : Accounts p.heap k x.account q
@@ -132,7 +132,7 @@ module _ (h : Heap) (p o : Plain) (st : WorkersStand h p o) (k : ℕ) (q : Mutat
   -- ---- where it has no end
 
   module _ (no_end : q.end ≡ None) where
-    shows : Shows x.registers q
+    shows : ShowsRegisters x.registers q
     unfolding value_of
     shows = record {
       numbers = λ j n small e. sym (as_plain.same.registers.registers_show no_end j small) ∙ rw (register j, e) refl;
@@ -153,7 +153,7 @@ module _ (h : Heap) (p o : Plain) (st : WorkersStand h p o) (k : ℕ) (q : Mutat
       start : (era c).start ≡ space_start h.pages (to_space x.epoch)
       start = start_is c ∙ ap (λ e. space_start h.pages (to_space e)) (sym (of_now runs))
 
-      lands : Lands h.pages h.words x
+      lands : RegistersLand h.pages h.words x
       lands = record {
         in_space = λ j a small e. let l = (led j a small e).inside in let b = start in let n = span_is c in (omega arith, omega (arith, l, b), omega (arith, l, b, n));
         header = λ j a small e.

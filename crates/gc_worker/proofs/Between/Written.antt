@@ -5,7 +5,7 @@ use Rattle.std.proofs.lemmas.Bool.{cases_Bool}
 use Rattle.atom_store.specs.declared.step.Step.{Step}
 use Rattle.atom_store.specs.declared.step.Step.TheVariants as step
 use Rattle.atom_store.specs.Step.{place_in, words_after}
-use Rattle.atom_store.specs.StepOn.{StepOn, Load, Store, Exchange, Writes, step_at}
+use Rattle.atom_store.specs.StepOn.{StepOn, Load, Store, Exchange, WritesOnly, step_at}
 use Rattle.atom_store.proofs.Steps.{slice_index-words_after}
 use Rattle.space_map.specs.Table.{Row, Area, Page, IsRow, place_of}
 use Rattle.heap_state.specs.Table.{is_row, word_in}
@@ -52,16 +52,16 @@ row_stays n words step row other = ⊎_elim
 
 module _ (n m : ℕ) (words : List ℕ) where
   -- so where the step, in a table with m pages a space, writes no row that stands there
-  unwritten : (row : Row) (Q : Row → Type 0) → ((written : Row) → Q written → IsRow n row → place_of n row ≢ place_of m written) → (on : StepOn Row) → Writes Q (Some on)
+  unwritten : (row : Row) (Q : Row → Type 0) → ((written : Row) → Q written → IsRow n row → place_of n row ≢ place_of m written) → (on : StepOn Row) → WritesOnly Q (Some on)
       → word_in n (words_after (step_at (place_of m) on) words) row ≡ word_in n words row
   unwritten row Q apart (Load on) writes = refl
   unwritten row Q apart (Store on word) writes = row_stays n words (step.Store (place_of m on) word) row (apart on writes)
   unwritten row Q apart (Exchange on old new) writes = row_stays n words (step.Exchange (place_of m on) old new) row (apart on writes)
 
-  pub area_stays : (on : StepOn Row) (space : ℕ) → Writes IsNoArea (Some on) → word_in n (words_after (step_at (place_of m) on) words) (Area space) ≡ word_in n words (Area space)
+  pub area_stays : (on : StepOn Row) (space : ℕ) → WritesOnly IsNoArea (Some on) → word_in n (words_after (step_at (place_of m) on) words) (Area space) ≡ word_in n words (Area space)
   area_stays on space writes = unwritten (Area space) IsNoArea (area_apart n m space) on writes
 
-module _ (n : ℕ) (words : List ℕ) (on : StepOn Row) (writes : Writes IsOther (Some on)) where
+module _ (n : ℕ) (words : List ℕ) (on : StepOn Row) (writes : WritesOnly IsOther (Some on)) where
   pub other_page_stays : (page : ℕ) → word_in n (words_after (step_at (place_of n) on) words) (Page page) ≡ word_in n words (Page page)
   other_page_stays page = unwritten n n words (Page page) IsOther (page_apart n page) on writes
 

@@ -15,7 +15,7 @@ use Rattle.forwarding.specs.declared.evac_stage.EvacStage.TheVariants.{LoadsArea
 use Rattle.forwarding.specs.declared.kept_header.KeptHeader.{KeptHeader}
 use Rattle.forwarding.specs.Evacuation.{Evacuation, area_past, front_of, size_of}
 use Rattle.heap_laws.specs.Steps.{IsAreaNow}
-use Rattle.forwarding.specs.Soundness.{IsSound, KeepsHeader, HasRoom}
+use Rattle.forwarding.specs.Soundness.{IsSound, IsKeptHeader, AreaHoldsCopy}
 use Rattle.forwarding.specs.Taken.{by_area, by_other_area, reserved_at, stage_after}
 use Rattle.heap_state.specs.Configuration.{Configuration, Stands, era, memory, team}
 use Rattle.heap_state.specs.Entries.{AnnounceIs, AreaIs}
@@ -113,7 +113,7 @@ ends_below n e = ⊎_elim
     (cases_eq (e % 2) 0)
 
 -- a copy whose place is not reserved has room
-room : (c : Configuration) (p : Plain) (s : Stands c p) (d : Copy) → law.HasRoomForCopy (memory c) d → HasRoom c.pages d.size (area_read c)
+room : (c : Configuration) (p : Plain) (s : Stands c p) (d : Copy) → law.HasRoomForCopy (memory c) d → AreaHoldsCopy c.pages d.size (area_read c)
 room c p s d r = record {
   fits = area_fits c p s;
   owed = (let o = r.owed in let w = owed_word c in omega (arith, o, w));
@@ -149,17 +149,17 @@ module _ (c : Configuration) (p : Plain) (s : Stands c p) (k : ℕ) (y : Held) (
 
   -- whose copy has no place yet
   has_room : (z : EvacStage) (d : Copy) → Is c k (here_too z) → copy_at v.layout v.addr v.epoch z ≡ Some d → d.reserved ≡ false → d.size ≡ size_of kept
-      → HasRoom v.layout.pages (size_of kept) (area_read c)
+      → AreaHoldsCopy v.layout.pages (size_of kept) (area_read c)
   has_room z d is at_z loose size =
-      subst (λ n. HasRoom n (size_of kept) (area_read c)) (sym (has_pages y v c.pages c.mutators k o z is.fits))
-      (subst (λ m. HasRoom c.pages m (area_read c)) size
+      subst (λ n. AreaHoldsCopy n (size_of kept) (area_read c)) (sym (has_pages y v c.pages c.mutators k o z is.fits))
+      (subst (λ m. AreaHoldsCopy c.pages m (area_read c)) size
       (room c p s d (copies_have_room (era c) (memory c) (team c) s.ghost k d (prepared c p s k (here_too z) is)
       (ap (λ (u : Worker). u.copy) is.as_known ∙ copy_is y v o z ∙ at_z) loose)))
 
   -- FRONT is the copy's place, which is to be announced
   aims : (z : EvacStage) (d : Copy) (reply : Reply) → Is c k (here_too z) → copy_at v.layout v.addr v.epoch z ≡ Some d → found_in z ≡ None → d.reserved ≡ false → d.size ≡ size_of kept
       → record d { to = front_of v.layout v.epoch (area_read c); aimed = true; announced = false } ≡ placing v.addr (front_of v.layout v.epoch (area_read c)) kept false
-      → KeepsHeader v.layout.pages v.addr kept → stage_after v.layout v.epoch z reply ≡ Announces kept (area_read c) → Goes c p s k None (here_too z) reply
+      → IsKeptHeader v.layout.pages v.addr kept → stage_after v.layout v.epoch z reply ≡ Announces kept (area_read c) → Goes c p s k None (here_too z) reply
   aims z d reply is at_z not_yet loose size same keeps next =
       goes c p s k y o v None z (Announces kept (area_read c)) reply (Some (placing v.addr (front_of v.layout v.epoch (area_read c)) kept false)) None s.ghost is next refl
       (subst (λ (u : Worker). Law c p s k (here_too z) None u s.ghost)

@@ -43,7 +43,7 @@ use Rattle.gc_worker.proofs.Eras.{board_is}
 use Rattle.gc_worker.proofs.Fitting.{with_parts, page_count}
 use Rattle.gc_worker.proofs.Gate.Resuming.{end_none}
 use Rattle.gc_worker.proofs.Gate.Words.{wants}
-use Rattle.gc_worker.proofs.Pointers.{Found, Nowhere, There, word_at, found, is_pointer, leads_nowhere}
+use Rattle.gc_worker.proofs.Pointers.{FirstPointer, Nowhere, There, word_at, found, is_pointer, leads_nowhere}
 use Rattle.gc_worker.proofs.Steps.{Law, becomes, stores, row_fits, prepared}
 
 module _ (c : Configuration) (p : Plain) (s : Stands c p) (k : ℕ) (y : Held) (v : Evacuation) (r : ℕ) (after : After) where
@@ -103,7 +103,7 @@ module _ (c : Configuration) (p : Plain) (s : Stands c p) (k : ℕ) (y : Held) (
           ∙ (λ i. record (knows (here z)) { copy = no_copy i; registers = sym set i; done = j; quest = q }))
           (law j q from small (λ i l u. leads_nowhere (era c) (w.registers i) (ap (λ n. pointer_in (decode n)) (kept i l) ∙ none i l u)) asks)
 
-      known_next : (o : Option Pointed) → Found (with_it to).registers (8 - (r + 1)) (r + 1) o → Law c p s k (here z) e (knows (next_at to o)) s.ghost
+      known_next : (o : Option Pointed) → FirstPointer (with_it to).registers (8 - (r + 1)) (r + 1) o → Law c p s k (here z) e (knows (next_at to o)) s.ghost
       known_next None (Nowhere none) =
           let n = origin.2 in settled 8 None n (omega arith) (λ i l u. none i l (omega (arith, u, n))) (AllDone refl)
       known_next (Some q) (There j a l u at before) =
@@ -140,7 +140,7 @@ module _ (c : Configuration) (p : Plain) (s : Stands c p) (k : ℕ) (y : Held) (
         stage = fits;
       }
 
-      fits_next : (o : Option Pointed) → Found (with_it to).registers (8 - (r + 1)) (r + 1) o → Fits c.pages c.mutators k (next_at to o)
+      fits_next : (o : Option Pointed) → FirstPointer (with_it to).registers (8 - (r + 1)) (r + 1) o → Fits c.pages c.mutators k (next_at to o)
       fits_next None (Nowhere none) =
           refits_it (passes (with_it to) Forwarded after) is.fits.end is.fits.side task_after
           (record { layout = refl; passage = tt; going = tt; sound = record { pages = page_count c.pages c.mutators k (here z) is.fits; stage = tt } })

@@ -47,7 +47,7 @@ use Rattle.gc_worker.specs.declared.task.Task.TheVariants.{Calls}
 use Rattle.gc_worker.specs.Access as access
 use Rattle.gc_worker.specs.Fits.{Fits, FitsEnd, FitsTask, FitsTaskAfter, FitsTaskBack, FitsTaskBefore, IsGoneBy, IsMaking, IsOnSide, IsOnSideBack}
 use Rattle.gc_worker.specs.Held.{Held, at_stage, header_for}
-use Rattle.gc_worker.specs.Turned.{Pointed, Silent, end_of, ended, epoch_said, first_pointer, forwards_from, forwards_it, full_by, goes_back, goes_on, is_full, passed_by, passes, places, served_by, told_access, told_at, told_effect, told_end, told_full, told_place, turned_access, turned_at, turned_copy, turned_flip, turned_gate, turned_opening, turned_place, turned_register, turned_round, turned_scan, with_copy, with_evac}
+use Rattle.gc_worker.specs.Turned.{Pointed, Silent, end_by_shortage, ended, epoch_said, first_pointer, forwards_from, forwards_it, full_by, goes_back, goes_on, finds_full, passed_by, passes, places, served_by, told_access, told_at, told_effect, told_end, told_full, told_place, turned_access, turned_at, turned_copy, turned_flip, turned_gate, turned_opening, turned_place, turned_register, turned_round, turned_scan, with_copy, with_evac}
 use Rattle.gc_worker.proofs.NewRecords.{header_is}
 
 -- ---- where it goes on
@@ -122,13 +122,13 @@ module _ (x : Held) where
     accessing a (Finished Stored) none = absurd (answers_done x.task task is none)
     accessing a (Finished (Fails why)) none = absurd (answers_end x.task task why is none)
 
-    full_on : (s : Shortage) (b : Bool) → IsNoAnswer (cond b (told_end x.task (end_of s)) Silent) → IsInCall (cond b (ended x (end_of s)) (at_stage x (passes x Request afters.Places))).stage
-    full_on s true none = absurd (answers_end x.task task (end_of s) is none)
+    full_on : (s : Shortage) (b : Bool) → IsNoAnswer (cond b (told_end x.task (end_by_shortage s)) Silent) → IsInCall (cond b (ended x (end_by_shortage s)) (at_stage x (passes x Request afters.Places))).stage
+    full_on s true none = absurd (answers_end x.task task (end_by_shortage s) is none)
     full_on s false none = tt
 
     shortage_on : (s : Shortage) (traced : Bool) → IsNoAnswer (told_full x s traced) → IsInCall (full_by x s traced).stage
     shortage_on s false none = tt
-    shortage_on s true none = full_on s (is_full x) none
+    shortage_on s true none = full_on s (finds_full x) none
 
     placing_on : (p : place.Placing) (turn : Turn Allocated) → IsNoAnswer (told_place x turn) → IsInCall (turned_place x p turn).stage
     placing_on p More none = tt

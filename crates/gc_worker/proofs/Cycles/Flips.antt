@@ -54,7 +54,7 @@ use Rattle.gc_worker.specs.declared.task.Task.TheVariants.{Calls, Stops}
 use Rattle.gc_worker.specs.Access as access
 use Rattle.gc_worker.specs.Held.{Held, at_stage, header_for, making_for}
 use Rattle.gc_worker.specs.Seen.{Making, seen}
-use Rattle.gc_worker.specs.Turned.{Pointed, acted, accesses, acts, begins, end_of, ended, epoch_said, first_pointer, forwards_from, forwards_it, full_by, goes_back, goes_on, is_full, looked_by, passed_by, passes, places, served_by, started, turned_access, turned_at, turned_copy, turned_flip, turned_gate, turned_look, turned_opening, turned_place, turned_register, turned_round, turned_scan, with_copy, with_evac, with_record}
+use Rattle.gc_worker.specs.Turned.{Pointed, acted, accesses, acts, begins, end_by_shortage, ended, epoch_said, first_pointer, forwards_from, forwards_it, full_by, goes_back, goes_on, finds_full, looked_by, passed_by, passes, places, served_by, started, turned_access, turned_at, turned_copy, turned_flip, turned_gate, turned_look, turned_opening, turned_place, turned_register, turned_round, turned_scan, with_copy, with_evac, with_record}
 use Rattle.gc_worker.proofs.Between.Claims.{flips_at}
 
 -- ---- stages at which nobody asks for a flip
@@ -125,7 +125,7 @@ module _ (x : Held) where
   accessing a (Finished (Fails why)) = tt
 
   -- who asks for a flip has found that none came
-  full_first : (s : Shortage) (b : Bool) → is_full x ≡ b → IsFirst (cond b (ended x (end_of s)) (at_stage x (passes x Request afters.Places)))
+  full_first : (s : Shortage) (b : Bool) → finds_full x ≡ b → IsFirst (cond b (ended x (end_by_shortage s)) (at_stage x (passes x Request afters.Places)))
   full_first s true e = tt
   full_first s false e = ⊎_elim
       (λ (later : x.begun < x.epoch). absurd (let full = or_left (nat_lt x.begun x.epoch) (x.epoch == 2 ^ 32 - 1) (lt-ltb x.begun x.epoch later) in let no = sym full ∙ e in cc))
@@ -134,7 +134,7 @@ module _ (x : Held) where
 
   shortage_first : (s : Shortage) (traced : Bool) → IsFirst (full_by x s traced)
   shortage_first s false = tt
-  shortage_first s true = full_first s (is_full x) refl
+  shortage_first s true = full_first s (finds_full x) refl
 
   placed_first : (run : Run) (at : ℕ) (made : Option Making) → IsFirst x → IsFirst (with_record x run at made)
   placed_first run at (Some m) own = tt

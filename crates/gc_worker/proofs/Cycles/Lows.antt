@@ -9,7 +9,7 @@ use Rattle.atom_store.specs.declared.reply.Reply.TheVariants as replies
 use Rattle.atom_store.specs.declared.step.Step.{Step}
 use Rattle.atom_store.specs.declared.step.Step.TheVariants.{Store, Exchange}
 use Rattle.atom_store.specs.Step.{words_after, reply_of}
-use Rattle.atom_store.specs.StepOn.{StepOn, Writes, step_at}
+use Rattle.atom_store.specs.StepOn.{StepOn, WritesOnly, step_at}
 use Rattle.atom_store.specs.StepOn as on
 use Rattle.space_map.specs.declared.area_word.AreaWord.{AreaWord}
 use Rattle.space_map.specs.declared.gate_word.GateWord.{GateWord}
@@ -24,7 +24,7 @@ use Rattle.alloc_end.specs.declared.place_stage.PlaceStage.{PlaceStage}
 use Rattle.alloc_end.specs.declared.place_stage.PlaceStage.TheVariants.{ExchangesArea}
 use Rattle.alloc_end.specs.Place.{Placing, words_for, kept_room, area_after}
 use Rattle.alloc_end.specs.Place as place
-use Rattle.alloc_end.specs.Soundness.{HasRoom}
+use Rattle.alloc_end.specs.Soundness.{AreaHoldsClaim}
 use Rattle.fault_duty.specs.Duty as duty
 use Rattle.fault_duty.proofs.RowsFit as duty_rows
 use Rattle.forwarding.specs.declared.evac_stage.EvacStage.{EvacStage}
@@ -49,14 +49,14 @@ use Rattle.heap_state.specs.Era.{from_space}
 use Rattle.heap_state.specs.Table.{word_in}
 use Rattle.heap_state.specs.Worker.{Worker}
 use Rattle.heap_state.proofs.Table.Places.{word_in-row, word_in-same, word_in-other}
-use Rattle.gc_worker.specs.Cycles.{claimed, claimed_at, claimed_by, low_said, low_at, low_of, LowGoes, LowFallsByClaims}
+use Rattle.gc_worker.specs.Cycles.{words_claimed, claimed_at, claimed_by_placing, low_said, low_at, low_of, LowGoes, LowFallsByClaims}
 use Rattle.gc_worker.specs.Access as access
 use Rattle.gc_worker.specs.declared.stage.Stage.{Stage}
 use Rattle.gc_worker.specs.declared.stage.Stage.TheVariants.{Looks, Passes, Flips, Forwards, Accesses, Places, Serves, Scans, Evacuates, Opens, Gone}
 use Rattle.gc_worker.specs.Goes.{Is}
 use Rattle.gc_worker.specs.Held.{Held, at_stage}
 use Rattle.gc_worker.specs.Law.{Heap, FlipsWhereTold, WorkersStand, read, held_at, epoch_of}
-use Rattle.gc_worker.specs.Turned.{Told, Silent, Answers, Marks, epoch_in, told, told_at, told_flip}
+use Rattle.gc_worker.specs.Turned.{Told, Silent, Answers, Marks, epoch_in_gate, told, told_at, told_flip}
 use Rattle.gc_worker.specs.Wanted.{wanted, wanted_at}
 use Rattle.gc_worker.proofs.Accessing.RowsFit as access_rows
 use Rattle.gc_worker.proofs.Areas.{area_says, is_space}
@@ -109,7 +109,7 @@ module _ (n : ℕ) (words : List ℕ) (whole : table_length n ≤ length words) 
     low_stays = by_test (slice_index words place_here == encode_area old) refl
 
 -- LOW stays at a step that writes no area
-beside : (n : ℕ) (words : List ℕ) (space m : ℕ) (o : Option (StepOn Row)) (q : Step) → Writes IsNoArea o → option_map (step_at (place_of m)) o ≡ Some q → low_at n (words_after q words) space ≡ low_at n words space
+beside : (n : ℕ) (words : List ℕ) (space m : ℕ) (o : Option (StepOn Row)) (q : Step) → WritesOnly IsNoArea o → option_map (step_at (place_of m)) o ≡ Some q → low_at n (words_after q words) space ≡ low_at n words space
 beside n words space m None q writes asked = absurd (cc)
 beside n words space m (Some on) q writes asked =
     subst (λ (z : Step). low_at n (words_after z words) space ≡ low_at n words space) (same_Some (step_at (place_of m) on) q asked)
@@ -137,7 +137,7 @@ module _ (h : Heap) (p o : Plain) (k : ℕ) (x : Held) (st : WorkersStand h p o)
   whole = st.stands.formed.whole
 
   of_now : (era c).epoch ≡ epoch_of n words
-  of_now = sym (ap (epoch_in 0) (gate_says c p st.stands))
+  of_now = sym (ap (epoch_in_gate 0) (gate_says c p st.stands))
 
   -- within the epoch
   abbrev Lows : Stage → Step → Type 0
@@ -146,7 +146,7 @@ module _ (h : Heap) (p o : Plain) (k : ℕ) (x : Held) (st : WorkersStand h p o)
   stays : (stage : Stage) (q : Step) → claimed_at stage (reply_of q words) ≡ 0 → low_at n (words_after q words) here ≡ low_at n words here → Lows stage q
   stays stage q none same = omega (arith, none, same)
 
-  quiet : (stage : Stage) (q : Step) (m : ℕ) (o : Option (StepOn Row)) → claimed_at stage (reply_of q words) ≡ 0 → Writes IsNoArea o → option_map (step_at (place_of m)) o ≡ Some q → Lows stage q
+  quiet : (stage : Stage) (q : Step) (m : ℕ) (o : Option (StepOn Row)) → claimed_at stage (reply_of q words) ≡ 0 → WritesOnly IsNoArea o → option_map (step_at (place_of m)) o ≡ Some q → Lows stage q
   quiet stage q m o none writes asked = stays stage q none (beside n words here m o q writes asked)
 
   -- ---- a claim for a record
@@ -158,7 +158,7 @@ module _ (h : Heap) (p o : Plain) (k : ℕ) (x : Held) (st : WorkersStand h p o)
     pages_are : z.layout.pages ≡ n
     pages_are = ap (λ l. l.pages) is.fits.stage.layout ∙ is.fits.pages
 
-    room : HasRoom z.layout.pages (words_for z.header) f
+    room : AreaHoldsClaim z.layout.pages (words_for z.header) f
     room = is.fits.stage.sound.stage
 
     of_epoch : to_space z.epoch ≡ here
@@ -182,7 +182,7 @@ module _ (h : Heap) (p o : Plain) (k : ℕ) (x : Held) (st : WorkersStand h p o)
     place_now = place_of n (Area here)
 
     abbrev Claimed : Bool → Type 0
-    Claimed b = low_at n (cond b (set words place_now (encode_area new)) words) here + claimed_by z (ExchangesArea f) (cond b replies.Won (replies.Lost (slice_index words place_now))) ≡ low_at n words here
+    Claimed b = low_at n (cond b (set words place_now (encode_area new)) words) here + claimed_by_placing z (ExchangesArea f) (cond b replies.Won (replies.Lost (slice_index words place_now))) ≡ low_at n words here
 
     by_claim : (b : Bool) → (slice_index words place_now == encode_area f.area) ≡ b → Claimed b
     by_claim true test =
@@ -202,7 +202,7 @@ module _ (h : Heap) (p o : Plain) (k : ℕ) (x : Held) (st : WorkersStand h p o)
 
   -- ---- the place of a copy
 
-  past_fits : (pages size : ℕ) (area : AreaWord) → evac_sound.HasRoom pages size area → AreaFits (area_past size area)
+  past_fits : (pages size : ℕ) (area : AreaWord) → evac_sound.AreaHoldsCopy pages size area → AreaFits (area_past size area)
   past_fits pages size area room =
       record { front_fits = omega (arith, room.below_low, room.fits.low_fits); low_fits = room.fits.low_fits; owed_fits = let o' = room.fits.owed_fits in omega (arith, o') }
 
@@ -326,11 +326,11 @@ module _ (h : Heap) (p o : Plain) (k : ℕ) (x : Held) (q : Step) (st : WorkersS
   there : Is (read h) k x
   there = member h p o k x st l holds
 
-  within : low_at h.pages later (to_space (epoch_of h.pages h.words)) + claimed x reply ≡ low_of h.pages h.words
+  within : low_at h.pages later (to_space (epoch_of h.pages h.words)) + words_claimed x reply ≡ low_of h.pages h.words
   within = by_stage h p o k x st x.stage q there asked
 
-  same_epoch : epoch_of h.pages later ≡ epoch_of h.pages h.words → low_of h.pages later + claimed x reply ≡ low_of h.pages h.words
-  same_epoch same = subst (λ (e : ℕ). low_at h.pages later (to_space e) + claimed x reply ≡ low_of h.pages h.words) (sym same) within
+  same_epoch : epoch_of h.pages later ≡ epoch_of h.pages h.words → low_of h.pages later + words_claimed x reply ≡ low_of h.pages h.words
+  same_epoch same = subst (λ (e : ℕ). low_at h.pages later (to_space e) + words_claimed x reply ≡ low_of h.pages h.words) (sym same) within
 
   -- the gate's word is written, and no area word
   at_exchange : (f : Flipping) (r : resets.Reset) → x.stage ≡ Flips f → f.stage ≡ flip_stage.Exchanges r → epoch_of h.pages h.words ≡ x.epoch → epoch_of h.pages later ≡ x.epoch + 1
@@ -342,7 +342,7 @@ module _ (h : Heap) (p o : Plain) (k : ℕ) (x : Held) (q : Step) (st : WorkersS
       let stay = beside h.pages h.words (from_space (era (read h)).epoch) f.layout.pages (flip.wants_at f (flip_stage.Exchanges r)) q tt (sym (ap wanted own) ∙ asked) in
       ap (low_at h.pages later) space ∙ (stay ∙ whole)
 
-  by_told : (t : Told) → told x reply ≡ t → FlipsWhereTold h.pages h.words later x t → LowGoes h.pages h.words later (claimed x reply) t
+  by_told : (t : Told) → told x reply ≡ t → FlipsWhereTold h.pages h.words later x t → LowGoes h.pages h.words later (words_claimed x reply) t
   by_told Silent e flips = same_epoch flips
   by_told (Answers task outcome) e flips = same_epoch flips
   by_told (Marks pages) e flips =
@@ -352,7 +352,7 @@ module _ (h : Heap) (p o : Plain) (k : ℕ) (x : Held) (q : Step) (st : WorkersS
       let r = exchanges_at f.0 f.0.stage q reply pages wants tells in
       at_exchange f.0 r.0 f.1 r.1 flips.epoch flips.next
 
-  pub low_falls : LowGoes h.pages h.words later (claimed x reply) (told x reply)
+  pub low_falls : LowGoes h.pages h.words later (words_claimed x reply) (told x reply)
   low_falls = by_told (told x reply) refl (steps_keep h p o k x q st l holds asked).flips
 
 pub low_falls_by_claims : LowFallsByClaims

@@ -16,13 +16,13 @@ use Rattle.alloc_end.specs.declared.place_stage.PlaceStage.TheVariants.{LoadsTra
 use Rattle.alloc_end.specs.Place.{Placing, pages_for, size_of, words_for}
 use Rattle.alloc_end.specs.Place as place
 use Rattle.alloc_end.specs.Soundness.{IsPlacingGoing}
-use Rattle.gc_worker.specs.Cycles.{Makes, IsForRecord, SetAsideIsForRecords, ClaimsAreSetAside, SetsAside, claimed, claimed_at, set_aside, set_aside_at, set_aside_by}
+use Rattle.gc_worker.specs.Cycles.{MakesRecord, IsForRecord, SetAsideIsForRecords, ClaimsAreSetAside, SetsAside, words_claimed, claimed_at, set_aside, set_aside_at, set_aside_by}
 use Rattle.gc_worker.specs.declared.stage.Stage.{Stage}
 use Rattle.gc_worker.specs.declared.stage.Stage.TheVariants.{Places}
 use Rattle.gc_worker.specs.declared.task.Task.{Task}
 use Rattle.gc_worker.specs.Fits.{Fits, FitsStage, FitsTask, IsMaking}
 use Rattle.gc_worker.specs.Goes.{Is}
-use Rattle.gc_worker.specs.Held.{Held, at_stage, asked_by, header_for, pages_asked}
+use Rattle.gc_worker.specs.Held.{Held, at_stage, pages_needed, header_for, pages_asked}
 use Rattle.gc_worker.specs.Law.{Heap, WorkersStand, read}
 use Rattle.gc_worker.specs.declared.did.Did.TheVariants.{Done, Trap}
 use Rattle.gc_worker.specs.Turned.{Told, Silent, Answers, Marks, told, told_effect, told_place, turned, turned_place}
@@ -42,8 +42,8 @@ nothing x y claims none empty (Answers task (Trap end)) = omega (arith, none, em
 nothing x y claims none empty (Marks asked) = tt
 
 -- the pages that the record needs
-asks : (x : Held) (header : Header) → header_for x ≡ Some header → words_for header ≡ PAGE_WORDS * asked_by x
-asks x header is = let a : asked_by x ≡ pages_for (size_of header) = ap pages_asked is in omega (arith, a)
+asks : (x : Held) (header : Header) → header_for x ≡ Some header → words_for header ≡ PAGE_WORDS * pages_needed x
+asks x header is = let a : pages_needed x ≡ pages_for (size_of header) = ap pages_asked is in omega (arith, a)
 
 module _ (x : Held) (z : Placing) (task : IsMaking x.account x.registers x.task) where
   abbrev at : PlaceStage → Held
@@ -70,7 +70,7 @@ module _ (x : Held) (z : Placing) (task : IsMaking x.account x.registers x.task)
   places =
       subst (λ (o : Option Task). SetsAside (at StoresHeader) 0 (turned_place (at StoresHeader) (place.placed z) (place.told (place.placed z))) (told_effect o)) (sym task.executes.task_is) refl
 
-  by_place : (stage : PlaceStage) (reply : Reply) → IsPlacingGoing stage → SetsAside (at stage) (claimed (at stage) reply) (turned (at stage) reply) (told (at stage) reply)
+  by_place : (stage : PlaceStage) (reply : Reply) → IsPlacingGoing stage → SetsAside (at stage) (words_claimed (at stage) reply) (turned (at stage) reply) (told (at stage) reply)
   by_place LoadsTraced reply going = nothing (at LoadsTraced) (turned (at LoadsTraced) reply) 0 refl refl (told (at LoadsTraced) reply)
   by_place (LoadsArea traced) reply going = nothing (at (LoadsArea traced)) (turned (at (LoadsArea traced)) reply) 0 refl refl (told (at (LoadsArea traced)) reply)
   by_place (ExchangesArea f) (replies.Value word) going = omega arith
@@ -95,15 +95,15 @@ module _ (x : Held) (z : Placing) (task : IsMaking x.account x.registers x.task)
 
 module _ (n mutators k : ℕ) (x : Held) (reply : Reply) (fits : Fits n mutators k x) where
   -- at another stage nothing is claimed or set aside
-  elsewhere : claimed x reply ≡ 0 → set_aside x ≡ 0 → SetsAside x (claimed x reply) (turned x reply) (told x reply)
-  elsewhere none empty = nothing x (turned x reply) (claimed x reply) none empty (told x reply)
+  elsewhere : words_claimed x reply ≡ 0 → set_aside x ≡ 0 → SetsAside x (words_claimed x reply) (turned x reply) (told x reply)
+  elsewhere none empty = nothing x (turned x reply) (words_claimed x reply) none empty (told x reply)
 
-  by_stage : (stage : Stage) → x.stage ≡ stage → SetsAside x (claimed x reply) (turned x reply) (told x reply)
+  by_stage : (stage : Stage) → x.stage ≡ stage → SetsAside x (words_claimed x reply) (turned x reply) (told x reply)
   by_stage (Places z) e =
       let task = subst (FitsTask x) e fits.task in
       let stage = subst (FitsStage x) e fits.stage in
       let own : x ≡ at_stage x (Places z) = ap (at_stage x) e in
-      subst (λ (y : Held). SetsAside y (claimed y reply) (turned y reply) (told y reply)) (sym own) (by_place x z task.0 z.stage reply stage.going)
+      subst (λ (y : Held). SetsAside y (words_claimed y reply) (turned y reply) (told y reply)) (sym own) (by_place x z task.0 z.stage reply stage.going)
   by_stage stage e = elsewhere (ap (λ (s : Stage). claimed_at s reply) e) (ap set_aside_at e)
 
 pub claims_are_set_aside : ClaimsAreSetAside
@@ -115,7 +115,7 @@ module _ (h : Heap) (p o : Plain) (k : ℕ) (x : Held) (st : WorkersStand h p o)
   abbrev y : Held
   y = at_stage x (Places z)
 
-  its_record : Makes p k y (asked_by y)
+  its_record : MakesRecord p k y (pages_needed y)
   its_record =
       let making = is.fits.task.0 in
       let unended = end_none x.account.end is.fits.end in
@@ -130,10 +130,10 @@ module _ (h : Heap) (p o : Plain) (k : ℕ) (x : Held) (st : WorkersStand h p o)
         pages_are = plain_pages y making its.0 acts ∙ ap (λ (n : ℕ). Some n) (sym (asked_is y making));
       }
 
-  few_by : (stage : PlaceStage) → set_aside_by z stage ≤ PAGE_WORDS * asked_by y
+  few_by : (stage : PlaceStage) → set_aside_by z stage ≤ PAGE_WORDS * pages_needed y
   few_by stage = let a = asks y z.header is.fits.task.1 in most a stage
     where
-      most : words_for z.header ≡ PAGE_WORDS * asked_by y → (stage : PlaceStage) → set_aside_by z stage ≤ PAGE_WORDS * asked_by y
+      most : words_for z.header ≡ PAGE_WORDS * pages_needed y → (stage : PlaceStage) → set_aside_by z stage ≤ PAGE_WORDS * pages_needed y
       most a (StoresZero new) = omega (arith, a)
       most a (OpensPage new) = omega (arith, a)
       most a StoresHeader = omega (arith, a)

@@ -26,9 +26,9 @@ use Rattle.gc_worker.specs.declared.after.After.{After}
 use Rattle.gc_worker.specs.declared.stage.Stage.TheVariants.{Passes, Flips, Looks, Gone}
 use Rattle.gc_worker.specs.Fits.{Fits, IsGoneBy}
 use Rattle.gc_worker.specs.Goes.{Is, Goes, StepsSo}
-use Rattle.gc_worker.specs.Held.{Held, at_stage, asked_by}
+use Rattle.gc_worker.specs.Held.{Held, at_stage, pages_needed}
 use Rattle.gc_worker.specs.Knows.{knows, known_at, post_gone}
-use Rattle.gc_worker.specs.Turned.{passes, goes_on, turned, in_epoch, epoch_said, epoch_in}
+use Rattle.gc_worker.specs.Turned.{passes, goes_on, turned, in_epoch, epoch_said, epoch_in_gate}
 use Rattle.gc_worker.proofs.Fitting.{refit, come, before_passage, page_count}
 use Rattle.gc_worker.proofs.Going.{goes_on_known, goes_on_fits}
 use Rattle.gc_worker.proofs.Gate.Words.{wants, gate_now, gate_is}
@@ -79,7 +79,7 @@ module _ (c : Configuration) (p : Plain) (s : Stands c p) (k : ℕ) (y : Held) (
 
   -- the gate's epoch after a passage
   said : (g : GateWord) → GateFits g → (own : ℕ) → epoch_said own (encode_gate g) ≡ g.epoch
-  said g fits own = ap (epoch_in own) (decode_gate-encode_gate g fits)
+  said g fits own = ap (epoch_in_gate own) (decode_gate-encode_gate g fits)
 
   attaches : (is : Is c k (at Attach (Exchanges gate))) → StepsSo c p s k (at Attach (Exchanges gate))
   attaches is =
@@ -101,10 +101,10 @@ module _ (c : Configuration) (p : Plain) (s : Stands c p) (k : ℕ) (y : Held) (
   requests : (is : Is c k (at Request (Exchanges gate))) → StepsSo c p s k (at Request (Exchanges gate))
   requests is =
       let x = at Request (Exchanges gate) in
-      let z = at_stage x (Flips (flip.begun x.layout x.epoch (asked_by x))) in
+      let z = at_stage x (Flips (flip.begun x.layout x.epoch (pages_needed x))) in
       exchanges_it Request is
-      (wins Request is (workers.Request (asked_by x)) refl refl z refl refl
-      (refit c.pages c.mutators k x is.fits (Flips (flip.begun x.layout x.epoch (asked_by x))) is.fits.end is.fits.side (is.fits.task.0, refl)
+      (wins Request is (workers.Request (pages_needed x)) refl refl z refl refl
+      (refit c.pages c.mutators k x is.fits (Flips (flip.begun x.layout x.epoch (pages_needed x))) is.fits.end is.fits.side (is.fits.task.0, refl)
       (record { layout = refl; epoch = refl; going = tt; sound = record { pages = page_count c.pages c.mutators k x is.fits; epoch = is.fits.stage.passage; stage = tt } })))
       (loses Request is refl)
 

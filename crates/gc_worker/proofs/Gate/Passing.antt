@@ -16,7 +16,7 @@ use Rattle.gate_core.specs.declared.passage.Passage.{Passage}
 use Rattle.gate_core.specs.declared.passage.Passage.TheVariants.{Look, Attach, Park, Request, Resume, Forwarded, Leave}
 use Rattle.gate_core.specs.declared.passed.Passed.TheVariants.{NotYet}
 use Rattle.gate_core.specs.Gate.{allows, allowed, is_clear, told_at, looked}
-use Rattle.gate_core.specs.Soundness.{Counts, FitsGateStage, MayPass}
+use Rattle.gate_core.specs.Soundness.{CountsAllow, FitsGateStage, MayPass}
 use Rattle.heap_state.specs.Configuration.{Configuration, Stands, table, era, memory, team}
 use Rattle.heap_state.specs.Parts.Knowledge as parts
 use Rattle.heap_state.specs.Worker.{Worker, Enter, is_behind}
@@ -30,9 +30,9 @@ use Rattle.gc_worker.specs.declared.after.After.TheVariants as afters
 use Rattle.gc_worker.specs.declared.stage.Stage.TheVariants.{Passes}
 use Rattle.gc_worker.specs.Fits.{Fits, FitsTaskAfter, IsMaking}
 use Rattle.gc_worker.specs.Goes.{Is, Goes, StepsSo}
-use Rattle.gc_worker.specs.Held.{Held, at_stage, asked_by}
+use Rattle.gc_worker.specs.Held.{Held, at_stage, pages_needed}
 use Rattle.gc_worker.specs.Knows.{knows}
-use Rattle.gc_worker.specs.Turned.{passes, goes_on, forwards_from, epoch_in, turned_gate}
+use Rattle.gc_worker.specs.Turned.{passes, goes_on, forwards_from, epoch_in_gate, turned_gate}
 use Rattle.gc_worker.proofs.Fitting.{refit, before_passage}
 use Rattle.gc_worker.proofs.Going.{goes_on_known, goes_on_fits}
 use Rattle.gc_worker.proofs.Gate.Resuming.{stopped_at, stopped_law, stopped_fits}
@@ -108,7 +108,7 @@ module _ (c : Configuration) (p : Plain) (s : Stands c p) (k : ℕ) (y : Held) (
     exchange_next : (q : workers.Passage)
         (may : parts.Passes (knows x).post (knows x).epoch (knows x).done (is_some (knows x).account.end) (knows x).traced_seen gate q)
         → allows passage gate ≡ true → next passage (by_test true) ≡ at passage (Exchanges gate) → by_test true ≡ Exchanges gate
-        → (GateAnswers gate q → Counts passage gate)
+        → (GateAnswers gate q → CountsAllow passage gate)
         → record (knows x) { gate_step = Some (record { read = gate; passage = q }) } ≡ knows (at passage (Exchanges gate)) → Goes c p s k None x (Value (gate_now c))
     exchange_next q may test same stage counts known =
         let sound : MayPass passage gate = record { fits = (answers q may).fits; allowed = test; counts = counts (answers q may) } in
@@ -144,7 +144,7 @@ module _ (c : Configuration) (p : Plain) (s : Stands c p) (k : ℕ) (y : Held) (
 
   requests : (is : Is c k (at Request Loads)) (b : Bool) → allows Request gate ≡ b → Goes c p s k None (at Request Loads) (Value (gate_now c))
   requests is true test =
-      exchange_next Request is (workers.Request (asked_by (at Request Loads))) (refl, is.fits.end, unset gate.request test, refl) test refl refl (λ a. a.counted) refl
+      exchange_next Request is (workers.Request (pages_needed (at Request Loads))) (refl, is.fits.end, unset gate.request test, refl) test refl refl (λ a. a.counted) refl
   requests is false test =
       let x = at Request Loads in
       let z = at_stage x (passes x Park after) in
@@ -158,7 +158,7 @@ module _ (c : Configuration) (p : Plain) (s : Stands c p) (k : ℕ) (y : Held) (
       let x = at (Resume epoch) Loads in
       let later = nat_lt x.epoch gate.epoch in
       goes (Resume epoch) is false test (stopped_at c p s k x after is refl is.fits.end later)
-      (ap (λ (o : Option GateWord). at_stage x (cond (nat_lt x.epoch (epoch_in x.epoch o)) (forwards_from x after 0) (passes x (Resume x.epoch) after))) (gate_says c p s)) tt
+      (ap (λ (o : Option GateWord). at_stage x (cond (nat_lt x.epoch (epoch_in_gate x.epoch o)) (forwards_from x after 0) (passes x (Resume x.epoch) after))) (gate_says c p s)) tt
       (stopped_law c p s k x after is refl is.fits.end later refl) (stopped_fits c p s k x after is refl is.fits.end is.fits.side is.fits.task later refl)
 
   -- who has forwarded its registers is late

@@ -19,7 +19,7 @@ use Rattle.gc_worker.specs.Knows.{knows, known_at}
 use Rattle.gc_worker.specs.Turned.{Pointed, first_pointer, passes, forwards_it, forwards_from}
 use Rattle.gc_worker.proofs.Eras.{board_is}
 use Rattle.gc_worker.proofs.Fitting.{refit, before_passage, page_count}
-use Rattle.gc_worker.proofs.Pointers.{Found, Nowhere, There, word_at, found, is_pointer, leads_nowhere}
+use Rattle.gc_worker.proofs.Pointers.{FirstPointer, Nowhere, There, word_at, found, is_pointer, leads_nowhere}
 use Rattle.gc_worker.proofs.Steps.{Law, nothing, prepared}
 
 pub end_none : {X : Type 0} (o : Option X) → is_some o ≡ false → o ≡ None
@@ -62,7 +62,7 @@ module _ (c : Configuration) (p : Plain) (s : Stands c p) (k : ℕ) (x : Held) (
         (registers_are_passed (era c) (memory c) (team c) s.ghost k j q (prepared c p s k x is) late (rw as_stopped refl) (rw as_stopped (omega arith)) small
         (rw as_stopped (λ r l u. leads_nowhere (era c) (slice_index x.registers r) (none r l u))) asks)
 
-    leads_by : (o : Option Pointed) → Found x.registers 8 0 o → Law c p s k x None (knows (at_stage x (forwards_it x after o))) s.ghost
+    leads_by : (o : Option Pointed) → FirstPointer x.registers 8 0 o → Law c p s k x None (knows (at_stage x (forwards_it x after o))) s.ghost
     leads_by None (Nowhere none) = come 8 None (omega arith) (λ i l u. none i l u) (AllDone refl)
     leads_by (Some q) (There r a l u at before) =
         come r (Some (record { old = a; origin = Register r; found = None })) (omega (arith, u)) before
@@ -79,7 +79,7 @@ module _ (c : Configuration) (p : Plain) (s : Stands c p) (k : ℕ) (x : Held) (
         let n = is.fits.pages in
         omega (arith, old, below, n, board)
 
-    fits_by : nat_lt x.number x.mutators ≡ true → FitsTaskAfter x after → (o : Option Pointed) → Found x.registers 8 0 o → Fits c.pages c.mutators k (at_stage x (forwards_it x after o))
+    fits_by : nat_lt x.number x.mutators ≡ true → FitsTaskAfter x after → (o : Option Pointed) → FirstPointer x.registers 8 0 o → Fits c.pages c.mutators k (at_stage x (forwards_it x after o))
     fits_by mutator task None (Nowhere none) = before_passage c.pages c.mutators k x is.fits Forwarded after unended mutator task tt
     fits_by mutator task (Some q) (There r a l u at before) =
         refit c.pages c.mutators k x is.fits (Forwards (record { register = r; evac = evac.begun x.layout a (x.epoch + 1) x.number; after = after })) unended mutator task (record {

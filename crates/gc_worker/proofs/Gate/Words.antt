@@ -9,13 +9,13 @@ use Rattle.space_map.specs.Table.{Gate}
 use Rattle.space_map.proofs.GateWords.{decode_gate-short, gate_in-encode_gate}
 use Rattle.heap_state.specs.Configuration.{Configuration, Stands, table}
 use Rattle.heap_state.specs.Table.{table_of, word_in}
-use Rattle.gc_worker.specs.Goes.{Steps, StepsSo}
+use Rattle.gc_worker.specs.Goes.{StepsInTable, StepsSo}
 use Rattle.gc_worker.specs.Held.{Held}
 use Rattle.gc_worker.specs.Wanted.{wanted}
 
 -- the next step goes so
-pub wants : (c : Configuration) (p : Plain) (s : Stands c p) (k : ℕ) (x : Held) (q : Step) → wanted x ≡ Some q → Steps c p s k x q → StepsSo c p s k x
-wants c p s k x q next steps = λ r asked. subst (Steps c p s k x) (same_Some q r (sym next ∙ asked)) steps
+pub wants : (c : Configuration) (p : Plain) (s : Stands c p) (k : ℕ) (x : Held) (q : Step) → wanted x ≡ Some q → StepsInTable c p s k x q → StepsSo c p s k x
+wants c p s k x q next steps = λ r asked. subst (StepsInTable c p s k x) (same_Some q r (sym next ∙ asked)) steps
 
 abbrev pub gate_now : Configuration → ℕ
 gate_now c = word_in c.pages c.words Gate

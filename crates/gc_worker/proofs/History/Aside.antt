@@ -9,7 +9,7 @@ use Rattle.atom_store.specs.Step.{reply_of}
 use Rattle.heap_state.specs.Functions.{sum_below}
 use Rattle.heap_state.proofs.Puts.{sum_below-change}
 use Rattle.gc_worker.specs.Between.{IsSo}
-use Rattle.gc_worker.specs.Cycles.{IsForRecord, Makes, set_aside}
+use Rattle.gc_worker.specs.Cycles.{IsForRecord, MakesRecord, set_aside}
 use Rattle.gc_worker.specs.Held.{Held}
 use Rattle.gc_worker.specs.Law.{Heap, WorkersStand, held_at, moved, nobody}
 use Rattle.gc_worker.specs.Turned.{turned}
@@ -38,7 +38,7 @@ aside_changes h k y q below holds =
 
 module _ (h : Heap) (p o : Plain) (st : WorkersStand h p o) where
   -- it makes the record that its task asks for
-  pub asks_by : (k : ℕ) (x : Held) (pages : ℕ) → Makes p k x pages → asked_by_task p k x.task ≡ Some pages
+  pub asks_by : (k : ℕ) (x : Held) (pages : ℕ) → MakesRecord p k x pages → asked_by_task p k x.task ≡ Some pages
   asks_by k x pages m = ap (asked_by_task p k) m.task ∙ asks_as p k m.mutator m.instr pages m.is m.no_end m.pages_are
 
   module _ (k : ℕ) (below : k < length h.workers) where

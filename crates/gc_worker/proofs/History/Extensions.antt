@@ -13,7 +13,7 @@ use Rattle.gc_worker.proofs.Between.Others.{answers_leave_the_others}
 use Rattle.gc_worker.specs.declared.call.Call.{Call}
 use Rattle.gc_worker.specs.declared.entry.Entry.{Entry}
 use Rattle.gc_worker.specs.declared.entry.Entry.TheVariants.{Made, Exchanged}
-use Rattle.gc_worker.specs.History.Legal.{IsLegal, after_all, after_call, call, calls_of, extra, flip_from, own_after}
+use Rattle.gc_worker.specs.History.Legal.{IsLegal, after_all, after_call, worker_call, calls_of, extra, flip_from, own_after}
 
 pub legal_more : (p : Plain) (log : List Entry) (m : ℕ) (t : Told) → IsLegal p log → IsAnswered (after_all p log) m t → IsLegal p (log ++ extra m t)
 legal_more p [] m Silent h e = tt
@@ -60,14 +60,14 @@ no_more xs ys m e = append_cancel_left (calls_of m xs) (calls_of m ys) [] (e ∙
 
 pub calls_other : (n : ℕ) (log : List Entry) (m : ℕ) (t : Told) → n ≢ m → calls_of n (log ++ extra m t) ≡ calls_of n log
 calls_other n log m Silent other = ap (calls_of n) (append-nil log)
-calls_other n log m (Answers task outcome) other = calls_append n log (Made (call m task outcome) ∷ [])
-    ∙ (ap (λ (b : Bool). calls_of n log ++ cond b (call m task outcome ∷ []) []) (ne_eqb m n (λ e. other (sym e))) ∙ append-nil (calls_of n log))
+calls_other n log m (Answers task outcome) other = calls_append n log (Made (worker_call m task outcome) ∷ [])
+    ∙ (ap (λ (b : Bool). calls_of n log ++ cond b (worker_call m task outcome ∷ []) []) (ne_eqb m n (λ e. other (sym e))) ∙ append-nil (calls_of n log))
 calls_other n log m (Marks asked) other = calls_append n log (Exchanged m asked ∷ []) ∙ append-nil (calls_of n log)
 
 pub calls_more : (log : List Entry) (m : ℕ) (t : Told) (own : List Call) → calls_of m log ≡ own → calls_of m (log ++ extra m t) ≡ own_after m own t
 calls_more log m Silent own is = ap (calls_of m) (append-nil log) ∙ is
-calls_more log m (Answers task outcome) own is = calls_append m log (Made (call m task outcome) ∷ [])
-    ∙ (ap (λ (b : Bool). calls_of m log ++ cond b (call m task outcome ∷ []) []) (eq-eqb m m refl) ∙ ap (λ (z : List Call). z ++ call m task outcome ∷ []) is)
+calls_more log m (Answers task outcome) own is = calls_append m log (Made (worker_call m task outcome) ∷ [])
+    ∙ (ap (λ (b : Bool). calls_of m log ++ cond b (worker_call m task outcome ∷ []) []) (eq-eqb m m refl) ∙ ap (λ (z : List Call). z ++ worker_call m task outcome ∷ []) is)
 calls_more log m (Marks asked) own is = calls_append m log (Exchanged m asked ∷ []) ∙ (append-nil (calls_of m log) ∙ is)
 
 -- ---- what is not of worker m leaves its plain mutator

@@ -7,7 +7,7 @@ use Rattle.gc_worker.specs.declared.did.Did.TheVariants.{Trap}
 use Rattle.gc_worker.specs.declared.entry.Entry.{Entry}
 use Rattle.gc_worker.specs.declared.entry.Entry.TheVariants.{Made}
 use Rattle.gc_worker.specs.History.Large.{HasNoFullCall, IsLargeFor}
-use Rattle.gc_worker.specs.History.Legal.{call}
+use Rattle.gc_worker.specs.History.Legal.{worker_call}
 use Rattle.gc_worker.specs.History.Tally.{EachEntry, EntryIs, IsFilled, Tally, Tasks, asked_by_task, made_next, next_task, pages_by_task, tally}
 use Rattle.gc_worker.proofs.History.Sums.{sum_below-most}
 use Rattle.gc_worker.proofs.History.Tallies.{entry_at}
@@ -28,7 +28,7 @@ next_of_others t tasks c es = sum_below-most (length t.now.mutators) _ _ (λ j b
 pub large_has_no_full : (n : ℕ) (tasks : Tasks) (first : Tally) (log : List Entry) → EachEntry (EntryIs n tasks) first log → IsLargeFor n tasks first log → HasNoFullCall log
 large_has_no_full n tasks first log each large front rest m asked room live task is =
     let t : Tally = tally first front in
-    let c : Call = call m task (Trap (HeapFull asked room live)) in
+    let c : Call = worker_call m task (Trap (HeapFull asked room live)) in
     let full : IsFilled n tasks t m task asked room live rest = entry_at (EntryIs n tasks) first front (Made c) rest (subst (EachEntry (EntryIs n tasks) first) (sym is) each) in
     let its : next_task m (Made c ∷ rest) (tasks m) ≡ Some task = ap (λ (b : Bool). cond b (Some task) (next_task m rest (tasks m))) (eq-eqb m m refl) in
     let fits = large front (Made c ∷ rest) m is full.no_flip asked live (ap (asked_by_task t.now m) its ∙ full.asked_is) full.live_is in

@@ -9,13 +9,13 @@ use Rattle.plain_state.proofs.Lists.{slice_get-set_same}
 use Rattle.mutator_asm.specs.declared.instr.Instr.{Instr}
 use Rattle.plain_heap.specs.declared.mark.Mark.{Mark}
 use Rattle.plain_heap.specs.declared.mark.Mark.TheVariants.{Step, Flip, Full}
-use Rattle.plain_heap.specs.Order.{Story, end_of, marked, opening, plain, state_after, story_after, turned}
+use Rattle.plain_heap.specs.Order.{Story, end_of, marked, opening, plain, state_after, story_after, story_marked}
 use Rattle.plain_heap.specs.Step.{asked_by, asked_if}
 use Rattle.plain_heap.proofs.Staying.{plain_count}
 use Rattle.plain_heap.proofs.Stories.{story-now, story_after-append}
 use Rattle.heap_state.specs.Functions.{sum_below}
 use Rattle.heap_state.specs.Reachable.{IsLive}
-use Rattle.gc_worker.specs.History.Needs.{EachFullIs, EachMayCome, EndsWithFlip, HasNoFull, IsEnoughForOne, being_made, flips_by, flips_in, made_after, made_by, made_since, opened, since_by, since_in}
+use Rattle.gc_worker.specs.History.Needs.{EachFullIs, EachMayCome, EndsWithFlip, HasNoFull, IsEnoughForOne, being_made, flips_by, flips_in, made_after, made_by_mark, made_since, first_story, since_by, since_in}
 use Rattle.gc_worker.specs.Marks.{EachActs}
 use Rattle.gc_worker.proofs.History.Needs.{at_full, may_come_at}
 
@@ -95,7 +95,7 @@ module _ (code : List (List Instr)) (turns : ℕ) where
 made_after-append : (code : List (List Instr)) (turns : ℕ) (s : Story) (made : ℕ) (xs ys : List Mark)
     → made_after code turns s made (xs ++ ys) ≡ made_after code turns (story_after code turns s xs) (made_after code turns s made xs) ys
 made_after-append code turns s made [] ys = refl
-made_after-append code turns s made (mark ∷ xs) ys = made_after-append code turns (turned code turns s mark) (made_by code turns s.now made mark) xs ys
+made_after-append code turns s made (mark ∷ xs) ys = made_after-append code turns (story_marked code turns s mark) (made_by_mark code turns s.now made mark) xs ys
 
 -- who asks for pages is there
 asker : (code : List (List Instr)) (turns : ℕ) (p : Plain) (m asked : ℕ) → asked_by code turns p m ≡ Some asked → m < length p.mutators
@@ -124,14 +124,14 @@ none_beside code turns p m one small = let e : m ≡ 0 = omega (arith, small) in
 
 module _ (pages : ℕ) (code : List (List Instr)) (turns : ℕ) (one : length code ≡ 1) where
   abbrev after : List Mark → Story
-  after front = story_after code turns (opened code) front
+  after front = story_after code turns (first_story code) front
 
   -- right after a flip what was live then is live now, and no record was made since
   after_flip : (front : List Mark) → EndsWithFlip front → ((after front).flip ≡ (after front).now) × (made_since code turns front ≡ 0)
   after_flip front ends =
       let at = after ends.before in
-      let same : after front ≡ record { flip = at.now; now = at.now } = ap after ends.is ∙ story_after-append code turns (opened code) ends.before (Flip ends.asked ∷ []) in
-      let none : made_since code turns front ≡ 0 = ap (made_since code turns) ends.is ∙ made_after-append code turns (opened code) 0 ends.before (Flip ends.asked ∷ []) in
+      let same : after front ≡ record { flip = at.now; now = at.now } = ap after ends.is ∙ story_after-append code turns (first_story code) ends.before (Flip ends.asked ∷ []) in
+      let none : made_since code turns front ≡ 0 = ap (made_since code turns) ends.is ∙ made_after-append code turns (first_story code) 0 ends.before (Flip ends.asked ∷ []) in
       (ap (λ (s : Story). s.flip) same ∙ sym (ap (λ (s : Story). s.now) same), none)
 
   module _ (order : List Mark) (acts : EachActs code turns (opening code) order) (may : EachMayCome (λ j. false) 0 order) where
@@ -140,13 +140,13 @@ module _ (pages : ℕ) (code : List (List Instr)) (turns : ℕ) (one : length co
         full_follows_flip code turns m asked room live rest (opening code) front (λ marks. plain_count code turns marks ∙ one)
         (subst (EachActs code turns (opening code)) is acts) (subst (EachMayCome (λ j. false) 0) is may) few
 
-    pub lone_is_never_full : EachFullIs pages code turns (opened code) 0 order → flips_in 0 order < 2 ^ 32 - 1 → IsEnoughForOne pages code turns order → HasNoFull order
+    pub lone_is_never_full : EachFullIs pages code turns (first_story code) 0 order → flips_in 0 order < 2 ^ 32 - 1 → IsEnoughForOne pages code turns order → HasNoFull order
     lone_is_never_full each few enough front rest m asked room live is =
         let marks = Full m asked room live ∷ rest in
         let grow = flips_grow 0 front marks in
         let total = ap (flips_in 0) is in
         let ends = flip_before front rest m asked room live (sym is) (omega (arith, few, grow, total)) in
-        let full = at_full pages code turns (opened code) 0 front rest m asked room live (subst (EachFullIs pages code turns (opened code) 0) (sym is) each) in
+        let full = at_full pages code turns (first_story code) 0 front rest m asked room live (subst (EachFullIs pages code turns (first_story code) 0) (sym is) each) in
         let at = after_flip front ends in
         let now : (after front).now ≡ plain code turns front = story-now code turns front in
         let many : length (after front).now.mutators ≡ 1 = ap (λ (p : Plain). length p.mutators) now ∙ (plain_count code turns front ∙ one) in

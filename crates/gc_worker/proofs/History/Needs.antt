@@ -10,7 +10,7 @@ use Rattle.plain_state.specs.State.{Mutator, Plain}
 use Rattle.mutator_asm.specs.declared.instr.Instr.{Instr}
 use Rattle.plain_heap.specs.declared.mark.Mark.{Mark}
 use Rattle.plain_heap.specs.declared.mark.Mark.TheVariants.{Step, Full}
-use Rattle.plain_heap.specs.Order.{Story, story_after, turned}
+use Rattle.plain_heap.specs.Order.{Story, story_after, story_marked}
 use Rattle.plain_heap.specs.Step.{asked_by, fetch}
 use Rattle.gc_worker.specs.declared.call.Call.{Call}
 use Rattle.gc_worker.specs.declared.did.Did.{Did}
@@ -20,9 +20,9 @@ use Rattle.gc_worker.specs.declared.entry.Entry.TheVariants.{Made, Exchanged}
 use Rattle.gc_worker.specs.declared.task.Task.{Task}
 use Rattle.gc_worker.specs.declared.task.Task.TheVariants.{Calls, Stops}
 use Rattle.gc_worker.specs.History.Legal.{IsLegal, after_all, after_call}
-use Rattle.gc_worker.specs.History.Needs.{EachFullIs, EachMayCome, HasNoFull, IsFullAt, IsLargeEnough, MayCome, being_made, flips_by, flips_in, made_after, made_by, opened, pages_next, since_by, since_in}
+use Rattle.gc_worker.specs.History.Needs.{EachFullIs, EachMayCome, HasNoFull, IsFullAt, IsLargeEnough, FullMayCome, being_made, flips_by, flips_in, made_after, made_by_mark, first_story, pages_next, since_by, since_in}
 use Rattle.gc_worker.specs.History.Order.{AreFetched, mark_by, order_of}
-use Rattle.gc_worker.specs.History.Tally.{EachEntry, EntryIs, IsFilled, IsFilledBy, IsFilledByEnd, Tally, Tasks, after_entry, asked_by_task, asked_for, asked_if, made_next, made_if, next_task, pages_by_task, tally}
+use Rattle.gc_worker.specs.History.Tally.{EachEntry, EntryIs, IsFilled, IsFilledBy, IsFilledByEnd, Tally, Tasks, after_entry, asked_by_task, asked_for, asked_unless_ended, made_next, made_if, next_task, pages_by_task, tally}
 use Rattle.gc_worker.specs.Marks.{end_mark, task_of}
 use Rattle.gc_worker.specs.Turned.{Answers}
 use Rattle.gc_worker.proofs.Between.Others.{answers_leave_the_others}
@@ -69,11 +69,11 @@ module _ (code : List (List Instr)) (turns : ℕ) (tasks : Tasks) where
             let within = slice_get_within p.mutators j q its in
             asks code turns p j q (omega (arith, within, sections)) its none instr asked (fetched instr (fetch code turns j q) (own (Calls instr) q is its none)) e
 
-        by_end : (q : Mutator) (end : Option End) → slice_get p.mutators j ≡ Some q → q.end ≡ end → asked_if end q o ≡ Some asked → asked_by code turns p j ≡ Some asked
+        by_end : (q : Mutator) (end : Option End) → slice_get p.mutators j ≡ Some q → q.end ≡ end → asked_unless_ended end q o ≡ Some asked → asked_by code turns p j ≡ Some asked
         by_end q None its none e = by_task q o refl its none e
         by_end q (Some end) its some e = absurd (cc)
 
-        by_mutator : (m : Option Mutator) → slice_get p.mutators j ≡ m → option_and_then (λ (q : Mutator). asked_if q.end q o) m ≡ Some asked → asked_by code turns p j ≡ Some asked
+        by_mutator : (m : Option Mutator) → slice_get p.mutators j ≡ m → option_and_then (λ (q : Mutator). asked_unless_ended q.end q o) m ≡ Some asked → asked_by code turns p j ≡ Some asked
         by_mutator None is e = absurd (cc)
         by_mutator (Some q) is e = by_end q q.end is refl e
 
@@ -124,17 +124,17 @@ module _ (code : List (List Instr)) (turns : ℕ) (tasks : Tasks) where
     Later did = (more : ℕ) (then : ℕ → Bool) → t.made + made_if did (pages_by_task t.now c.by (Some c.task)) ≤ more → ((m : ℕ) → cond (m == c.by) false (t.since m) ≡ true → then m ≡ true)
         → Are after more then (order_of es)
 
-    steps : (did : Did) → Later did → (mark : Mark) → mark ≡ Step c.by → turned code turns before mark ≡ after → Are before made since (mark ∷ order_of es)
+    steps : (did : Did) → Later did → (mark : Mark) → mark ≡ Step c.by → story_marked code turns before mark ≡ after → Are before made since (mark ∷ order_of es)
     unfolding EachMayCome
     steps did later mark is turn =
         let most = pages_most t.now sections c.by (Some c.task) its in
         let few = made_most did (pages_by_task t.now c.by (Some c.task)) in
         let rest = later (made + pages_next code turns t.now c.by) (since_by since (Step c.by)) (omega (arith, covers, most, few)) (λ m. drops (m == c.by) (t.since m) (since m) (has m)) in
-        let to : turned code turns before (Step c.by) ≡ after = subst (λ (z : Mark). turned code turns before z ≡ after) is turn in
+        let to : story_marked code turns before (Step c.by) ≡ after = subst (λ (z : Mark). story_marked code turns before z ≡ after) is turn in
         subst (λ (z : Mark). Are before made since (z ∷ order_of es)) (sym is)
         ((tt, subst (λ (s : Story). EachFullIs n code turns s (made + pages_next code turns t.now c.by) (order_of es)) (sym to) rest.0), (tt, rest.1))
 
-    fills : (asked room live : ℕ) → IsFilled n tasks t c.by c.task asked room live es → Later (Trap (ends.HeapFull asked room live)) → turned code turns before (Full c.by asked room live) ≡ after
+    fills : (asked room live : ℕ) → IsFilled n tasks t c.by c.task asked room live es → Later (Trap (ends.HeapFull asked room live)) → story_marked code turns before (Full c.by asked room live) ≡ after
         → Are before made since (Full c.by asked room live ∷ order_of es)
     unfolding EachMayCome
     fills asked room live f later turn =
@@ -149,17 +149,17 @@ module _ (code : List (List Instr)) (turns : ℕ) (tasks : Tasks) where
           filled = f.filled;
           for_records = omega (arith, most, few, covers);
         } in
-        let may : MayCome since t.flips (Full c.by asked room live) = ⊎_elim (λ (e : t.since c.by ≡ true). inl (has c.by e)) (λ (last : t.flips ≡ 2 ^ 32 - 1). inr last) f.no_flip in
+        let may : FullMayCome since t.flips (Full c.by asked room live) = ⊎_elim (λ (e : t.since c.by ≡ true). inl (has c.by e)) (λ (last : t.flips ≡ 2 ^ 32 - 1). inr last) f.no_flip in
         ((full, subst (λ (s : Story). EachFullIs n code turns s made (order_of es)) (sym turn) rest.0), (may, rest.1))
 
-    by_sort : (why : End) → IsFilledByEnd n tasks t c.by c.task why es → Later (Trap why) → turned code turns before (end_mark c.by why) ≡ after → Sort c.by why
+    by_sort : (why : End) → IsFilledByEnd n tasks t c.by c.task why es → Later (Trap why) → story_marked code turns before (end_mark c.by why) ≡ after → Sort c.by why
         → Are before made since (end_mark c.by why ∷ order_of es)
     by_sort why f later turn (IsStep is calls) = steps (Trap why) later (end_mark c.by why) is turn
     by_sort why f later turn (IsFull asked room live is) =
-        subst (λ (end : End). IsFilledByEnd n tasks t c.by c.task end es → Later (Trap end) → turned code turns before (end_mark c.by end) ≡ after → Are before made since (end_mark c.by end ∷ order_of es)) (sym is)
+        subst (λ (end : End). IsFilledByEnd n tasks t c.by c.task end es → Later (Trap end) → story_marked code turns before (end_mark c.by end) ≡ after → Are before made since (end_mark c.by end ∷ order_of es)) (sym is)
         (fills asked room live) f later turn
 
-    call_fills : (did : Did) → IsFilledBy n tasks t c.by c.task did es → Later did → turned code turns before (mark_by c.by did) ≡ after → Are before made since (mark_by c.by did ∷ order_of es)
+    call_fills : (did : Did) → IsFilledBy n tasks t c.by c.task did es → Later did → story_marked code turns before (mark_by c.by did) ≡ after → Are before made since (mark_by c.by did ∷ order_of es)
     call_fills Done f later turn = steps Done later (Step c.by) refl turn
     call_fills (Trap why) f later turn = by_sort why f later turn (sort c.by why)
 
@@ -187,14 +187,14 @@ module _ (code : List (List Instr)) (turns : ℕ) (tasks : Tasks) where
   -- ---- what it makes
 
   call_made : (t : Tally) (made : ℕ) (c : Call) → length t.now.mutators ≡ length code → IsNext code turns t.now c.by (Some c.task) → t.made ≤ made
-      → t.made + made_if c.did (pages_by_task t.now c.by (Some c.task)) ≤ made_by code turns t.now made (mark_by c.by c.did)
+      → t.made + made_if c.did (pages_by_task t.now c.by (Some c.task)) ≤ made_by_mark code turns t.now made (mark_by c.by c.did)
   call_made t made c sections its covers = by_did c.did
     where
-      by_sort : (why : End) → Sort c.by why → t.made ≤ made_by code turns t.now made (end_mark c.by why)
+      by_sort : (why : End) → Sort c.by why → t.made ≤ made_by_mark code turns t.now made (end_mark c.by why)
       by_sort why (IsStep is calls) = rw is (omega (arith, covers))
       by_sort why (IsFull asked room live is) = rw is covers
 
-      by_did : (did : Did) → t.made + made_if did (pages_by_task t.now c.by (Some c.task)) ≤ made_by code turns t.now made (mark_by c.by did)
+      by_did : (did : Did) → t.made + made_if did (pages_by_task t.now c.by (Some c.task)) ≤ made_by_mark code turns t.now made (mark_by c.by did)
       by_did Done = let most = pages_most t.now sections c.by (Some c.task) its in omega (arith, covers, most)
       by_did (Trap why) = let most = by_sort why (sort c.by why) in omega (arith, most)
 
@@ -203,7 +203,7 @@ module _ (code : List (List Instr)) (turns : ℕ) (tasks : Tasks) where
       → (tally t log).made ≤ made_after code turns (record { flip = t.flip; now = t.now }) made (order_of log)
   order_makes t made [] legal sections own covers = covers
   order_makes t made (Made c ∷ es) legal sections own covers =
-      let more = made_by code turns t.now made (mark_by c.by c.did) in
+      let more = made_by_mark code turns t.now made (mark_by c.by c.did) in
       let most = call_made t made c sections (λ task q is its none. sym (same_Some c.task task is) ∙ (own c.by).0 refl q its) covers in
       subst (λ (s : Story). (tally (after_entry t (Made c)) es).made ≤ made_after code turns s more (order_of es))
       (sym (call_turns code turns t.now t.flip c legal.0 sections ((own c.by).0 refl)))
@@ -216,20 +216,20 @@ module _ (code : List (List Instr)) (turns : ℕ) (tasks : Tasks) where
 pub at_full : (n : ℕ) (code : List (List Instr)) (turns : ℕ) (s : Story) (made : ℕ) (front rest : List Mark) (m asked room live : ℕ)
     → EachFullIs n code turns s made (front ++ Full m asked room live ∷ rest) → IsFullAt n code turns (story_after code turns s front) (made_after code turns s made front) m asked room live
 at_full n code turns s made [] rest m asked room live each = each.0
-at_full n code turns s made (mark ∷ front) rest m asked room live each = at_full n code turns (turned code turns s mark) (made_by code turns s.now made mark) front rest m asked room live each.1
+at_full n code turns s made (mark ∷ front) rest m asked room live each = at_full n code turns (story_marked code turns s mark) (made_by_mark code turns s.now made mark) front rest m asked room live each.1
 
 -- and to whether it may come
-pub may_come_at : (since : ℕ → Bool) (flips : ℕ) (front rest : List Mark) (mark : Mark) → EachMayCome since flips (front ++ mark ∷ rest) → MayCome (since_in since front) (flips_in flips front) mark
+pub may_come_at : (since : ℕ → Bool) (flips : ℕ) (front rest : List Mark) (mark : Mark) → EachMayCome since flips (front ++ mark ∷ rest) → FullMayCome (since_in since front) (flips_in flips front) mark
 unfolding EachMayCome
 may_come_at since flips [] rest mark each = each.0
 may_come_at since flips (first ∷ front) rest mark each = may_come_at (since_by since first) (flips_by flips first) front rest mark each.1
 
-pub large_is_never_full : (n : ℕ) (code : List (List Instr)) (turns : ℕ) (order : List Mark) → EachFullIs n code turns (opened code) 0 order → EachMayCome (λ j. false) 0 order
+pub large_is_never_full : (n : ℕ) (code : List (List Instr)) (turns : ℕ) (order : List Mark) → EachFullIs n code turns (first_story code) 0 order → EachMayCome (λ j. false) 0 order
     → IsLargeEnough n code turns order → HasNoFull order
 large_is_never_full n code turns order each may large front rest m asked room live is =
     let mark = Full m asked room live in
     let comes = may_come_at (λ j. false) 0 front rest mark (subst (EachMayCome (λ j. false) 0) (sym is) may) in
-    let full = at_full n code turns (opened code) 0 front rest m asked room live (subst (EachFullIs n code turns (opened code) 0) (sym is) each) in
+    let full = at_full n code turns (first_story code) 0 front rest m asked room live (subst (EachFullIs n code turns (first_story code) 0) (sym is) each) in
     let fits = large front (mark ∷ rest) m is comes asked live full.asked_is full.live_is in
     let filled = full.filled in
     let few = full.for_records in

@@ -10,11 +10,11 @@ use Rattle.heap_state.specs.Table.{Table}
 use Rattle.heap_state.proofs.Table.Writing.{writes_tables}
 use Rattle.heap_laws.specs.Opening.{opening_entries, opening_plain}
 use Rattle.heap_laws.proofs.Opening.Heap.{entries_fit}
-use Rattle.gc_worker.specs.Between.{fresh_mutator, fresh_scanner, fresh_worker, opening}
+use Rattle.gc_worker.specs.Between.{fresh_mutator, fresh_scanner, fresh_worker, opening_heap}
 use Rattle.gc_worker.specs.Cycles.{IsFirst, low_at, low_of, low_said}
 use Rattle.gc_worker.specs.Held.{Held}
 use Rattle.gc_worker.specs.Law.{Heap, WorkersStand, epoch_of, held_at, read}
-use Rattle.gc_worker.specs.Turned.{epoch_in}
+use Rattle.gc_worker.specs.Turned.{epoch_in_gate}
 use Rattle.gc_worker.proofs.Areas.{area_says, is_space}
 use Rattle.gc_worker.proofs.Between.Opening.{heaps_open, is_there, many}
 use Rattle.gc_worker.proofs.Gate.Words.{gate_says}
@@ -26,7 +26,7 @@ whole_at_first n = refl
 
 module _ (n mutators scanners : ℕ) (size : IsPageCount n) (few : mutators ≤ 16) (all : mutators + scanners ≤ 24) where
   abbrev h : Heap
-  h = opening n mutators scanners
+  h = opening_heap n mutators scanners
 
   stands : WorkersStand h (opening_plain mutators) (opening_plain mutators)
   stands = heaps_open n mutators scanners size few all
@@ -35,7 +35,7 @@ module _ (n mutators scanners : ℕ) (size : IsPageCount n) (few : mutators ≤ 
   says = (writes_tables n (opening_entries n) (entries_fit n size)).says
 
   epoch : epoch_of n h.words ≡ 0
-  epoch = ap (epoch_in 0) (gate_says (read h) (opening_plain mutators) stands.stands) ∙ ap (λ (t : Table). t.gate.epoch) says
+  epoch = ap (epoch_in_gate 0) (gate_says (read h) (opening_plain mutators) stands.stands) ∙ ap (λ (t : Table). t.gate.epoch) says
 
   pub low : low_of n h.words ≡ PAGE_WORDS * n
   low =

@@ -6,12 +6,12 @@ use Rattle.std.proofs.lemmas.List.{length-replicate}
 use Rattle.std.proofs.lemmas.Option.{slice_get_within}
 use Rattle.plain_state.specs.State.{Mutator, Plain}
 use Rattle.mutator_asm.specs.declared.instr.Instr.{Instr}
-use Rattle.plain_heap.specs.Order.{Story, marked, opening, plain, state_after, story, story_after, turned}
+use Rattle.plain_heap.specs.Order.{Story, marked, opening, plain, state_after, story, story_after, story_marked}
 use Rattle.plain_heap.specs.Step.{fetch}
 use Rattle.heap_laws.specs.Opening.{opening_mutator, opening_plain}
 use Rattle.gc_worker.specs.declared.task.Task.{Task}
 use Rattle.gc_worker.specs.Answer.{ComesTo, MayCome}
-use Rattle.gc_worker.specs.Marks.{Acts, EachActs, task_of}
+use Rattle.gc_worker.specs.Marks.{MarkActs, EachActs, task_of}
 use Rattle.gc_worker.proofs.Outcomes.{Sort, IsFull, IsStep, sort, comes, asks_then, opens_so, was_running}
 use Rattle.gc_worker.specs.declared.call.Call.{Call}
 use Rattle.gc_worker.specs.declared.did.Did.{Did}
@@ -72,27 +72,27 @@ module _ (code : List (List Instr)) (turns : ℕ) where
     marks_so (Trap why) may = comes code turns p m q has is running (Trap why) (rw own at may) ∙ rw is refl
 
     -- and acts
-    mark_acts : (did : Did) → MayCome m p.heap q task did → IsShort did → Acts code turns p (mark_by m did)
+    mark_acts : (did : Did) → MayCome m p.heap q task did → IsShort did → MarkActs code turns p (mark_by m did)
     mark_acts Done may short = was_running code turns p m q has is running
     mark_acts (Trap why) may short = by_sort (sort m why)
       where
-        by_sort : Sort m why → Acts code turns p (mark_by m (Trap why))
+        by_sort : Sort m why → MarkActs code turns p (mark_by m (Trap why))
         by_sort (IsStep s c) = rw s (was_running code turns p m q has is running)
         by_sort (IsFull asked room live e) = rw e (was_running code turns p m q has is running, asks_then code turns p m q has is running asked room live (rw (own, e) at may), rw e at short)
 
   -- it is no flip
-  no_flip : (p o : Plain) (m : ℕ) (did : Did) → turned code turns (record { flip = o; now = p }) (mark_by m did) ≡ record { flip = o; now = marked code turns p (mark_by m did) }
+  no_flip : (p o : Plain) (m : ℕ) (did : Did) → story_marked code turns (record { flip = o; now = p }) (mark_by m did) ≡ record { flip = o; now = marked code turns p (mark_by m did) }
   no_flip p o m Done = refl
   no_flip p o m (Trap why) = by_sort (sort m why)
     where
-      by_sort : Sort m why → turned code turns (record { flip = o; now = p }) (mark_by m (Trap why)) ≡ record { flip = o; now = marked code turns p (mark_by m (Trap why)) }
+      by_sort : Sort m why → story_marked code turns (record { flip = o; now = p }) (mark_by m (Trap why)) ≡ record { flip = o; now = marked code turns p (mark_by m (Trap why)) }
       by_sort (IsStep s c) = rw s refl
       by_sort (IsFull asked room live e) = rw e refl
 
   -- what a call does to the story its mark does
   pub call_turns : (p o : Plain) (c : Call) → ComesTo p c.by c.task c.did → length p.mutators ≡ length code
       → ((q : Mutator) → slice_get p.mutators c.by ≡ Some q → c.task ≡ task_of (fetch code turns c.by q))
-      → turned code turns (record { flip = o; now = p }) (mark_by c.by c.did) ≡ record { flip = o; now = after_call p c }
+      → story_marked code turns (record { flip = o; now = p }) (mark_by c.by c.did) ≡ record { flip = o; now = after_call p c }
   call_turns p o c h sections own =
       let within = slice_get_within p.mutators c.by h.mutator h.is in
       let same = marks_so p c.by h.mutator (omega (arith, within, sections)) h.is h.no_end c.task (own h.mutator h.is) c.did h.may in
@@ -101,7 +101,7 @@ module _ (code : List (List Instr)) (turns : ℕ) where
   -- ---- a history
 
   -- one call more at its beginning
-  first : (p o : Plain) (c : Call) (es : List Entry) → marked code turns p (mark_by c.by c.did) ≡ after_call p c → Acts code turns p (mark_by c.by c.did) → IsOrder code turns (after_call p c) o es
+  first : (p o : Plain) (c : Call) (es : List Entry) → marked code turns p (mark_by c.by c.did) ≡ after_call p c → MarkActs code turns p (mark_by c.by c.did) → IsOrder code turns (after_call p c) o es
       → IsOrder code turns p o (Made c ∷ es)
   first p o c es same act rest = record {
     state = ap (λ (z : Plain). state_after code turns z (order_of es)) same ∙ rest.state;

@@ -23,9 +23,9 @@ use Rattle.mutator_asm.specs.declared.operand.Operand.TheVariants as operands
 use Rattle.mutator_asm.specs.Program.{is_operand, is_register, is_valid}
 use Rattle.plain_heap.specs.declared.action.Action.{Action}
 use Rattle.plain_heap.specs.declared.action.Action.TheVariants.{Makes, Prints}
-use Rattle.plain_heap.specs.Action.{◌>>=◌, action, allocates, board_place, computes, length_of, number_in, operand, reference_in, register}
+use Rattle.plain_heap.specs.Action.{◌>>=◌, action, allocates, board_place, computes, length_of, as_number, operand, reference_in, register}
 use Rattle.plain_heap.proofs.Outcomes.{if_ok-bind, if_ok-is}
-use Rattle.gc_worker.specs.Between.{Shows}
+use Rattle.gc_worker.specs.Between.{ShowsRegisters}
 use Rattle.gc_worker.specs.Fits.{IsMaking}
 use Rattle.gc_worker.specs.Held.{Held}
 use Rattle.gc_worker.specs.Seen.{IsValueAs, IsValueWord, seen, seen_as, value_seen}
@@ -35,7 +35,7 @@ abbrev IsSameRecord : Result Action End → Action → Type 0
 IsSameRecord theirs (Makes kind d n) = theirs ≡ Ok (Makes kind d n)
 IsSameRecord theirs act = ⊤
 
-module _ (x : Held) (q : Mutator) (eight : length x.registers ≡ REGISTERS) (values : (r : ℕ) → r < REGISTERS → IsValueWord (slice_index x.registers r)) (shows : Shows x.registers q) where
+module _ (x : Held) (q : Mutator) (eight : length x.registers ≡ REGISTERS) (values : (r : ℕ) → r < REGISTERS → IsValueWord (slice_index x.registers r)) (shows : ShowsRegisters x.registers q) where
   -- as the worker sees it
   abbrev sight : Mutator
   sight = seen x.account x.registers
@@ -46,11 +46,11 @@ module _ (x : Held) (q : Mutator) (eight : length x.registers ≡ REGISTERS) (va
   sees : (r : ℕ) → r < REGISTERS → register sight r ≡ value_seen (word r)
   sees r small = get_or-map value_seen x.registers r 0 (Number 0) (omega (arith, eight, small))
 
-  number_of : (r n : ℕ) → r < REGISTERS → number_in (register sight r) ≡ Ok n → number_in (register q r) ≡ Ok n
-  number_of r n small e = by_word (decode (word r)) refl (values r small) (sym (ap number_in (sees r small)) ∙ e)
+  number_of : (r n : ℕ) → r < REGISTERS → as_number (register sight r) ≡ Ok n → as_number (register q r) ≡ Ok n
+  number_of r n small e = by_word (decode (word r)) refl (values r small) (sym (ap as_number (sees r small)) ∙ e)
     where
-      by_word : (d : Decoded) → decode (word r) ≡ d → IsValueAs d → number_in (seen_as d) ≡ Ok n → number_in (register q r) ≡ Ok n
-      by_word (NumberWord m) is value e = ap number_in (get_or_from_slice_get q.registers r (Number m) (Number 0) (shows.numbers r m small is)) ∙ e
+      by_word : (d : Decoded) → decode (word r) ≡ d → IsValueAs d → as_number (seen_as d) ≡ Ok n → as_number (register q r) ≡ Ok n
+      by_word (NumberWord m) is value e = ap as_number (get_or_from_slice_get q.registers r (Number m) (Number 0) (shows.numbers r m small is)) ∙ e
       by_word (PointerWord a) is value e = absurd (let never = e in cc)
       by_word (HeaderWord kind len serial mutator) is value e = absurd value
       by_word (ForwardWord len a) is value e = absurd value
@@ -81,7 +81,7 @@ module _ (x : Held) (q : Mutator) (eight : length x.registers ≡ REGISTERS) (va
 
     computed : (operation : Operation) (d a b : ℕ) → IsSo (computes operation sight d a b)
     computed operation d a b =
-        if_ok-bind _ (number_in (register sight a)) _ (λ y. if_ok-bind _ (number_in (register sight b)) _ (λ z. if_ok-bind _ (applied operation y z) _ (λ n. tt)))
+        if_ok-bind _ (as_number (register sight a)) _ (λ y. if_ok-bind _ (as_number (register sight b)) _ (λ z. if_ok-bind _ (applied operation y z) _ (λ n. tt)))
 
     printed : (n : ℕ) (fits : Bool) → IsSo (cond fits (Ok (Prints n)) (Err OutputFull))
     printed n true = tt
@@ -106,7 +106,7 @@ module _ (x : Held) (q : Mutator) (eight : length x.registers ≡ REGISTERS) (va
   makes_same (instrs.Jmp target) valid = tt
   makes_same (instrs.Jz a target) valid = tt
   makes_same (instrs.Jal d target) valid = tt
-  makes_same (instrs.Jr a) valid = if_ok-bind _ (number_in (register sight a)) _ (λ n. tt)
+  makes_same (instrs.Jr a) valid = if_ok-bind _ (as_number (register sight a)) _ (λ n. tt)
   makes_same (instrs.Ld d a y) valid = if_ok-bind _ (reference_in (register sight a)) _ (λ i. if_ok-bind _ (operand sight y) _ (λ n. tt))
   makes_same (instrs.St a y b) valid = if_ok-bind _ (reference_in (register sight a)) _ (λ i. if_ok-bind _ (operand sight y) _ (λ n. tt))
   makes_same (instrs.Len d a) valid = if_ok-bind _ (reference_in (register sight a)) _ (λ i. tt)
@@ -114,7 +114,7 @@ module _ (x : Held) (q : Mutator) (eight : length x.registers ≡ REGISTERS) (va
   makes_same (instrs.Get d y) valid = if_ok-bind _ (board_place sight y) _ (λ n. tt)
   makes_same (instrs.Put y a) valid = if_ok-bind _ (board_place sight y) _ (λ n. tt)
   makes_same (instrs.Swap d y) valid = if_ok-bind _ (board_place sight y) _ (λ n. tt)
-  makes_same (instrs.Out a) valid = if_ok-bind _ (number_in (register sight a)) _ (λ n. printed _ n (nat_lt (length sight.printed) MOST_PRINTED))
+  makes_same (instrs.Out a) valid = if_ok-bind _ (as_number (register sight a)) _ (λ n. printed _ n (nat_lt (length sight.printed) MOST_PRINTED))
   makes_same instrs.Halt valid = tt
 
   pub makes_its_record : (making : IsMaking x.account x.registers x.task) → action q making.executes.instr ≡ Ok (Makes making.making.kind making.making.into making.making.len)

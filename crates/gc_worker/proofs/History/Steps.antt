@@ -18,15 +18,15 @@ use Rattle.gc_worker.specs.declared.stage.Stage.TheVariants.{Looks, Flips}
 use Rattle.gc_worker.specs.declared.task.Task.{Task}
 use Rattle.gc_worker.specs.Answer.{ComesTo, IsAnswered}
 use Rattle.gc_worker.specs.Begun.{IsPastLook}
-use Rattle.gc_worker.specs.Between.{GoesOn, IsAsPlain, IsNoAnswer, IsSo}
-use Rattle.gc_worker.specs.Cycles.{IsFirst, IsInCall, LowGoes, SetsAside, claimed, low_at, low_of, low_said, set_aside}
+use Rattle.gc_worker.specs.Between.{KeepsToTask, IsAsPlain, IsNoAnswer, IsSo}
+use Rattle.gc_worker.specs.Cycles.{IsFirst, IsInCall, LowGoes, SetsAside, words_claimed, low_at, low_of, low_said, set_aside}
 use Rattle.gc_worker.specs.Fits.{Fits, FitsEnd, FitsTask, IsMaking, IsOnSide}
 use Rattle.gc_worker.specs.Full.{FindsNoRoom, FullWhereTold}
 use Rattle.gc_worker.specs.Held.{Held}
 use Rattle.gc_worker.specs.Knows.{post_in}
 use Rattle.gc_worker.specs.Law.{FlipsOnce, FlipsWhereTold, Heap, StepKeeps, WorkersStand, epoch_of, held_at, moved, nobody}
 use Rattle.gc_worker.specs.declared.did.Did.TheVariants.{Done, Trap}
-use Rattle.gc_worker.specs.Turned.{Told, Silent, Answers, Marks, epoch_in, told, turned}
+use Rattle.gc_worker.specs.Turned.{Told, Silent, Answers, Marks, epoch_in_gate, told, turned}
 use Rattle.gc_worker.specs.Wanted.{wanted}
 use Rattle.gc_worker.proofs.Between.Begun.{beginnings_are_kept, full_is_found_later}
 use Rattle.gc_worker.proofs.Between.Claims.{flips_at}
@@ -42,7 +42,7 @@ use Rattle.gc_worker.proofs.NewRecords.{asked_is, plain_pages}
 use Rattle.gc_worker.proofs.Whole.{steps_keep}
 use Rattle.gc_worker.specs.declared.entry.Entry.{Entry}
 use Rattle.gc_worker.specs.History.Tally.{FitsTally, EachEntry, EntryIs, IsAskedFor, IsFilled, IsFilledByEnd, IsTallied, Tally, Tasks, aside_in, asked_by_task, made_next, next_task, pages_by_task, tally, tasks_held}
-use Rattle.gc_worker.specs.History.Legal.{call, extra}
+use Rattle.gc_worker.specs.History.Legal.{worker_call, extra}
 use Rattle.gc_worker.proofs.History.Aside.{aside_changes, aside_most, aside_of_others}
 use Rattle.gc_worker.proofs.History.FullHeaps.{full_asks, full_calls, past_look}
 use Rattle.gc_worker.proofs.History.Records.{makes_its_record}
@@ -98,7 +98,7 @@ module _ (h : Heap) (k : ℕ) (y : Held) (q : Step) (below : k < length h.worker
   its_mutator : k < h.mutators → (w : Mutator) × (slice_get p.mutators k ≡ Some w)
   its_mutator few = (get_or p.mutators k fresh, slice_get-get_or p.mutators k fresh (let many = so.as_many in omega (arith, few, many)))
 
-  goes : GoesOn y reply
+  goes : KeepsToTask y reply
   goes = workers_go_on n h.mutators k y reply fits
 
   it_holds : held_at after k ≡ z
@@ -111,11 +111,11 @@ module _ (h : Heap) (k : ℕ) (y : Held) (q : Step) (below : k < length h.worker
   -- ---- the words claimed
 
   abbrev claims_after : Told → ℕ
-  claims_after Silent = c.claims + claimed y reply
-  claims_after (Answers task outcome) = c.claims + claimed y reply
+  claims_after Silent = c.claims + words_claimed y reply
+  claims_after (Answers task outcome) = c.claims + words_claimed y reply
   claims_after (Marks asked) = 0
 
-  low_after : (u : Told) → LowGoes n h.words words' (claimed y reply) u → low_of n words' + claims_after u ≡ PAGE_WORDS * n
+  low_after : (u : Told) → LowGoes n h.words words' (words_claimed y reply) u → low_of n words' + claims_after u ≡ PAGE_WORDS * n
   low_after Silent low = let was = c.low in omega (arith, low, was)
   low_after (Answers task outcome) low = let was = c.low in omega (arith, low, was)
   low_after (Marks asked) low = omega (arith, low)
@@ -125,7 +125,7 @@ module _ (h : Heap) (k : ℕ) (y : Held) (q : Step) (below : k < length h.worker
       subst (λ (asks : Option Task). set_aside y ≤ PAGE_WORDS * pages_by_task p k asks) is
       (subst (λ (x : Held). set_aside x ≤ PAGE_WORDS * pages_by_task p k x.task) holds (aside_most h p o st k below))
 
-  covers_after : (u : Told) → told y reply ≡ u → SetsAside y (claimed y reply) z u → claims_after u ≤ PAGE_WORDS * (then_by u).made + aside_in after
+  covers_after : (u : Told) → told y reply ≡ u → SetsAside y (words_claimed y reply) z u → claims_after u ≤ PAGE_WORDS * (then_by u).made + aside_in after
   covers_after Silent e sets = let was = c.for_records in let change = aside_changes h k y q below holds in omega (arith, sets, was, change)
   covers_after (Answers task Done) e sets =
       let was = c.for_records in
@@ -326,8 +326,8 @@ module _ (h : Heap) (k : ℕ) (y : Held) (q : Step) (below : k < length h.worker
   counts_by : (u : Told) → told y reply ≡ u → FitsTally after (then_by u)
   counts_by u e = record {
     claims = claims_after u;
-    low = low_after u (subst (LowGoes n h.words words' (claimed y reply)) e (low_falls_by_claims h p o k y q st below holds want));
-    for_records = covers_after u e (subst (SetsAside y (claimed y reply) z) e (claims_are_set_aside n h.mutators k y reply fits));
+    low = low_after u (subst (LowGoes n h.words words' (words_claimed y reply)) e (low_falls_by_claims h p o k y q st below holds want));
+    for_records = covers_after u e (subst (SetsAside y (words_claimed y reply) z) e (claims_are_set_aside n h.mutators k y reply fits));
     none_made = none_after u e;
     epoch = epoch_after u (subst (FlipsWhereTold n h.words words' y) e law.flips);
     begun = begun_after u;
@@ -350,7 +350,7 @@ module _ (h : Heap) (k : ℕ) (y : Held) (q : Step) (below : k < length h.worker
     comes = subst (IsAnswered p k) e law.answered
 
     of_now : epoch_of n h.words ≡ y.epoch
-    of_now = ap (epoch_in 0) found.gate_is ∙ found.epoch
+    of_now = ap (epoch_in_gate 0) found.gate_is ∙ found.epoch
 
     few : k < h.mutators
     few = let inside = slice_get_within p.mutators k comes.mutator comes.is in let many = so.as_many in omega (arith, inside, many)
@@ -367,7 +367,7 @@ module _ (h : Heap) (k : ℕ) (y : Held) (q : Step) (below : k < length h.worker
 
     none_aside : set_aside (held_at h k) ≡ 0
     none_aside =
-        let sets : claimed y reply + set_aside y ≡ 0 = subst (SetsAside y (claimed y reply) z) e (claims_are_set_aside n h.mutators k y reply fits) in
+        let sets : words_claimed y reply + set_aside y ≡ 0 = subst (SetsAside y (words_claimed y reply) z) e (claims_are_set_aside n h.mutators k y reply fits) in
         ap set_aside holds ∙ (omega (arith, sets))
 
     for_others : c.claims ≤ PAGE_WORDS * (t.made + made_next t.now tasks k [])

@@ -13,7 +13,7 @@ use Rattle.gc_worker.specs.declared.did.Did.TheVariants.{Done, Trap}
 use Rattle.gc_worker.specs.declared.entry.Entry.{Entry}
 use Rattle.gc_worker.specs.declared.entry.Entry.TheVariants.{Made, Exchanged}
 use Rattle.gc_worker.proofs.History.Sums.{sum_below-most}
-use Rattle.gc_worker.specs.History.Tally.{EachEntry, EntryIs, IsFilled, IsFilledBy, IsFilledByEnd, Tally, Tasks, after_entry, asked_by_task, asked_if, made_next, next_task, pages_by_task, tally}
+use Rattle.gc_worker.specs.History.Tally.{EachEntry, EntryIs, IsFilled, IsFilledBy, IsFilledByEnd, Tally, Tasks, after_entry, asked_by_task, asked_unless_ended, made_next, next_task, pages_by_task, tally}
 use Rattle.gc_worker.specs.Answer.{after_told}
 use Rattle.gc_worker.specs.History.Legal.{after_all, extra, flip_from}
 use Rattle.gc_worker.specs.Law.{at_flip}
@@ -59,11 +59,11 @@ entry_at P t (x ∷ xs) e ys h = entry_at P (after_entry t x) xs e ys h.1
 asks_none : (p : Plain) (j : ℕ) → asked_by_task p j None ≡ None
 asks_none p j = by_mutator (slice_get p.mutators j)
   where
-    by_end : (q : Mutator) (end : Option End) → asked_if end q None ≡ None
+    by_end : (q : Mutator) (end : Option End) → asked_unless_ended end q None ≡ None
     by_end q None = refl
     by_end q (Some end) = refl
 
-    by_mutator : (o : Option Mutator) → option_and_then (λ (q : Mutator). asked_if q.end q None) o ≡ None
+    by_mutator : (o : Option Mutator) → option_and_then (λ (q : Mutator). asked_unless_ended q.end q None) o ≡ None
     by_mutator None = refl
     by_mutator (Some q) = by_end q q.end
 
@@ -80,7 +80,7 @@ module _ (p : Plain) (j : ℕ) where
 pub asks_as : (p : Plain) (j : ℕ) (q : Mutator) (instr : Instr) (pages : ℕ) → slice_get p.mutators j ≡ Some q → q.end ≡ None → option_map pages_of (new_record q instr) ≡ Some pages
     → asked_by_task p j (Some (Calls instr)) ≡ Some pages
 asks_as p j q instr pages is none e =
-    ap (λ (o : Option Mutator). option_and_then (λ (m : Mutator). asked_if m.end m (Some (Calls instr))) o) is ∙ (ap (λ (end : Option End). asked_if end q (Some (Calls instr))) none ∙ e)
+    ap (λ (o : Option Mutator). option_and_then (λ (m : Mutator). asked_unless_ended m.end m (Some (Calls instr))) o) is ∙ (ap (λ (end : Option End). asked_unless_ended end q (Some (Calls instr))) none ∙ e)
 
 -- ---- a history that grows, while workers go on
 

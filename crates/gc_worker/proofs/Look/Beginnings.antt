@@ -17,8 +17,8 @@ use Rattle.heap_state.specs.Configuration.{Configuration, Stands, era, memory, t
 use Rattle.gc_worker.specs.declared.access_stage.AccessStage.{AccessStage}
 use Rattle.gc_worker.specs.declared.stage.Stage.TheVariants.{Looks, Accesses}
 use Rattle.gc_worker.specs.declared.task.Task.TheVariants.{Calls}
-use Rattle.gc_worker.specs.Access.{FitsStage, IsInHeap, IsAccessOf}
-use Rattle.gc_worker.specs.Fits.{MayBegin, FitsCall, Executes, IsMaking}
+use Rattle.gc_worker.specs.Access.{FitsStage, IsHeapAddress, IsAccessOf}
+use Rattle.gc_worker.specs.Fits.{MayBegin, FitsCall, ExecutesAction, IsMaking}
 use Rattle.gc_worker.specs.Goes.{Is, Goes}
 use Rattle.gc_worker.specs.Held.{Held, at_stage, header_for}
 use Rattle.gc_worker.specs.Knows.{knows}
@@ -46,7 +46,7 @@ module _ (c : Configuration) (p : Plain) (s : Stands c p) (k : ℕ) (y : Held) w
     abbrev Acts : Action → Type 0
     Acts act = action (seen x.account x.registers) instr ≡ Ok act
 
-    executes : (act : Action) → Acts act → Executes x.account x.registers x.task act
+    executes : (act : Action) → Acts act → ExecutesAction x.account x.registers x.task act
     executes act is_act = record { instr = instr; task_is = task; call = call; acts = is_act }
 
     -- ---- an allocation
@@ -67,7 +67,7 @@ module _ (c : Configuration) (p : Plain) (s : Stands c p) (k : ℕ) (y : Held) w
     small_in = writes c p s k x is refl unended q its instr call.valid
 
     -- a record that a register leads to lies in the heap
-    in_heap : (i : Identity) → Holds c p s k x is refl unended q its (Reference i) → IsInHeap x.layout.pages i.serial
+    in_heap : (i : Identity) → Holds c p s k x is refl unended q its (Reference i) → IsHeapAddress x.layout.pages i.serial
     in_heap i holds =
         let led = headers_are_read (era c) (memory c) (team c) s.ghost p k (pointer_word i.serial) i.serial (prepared c p s k x is) s.shown holds.held
         (points s.ghost.identity i.serial (s.ghost.identity i.serial) holds.denotes) in

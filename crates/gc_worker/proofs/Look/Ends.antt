@@ -18,7 +18,7 @@ use Rattle.mutator_asm.specs.declared.operand.Operand.{Operand}
 use Rattle.mutator_asm.specs.declared.operand.Operand.TheVariants as operands
 use Rattle.plain_heap.specs.declared.action.Action.{Action}
 use Rattle.plain_heap.specs.declared.action.Action.TheVariants.{Prints}
-use Rattle.plain_heap.specs.Action.{◌>>=◌, register, number_in, reference_in, operand, length_of, on_board, board_place, computes, allocates, action}
+use Rattle.plain_heap.specs.Action.{◌>>=◌, register, as_number, reference_in, operand, length_of, on_board, board_place, computes, allocates, action}
 use Rattle.gc_worker.specs.Fits.{MayStop}
 
 -- where it has an end, it is not that the heap is full
@@ -30,7 +30,7 @@ bind : {A B : Type 0} (o : Result A End) (f : A → Result B End) → Stops o �
 bind (Ok a) f first next = next a
 bind (Err why) f first next = first
 
-number_stops : (v : Value) → Stops (number_in v)
+number_stops : (v : Value) → Stops (as_number v)
 number_stops (Number n) = tt
 number_stops (Reference i) = tt
 
@@ -61,7 +61,7 @@ module _ (m : Mutator) where
 
   computes_stops : (operation : Operation) (d a b : ℕ) → Stops (computes operation m d a b)
   computes_stops operation d a b =
-      bind (number_in (register m a)) _ (number_stops (register m a)) (λ x. bind (number_in (register m b)) _ (number_stops (register m b)) (λ y. bind (applied operation x y) _ (applied_stops operation x y) (λ n. tt)))
+      bind (as_number (register m a)) _ (number_stops (register m a)) (λ x. bind (as_number (register m b)) _ (number_stops (register m b)) (λ y. bind (applied operation x y) _ (applied_stops operation x y) (λ n. tt)))
 
   allocates_stops : (kind : Kind) (d : ℕ) (x : Operand) → Stops (allocates m kind d x)
   allocates_stops kind d x =
@@ -84,7 +84,7 @@ module _ (m : Mutator) where
   action_stops (instrs.Jmp target) = tt
   action_stops (instrs.Jz a target) = tt
   action_stops (instrs.Jal d target) = tt
-  action_stops (instrs.Jr a) = bind (number_in (register m a)) _ (number_stops (register m a)) (λ n. tt)
+  action_stops (instrs.Jr a) = bind (as_number (register m a)) _ (number_stops (register m a)) (λ n. tt)
   action_stops (instrs.New d x) = allocates_stops Fields d x
   action_stops (instrs.Raw d x) = allocates_stops Raw d x
   action_stops (instrs.Ld d a x) = bind (reference_in (register m a)) _ (reference_stops (register m a)) (λ i. bind (operand m x) _ (operand_stops x) (λ n. tt))
@@ -94,7 +94,7 @@ module _ (m : Mutator) where
   action_stops (instrs.Get d x) = bind (board_place m x) _ (board_stops x) (λ n. tt)
   action_stops (instrs.Put x a) = bind (board_place m x) _ (board_stops x) (λ n. tt)
   action_stops (instrs.Swap d x) = bind (board_place m x) _ (board_stops x) (λ n. tt)
-  action_stops (instrs.Out a) = bind (number_in (register m a)) _ (number_stops (register m a)) (λ n. if_else (Prints n) OutputFull (nat_lt (length m.printed) MOST_PRINTED) tt)
+  action_stops (instrs.Out a) = bind (as_number (register m a)) _ (number_stops (register m a)) (λ n. if_else (Prints n) OutputFull (nat_lt (length m.printed) MOST_PRINTED) tt)
   action_stops instrs.Halt = tt
 
 -- an instruction that ends so by its registers

@@ -15,7 +15,7 @@ use Rattle.alloc_end.specs.declared.place_stage.PlaceStage.{PlaceStage}
 use Rattle.alloc_end.specs.declared.place_stage.PlaceStage.TheVariants.{LoadsTraced, LoadsArea, ExchangesArea, StoresZero}
 use Rattle.alloc_end.specs.declared.run.Run.{Run}
 use Rattle.alloc_end.specs.Place.{Placing, size_of, pages_for, words_for, kept_room, area_after, first_claimed}
-use Rattle.alloc_end.specs.Soundness.{FitsPlaceStage, HasRoom, IsPlacingGoing}
+use Rattle.alloc_end.specs.Soundness.{FitsPlaceStage, AreaHoldsClaim, IsPlacingGoing}
 use Rattle.heap_state.specs.Configuration.{Configuration, Stands, table, era, memory, team}
 use Rattle.heap_state.specs.Entries.{AreaIs}
 use Rattle.heap_state.specs.Worker.{Worker, Stock}
@@ -86,7 +86,7 @@ module _ (c : Configuration) (p : Plain) (s : Stands c p) (k : ℕ) (y : Held) (
     abbrev x : Held
     x = at (ExchangesArea f)
 
-    abbrev room : HasRoom y.layout.pages (words_for header) f
+    abbrev room : AreaHoldsClaim y.layout.pages (words_for header) f
     room = is.fits.stage.sound.stage
 
     abbrev space : ℕ
@@ -142,7 +142,7 @@ module _ (c : Configuration) (p : Plain) (s : Stands c p) (k : ℕ) (y : Held) (
       claims =
           let seen : ((team c).worker k).traced_seen ≡ f.traced = ap (λ (v : Worker). v.traced_seen) is.as_known in
           let ready = prepared c p s k x is in
-          let has = subst (λ (b : Bool). room_laws.HasRoom (era c) (memory c) f.area asked (owed_beside b f.area)) seen
+          let has = subst (λ (b : Bool). room_laws.HasRoomForPages (era c) (memory c) f.area asked (owed_beside b f.area)) seen
           (room_is_seen (era c) (memory c) (team c) s.ghost k asked f.area ready (subst (λ (b : Bool). SeesRoom b f.area asked) (sym seen) sees)) in
           subst (λ (v : Worker). Law c p s k x (Some (AreaIs (to_space (era c).epoch) word)) (stocked v (claimed v.epoch (era c).start f.area asked)) s.ghost) is.as_known
           (claims_pages (era c) (memory c) (team c) s.ghost k asked (owed_beside f.traced f.area) f.area ready (rw is.as_known refl) is_now has)

@@ -37,7 +37,7 @@ use Rattle.gc_worker.specs.Goes.{Is, Goes}
 use Rattle.gc_worker.specs.Held.{Held, at_stage}
 use Rattle.gc_worker.specs.Knows.{knows}
 use Rattle.gc_worker.specs.declared.did.Did.TheVariants.{Trap}
-use Rattle.gc_worker.specs.Turned.{Silent, Answers, is_full, passes, ended, end_of, told_end, turned_place, told_place}
+use Rattle.gc_worker.specs.Turned.{Silent, Answers, finds_full, passes, ended, end_by_shortage, told_end, turned_place, told_place}
 use Rattle.gc_worker.specs.Turned as turning
 use Rattle.gc_worker.proofs.Answering.{LawTo, IsIts, answers}
 use Rattle.gc_worker.proofs.Areas.{area_now, area_says, is_space}
@@ -68,12 +68,12 @@ module _ (c : Configuration) (p : Plain) (s : Stands c p) (k : ℕ) (y : Held) (
   asked = pages_for (size_of header)
 
   abbrev end : End
-  end = end_of (shortage true header area)
+  end = end_by_shortage (shortage true header area)
 
   abbrev after : Held
   after = ended x end
 
-  module _ (is : Is c k x) (full : is_full y ≡ true) (short : fits true (words_for header) area ≡ false) where
+  module _ (is : Is c k x) (full : finds_full y ≡ true) (short : fits true (words_for header) area ≡ false) where
     reads : looked_at_area (placing c p s k y run header (LoadsArea true)) true (decode_area (area_now c space)) ≡ Ended (Full (shortage true header area))
     reads =
         ap (looked_at_area (placing c p s k y run header (LoadsArea true)) true) (area_says c p s space (is_space y.epoch))

@@ -25,7 +25,7 @@ use Rattle.gc_worker.specs.Fits.{Fits, IsMaking}
 use Rattle.gc_worker.specs.Goes.{Is, Goes, StepsSo}
 use Rattle.gc_worker.specs.Held.{Held, at_stage}
 use Rattle.gc_worker.specs.Knows.{knows}
-use Rattle.gc_worker.specs.Turned.{Silent, is_full, passes, ended, end_of, told_end, turned_place, told_place}
+use Rattle.gc_worker.specs.Turned.{Silent, finds_full, passes, ended, end_by_shortage, told_end, turned_place, told_place}
 use Rattle.gc_worker.proofs.Answering.{its_mutator}
 use Rattle.gc_worker.proofs.Areas.{area_now, area_says, is_space}
 use Rattle.gc_worker.proofs.Fitting.{before_passage}
@@ -63,15 +63,15 @@ module _ (c : Configuration) (p : Plain) (s : Stands c p) (k : ℕ) (y : Held) (
   then b = cond b (at c p s k y run header (ExchangesArea (record { traced = true; area = area }))) asks
 
   abbrev Helps : Bool → Type 0
-  Helps b = b ≡ false → is_full y ≡ false
+  Helps b = b ≡ false → finds_full y ≡ false
 
   comes : (b : Bool) → Helps b → by (next b) ≡ then b
   comes true helps = refl
-  comes false helps = ap (λ (b : Bool). cond b (ended x (end_of (shortage true header area))) asks) (helps refl)
+  comes false helps = ap (λ (b : Bool). cond b (ended x (end_by_shortage (shortage true header area))) asks) (helps refl)
 
   silent : (b : Bool) → Helps b → told_place x (told (placing c p s k y run header (next b))) ≡ Silent
   silent true helps = refl
-  silent false helps = ap (λ (b : Bool). cond b (told_end x.task (end_of (shortage true header area))) Silent) (helps refl)
+  silent false helps = ap (λ (b : Bool). cond b (told_end x.task (end_by_shortage (shortage true header area))) Silent) (helps refl)
 
   known : (b : Bool) → knows x ≡ knows (then b)
   known true = refl
@@ -103,7 +103,7 @@ module _ (c : Configuration) (p : Plain) (s : Stands c p) (k : ℕ) (y : Held) (
         (record { pages = is.fits.stage.sound.pages; run = is.fits.stage.sound.run; epoch = is.fits.stage.sound.epoch; stage = subst (FitsPlaceStage y.layout.pages (pages_for (size_of header)) run header) (sym (reads b test)) (stage_fits b test) })
         (worker_fits b test helps)
 
-    goes : (b : Bool) → fits true (words_for header) area ≡ b → (full : Bool) → is_full y ≡ full → Goes c p s k None x (Value (area_now c space))
+    goes : (b : Bool) → fits true (words_for header) area ≡ b → (full : Bool) → finds_full y ≡ full → Goes c p s k None x (Value (area_now c space))
     goes true test full found = goes_on true test (λ e. absurd (cc))
     goes false test false found = goes_on false test (λ e. found)
     goes false test true found =
@@ -114,4 +114,4 @@ module _ (c : Configuration) (p : Plain) (s : Stands c p) (k : ℕ) (y : Held) (
     pub loads_area : StepsSo c p s k x
     loads_area =
         wants c p s k x (Load (place_of c.pages (Area space))) (ap (λ n. Some (Load (place_of n (Area space)))) is.fits.pages)
-        (loads c p s k x (Area space) (is_space y.epoch) (goes (fits true (words_for header) area) refl (is_full y) refl))
+        (loads c p s k x (Area space) (is_space y.epoch) (goes (fits true (words_for header) area) refl (finds_full y) refl))

@@ -13,11 +13,11 @@ use Rattle.forwarding.specs.declared.evac_stage.EvacStage.TheVariants.{LoadsHead
 use Rattle.forwarding.specs.declared.kept_header.KeptHeader.{KeptHeader}
 use Rattle.forwarding.specs.declared.reserved.Reserved.{Reserved}
 use Rattle.forwarding.specs.Evacuation.{Evacuation, size_of}
-use Rattle.forwarding.specs.Left.{advances, left_at, longest}
+use Rattle.forwarding.specs.Left.{advances, left_at, steps_of_longest}
 use Rattle.forwarding.specs.Soundness.{FitsStage}
 use Rattle.forwarding.specs.Taken.{by_area, by_first_word, copied, crossed, first_page, stage_after}
 
-by_word : (word : ℕ) (d : Decoded) → is_header d || is_forward d ≡ true → left_at (by_first_word word d) < longest + 5
+by_word : (word : ℕ) (d : Decoded) → is_header d || is_forward d ≡ true → left_at (by_first_word word d) < steps_of_longest + 5
 by_word word (HeaderWord kind len serial mutator) t = omega arith
 by_word word (ForwardWord len to) t = omega arith
 by_word word (BusyWord len worker) t = absurd (cc)
@@ -25,7 +25,7 @@ by_word word (NumberWord n) t = absurd (cc)
 by_word word (PointerWord address) t = absurd (cc)
 by_word word Malformed t = absurd (cc)
 
-by_front : (kept : KeptHeader) (o : Option AreaWord) → is_some o ≡ true → left_at (by_area kept o) < longest + 3
+by_front : (kept : KeptHeader) (o : Option AreaWord) → is_some o ≡ true → left_at (by_area kept o) < steps_of_longest + 3
 by_front kept (Some area) t = omega arith
 by_front kept None t = absurd (cc)
 

@@ -44,9 +44,9 @@ use Rattle.gc_worker.specs.Fits.{IsMaking}
 use Rattle.gc_worker.specs.Held.{Held, at_stage, header_for, making_for}
 use Rattle.gc_worker.specs.Progress.{IsSameMachine, MayWait}
 use Rattle.gc_worker.specs.Seen.{Making}
-use Rattle.gc_worker.specs.Turned.{Pointed, accessed_by, end_of, ended, first_pointer, flipped_by, forwarded_to, forwards_it, full_by, goes_back, goes_on, is_full, passed_by, passes, places, scanned_by, served_by, with_copy, with_record, allocated_by}
+use Rattle.gc_worker.specs.Turned.{Pointed, accessed_by, end_by_shortage, ended, first_pointer, flipped_by, forwarded_to, forwards_it, full_by, goes_back, goes_on, finds_full, passed_by, passes, places, scanned_by, served_by, with_copy, with_record, allocated_by}
 use Rattle.gc_worker.proofs.NewRecords.{made_is}
-use Rattle.gc_worker.proofs.Pointers.{Found, There, Nowhere, found}
+use Rattle.gc_worker.proofs.Pointers.{FirstPointer, There, Nowhere, found}
 
 -- ---- passages
 
@@ -103,7 +103,7 @@ flips_end x f was (flipped.Went asked) same = absurd same
 
 -- ---- registers: the next one is forwarded
 
-next_register : (y : Held) (was : ForwardingRegister) (after : After) (n : ℕ) (o : Option Pointed) → Found y.registers n (was.register + 1) o → IsSameMachine (Forwards was) (forwards_it y after o) → ⊥
+next_register : (y : Held) (was : ForwardingRegister) (after : After) (n : ℕ) (o : Option Pointed) → FirstPointer y.registers n (was.register + 1) o → IsSameMachine (Forwards was) (forwards_it y after o) → ⊥
 next_register y was after n (Some q) (There r a l u at before) same = omega (arith, l, same)
 next_register y was after n None (Nowhere all) same = same
 
@@ -111,7 +111,7 @@ pub registers_end : (x : Held) (was w : ForwardingRegister) (to : To) → w.regi
 registers_end x was w to is same =
     let y = with_copy x w.register to.0 in
     let n = 8 - (w.register + 1) in
-    next_register y was w.after n (first_pointer y.registers n (w.register + 1)) (subst (λ (j : ℕ). Found y.registers n j (first_pointer y.registers n (w.register + 1))) (ap (λ (j : ℕ). j + 1) is) (found y.registers n (w.register + 1))) same
+    next_register y was w.after n (first_pointer y.registers n (w.register + 1)) (subst (λ (j : ℕ). FirstPointer y.registers n j (first_pointer y.registers n (w.register + 1))) (ap (λ (j : ℕ). j + 1) is) (found y.registers n (w.register + 1))) same
 
 -- ---- accesses, allocations
 
@@ -121,13 +121,13 @@ accesses_end x was a (Brings into word) same = same
 accesses_end x was a Stored same = same
 accesses_end x was a (Fails why) same = same
 
-no_placing : (x : Held) (was : place.Placing) (s : Shortage) (b : Bool) → IsSameMachine (Places was) (cond b (ended x (end_of s)) (at_stage x (passes x Request afters.Places))).stage → ⊥
+no_placing : (x : Held) (was : place.Placing) (s : Shortage) (b : Bool) → IsSameMachine (Places was) (cond b (ended x (end_by_shortage s)) (at_stage x (passes x Request afters.Places))).stage → ⊥
 no_placing x was s true same = same
 no_placing x was s false same = same
 
 short_end : (x : Held) (was : place.Placing) (s : Shortage) (traced : Bool) → IsSameMachine (Places was) (full_by x s traced).stage → ⊥
 short_end x was s false same = same
-short_end x was s true same = no_placing x was s (is_full x) same
+short_end x was s true same = no_placing x was s (finds_full x) same
 
 record_end : (x : Held) (was : place.Placing) (run : Run) (at : ℕ) (o : Option Making) → IsMaking x.account x.registers x.task → making_for x x.task ≡ o → IsSameMachine (Places was) (with_record x run at o).stage → ⊥
 record_end x was run at (Some m) making is same = same

@@ -101,7 +101,7 @@ module _ (p : place.Placing) where
       → place.left_at asked (place.cleared (place.words_for p.header) new) < 65 * asked + 1 - (new.next - new.first)
   by_cleared new fits = grind (arith, nat_tests)
 
-  by_opened : (new : NewPages) → FitsPlaceStage p.layout.pages asked p.run p.header (place_stage.OpensPage new) → place.left (place.opened p new) < asked + 1 - (new.next - page_of new.first)
+  by_opened : (new : NewPages) → FitsPlaceStage p.layout.pages asked p.run p.header (place_stage.OpensPage new) → place.left (place.after_opening p new) < asked + 1 - (new.next - page_of new.first)
   by_opened new fits = grind (arith, nat_tests)
 
   pub allocations_lower : (stage : PlaceStage) (r : Reply) → FitsPlaceStage p.layout.pages asked p.run p.header stage → place.advances_at stage r ≡ true

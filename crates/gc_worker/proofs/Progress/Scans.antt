@@ -19,7 +19,7 @@ use Rattle.page_scan.specs.declared.spot.Spot.TheVariants.{OnBoard, InRecord}
 use Rattle.page_scan.specs.Left.{advances, left_at}
 use Rattle.page_scan.specs.Scanning.{address_of}
 use Rattle.page_scan.specs.Soundness.{FitsStage, IsOnPage, NextIsOnPage}
-use Rattle.page_scan.specs.Taken.{by_area, by_header, enters, goes_on, passes, record_at, scan_end, stage_after}
+use Rattle.page_scan.specs.Taken.{by_area, by_header, enters, goes_on_at, passes_word, record_at, scan_end, stage_after}
 use Rattle.page_scan.proofs.Lowering.{by_word-lt}
 use Rattle.page_scan.proofs.Packed.{first_field-is}
 
@@ -38,7 +38,7 @@ module _ (l : Layout) (p : ℕ) (in_place : Bool) where
   end-space space = ap (λ (b : Bool). cond b (first_word p + 16) (first_word (p + 1))) (ne_eqb p (board_page l.pages) (λ e. omega (arith, space, e)))
 
   -- at a word of a record not before this one, whose next record is not before it either
-  goes_on-lt : (r : ScannedRecord) (x from : ℕ) → from ≤ x → from ≤ r.next → left_at end (goes_on p in_place r x) < 7 * (end - from) + 1
+  goes_on-lt : (r : ScannedRecord) (x from : ℕ) → from ≤ x → from ≤ r.next → left_at end (goes_on_at p in_place r x) < 7 * (end - from) + 1
   goes_on-lt r x from at next = by_tests (nat_lt x r.fields_end) (nat_lt x (first_word (p + 1))) (nat_lt r.next (first_word (p + 1))) in_place
     where
       by_tests : (a b c d : Bool)
@@ -51,7 +51,7 @@ module _ (l : Layout) (p : ℕ) (in_place : Bool) where
       by_tests false b false d = omega arith
 
   -- the word at a spot is passed
-  passes-lt : (spot : Spot) → IsOnPage l.pages p spot → left_at end (passes p in_place spot) < 7 * (end - address_of spot - 1) + 1
+  passes-lt : (spot : Spot) → IsOnPage l.pages p spot → left_at end (passes_word p in_place spot) < 7 * (end - address_of spot - 1) + 1
   passes-lt (OnBoard x) on_page = by_test (nat_lt (x + 1) (first_word p + 16))
     where
       by_test : (b : Bool) → left_at end (cond b (LoadsWord (OnBoard (x + 1))) (Ended (record { cursor = x + 1; at_front = false }))) < 7 * (end - x - 1) + 1

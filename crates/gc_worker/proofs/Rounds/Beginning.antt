@@ -164,7 +164,7 @@ module _ (c : Configuration) (p : Plain) (s : Stands c p) (k : ℕ) (y : Held) w
         (reads_traced (era c) (memory c) (team c) s.ghost k (prepared c p s k before is)
         (λ e. other (sym (traced_word c) ∙ e ∙ ap (λ (w : Worker). w.epoch + 1) is.as_known))))
 
-    fits_found : traced_now c ≢ d.epoch + 1 → duty_sound.Fits d.epoch found
+    fits_found : traced_now c ≢ d.epoch + 1 → duty_sound.FitsFindings d.epoch found
     fits_found other = record { untraced = other; hindrance = is.fits.stage.0.sound.stage }
 
     first_by : (caller : Caller) → d.caller ≡ caller → traced_now c ≢ d.epoch + 1

@@ -149,7 +149,7 @@ module _ (c : Configuration) (p : Plain) (s : Stands c p) (k : ℕ) (y : Held) (
     is_choice : IsChoice rd choice.front page
     is_choice = is.fits.stage.0.sound.stage.1
 
-    found_fits : duty_sound.Fits d.epoch choice.seen
+    found_fits : duty_sound.FitsFindings d.epoch choice.seen
     found_fits = is.fits.stage.0.sound.stage.0
 
     in_table : page ≤ 2 * c.pages
@@ -180,7 +180,7 @@ module _ (c : Configuration) (p : Plain) (s : Stands c p) (k : ℕ) (y : Held) (
             )
 
     -- what it has found after this page: whether this one forbids to end the tracing
-    module _ (now : Findings) (same : now.traced ≡ choice.seen.traced) (fits : duty_sound.Fits d.epoch now) where
+    module _ (now : Findings) (same : now.traced ≡ choice.seen.traced) (fits : duty_sound.FitsFindings d.epoch now) where
       abbrev then : Choice
       then = record { seen = now; front = choice.front }
 
@@ -211,11 +211,11 @@ module _ (c : Configuration) (p : Plain) (s : Stands c p) (k : ℕ) (y : Held) (
           (nothing c p s k z is (knows (at c p s k y d back (LoadsPage then (duty.page_after rd page)))) same_round)
       passed_by false full taken = after_by_hindrance now.hindrance taken
 
-      pub passes : duty.taken_at rd (LoadsPage choice page) (Value loaded) ≡ round c p s k y d back (duty.passed_by rd then page) → Goes c p s k None z (Value loaded)
+      pub passes : duty.taken_at rd (LoadsPage choice page) (Value loaded) ≡ round c p s k y d back (duty.passed_page rd then page) → Goes c p s k None z (Value loaded)
       passes taken = passed_by (duty.is_full choice.front (duty.page_after rd page)) refl taken
 
     -- a page that another scans forbids to end the tracing
-    scans : duty.state_of says d.epoch ≡ Scanned → duty_sound.Fits d.epoch (record { traced = choice.seen.traced; hindrance = Some loaded })
+    scans : duty.state_of says d.epoch ≡ Scanned → duty_sound.FitsFindings d.epoch (record { traced = choice.seen.traced; hindrance = Some loaded })
     scans is_scanned =
         let it = (says_state says d.epoch).scanned is_scanned in
         record { untraced = found_fits.untraced; hindrance = PageInScan it.0 (reads ∙ ap Some it.1) }

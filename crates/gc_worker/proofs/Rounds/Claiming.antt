@@ -20,7 +20,7 @@ use Rattle.fault_duty.specs.Duty.{Round}
 use Rattle.heap_state.specs.Configuration.{Configuration, Stands, era, memory, team}
 use Rattle.heap_state.specs.Worker.{Worker}
 use Rattle.heap_laws.specs.Composing.{ends_round}
-use Rattle.heap_laws.specs.Scanning.Claims.{MayClaim, claiming, claim_of}
+use Rattle.heap_laws.specs.Scanning.Claims.{MayClaim, claiming, claim_by_word}
 use Rattle.heap_laws.proofs.Steps.Composites.{claims_begin}
 use Rattle.gc_worker.specs.declared.back.Back.{Back}
 use Rattle.gc_worker.specs.Goes.{Is, Goes}
@@ -66,8 +66,8 @@ module _ (c : Configuration) (p : Plain) (s : Stands c p) (k : ℕ) (y : Held) (
     abbrev first : Bool → ClaimStage
     first b = cond b LooksAtGate (LooksAtPlace 0)
 
-    claim_same : (b : Bool) → nat_eq page (board_page d.layout.pages) ≡ b → Some (claim_of says page) ≡ claim_at claim (first b)
-    claim_same true test = λ i. Some (record (claim_of says page) { looked = looked i })
+    claim_same : (b : Bool) → nat_eq page (board_page d.layout.pages) ≡ b → Some (claim_by_word says page) ≡ claim_at claim (first b)
+    claim_same true test = λ i. Some (record (claim_by_word says page) { looked = looked i })
       where
         none : ℕ
         none = 0
@@ -86,7 +86,7 @@ module _ (c : Configuration) (p : Plain) (s : Stands c p) (k : ℕ) (y : Held) (
 
     -- what it then knows
     module _ (own : epoch_at y.epoch (round c p s k y d back stage) stage ≡ d.epoch) where
-      knows_claim : claiming (ends_round (knows x)) (claim_of says page) ≡ knows (at c p s k y d back (Claims claim))
+      knows_claim : claiming (ends_round (knows x)) (claim_by_word says page) ≡ knows (at c p s k y d back (Claims claim))
       knows_claim = λ i. record (knows (at c p s k y d back (Claims claim))) { epoch = own i; claim = claim_same (nat_eq page (board_page d.layout.pages)) refl i }
 
       pub begins : (reply : Reply) → MayClaim (era c) (memory c) (team c) k page says → duty.state_of says d.epoch ≡ Waits → PageFits says
@@ -110,7 +110,7 @@ module _ (c : Configuration) (p : Plain) (s : Stands c p) (k : ℕ) (y : Held) (
               stage = fits_first (nat_eq page (board_page d.layout.pages)) refl;
             };
           })
-          (subst (λ (w : Worker). Law c p s k x None w s.ghost) (ap (λ (w : Worker). claiming (ends_round w) (claim_of says page)) is.as_known ∙ knows_claim)
+          (subst (λ (w : Worker). Law c p s k x None w s.ghost) (ap (λ (w : Worker). claiming (ends_round w) (claim_by_word says page)) is.as_known ∙ knows_claim)
           (claims_begin (era c) (memory c) (team c) s.ghost k page says (prepared c p s k x is) may))
 
       -- the word is of an epoch before the worker's

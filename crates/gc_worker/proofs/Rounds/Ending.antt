@@ -26,7 +26,7 @@ use Rattle.heap_state.specs.Worker.{Worker, Look, LastLook}
 use Rattle.heap_state.specs.Worker as workers
 use Rattle.heap_state.proofs.Table.LaidOut.{table_pages}
 use Rattle.heap_laws.specs.Composing.{ends_round}
-use Rattle.heap_laws.specs.Tracing.{first_look, looking, has_traced}
+use Rattle.heap_laws.specs.Tracing.{look_begun, looking, has_traced}
 use Rattle.heap_laws.proofs.Steps.Composing.{steps_forget}
 use Rattle.heap_laws.proofs.Steps.Forgotten.{of_round}
 use Rattle.heap_laws.proofs.Tracing.Looks.{begins_look, looks_at_front, looks_at_filling}
@@ -132,12 +132,12 @@ module _ (c : Configuration) (p : Plain) (s : Stands c p) (k : ℕ) (y : Held) (
         let r : workers.Round = record { traced = traced; front = None } in
         let start : duty.to_start d ≡ (era c).start =
         let n : (table c).pages ≡ c.pages = table_pages c.pages c.words in rw (← of_now, n, same_pages c p s k y d back (EndGate traced) is) refl in
-        let t : Law c p s k x3 None (looking (knows x3) (first_look (era c) r)) s.ghost =
-        subst (λ (w : Worker). Law c p s k x3 None (looking w (first_look (era c) r)) s.ghost) is.as_known
+        let t : Law c p s k x3 None (looking (knows x3) (look_begun (era c) r)) s.ghost =
+        subst (λ (w : Worker). Law c p s k x3 None (looking w (look_begun (era c) r)) s.ghost) is.as_known
         (begins_look (era c) (memory c) (team c) s.ghost k r (prepared c p s k x3 is)
         (record { round = ap (λ (w : Worker). w.round) is.as_known; same = of_now ∙ ap (λ (w : Worker). w.epoch) (sym is.as_known); none = none })) in
-        steps_forget (era c) (memory c) (team c) s.ghost k None (looking (knows x3) (first_look (era c) r)) (knows (at c p s k y d back (EndArea traced))) s.ghost t
-        (of_round (looking (knows x3) (first_look (era c) r)) None (knows (at c p s k y d back (EndArea traced))).look (λ _ e. absurd (cc)) (λ l e. (rw (← start) refl) ∙ e))
+        steps_forget (era c) (memory c) (team c) s.ghost k None (looking (knows x3) (look_begun (era c) r)) (knows (at c p s k y d back (EndArea traced))) s.ghost t
+        (of_round (looking (knows x3) (look_begun (era c) r)) None (knows (at c p s k y d back (EndArea traced))).look (λ _ e. absurd (cc)) (λ l e. (rw (← start) refl) ∙ e))
 
     gate_by : (b : Bool) → ((gate.epoch == d.epoch) && (gate.behind == 0)) ≡ b
         → duty.taken_at (round c p s k y d back (EndGate traced)) (EndGate traced) (Value (gate_now c)) ≡ round c p s k y d back (if b then EndArea traced else Ended (NothingNow (gate_now c)))

@@ -73,7 +73,7 @@ module _ (c : Configuration) (p : Plain) (s : Stands c p) (k : ℕ) (y : Held) (
     -- by whether it is the board
     one_by : (b : Bool) → nat_eq page (board_page d.layout.pages) ≡ b → (state : PageState) → duty.state_of says d.epoch ≡ state
         → duty.taken_at (round c p s k y d back (LoadsWanted found page)) (LoadsWanted found page) (Value loaded)
-        ≡ round c p s k y d back (cond b (duty.claimed_by (round c p s k y d back (LoadsWanted found page)) page says false state) (LoadsFrontFor found (record { page = page; says = says })))
+        ≡ round c p s k y d back (cond b (duty.claim_by_state (round c p s k y d back (LoadsWanted found page)) page says false state) (LoadsFrontFor found (record { page = page; says = says })))
         → Goes c p s k None x (Value loaded)
     one_by true test Waits waits taken =
         begins c p s k y d back (LoadsWanted found page) is page says refl (Value loaded) (board (same_of page (board_page d.layout.pages) test) waits) waits fits_says inside taken refl
@@ -159,7 +159,7 @@ module _ (c : Configuration) (p : Plain) (s : Stands c p) (k : ℕ) (y : Held) (
 
     claimed_by : (state : PageState) → duty.state_of w.says d.epoch ≡ state → duty.is_full (duty.front_of d area) w.page ≡ true
         → duty.taken_at (round c p s k y d back (LoadsFrontFor found w)) (LoadsFrontFor found w) (Value (area_now c space))
-        ≡ round c p s k y d back (duty.claimed_by (round c p s k y d back (LoadsFrontFor found w)) w.page w.says false state) → Goes c p s k None z (Value (area_now c space))
+        ≡ round c p s k y d back (duty.claim_by_state (round c p s k y d back (LoadsFrontFor found w)) w.page w.says false state) → Goes c p s k None z (Value (area_now c space))
     claimed_by Waits waits full taken =
         begins c p s k y d back (LoadsFrontFor found w) is w.page w.says refl (Value (area_now c space)) (may full waits) waits is.fits.stage.0.sound.stage.2 within taken refl
     claimed_by Past past full taken = ends c p s k y d back (LoadsFrontFor found w) is (Value (area_now c space)) (encode_page w.says) taken refl refl
@@ -168,7 +168,7 @@ module _ (c : Configuration) (p : Plain) (s : Stands c p) (k : ℕ) (y : Held) (
 
     full_by : (b : Bool) → duty.is_full (duty.front_of d area) w.page ≡ b
         → duty.taken_at (round c p s k y d back (LoadsFrontFor found w)) (LoadsFrontFor found w) (Value (area_now c space))
-        ≡ round c p s k y d back (cond b (duty.claimed_by (round c p s k y d back (LoadsFrontFor found w)) w.page w.says false (duty.state_of w.says d.epoch)) (LoadsFront found))
+        ≡ round c p s k y d back (cond b (duty.claim_by_state (round c p s k y d back (LoadsFrontFor found w)) w.page w.says false (duty.state_of w.says d.epoch)) (LoadsFront found))
         → Goes c p s k None z (Value (area_now c space))
     full_by true full taken = claimed_by (duty.state_of w.says d.epoch) refl full taken
     full_by false full taken =

@@ -25,7 +25,7 @@ use Rattle.heap_state.specs.Configuration.{Configuration, Stands, table, era, me
 use Rattle.heap_state.specs.Entries.{Entry, PageIs}
 use Rattle.heap_state.specs.Worker.{Worker, Quest}
 use Rattle.heap_state.proofs.Puts.{put_at}
-use Rattle.heap_laws.specs.Lifting.{stepped}
+use Rattle.heap_laws.specs.Lifting.{configuration_after}
 use Rattle.heap_laws.specs.Scanning.Claims.{ClaimsPage, begins_scan, scan_from}
 use Rattle.heap_laws.proofs.Scanning.Claimed as claimed_laws
 use Rattle.heap_laws.proofs.Lifting.Configurations.{seen}
@@ -162,7 +162,7 @@ module _ (c : Configuration) (p : Plain) (s : Stands c p) (k : ℕ) (y : Held) (
         page = inside;
         before = (let a : age_of ((table c).page q.page) ≡ age_of q.found = ap age_of now in let l = own.sound.earlier in omega (arith, a, l));
         after = (let t = (seen c (Some entry) k (knows (turned x Won)) s.formed is.below (inside, (let e = own.sound.epoch in e, let w = own.sound.worker in omega (arith, w)))).table_said in
-            let a : age_of ((table (stepped c (Some entry) k (knows (turned x Won)))).page q.page) ≡ q.epoch + 1 =
+            let a : age_of ((table (configuration_after c (Some entry) k (knows (turned x Won)))).page q.page) ≡ q.epoch + 1 =
             ap (λ z. age_of (z.page q.page)) t ∙ ap age_of (put_at (table c).page q.page (Scanning q.epoch q.worker) q.page refl) in omega (arith, a));
       })
 

@@ -12,17 +12,17 @@ use Rattle.space_map.specs.Spaces.{first_word, board_page}
 use Rattle.space_map.specs.Table.{HeapWord, place_of}
 use Rattle.page_scan.specs.Scanning.{Scanning}
 use Rattle.page_scan.specs.Soundness as scan_sound
-use Rattle.page_scan.specs.Taken.{record_at, goes_on}
+use Rattle.page_scan.specs.Taken.{record_at, goes_on_at}
 use Rattle.page_scan.specs.declared.scanned_record.ScannedRecord.{ScannedRecord}
 use Rattle.page_scan.specs.declared.scan_stage.ScanStage.TheVariants as scan_stage
 use Rattle.page_scan.proofs.Packed.{fields_end-le, first_field-is}
 use Rattle.heap_state.specs.Configuration.{Configuration, Stands, era, memory, team}
-use Rattle.heap_state.specs.FieldSpan.{first_field, fields_end, next_in}
+use Rattle.heap_state.specs.FieldSpan.{first_field, fields_end, next_scanned}
 use Rattle.heap_state.specs.Ghost.{said_kind}
 use Rattle.heap_state.specs.Table.{table_of, word_in}
 use Rattle.heap_state.specs.Worker.{Worker, Scan}
 use Rattle.heap_laws.specs.Answers.{MeetsHeader, ScanAnswers}
-use Rattle.heap_laws.specs.Scanning.Words.{scanning, IsScanning, in_record}
+use Rattle.heap_laws.specs.Scanning.Words.{scanning, IsScanning, scan_in_record}
 use Rattle.heap_laws.proofs.Lifting.Configurations.{board_at}
 use Rattle.heap_laws.proofs.Scanning.Records.{reads_first_header, reads_next_header}
 use Rattle.heap_laws.proofs.Steps.Answers.{scans_are_answered}
@@ -32,7 +32,7 @@ use Rattle.gc_worker.specs.declared.stage.Stage.TheVariants.{Scans}
 use Rattle.gc_worker.specs.Fits.{Fits, Takes}
 use Rattle.gc_worker.specs.Goes.{Is, Goes, StepsSo}
 use Rattle.gc_worker.specs.Held.{Held}
-use Rattle.gc_worker.specs.Knows.{knows, scan_of, seen_of}
+use Rattle.gc_worker.specs.Knows.{knows, scan_of, seen_record}
 use Rattle.gc_worker.specs.Turned.{turned, told, Silent}
 use Rattle.gc_worker.proofs.Gate.Words.{wants}
 use Rattle.gc_worker.proofs.Scan.GoingOn.{scans_to}
@@ -72,7 +72,7 @@ module _ (c : Configuration) (p : Plain) (s : Stands c p) (k : ℕ) (y : Held) (
     not_board e = let b = board_at c in omega (arith, b, space, e)
 
   module _ (is : Is c k x) (space : v.page < 2 * c.pages) (inside : a < 128 * c.pages) (header : decode word ≡ HeaderWord kind len serial mutator) (reaches : 64 * v.page < a + (len + 1)) where
-    whole : scan_sound.IsRecord r
+    whole : scan_sound.IsScannedRecord r
     whole =
         let e = fields_end-le kind (len + 1) (omega arith) in let q = some_field kind len in let b = header_bounds word kind len serial mutator header in let n = is.fits.counted.1 in
         record { begins = omega (arith, q); fields = omega (arith, e); short = let l = b.0 in omega (arith, l); inside = omega (arith, inside, n) }
@@ -83,21 +83,21 @@ module _ (c : Configuration) (p : Plain) (s : Stands c p) (k : ℕ) (y : Held) (
     behind : r.at < z
     behind = let f = first_field-is kind in omega (arith, f)
 
-    sound : scan_sound.FitsStage v.layout.pages v.page (goes_on v.page v.in_place r z)
+    sound : scan_sound.FitsStage v.layout.pages v.page (goes_on_at v.page v.in_place r z)
     sound = goes_on_sound y v back r z whole space_of (omega arith) behind (omega (arith, reaches))
 
     -- where the law says what the worker knows of a scan that has entered the record, the step is one of the worker's
-    entered : (at : Is c k x) → Law c p s k x None (scanning (knows x) (gone_to y v back r z (era c) (not_board space) (next_in (seen_of r) z))) s.ghost
-        → turned x (Value word) ≡ scans_to x v back (goes_on v.page v.in_place r z) → (scan_sound.IsSound (record v { stage = goes_on v.page v.in_place r z }) → Takes x (Value word))
+    entered : (at : Is c k x) → Law c p s k x None (scanning (knows x) (gone_to y v back r z (era c) (not_board space) (next_scanned (seen_record r) z))) s.ghost
+        → turned x (Value word) ≡ scans_to x v back (goes_on_at v.page v.in_place r z) → (scan_sound.IsSound (record v { stage = goes_on_at v.page v.in_place r z }) → Takes x (Value word))
         → told x (Value word) ≡ Silent → Goes c p s k None x (Value word)
     entered at law turns takes silent = quiet c p s k x None (Value word) s.ghost is.below (rw turns known) silent
         (takes (record { pages = is.fits.stage.0.sound.pages; page = is.fits.stage.0.sound.page; fits = sound })) (rw turns fits_after) tt
       where
-        known : Law c p s k x None (knows (scans_to x v back (goes_on v.page v.in_place r z))) s.ghost
-        known = steps_forget (era c) (memory c) (team c) s.ghost k None (scanning (knows x) (gone_to y v back r z (era c) (not_board space) (next_in (seen_of r) z)))
-            (knows (scans_to x v back (goes_on v.page v.in_place r z))) s.ghost law (goes_on_less y v back r z (era c) (not_board space))
+        known : Law c p s k x None (knows (scans_to x v back (goes_on_at v.page v.in_place r z))) s.ghost
+        known = steps_forget (era c) (memory c) (team c) s.ghost k None (scanning (knows x) (gone_to y v back r z (era c) (not_board space) (next_scanned (seen_record r) z)))
+            (knows (scans_to x v back (goes_on_at v.page v.in_place r z))) s.ghost law (goes_on_less y v back r z (era c) (not_board space))
 
-        fits_after : Fits c.pages c.mutators k (scans_to x v back (goes_on v.page v.in_place r z))
+        fits_after : Fits c.pages c.mutators k (scans_to x v back (goes_on_at v.page v.in_place r z))
         fits_after = goes_on_fits y v back r z whole space_of (omega arith) behind (omega (arith, reaches)) c.pages c.mutators k is.fits is.fits.end is.fits.stage.0 is.fits.stage.2 is.fits.side is.fits.task
 
 -- ---- the record over the page's first word
@@ -132,7 +132,7 @@ module _ (c : Configuration) (p : Plain) (s : Stands c p) (k : ℕ) (y : Held) (
     goes1 h reaches =
         let said : decode (word_in c.pages c.words (HeapWord a)) ≡ HeaderWord h.kind h.len h.serial h.mutator = ap decode (sym (heap_word c a)) ∙ h.header in
         let l = reads_first_header (era c) (memory c) (team c) s.ghost k now1 a h.len h.serial h.mutator h.kind (prepared c p s k x1 is) scans1 apart1 refl refl h.header in
-        let law : Law c p s k x1 None (scanning (knows x1) (in_record (era c) now1 a (said_kind h.kind 0) (h.len + 1))) s.ghost = rw (is.as_known, said_same h.kind ((memory c).heap (a + 1))) at l in
+        let law : Law c p s k x1 None (scanning (knows x1) (scan_in_record (era c) now1 a (said_kind h.kind 0) (h.len + 1))) s.ghost = rw (is.as_known, said_same h.kind ((memory c).heap (a + 1))) at l in
         entered c p s k y v1 back a h.len h.serial h.mutator h.kind is space1 inside1 said reaches is
         (rw (max_comm (a + first_field (said_kind h.kind 0)) (first_word u.page)) law)
         (rw said refl) (λ sound. rw said sound) refl
@@ -180,13 +180,13 @@ module _ (c : Configuration) (p : Plain) (s : Stands c p) (k : ℕ) (y : Held) (
     below2 = let o = on_page in omega (arith, o)
 
     pub answer2 : MeetsHeader (memory c) q.next
-    answer2 = (scans_are_answered (era c) (memory c) (team c) s.ghost k now2 (prepared c p s k x2 is) scans2).next (seen_of q) apart2 refl refl below2 (inner_or_not u.in_place refl)
+    answer2 = (scans_are_answered (era c) (memory c) (team c) s.ghost k now2 (prepared c p s k x2 is) scans2).next (seen_record q) apart2 refl refl below2 (inner_or_not u.in_place refl)
 
     goes2 : (h : MeetsHeader (memory c) q.next) → Goes c p s k None x2 (Value (word_in c.pages c.words (HeapWord q.next)))
     goes2 h =
         let said : decode (word_in c.pages c.words (HeapWord q.next)) ≡ HeaderWord h.kind h.len h.serial h.mutator = ap decode (sym (heap_word c q.next)) ∙ h.header in
-        let l = reads_next_header (era c) (memory c) (team c) s.ghost k now2 (seen_of q) h.len h.serial h.mutator h.kind (prepared c p s k x2 is) scans2 apart2 refl refl below2 (inner_or_not u.in_place refl) h.header in
-        let law : Law c p s k x2 None (scanning (knows x2) (in_record (era c) now2 q.next (said_kind h.kind 0) (h.len + 1))) s.ghost = rw (is.as_known, said_same h.kind ((memory c).heap (q.next + 1))) at l in
+        let l = reads_next_header (era c) (memory c) (team c) s.ghost k now2 (seen_record q) h.len h.serial h.mutator h.kind (prepared c p s k x2 is) scans2 apart2 refl refl below2 (inner_or_not u.in_place refl) h.header in
+        let law : Law c p s k x2 None (scanning (knows x2) (scan_in_record (era c) now2 q.next (said_kind h.kind 0) (h.len + 1))) s.ghost = rw (is.as_known, said_same h.kind ((memory c).heap (q.next + 1))) at l in
         let o = on_page in
         let i = space2 in
         let entry : max (q.next + first_field (said_kind h.kind 0)) (first_word u.page) ≡ max q.next (q.next + first_field (said_kind h.kind 0)) = omega (arith, o) in

@@ -5,7 +5,7 @@ use Rattle.std.proofs.lemmas.Bool.Decides.{nat_tests}
 use Rattle.space_map.specs.Spaces.{first_word, board_page, IsPageCount}
 use Rattle.page_scan.specs.Scanning.{Scanning}
 use Rattle.page_scan.specs.Soundness as scan_sound
-use Rattle.page_scan.specs.Taken.{passes, board_words}
+use Rattle.page_scan.specs.Taken.{passes_word, board_words}
 use Rattle.page_scan.specs.declared.scan_stage.ScanStage.{ScanStage}
 use Rattle.page_scan.specs.declared.scan_stage.ScanStage.TheVariants as scan_stage
 use Rattle.page_scan.specs.declared.spot.Spot.{Spot}
@@ -17,7 +17,7 @@ use Rattle.gc_worker.specs.declared.back.Back.{Back}
 use Rattle.gc_worker.specs.declared.stage.Stage.TheVariants.{Scans}
 use Rattle.gc_worker.specs.Fits.{Fits, FitsScan, FitsBack, FitsTaskBack, IsOnSideBack}
 use Rattle.gc_worker.specs.Held.{Held}
-use Rattle.gc_worker.specs.Knows.{knows, scan_of, seen_of, scan_at}
+use Rattle.gc_worker.specs.Knows.{knows, scan_of, seen_record, scan_at}
 use Rattle.heap_laws.proofs.Steps.Forgotten.{of_scan}
 use Rattle.gc_worker.proofs.Scan.GoingOn.{scans_to, going_fits, ended_fits}
 use Rattle.gc_worker.proofs.Scan.Passing.{goes_on_less, goes_on_sound, goes_on_fits}
@@ -35,7 +35,7 @@ module _ (y : Held) (v : Scanning) (back : Back) where
   module _ (E : Era) (n : ℕ) (board : E.board ≡ 128 * n) where
     pub at_field : (spot : Spot) → scan_sound.IsOnPage n v.page spot → AtField E (scan_at v spot)
     at_field (OnBoard a) on = record { on_page = omega (arith, on); place = inl ((omega (arith, on, board), omega (arith, on, board)), refl) }
-    at_field (InRecord r a) on = record { on_page = omega (arith, on); place = inr (seen_of r, refl, on.5) }
+    at_field (InRecord r a) on = record { on_page = omega (arith, on); place = inr (seen_record r, refl, on.5) }
 
     past_board : (a : ℕ) (b : Bool) → v.page ≡ board_page n → nat_lt (a + 1) (first_word v.page + board_words) ≡ b → is_past E v.page (a + 1) ≡ (if b then false else true)
     past_board a b at e = rw (eq-eqb v.page (E.board / 64) (omega (arith, at, board))) (by_test b e (nat_le (E.board + 16) (a + 1)) refl)
@@ -53,7 +53,7 @@ module _ (y : Held) (v : Scanning) (back : Back) where
     board_less a false at e = of_scan (scanning (knows x) (past_word E (scan_at v (OnBoard a)))) (scan_of v (scan_stage.Ended (record { cursor = a + 1; at_front = false }))) (past_word E (scan_at v (OnBoard a))) refl
         (record { page = refl; cursor = refl; in_place = refl; over = λ _ u. u; current = λ _ u. u; inner = λ u. u; ended = sym (past_board a false at e) })
 
-    pub passes_less : (spot : Spot) → scan_sound.IsOnPage n v.page spot → IsAtMost (knows (scans_to x v back (passes v.page v.in_place spot))) (scanning (knows x) (past_word E (scan_at v spot)))
+    pub passes_less : (spot : Spot) → scan_sound.IsOnPage n v.page spot → IsAtMost (knows (scans_to x v back (passes_word v.page v.in_place spot))) (scanning (knows x) (past_word E (scan_at v spot)))
     passes_less (OnBoard a) on = board_less a (nat_lt (a + 1) (first_word v.page + board_words)) on.0 refl
     passes_less (InRecord r a) on = goes_on_less y v back r (a + 1) E (λ e. omega (arith, on, board, e))
 
@@ -64,7 +64,7 @@ module _ (y : Held) (v : Scanning) (back : Back) where
   board_sound a true few on e = (on.0, omega (arith, on), ltb-true (a + 1) (first_word v.page + board_words) e)
   board_sound a false few on e = omega (arith, on, few)
 
-  pub passes_sound : (spot : Spot) → IsPageCount v.layout.pages → scan_sound.IsOnPage v.layout.pages v.page spot → scan_sound.FitsStage v.layout.pages v.page (passes v.page v.in_place spot)
+  pub passes_sound : (spot : Spot) → IsPageCount v.layout.pages → scan_sound.IsOnPage v.layout.pages v.page spot → scan_sound.FitsStage v.layout.pages v.page (passes_word v.page v.in_place spot)
   passes_sound (OnBoard a) few on = board_sound a (nat_lt (a + 1) (first_word v.page + board_words)) few on refl
   passes_sound (InRecord r a) few on = let f = on.0.fields in goes_on_sound y v back r (a + 1) on.0 on.1 (omega (arith, on)) (omega (arith, on)) (omega (arith, on, f))
 
@@ -74,6 +74,6 @@ module _ (y : Held) (v : Scanning) (back : Back) where
     board_fits a true sound = going_fits x v back n mutators k f unended fits own side task (scan_stage.LoadsWord (OnBoard (a + 1))) tt sound
     board_fits a false sound = ended_fits x v back n mutators k f unended fits own side task (record { cursor = a + 1; at_front = false }) sound
 
-    pub passes_fits : (spot : Spot) → scan_sound.IsOnPage v.layout.pages v.page spot → Fits n mutators k (scans_to x v back (passes v.page v.in_place spot))
+    pub passes_fits : (spot : Spot) → scan_sound.IsOnPage v.layout.pages v.page spot → Fits n mutators k (scans_to x v back (passes_word v.page v.in_place spot))
     passes_fits (OnBoard a) on = board_fits a (nat_lt (a + 1) (first_word v.page + board_words)) (passes_sound (OnBoard a) fits.sound.pages on)
     passes_fits (InRecord r a) on = let e = on.0.fields in goes_on_fits y v back r (a + 1) on.0 on.1 (omega (arith, on)) (omega (arith, on)) (omega (arith, on, e)) n mutators k f unended fits own side task

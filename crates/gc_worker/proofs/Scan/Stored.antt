@@ -8,7 +8,7 @@ use Rattle.heap_words.proofs.Decoding.{decode-pointer_word}
 use Rattle.space_map.specs.Table.{HeapWord, place_of}
 use Rattle.page_scan.specs.Scanning.{Scanning, address_of}
 use Rattle.page_scan.specs.Soundness as scan_sound
-use Rattle.page_scan.specs.Taken.{passes}
+use Rattle.page_scan.specs.Taken.{passes_word}
 use Rattle.page_scan.specs.declared.asked.Asked.{Asked}
 use Rattle.page_scan.specs.declared.scan_stage.ScanStage.TheVariants as scan_stage
 use Rattle.heap_state.specs.Configuration.{Configuration, Stands, era, memory, team}
@@ -66,8 +66,8 @@ module _ (c : Configuration) (p : Plain) (s : Stands c p) (k : ℕ) (y : Held) (
         let n = is.fits.counted.1 in
         omega (arith, t.3, o, l.below, b, n)
 
-    law : Law c p s k x (Some entry) (knows (scans_to x v back (passes u.page u.in_place asked.spot))) s.ghost
-    law = steps_forget (era c) (memory c) (team c) s.ghost k (Some entry) (scanning (knows x) (past_word (era c) now)) (knows (scans_to x v back (passes u.page u.in_place asked.spot))) s.ghost
+    law : Law c p s k x (Some entry) (knows (scans_to x v back (passes_word u.page u.in_place asked.spot))) s.ghost
+    law = steps_forget (era c) (memory c) (team c) s.ghost k (Some entry) (scanning (knows x) (past_word (era c) now)) (knows (scans_to x v back (passes_word u.page u.in_place asked.spot))) s.ghost
         stored (passes_less y v back (era c) c.pages (board_at c) asked.spot on)
       where
         stored : Law c p s k x (Some entry) (scanning (knows x) (past_word (era c) now)) s.ghost
@@ -81,4 +81,4 @@ module _ (c : Configuration) (p : Plain) (s : Stands c p) (k : ℕ) (y : Held) (
     pub stores_copy : StepsSo c p s k x
     stores_copy =
         wants c p s k x (Store (place_of c.pages (HeapWord (address_of asked.spot))) (pointer_word to)) (rw (is.fits.stage.0.layout, is.fits.pages) refl)
-        (stores c p s k x entry (row_fits c p s k x entry (knows (scans_to x v back (passes u.page u.in_place asked.spot))) s.ghost is.below law) goes)
+        (stores c p s k x entry (row_fits c p s k x entry (knows (scans_to x v back (passes_word u.page u.in_place asked.spot))) s.ghost is.below law) goes)

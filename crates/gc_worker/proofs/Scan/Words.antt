@@ -10,7 +10,7 @@ use Rattle.space_map.specs.Spaces.{space_start, to_space}
 use Rattle.space_map.specs.Table.{HeapWord, place_of}
 use Rattle.page_scan.specs.Scanning.{Scanning, address_of}
 use Rattle.page_scan.specs.Soundness as scan_sound
-use Rattle.page_scan.specs.Taken.{passes, by_word, is_old}
+use Rattle.page_scan.specs.Taken.{passes_word, by_word, is_old}
 use Rattle.page_scan.specs.declared.scan_stage.ScanStage.{ScanStage}
 use Rattle.page_scan.specs.declared.scan_stage.ScanStage.TheVariants as scan_stage
 use Rattle.page_scan.specs.declared.spot.Spot.{Spot}
@@ -96,11 +96,11 @@ module _ (c : Configuration) (p : Plain) (s : Stands c p) (k : ℕ) (y : Held) (
     old_span = rw (table_in_use c.pages c.words, is.fits.stage.0.layout, is.fits.pages) refl
 
     -- it is passed
-    goes_past : ¬ (Leads (era c) ((memory c).heap now.cursor)) → after (decode word) ≡ passes u.page u.in_place spot → Goes c p s k None x (Value word)
+    goes_past : ¬ (Leads (era c) ((memory c).heap now.cursor)) → after (decode word) ≡ passes_word u.page u.in_place spot → Goes c p s k None x (Value word)
     goes_past away same =
         let l : Law c p s k x None (scanning (knows x) (past_word (era c) now)) s.ghost = rw is.as_known at (fields.passes (era c) (memory c) (team c) s.ghost k now (prepared c p s k x is) scans field away) in
-        let known : Law c p s k x None (knows (scans_to x v back (passes u.page u.in_place spot))) s.ghost =
-        steps_forget (era c) (memory c) (team c) s.ghost k None (scanning (knows x) (past_word (era c) now)) (knows (scans_to x v back (passes u.page u.in_place spot))) s.ghost l
+        let known : Law c p s k x None (knows (scans_to x v back (passes_word u.page u.in_place spot))) s.ghost =
+        steps_forget (era c) (memory c) (team c) s.ghost k None (scanning (knows x) (past_word (era c) now)) (knows (scans_to x v back (passes_word u.page u.in_place spot))) s.ghost l
         (passes_less y v back (era c) c.pages (board_at c) spot on) in
         quiet c p s k x None (Value word) s.ghost is.below (rw same known) refl
         (record { pages = is.fits.stage.0.sound.pages; page = is.fits.stage.0.sound.page; fits = rw same (passes_sound y v back spot is.fits.stage.0.sound.pages is.fits.stage.0.sound.fits) })

@@ -7,7 +7,7 @@ use Rattle.gc_worker.specs.declared.did.Did.TheVariants.{Trap}
 use Rattle.gc_worker.specs.declared.entry.Entry.{Entry}
 use Rattle.gc_worker.specs.declared.entry.Entry.TheVariants.{Made}
 use Rattle.gc_worker.specs.declared.task.Task.{Task}
-use Rattle.gc_worker.specs.History.Legal.{call}
+use Rattle.gc_worker.specs.History.Legal.{worker_call}
 use Rattle.gc_worker.specs.History.Tally.{Tally, Tasks, asked_by_task, made_next, next_task, tally}
 
 -- the record that mutator m makes next, if it makes one, fits beside what was live at the last flip and all records made since then, or made
@@ -26,4 +26,4 @@ IsLargeFor pages tasks first log = (front rest : List Entry) (m : ℕ) → front
 
 -- no call tells the heap to be full
 abbrev pub HasNoFullCall : List Entry → Type 0
-HasNoFullCall log = (front rest : List Entry) (m asked room live : ℕ) (task : Task) → front ++ Made (call m task (Trap (HeapFull asked room live))) ∷ rest ≢ log
+HasNoFullCall log = (front rest : List Entry) (m asked room live : ℕ) (task : Task) → front ++ Made (worker_call m task (Trap (HeapFull asked room live))) ∷ rest ≢ log

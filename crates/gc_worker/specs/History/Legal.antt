@@ -11,8 +11,8 @@ use Rattle.gc_worker.specs.Turned.{Told, Silent, Answers, Marks}
 
 -- ---- calls
 
-abbrev pub call : ℕ → Task → Did → Call
-call m task did = record { by = m; task = task; did = did }
+abbrev pub worker_call : ℕ → Task → Did → Call
+worker_call m task did = record { by = m; task = task; did = did }
 
 -- the plain state after a call
 abbrev pub after_call : Plain → Call → Plain
@@ -49,11 +49,11 @@ calls_of n (Exchanged by asked ∷ es) = calls_of n es
 -- what a step of worker m adds to the history
 abbrev pub extra : ℕ → Told → List Entry
 extra m Silent = []
-extra m (Answers task did) = Made (call m task did) ∷ []
+extra m (Answers task did) = Made (worker_call m task did) ∷ []
 extra m (Marks asked) = Exchanged m asked ∷ []
 
 -- what worker m has made after it
 abbrev pub own_after : ℕ → List Call → Told → List Call
 own_after m own Silent = own
-own_after m own (Answers task did) = own ++ call m task did ∷ []
+own_after m own (Answers task did) = own ++ worker_call m task did ∷ []
 own_after m own (Marks asked) = own

@@ -6,7 +6,7 @@ use Rattle.plain_state.specs.State.{Plain}
 use Rattle.mutator_asm.specs.declared.instr.Instr.{Instr}
 use Rattle.plain_heap.specs.declared.mark.Mark.{Mark}
 use Rattle.plain_heap.specs.declared.mark.Mark.TheVariants.{Step, Flip, Full}
-use Rattle.plain_heap.specs.Order.{Story, opening, plain, story, turned}
+use Rattle.plain_heap.specs.Order.{Story, opening, plain, story, story_marked}
 use Rattle.plain_heap.specs.Step.{asked_by}
 use Rattle.heap_state.specs.Functions.{sum_below}
 use Rattle.heap_state.specs.Reachable.{IsLive}
@@ -35,15 +35,15 @@ flips_in flips [] = flips
 flips_in flips (mark ∷ marks) = flips_in (flips_by flips mark) marks
 
 -- a mutator finds the heap full where a flip came since its last step, or as many as there can be
-abbrev pub MayCome : (ℕ → Bool) → ℕ → Mark → Type 0
-MayCome since flips (Step j) = ⊤
-MayCome since flips (Flip asked) = ⊤
-MayCome since flips (Full j asked room live) = (since j ≡ true) ⊎ (flips ≡ 2 ^ 32 - 1)
+abbrev pub FullMayCome : (ℕ → Bool) → ℕ → Mark → Type 0
+FullMayCome since flips (Step j) = ⊤
+FullMayCome since flips (Flip asked) = ⊤
+FullMayCome since flips (Full j asked room live) = (since j ≡ true) ⊎ (flips ≡ 2 ^ 32 - 1)
 
 -- so does each mark of an order, after marks of which this is so
 unfoldable pub EachMayCome : (ℕ → Bool) → ℕ → List Mark → Type 0
 EachMayCome since flips [] = ⊤
-EachMayCome since flips (mark ∷ rest) = MayCome since flips mark × EachMayCome (since_by since mark) (flips_by flips mark) rest
+EachMayCome since flips (mark ∷ rest) = FullMayCome since flips mark × EachMayCome (since_by since mark) (flips_by flips mark) rest
 
 -- ---- records
 
@@ -56,22 +56,22 @@ abbrev pub being_made : List (List Instr) → ℕ → Plain → (m : ℕ) → �
 being_made code turns p m = sum_below (length p.mutators) (λ j. if j == m then 0 else pages_next code turns p j)
 
 -- the pages of the records made since the last flip, after a mark
-abbrev pub made_by : List (List Instr) → ℕ → Plain → (made : ℕ) → Mark → ℕ
-made_by code turns p made (Step m) = made + pages_next code turns p m
-made_by code turns p made (Flip asked) = 0
-made_by code turns p made (Full m asked room live) = made
+abbrev pub made_by_mark : List (List Instr) → ℕ → Plain → (made : ℕ) → Mark → ℕ
+made_by_mark code turns p made (Step m) = made + pages_next code turns p m
+made_by_mark code turns p made (Flip asked) = 0
+made_by_mark code turns p made (Full m asked room live) = made
 
 abbrev pub made_after : List (List Instr) → ℕ → Story → (made : ℕ) → List Mark → ℕ
 made_after code turns s made [] = made
-made_after code turns s made (mark ∷ marks) = made_after code turns (turned code turns s mark) (made_by code turns s.now made mark) marks
+made_after code turns s made (mark ∷ marks) = made_after code turns (story_marked code turns s mark) (made_by_mark code turns s.now made mark) marks
 
 -- before the first mark
-abbrev pub opened : List (List Instr) → Story
-opened code = record { flip = opening code; now = opening code }
+abbrev pub first_story : List (List Instr) → Story
+first_story code = record { flip = opening code; now = opening code }
 
 -- in the order of a program
 abbrev pub made_since : List (List Instr) → ℕ → List Mark → ℕ
-made_since code turns order = made_after code turns (opened code) 0 order
+made_since code turns order = made_after code turns (first_story code) 0 order
 
 -- ---- an order
 
@@ -94,7 +94,7 @@ IsFullMark pages code turns s made (Full m asked room live) = IsFullAt pages cod
 abbrev pub EachFullIs : (pages : ℕ) → List (List Instr) → ℕ → Story → (made : ℕ) → List Mark → Type 0
 EachFullIs pages code turns s made [] = ⊤
 EachFullIs pages code turns s made (mark ∷ marks) =
-    IsFullMark pages code turns s made mark × EachFullIs pages code turns (turned code turns s mark) (made_by code turns s.now made mark) marks
+    IsFullMark pages code turns s made mark × EachFullIs pages code turns (story_marked code turns s mark) (made_by_mark code turns s.now made mark) marks
 
 -- ---- a heap that is large enough
 

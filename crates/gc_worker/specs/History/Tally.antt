@@ -42,13 +42,13 @@ asked_for q (Some (Stops end)) = None
 asked_for q None = None
 
 -- one with an end makes none
-abbrev pub asked_if : Option End → Mutator → Option Task → Option ℕ
-asked_if None q task = asked_for q task
-asked_if (Some end) q task = None
+abbrev pub asked_unless_ended : Option End → Mutator → Option Task → Option ℕ
+asked_unless_ended None q task = asked_for q task
+asked_unless_ended (Some end) q task = None
 
 -- by mutator j
 abbrev pub asked_by_task : Plain → (j : ℕ) → Option Task → Option ℕ
-asked_by_task p j task = option_and_then (λ (q : Mutator). asked_if q.end q task) (slice_get p.mutators j)
+asked_by_task p j task = option_and_then (λ (q : Mutator). asked_unless_ended q.end q task) (slice_get p.mutators j)
 
 abbrev pub pages_by_task : Plain → (j : ℕ) → Option Task → ℕ
 pages_by_task p j task = unwrap_or (asked_by_task p j task) 0

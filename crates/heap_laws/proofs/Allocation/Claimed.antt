@@ -41,12 +41,12 @@ abbrev pub with_low : Memory → (low owed : ℕ) → Memory
 with_low m low owed = record m { low = low; owed = owed }
 
 -- There is room for n pages. While the epoch is not traced that is beside the words owed, and these stay.
-pub record Fits (E : Era) (m : Memory) (n owed : ℕ) : Type 0 where
+pub record FitsPages (E : Era) (m : Memory) (n owed : ℕ) : Type 0 where
   pub room : m.front + 64 * n ≤ m.low
   pub beside : m.traced ≤ E.epoch → (owed ≡ m.owed) × (m.front + 64 * n + owed ≤ m.low)
   pub small : owed ≤ m.owed
 
-module _ (E : Era) (m : Memory) (team : Team) (g : Ghost) (k n owed : ℕ) (lay : IsLaidOut E) (inv : Invariant E m team g) (l : k < team.count) (run : is_running (team.worker k).post ≡ true) (has : Fits E m n owed) where
+module _ (E : Era) (m : Memory) (team : Team) (g : Ghost) (k n owed : ℕ) (lay : IsLaidOut E) (inv : Invariant E m team g) (l : k < team.count) (run : is_running (team.worker k).post ≡ true) (has : FitsPages E m n owed) where
   abbrev low : ℕ
   low = m.low - 64 * n
 
@@ -148,7 +148,7 @@ module _ (E : Era) (m : Memory) (team : Team) (g : Ghost) (k n owed : ℕ) (lay 
       (stocked_knows E (with_low m low owed) g k (team.worker k) new (sym (me.timely.running run)) (worker k (team.worker k) me)) in
       assumption
 
-pub stocks_are_claimed : (E : Era) (m : Memory) (team : Team) (g : Ghost) (k n owed : ℕ) → Ready E m team g k → is_running (team.worker k).post ≡ true → Fits E m n owed
+pub stocks_are_claimed : (E : Era) (m : Memory) (team : Team) (g : Ghost) (k n owed : ℕ) → Ready E m team g k → is_running (team.worker k).post ≡ true → FitsPages E m n owed
     → Preserves E m (with_low m (m.low - 64 * n) owed) team (with_stock team k (below_low E m n)) g g
 stocks_are_claimed E m team g k n owed ready run has = record {
   invariant = keeps E m team g k n owed ready.laid_out ready.invariant ready.member run has;

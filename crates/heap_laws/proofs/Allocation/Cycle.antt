@@ -3,7 +3,7 @@ use Rattle.std.proofs.Common.{arith, ◌≡◌, ℕ, ◌+◌, ◌<◌, refl, sym
 use Rattle.plain_state.specs.declared.kind.Kind.{Kind}
 use Rattle.plain_state.specs.State as plain
 use Rattle.plain_state.specs.declared.value.Identity.{Identity}
-use Rattle.plain_state.specs.Layout.{word_of}
+use Rattle.plain_state.specs.Layout.{word_of_value}
 use Rattle.heap_state.specs.Cycle.{Cycle, Copying, Rooted, RootLeads, ByBoard, ByRegister, StillLeads, IsCopied}
 use Rattle.heap_state.specs.Era.{Era, IsLaidOut, Memory}
 use Rattle.heap_state.specs.Functions.{put}
@@ -85,7 +85,7 @@ module _ (E : Era) (m : Memory) (team : Team) (g : Ghost) (p : plain.Plain) (k :
     sizes = λ b st l u. let d = below_other is_new_place b u in rw (same_size is_new_place b d, put_other g.kind q.at c b d, put_other g.identity q.at j b d) (y.sizes b (was is_new_place b d st) l u);
     complete = λ b x r i st u l n e f a.
         let d = below_other is_new_place b n in
-        ⊎_elim (λ t. inl (copied_on i t)) (λ t. inr (still_on (heap (b + word_of (g.kind b) x)) i t))
+        ⊎_elim (λ t. inl (copied_on i t)) (λ t. inr (still_on (heap (b + word_of_value (g.kind b) x)) i t))
         (y.complete b x r i (was is_new_place b d st) (rw (same_writer is_new_place g.writer b d) at u) l n (rw (put_other g.identity q.at j b d) at e) (rw (put_other g.kind q.at c b d) at f) a);
     only = λ b st l u. let d = below_other is_new_place b u in rw (put_other g.identity q.at j b d) (y.only b (was is_new_place b d st) l u);
   }

@@ -9,9 +9,9 @@ use Rattle.heap_state.specs.Entries.{AreaIs, PageIs}
 use Rattle.heap_state.specs.Era.{Era, Memory}
 use Rattle.heap_state.specs.Ghost.{Ghost}
 use Rattle.heap_state.specs.Worker.{Team, Stock, is_running}
-use Rattle.heap_laws.specs.Allocation.Stocks.{HasRoom, StocksAreClaimed, StocksAreZeroed, StocksAreOpened, claimed, lowered, owed_beside, stocked, opened_further, RoomIsSeen}
+use Rattle.heap_laws.specs.Allocation.Stocks.{HasRoomForPages, StocksAreClaimed, StocksAreZeroed, StocksAreOpened, claimed, lowered, owed_beside, stocked, opened_further, RoomIsSeen}
 use Rattle.heap_laws.specs.Steps.{Ready, IsAreaNow, Steps, Preserves, InArea, InPage, InWord, with_area, with_page, with_worker}
-use Rattle.heap_laws.proofs.Allocation.Claimed.{Fits, below_low, with_low, stocks_are_claimed}
+use Rattle.heap_laws.proofs.Allocation.Claimed.{FitsPages, below_low, with_low, stocks_are_claimed}
 use Rattle.heap_laws.proofs.Allocation.Opened.{stocks_are_opened}
 use Rattle.heap_laws.proofs.Allocation.Stocks.{owns, opens_of, with_stock}
 use Rattle.heap_laws.proofs.Allocation.Zeroed.{stocks_are_zeroed}
@@ -21,7 +21,7 @@ use Rattle.heap_laws.proofs.Allocation.Zeroed.{stocks_are_zeroed}
 pub room_is_seen : RoomIsSeen
 room_is_seen E m team g k n area ready sees = by_seen (cases_Bool (team.worker k).traced_seen)
   where
-    by_seen : ((team.worker k).traced_seen ≡ true) ⊎ ((team.worker k).traced_seen ≡ false) → HasRoom E m area n (owed_beside (team.worker k).traced_seen area)
+    by_seen : ((team.worker k).traced_seen ≡ true) ⊎ ((team.worker k).traced_seen ≡ false) → HasRoomForPages E m area n (owed_beside (team.worker k).traced_seen area)
     by_seen (inl s) =
         let t = ((ready.invariant.workers k ready.member).seen_traced s).1 in
         let z : owed_beside (team.worker k).traced_seen area ≡ 0 = rw s refl in
@@ -31,11 +31,11 @@ room_is_seen E m team g k n area ready sees = by_seen (cases_Bool (team.worker k
         record { room = omega (arith, sees); beside = λ l. (z, omega (arith, sees)); small = omega (arith, z) }
 
 module _ (E : Era) (m : Memory) (team : Team) (g : Ghost) (k n owed : ℕ) (area : AreaWord) (ready : Ready E m team g k) (runs : is_running (team.worker k).post ≡ true) (now : IsAreaNow E m area)
-    (has : HasRoom E m area n owed) where
+    (has : HasRoomForPages E m area n owed) where
   epoch : (team.worker k).epoch ≡ E.epoch
   epoch = (ready.invariant.workers k ready.member).timely.running runs
 
-  fits : Fits E m n owed
+  fits : FitsPages E m n owed
   fits = record {
     room = let r = has.room in omega (arith, r, now.front, now.low);
     beside = λ l. let b = has.beside l in (omega (arith, b, now.owed), omega (arith, b, now.front, now.low));

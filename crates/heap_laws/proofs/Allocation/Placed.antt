@@ -14,7 +14,7 @@ use Rattle.heap_state.specs.Values.{Shown, Shows, value_of}
 use Rattle.heap_state.specs.Parts.Knowledge.{Accesses}
 use Rattle.heap_state.specs.Worker.{Worker, Team, Stock, Access}
 use Rattle.heap_state.proofs.Puts.{put_at, put_other, put_same, put_twice}
-use Rattle.heap_laws.specs.Fields.Held.{MayHold, HoldsValue, GoesOn}
+use Rattle.heap_laws.specs.Fields.Held.{MayHold, HoldsValue, MutatorGoesOn}
 use Rattle.heap_laws.specs.Fields.Stores.{IsAs, MutatorsPlace, with_record, with_reference, plain_next}
 use Rattle.heap_laws.specs.Allocation.Records.{allocated, next_identity}
 use Rattle.heap_laws.specs.Steps.{Ready, with_word, with_worker, InWord}
@@ -31,7 +31,7 @@ use Rattle.plain_state.proofs.Lists.{slice_get-set_same, slice_get-set_other}
 
 module _ (E : Era) (m : Memory) (team : Team) (g : Ghost) (p : plain.Plain) (k : ℕ) (next : Worker) (q : plain.Mutator) (s : Stock) (c : Kind) (z v d pointer : ℕ) (r : plain.Record)
     (ready : Ready E m team g k) (shown : Shown E m team g p) (places : Places E team k s c z v) (behind : Shows (value_of g.identity) m.heap s.at c z r) (small : d < 8) (points : decode pointer ≡ PointerWord s.at)
-    (goes : GoesOn E m g (team.worker k) next) (same : IsAs g p.heap k next q) where
+    (goes : MutatorGoesOn E m g (team.worker k) next) (same : IsAs g p.heap k next q) where
   abbrev i : Identity
   i = next_identity team k
 
@@ -61,7 +61,7 @@ module _ (E : Era) (m : Memory) (team : Team) (g : Ghost) (p : plain.Plain) (k :
   serial : (team.worker k).account.serial ≡ plain.serial_of p.heap k
   serial = sym goes.serial ∙ same.account.serial
 
-  goes' : GoesOn E m' g' (placed team k s z) taken
+  goes' : MutatorGoesOn E m' g' (placed team k s z) taken
   goes' =
       let serial' : taken.account.serial ≡ (placed team k s z).account.serial = let e = goes.serial in omega arith in
       let access : (f : Access) → next.access ≡ Some f → Accesses E g'.size g'.writer g'.kind f = λ f e. accesses_allocated cr g.writer g.kind c f (goes.access f e) in

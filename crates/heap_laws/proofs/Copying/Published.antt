@@ -6,7 +6,7 @@ use Rattle.heap_words.specs.Decoded.{PointerWord, decode, ForwardWord}
 use Rattle.plain_state.specs.State as plain
 use Rattle.plain_state.specs.declared.value.Identity.{Identity}
 use Rattle.plain_state.specs.declared.value.Value.TheVariants.{Reference}
-use Rattle.plain_state.specs.Layout.{is_field, word_of}
+use Rattle.plain_state.specs.Layout.{is_field, word_of_value}
 use Rattle.heap_state.specs.Cycle.{Copying, Rooted, IsCopied, StillLeads}
 use Rattle.heap_state.specs.Era.{Era, Memory}
 use Rattle.heap_state.specs.Functions.{put}
@@ -83,7 +83,7 @@ module _ {E : Era} {m : Memory} {team : Team} {g : Ghost} {k : ℕ} {c : Copy} {
         let s : Shows (value_of g.identity) m.heap c.from (g.kind c.from) (g.size c.from) (source.0) = source.2 in
         let z = s.size in
         let e : i - 1 + 1 ≡ i = omega arith in
-        let y' : is_field (g.kind c.from) (word_of (g.kind c.from) (i - 1)) ≡ true = rw e y in
+        let y' : is_field (g.kind c.from) (word_of_value (g.kind c.from) (i - 1)) ≡ true = rw e y in
         let u : value_of g.identity (m.heap (c.from + i)) ≡ slice_get source.0.values (i - 1) = rw e at (s.fields (i - 1) (omega (arith, f, l, z, old.3)) y') in
         FromRecord (g.identity c.from) source.0 (i - 1) (g.identity b) reached source.1 (rw s.kind y') (sym u ∙ value_from_pointer g.identity (m.heap (c.from + i)) b d)
 
@@ -100,8 +100,8 @@ module _ {E : Era} {m : Memory} {team : Team} {g : Ghost} {k : ℕ} {c : Copy} {
     copied_on i y = record { at = y.at; stands = (y.stands.0, written_on publishing y.at y.stands.1); below = y.below; named = y.named }
 
     -- a field of the copy still leads to what the old record referred to
-    still : (x : ℕ) (r : plain.Record) (i : Identity) → plain.record_of p.heap (g.identity c.to) ≡ Some r → is_field (g.kind c.from) (word_of (g.kind c.from) x) ≡ true → slice_get r.values x ≡ Some (Reference i)
-        → StillLeads E g'.identity (heap' (c.to + word_of (g.kind c.from) x)) i
+    still : (x : ℕ) (r : plain.Record) (i : Identity) → plain.record_of p.heap (g.identity c.to) ≡ Some r → is_field (g.kind c.from) (word_of_value (g.kind c.from) x) ≡ true → slice_get r.values x ≡ Some (Reference i)
+        → StillLeads E g'.identity (heap' (c.to + word_of_value (g.kind c.from) x)) i
     still x r i of y refers =
         let w : value_of g.identity (m.heap (c.from + n)) ≡ Some (Reference i) = shown.fields x within y ∙ refers' in
         let a = pointer_from_value g.identity (m.heap (c.from + n)) i w in
@@ -109,7 +109,7 @@ module _ {E : Era} {m : Memory} {team : Team} {g : Ghost} {k : ℕ} {c : Copy} {
         record { at = a.0; points = ap decode (copied_word publishing n (omega arith) below) ∙ a.1; old = (z.1, z.2); named = a.2 }
       where
         n : ℕ
-        n = word_of (g.kind c.from) x
+        n = word_of_value (g.kind c.from) x
 
         shown : Shows (value_of g.identity) m.heap c.from (g.kind c.from) (g.size c.from) (source.0)
         shown = source.2
@@ -122,7 +122,7 @@ module _ {E : Era} {m : Memory} {team : Team} {g : Ghost} {k : ℕ} {c : Copy} {
         within : x < length source.0.values
         within = slice_get_within source.0.values x (Reference i) refers'
 
-        below : word_of (g.kind c.from) x < c.size
+        below : word_of_value (g.kind c.from) x < c.size
         below = let z = shown.size in omega (arith, within, z, old.3)
 
     pub copying : Copying E m.front g'.size g'.writer g'.copy g'.keeper g'.kind g'.identity heap' p

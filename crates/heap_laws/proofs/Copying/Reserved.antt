@@ -6,7 +6,7 @@ use Rattle.std.proofs.lemmas.Option.{slice_get_within}
 use Rattle.plain_state.specs.State as plain
 use Rattle.plain_state.specs.declared.value.Identity.{Identity}
 use Rattle.plain_state.specs.declared.value.Value.TheVariants.{Reference}
-use Rattle.plain_state.specs.Layout.{is_field, word_of, size_of}
+use Rattle.plain_state.specs.Layout.{is_field, word_of_value, size_of}
 use Rattle.heap_state.specs.Cycle.{Copying, Rooted, IsCopied, StillLeads, RootLeads, ByBoard, ByRegister}
 use Rattle.heap_state.specs.Era.{Era, Memory}
 use Rattle.heap_state.specs.Functions.{put}
@@ -138,10 +138,10 @@ module _ {E : Era} {m : Memory} {team : Team} {g : Ghost} {k : ℕ} {c : Copy} (
         (o.0, o.1, s.size ∙ (mine reserving).old.1, s.kind)
 
     complete : (b x : ℕ) (r : plain.Record) (i : Identity) → b ≢ c.to → 0 < g.size b → g.writer b ≡ 0 → E.start ≤ b → b < c.to + c.size
-        → plain.record_of p.heap (g.identity b) ≡ Some r → is_field (g.kind b) (word_of (g.kind b) x) ≡ true → slice_get r.values x ≡ Some (Reference i)
-        → IsCopied E (c.to + c.size) after.size after.writer after.identity i ⊎ StillLeads E after.identity (m.heap (b + word_of (g.kind b) x)) i
+        → plain.record_of p.heap (g.identity b) ≡ Some r → is_field (g.kind b) (word_of_value (g.kind b) x) ≡ true → slice_get r.values x ≡ Some (Reference i)
+        → IsCopied E (c.to + c.size) after.size after.writer after.identity i ⊎ StillLeads E after.identity (m.heap (b + word_of_value (g.kind b) x)) i
     complete b x r i d st w s l of f refers = ⊎_elim (λ y. inl (copied_on i y))
-        (λ (y : StillLeads E g.identity (m.heap (b + word_of (g.kind b) x)) i). inr (leads_on (m.heap (b + word_of (g.kind b) x)) i y))
+        (λ (y : StillLeads E g.identity (m.heap (b + word_of_value (g.kind b) x)) i). inr (leads_on (m.heap (b + word_of_value (g.kind b) x)) i y))
         (cy.complete b x r i st w s (below_front b d st s l) of f refers)
 
     copying : Copying E (c.to + c.size) after.size after.writer after.copy after.keeper after.kind after.identity m.heap p

@@ -6,7 +6,7 @@ use Rattle.std.proofs.lemmas.Bool.{cases_eq}
 use Rattle.plain_state.specs.State as plain
 use Rattle.plain_state.specs.declared.value.Value.TheVariants.{Reference}
 use Rattle.plain_state.specs.declared.value.Identity.{Identity}
-use Rattle.plain_state.specs.Layout.{word_of}
+use Rattle.plain_state.specs.Layout.{word_of_value}
 use Rattle.heap_state.specs.Cycle.{Cycle, Copying, Rooted, RootLeads, ByBoard, ByRegister, StillLeads, IsCopied}
 use Rattle.heap_state.specs.Era.{Era, Memory}
 use Rattle.heap_state.specs.Functions.{put}
@@ -47,7 +47,7 @@ module _ (E : Era) (m : Memory) (team : Team) (g : Ghost) (p : plain.Plain) (x v
     reached = cy.copying.reached;
     sizes = cy.copying.sizes;
     complete = λ b y r i st w l u e f o. ⊎_elim (λ c. inl c)
-        (λ t. leads (b + word_of (g.kind b) y) i (field_here E g.size g.writer g.kind b (word_of (g.kind b) y) (record { stands = st; written = w; field = f; first = omega arith; last = copied_within cy.copying b y r (Reference i) st l u e o }) (l, omega (arith, u, sl.laid.order))) t)
+        (λ t. leads (b + word_of_value (g.kind b) y) i (field_here E g.size g.writer g.kind b (word_of_value (g.kind b) y) (record { stands = st; written = w; field = f; first = omega arith; last = copied_within cy.copying b y r (Reference i) st l u e o }) (l, omega (arith, u, sl.laid.order))) t)
         (cy.copying.complete b y r i st w l u e f o);
     only = cy.copying.only;
   }
@@ -68,10 +68,10 @@ store_keeps_cycle E m team g p x v st inv cy = slot_keeps_cycle E m team g p x v
 
 abbrev pub StoresKeepCycle : Type 0
 StoresKeepCycle = (E : Era) (m : Memory) (team : Team) (g : Ghost) (p : plain.Plain) (a x v : ℕ) → IsLaidOut E → Invariant E m team g → IsWordOf E g.size g.writer g.kind a x
-    → m.page ((a + word_of (g.kind a) x) / 64) ≡ Open E.epoch → MayStore E g.size g.writer (g.kind a) x v → Cycle E m team g p → Cycle E (with_word m (a + word_of (g.kind a) x) v) team g p
+    → m.page ((a + word_of_value (g.kind a) x) / 64) ≡ Open E.epoch → MayStore E g.size g.writer (g.kind a) x v → Cycle E m team g p → Cycle E (with_word m (a + word_of_value (g.kind a) x) v) team g p
 
 pub stores_keep_cycle : StoresKeepCycle
-stores_keep_cycle E m team g p a x v lay inv f o may cy = store_keeps_cycle E m team g p (a + word_of (g.kind a) x) v (in_word E m team g a x v lay inv f o may) inv cy
+stores_keep_cycle E m team g p a x v lay inv f o may cy = store_keeps_cycle E m team g p (a + word_of_value (g.kind a) x) v (in_word E m team g a x v lay inv f o may) inv cy
 
 abbrev pub BoardStoresKeepCycle : Type 0
 BoardStoresKeepCycle = (E : Era) (m : Memory) (team : Team) (g : Ghost) (p : plain.Plain) (x v : ℕ) → IsLaidOut E → Invariant E m team g → x < 16

@@ -6,7 +6,7 @@ use Rattle.heap_words.proofs.Decoding.{decode-number_word}
 use Rattle.heap_words.specs.Decoded.{Decoded, NumberWord, PointerWord, HeaderWord, ForwardWord, BusyWord, Malformed, decode, number_in}
 use Rattle.plain_state.specs.declared.sizes.TheConstants.{NUMBERS}
 use Rattle.heap_words.specs.Word.{number_word}
-use Rattle.plain_state.specs.Layout.{word_of}
+use Rattle.plain_state.specs.Layout.{word_of_value}
 use Rattle.plain_state.specs.State as plain
 use Rattle.plain_state.specs.declared.kind.Kind.{Kind}
 use Rattle.plain_state.specs.declared.value.Identity.{Identity}
@@ -100,7 +100,7 @@ headers_say E m team g p k a len serial mutator w head ready s held points says 
 -- ---- words of records
 
 module _ (E : Era) (m : Memory) (team : Team) (g : Ghost) (p : plain.Plain) (k : ℕ) (f : Access) (x : ℕ) (ready : Ready E m team g k) (s : Shown E m team g p) (has : (team.worker k).access ≡ Some f)
-    (opened : (team.worker k).opened ≡ Some ((f.at + f.word) / 64)) (at : f.word ≡ word_of (g.kind f.at) x) where
+    (opened : (team.worker k).opened ≡ Some ((f.at + f.word) / 64)) (at : f.word ≡ word_of_value (g.kind f.at) x) where
   abbrev kind : Kind
   kind = g.kind f.at
 
@@ -110,7 +110,7 @@ module _ (E : Era) (m : Memory) (team : Team) (g : Ghost) (p : plain.Plain) (k :
   word : IsWordOf E g.size g.writer g.kind f.at x
   word = there.word x at
 
-  place : f.at + f.word ≡ f.at + word_of kind x
+  place : f.at + f.word ≡ f.at + word_of_value kind x
   place = omega (arith, at)
 
   shown : (r : plain.Record) × (plain.record_of p.heap (g.identity f.at) ≡ Some r) × Shows (value_of g.identity) m.heap f.at kind (g.size f.at) r
@@ -131,29 +131,29 @@ module _ (E : Era) (m : Memory) (team : Team) (g : Ghost) (p : plain.Plain) (k :
   value_is : slice_get r.values x ≡ Some y
   value_is = slice_get-get_or r.values x (Number 0) within
 
-  may : MayStore E g.size g.writer kind x (m.heap (f.at + word_of kind x))
+  may : MayStore E g.size g.writer kind x (m.heap (f.at + word_of_value kind x))
   may = words_are_loaded E m team g k f.at x ready word (rw place at there.opens)
 
   -- by what stands there
-  loaded : (role : Role) → HasRole kind (word_of kind x) role → HoldsValue E g (word_held role (m.heap (f.at + word_of kind x))) y
+  loaded : (role : Role) → HasRole kind (word_of_value kind x) role → HoldsValue E g (word_held role (m.heap (f.at + word_of_value kind x))) y
   loaded FieldRole t = record { held = may.held t; denotes = shows.fields x within t ∙ value_is }
-  loaded NumberRole t = let e : Number (m.heap (f.at + word_of kind x)) ≡ y = some_same (shows.numbers x within t ∙ value_is) in rw (← e) (holds_number E g (m.heap (f.at + word_of kind x)) (may.number (raw_is_no_field kind (word_of kind x) t)))
+  loaded NumberRole t = let e : Number (m.heap (f.at + word_of_value kind x)) ≡ y = some_same (shows.numbers x within t ∙ value_is) in rw (← e) (holds_number E g (m.heap (f.at + word_of_value kind x)) (may.number (raw_is_no_field kind (word_of_value kind x) t)))
 
-  stored : (role : Role) → HasRole kind (word_of kind x) role → (w v : ℕ) (u : Value) → HoldsValue E g w u → word_stored role w ≡ Some v → FitsRole role v
+  stored : (role : Role) → HasRole kind (word_of_value kind x) role → (w v : ℕ) (u : Value) → HoldsValue E g w u → word_stored role w ≡ Some v → FitsRole role v
       → MayStore E g.size g.writer kind x v × StandsFor g kind x v u
   stored FieldRole t w v u holds e fits =
       let same : w ≡ v = some_same e in (
         record { held = λ _. rw same at holds.held; number = λ n. true_false n t },
-        record { denotes = λ _. rw same at holds.denotes; number = λ n. true_false (raw_is_no_field kind (word_of kind x) n) t },
+        record { denotes = λ _. rw same at holds.denotes; number = λ n. true_false (raw_is_no_field kind (word_of_value kind x) n) t },
       )
   stored NumberRole t w v u holds e fits =
       let d = number_word_of (decode w) v e in
-      let n = raw_is_no_field kind (word_of kind x) t in (
+      let n = raw_is_no_field kind (word_of_value kind x) t in (
         record { held = λ o. true_false n o; number = λ _. fits },
         record { denotes = λ o. true_false n o; number = λ _. some_same (sym (value_of_number g.identity w v d) ∙ holds.denotes) },
       )
 
-  role_there : HasRole kind (word_of kind x) f.role
+  role_there : HasRole kind (word_of_value kind x) f.role
   role_there = rw at at there.role
 
   is_value : IsValueOf E m g p f x

@@ -20,7 +20,7 @@ use Rattle.heap_state.specs.Worker.{Worker, Team, Post, Running, Outside, Scanne
 use Rattle.heap_state.proofs.Workers.Frames.{counted_put, staffed_put, scanned_put, stocks_put, numbered_put}
 use Rattle.heap_state.proofs.Puts.{put_at, put_other, each_put, team_put, none≢some, true_false}
 use Rattle.heap_laws.specs.Composing.{IsAtMost, SameScan}
-use Rattle.heap_laws.specs.Fields.Held.{GoesOn, with_mutator}
+use Rattle.heap_laws.specs.Fields.Held.{MutatorGoesOn, with_mutator}
 use Rattle.heap_laws.specs.Steps.{with_worker}
 use Rattle.plain_state.proofs.Lists.{slice_get-set_other, set-found}
 use Rattle.heap_laws.proofs.Scanning.Scanners.{now_not_late}
@@ -31,14 +31,14 @@ use Rattle.heap_laws.proofs.Steps.Forgotten.{same_round}
 -- ---- posts
 
 -- who runs is no flipper, not gone, not outside, and a mutator
-pub record Runs (post : Post) : Type 0 where
+pub record RunsAsMutator (post : Post) : Type 0 where
   pub flips : is_flipper post ≡ false
   pub gone : is_gone post ≡ false
   pub outside : post ≢ Outside
   pub mutator : is_mutator post ≡ true
   pub live : is_live post ≡ true
 
-pub runs : (post : Post) → is_running post ≡ true → Runs post
+pub runs : (post : Post) → is_running post ≡ true → RunsAsMutator post
 runs Running r = record { flips = refl; gone = refl; outside = λ e. absurd (cc); mutator = refl; live = refl }
 runs Scanner r = absurd (cc)
 runs Outside r = absurd (cc)
@@ -53,7 +53,7 @@ timely E w r now = now_not_late E.epoch w.epoch w.post (now r)
 -- ---- the invariant
 
 -- what mutator k knows after it went on
-module _ (E : Era) (m : Memory) (team : Team) (g : Ghost) (k : ℕ) (next : Worker) (inv : Invariant E m team g) (l : k < team.count) (run : is_running (team.worker k).post ≡ true) (goes : GoesOn E m g (team.worker k) next) where
+module _ (E : Era) (m : Memory) (team : Team) (g : Ghost) (k : ℕ) (next : Worker) (inv : Invariant E m team g) (l : k < team.count) (run : is_running (team.worker k).post ≡ true) (goes : MutatorGoesOn E m g (team.worker k) next) where
   abbrev w : Worker
   w = team.worker k
 
@@ -134,7 +134,7 @@ module _ (E : Era) (m : Memory) (team : Team) (g : Ghost) (k : ℕ) (next : Work
 -- a running mutator goes on: the invariant is kept
 abbrev pub MutatorsGoOn : Type 0
 MutatorsGoOn = (E : Era) (m : Memory) (team : Team) (g : Ghost) (k : ℕ) (next : Worker) → Invariant E m team g → k < team.count
-    → is_running (team.worker k).post ≡ true → GoesOn E m g (team.worker k) next → Invariant E m (with_worker team k next) g
+    → is_running (team.worker k).post ≡ true → MutatorGoesOn E m g (team.worker k) next → Invariant E m (with_worker team k next) g
 
 pub mutators_go_on : MutatorsGoOn
 mutators_go_on = keeps
@@ -142,7 +142,7 @@ mutators_go_on = keeps
 -- what a cycle keeps is kept
 abbrev pub GoingOnKeepsCycle : Type 0
 GoingOnKeepsCycle = (E : Era) (m : Memory) (team : Team) (g : Ghost) (p : Plain) (k : ℕ) (next : Worker) → Invariant E m team g → k < team.count
-    → is_running (team.worker k).post ≡ true → GoesOn E m g (team.worker k) next → Cycle E m team g p → Cycle E m (with_worker team k next) g p
+    → is_running (team.worker k).post ≡ true → MutatorGoesOn E m g (team.worker k) next → Cycle E m team g p → Cycle E m (with_worker team k next) g p
 
 pub going_on_keeps_cycle : GoingOnKeepsCycle
 going_on_keeps_cycle E m team g p k next inv l run goes cy = record { copying = cy.copying; rooted = rooted E m team g k next inv l run goes p cy.rooted }

@@ -1,7 +1,7 @@
 -- A mutator's store and its going on are one step.
 use Rattle.std.proofs.lemmas.Bool.{cases_lt}
 use Rattle.std.proofs.Common.{◌≡◌, ℕ, ◌+◌, ◌-◌, ◌<◌, ◌≤◌, ◌*◌, ◌⊎◌, inl, inr, true, Some, None, refl, sym, ◌∙◌, arith}
-use Rattle.plain_state.specs.Layout.{word_of}
+use Rattle.plain_state.specs.Layout.{word_of_value}
 use Rattle.plain_state.specs.State as plain
 use Rattle.plain_state.specs.declared.end.End.TheVariants.{HeapFull}
 use Rattle.space_map.specs.PageWord.{age_of}
@@ -12,7 +12,7 @@ use Rattle.heap_state.specs.Inductive.{Invariant}
 use Rattle.heap_state.specs.Values.{Accounts, Shown}
 use Rattle.heap_state.specs.Worker.{Worker, Team, Account, is_running}
 use Rattle.heap_state.proofs.Puts.{none≢some}
-use Rattle.heap_laws.specs.Fields.Held.{GoesOn, with_mutator, GoesOnSo}
+use Rattle.heap_laws.specs.Fields.Held.{MutatorGoesOn, with_mutator, GoesOnSo}
 use Rattle.heap_laws.specs.Steps.{with_word, with_worker, Makes, NoRow, InWord}
 use Rattle.heap_laws.specs.Fields.Stores.{IsAs, MutatorsStep, MutatorsStore, MutatorsStoreOnBoard, MutatorsEnd, MutatorsFindNoRoom, with_end, MutatorsLearn}
 use Rattle.heap_laws.proofs.Fields.Cycle.{stores_keep_cycle, board_stores_keep_cycle}
@@ -24,7 +24,7 @@ use Rattle.heap_laws.proofs.Steps.Learning.{shown_put}
 
 -- a step that stores nothing, of a team of which a part was changed before
 pub goes_as : (E : Era) (m : Memory) (team : Team) (g : Ghost) (p : plain.Plain) (k : ℕ) (next : Worker) (q : plain.Mutator) → Invariant E m team g → k < team.count
-    → is_running (team.worker k).post ≡ true → Shown E m team g p → GoesOn E m g (team.worker k) next → IsAs g p.heap k next q
+    → is_running (team.worker k).post ≡ true → Shown E m team g p → MutatorGoesOn E m g (team.worker k) next → IsAs g p.heap k next q
     → Makes E m m team (with_worker team k next) g g (with_mutator p k q)
 goes_as E m team g p k next q inv member runs s goes same = record {
   invariant = mutators_go_on E m team g k next inv member runs goes;
@@ -59,7 +59,7 @@ pub both : {E : Era} {m n : Memory} {team mid after : Team} {g h : Ghost} {q : p
 both cycle ages y = record { invariant = y.invariant; shown = y.shown; cycle = λ o cy. y.cycle o (cycle o cy); ages = ages }
 
 -- what is so of the state before a store of a heap word is so after it
-goes_on : {E : Era} {m : Memory} {g : Ghost} {w next : Worker} (addr word : ℕ) → GoesOn E m g w next → GoesOn E (with_word m addr word) g w next
+goes_on : {E : Era} {m : Memory} {g : Ghost} {w next : Worker} (addr word : ℕ) → MutatorGoesOn E m g w next → MutatorGoesOn E (with_word m addr word) g w next
 goes_on addr word goes = assumption
 
 -- an account agrees with a plain heap in which the mutator has made as many records
@@ -71,11 +71,11 @@ mutators_store E m team g p k next q a x v r y ready runs s word opens may is st
     let inv = words_are_stored E m team g a x v ready.laid_out ready.invariant word opens may in
     let account = accounts_in (stored_serial p.heap (g.identity a) r x y is k) same.account in
     record {
-      later = with_word m (a + word_of (g.kind a) x) v;
-      writes = InWord (a + word_of (g.kind a) x) v (let l = ready.invariant.laid.lies a word.stands in let o = ready.invariant.laid.order in let lay = ready.laid_out in let z = word.last in omega (arith, l, o, lay.below, lay.old_below, z));
+      later = with_word m (a + word_of_value (g.kind a) x) v;
+      writes = InWord (a + word_of_value (g.kind a) x) v (let l = ready.invariant.laid.lies a word.stands in let o = ready.invariant.laid.order in let lay = ready.laid_out in let z = word.last in omega (arith, l, o, lay.below, lay.old_below, z));
       makes = both (λ o cy. stores_keep_cycle E m team g o a x v ready.laid_out ready.invariant word opens may cy) (λ page. omega arith)
           (goes_as E _ team g _ k next q inv ready.member runs (stores_show E m team g p a x v r y ready.laid_out ready.invariant word is stands s)
-          (goes_on (a + word_of (g.kind a) x) v goes) (record { account = account; registers = same.registers }));
+          (goes_on (a + word_of_value (g.kind a) x) v goes) (record { account = account; registers = same.registers }));
     }
 
 pub mutators_store_on_board : MutatorsStoreOnBoard
@@ -96,7 +96,7 @@ mutators_end E m team g p k q why ready runs s is =
     let a = s.accounts k q is in
     let r = s.registers k q is in
     let w = team.worker k in
-    let goes : GoesOn E m g w (with_end w why) =
+    let goes : MutatorGoesOn E m g w (with_end w why) =
     goes_on_so E m team g k (record w.account { end = Some why }) w.registers None None ready refl (λ f e. none≢some e) (λ x e. none≢some e) (λ n. none≢some (sym n)) in
     mutators_step E m team g p k (with_end (team.worker k) why) (record q { end = Some why }) ready runs s goes
     (record {

@@ -7,8 +7,8 @@ use Rattle.std.proofs.lemmas.Bool.{cases_eq}
 use Rattle.plain_state.specs.State as plain
 use Rattle.plain_state.specs.declared.value.Identity.{Identity}
 use Rattle.plain_state.specs.declared.value.Value.{Value}
-use Rattle.plain_state.specs.Writing.{stored, with_heap, with_word as with_value}
-use Rattle.plain_state.specs.Layout.{word_of}
+use Rattle.plain_state.specs.Writing.{stored, with_heap, with_value}
+use Rattle.plain_state.specs.Layout.{word_of_value}
 use Rattle.heap_state.specs.Era.{Era, IsLaidOut, Memory}
 use Rattle.heap_state.specs.Functions.{put}
 use Rattle.heap_state.specs.Ghost.{Ghost, Leads, Lands}
@@ -64,7 +64,7 @@ module _ (E : Era) (m : Memory) (team : Team) (g : Ghost) (lay : IsLaidOut E) (i
 module _ (E : Era) (m : Memory) (team : Team) (g : Ghost) (p : plain.Plain) (a x v : ℕ) (r : plain.Record) (y : Value) (lay : IsLaidOut E) (inv : Invariant E m team g)
     (f : IsWordOf E g.size g.writer g.kind a x) (is : plain.record_of p.heap (g.identity a) ≡ Some r) (may : StandsFor g (g.kind a) x v y) (s : Shown E m team g p) where
   abbrev i : ℕ
-  i = word_of (g.kind a) x
+  i = word_of_value (g.kind a) x
 
   abbrev h : ℕ → ℕ
   h = put m.heap (a + i) v
@@ -140,7 +140,7 @@ module _ (E : Era) (m : Memory) (team : Team) (g : Ghost) (p : plain.Plain) (a x
 abbrev pub StoresShow : Type 0
 StoresShow = (E : Era) (m : Memory) (team : Team) (g : Ghost) (p : plain.Plain) (a x v : ℕ) (r : plain.Record) (y : Value) → IsLaidOut E → Invariant E m team g
     → IsWordOf E g.size g.writer g.kind a x → plain.record_of p.heap (g.identity a) ≡ Some r → StandsFor g (g.kind a) x v y
-    → Shown E m team g p → Shown E (with_word m (a + word_of (g.kind a) x) v) team g (with_heap p (stored p.heap (g.identity a) r x y))
+    → Shown E m team g p → Shown E (with_word m (a + word_of_value (g.kind a) x) v) team g (with_heap p (stored p.heap (g.identity a) r x y))
 
 pub stores_show : StoresShow
 stores_show = shows_store

@@ -23,7 +23,7 @@ use Rattle.heap_laws.proofs.Frames.OtherWords.{has_place, headed_same, area_same
 use Rattle.heap_laws.proofs.Frames.Values.{one_place}
 
 -- word i of the record at a: the record stands in the epoch's space, and nobody writes it
-pub record IsWord (E : Era) (size writer : ℕ → ℕ) (a i : ℕ) : Type 0 where
+pub record IsRecordWord (E : Era) (size writer : ℕ → ℕ) (a i : ℕ) : Type 0 where
   pub stands : 0 < size a
   pub written : writer a ≡ 0
   pub inside : (E.start ≤ a) × (a < E.start + E.span)
@@ -34,7 +34,7 @@ pub record IsWord (E : Era) (size writer : ℕ → ℕ) (a i : ℕ) : Type 0 whe
 pub record InWord (E : Era) (size writer : ℕ → ℕ) (x : ℕ) : Type 0 where
   pub a : ℕ
   pub i : ℕ
-  pub word : IsWord E size writer a i
+  pub word : IsRecordWord E size writer a i
   pub at : x ≡ a + i
 
 -- A store of v at x, which is such a word or on the board. In a field or on the board it is what a mutator may hold,
@@ -96,7 +96,7 @@ module _ {E : Era} {front low : ℕ} {size writer : ℕ → ℕ} {kind : ℕ →
       by_place : InWord E size writer x ⊎ OnBoard E x → SlotWord E writer a i
       by_place (inr b) = absurd (let q = within lay laid a (omega (arith, l)) in omega (arith, q, l, e, b, lay.below, lay.old_below))
       by_place (inl u) =
-          let f : IsWord E size writer u.a u.i = u.word in
+          let f : IsRecordWord E size writer u.a u.i = u.word in
           let q : a ≡ u.a = one_place size a u.a i u.i laid.apart l f.last (e ∙ u.at) in
           let y : writer a ≡ writer u.a = ap writer q in
           record { first = omega (arith, q, e, u.at, f.first); written = omega (arith, y, f.written); inside = (omega (arith, q, f.inside), omega (arith, q, f.inside)) }
@@ -107,7 +107,7 @@ module _ {E : Era} {front low : ℕ} {size writer : ℕ → ℕ} {kind : ℕ →
     where
       by_place : InWord E size writer x ⊎ OnBoard E x → ((E.start ≤ x) × (x < E.start + E.span)) ⊎ (E.board ≤ x)
       by_place (inr b) = inr b.0
-      by_place (inl u) = let f : IsWord E size writer u.a u.i = u.word in let q = within lay laid u.a f.stands in
+      by_place (inl u) = let f : IsRecordWord E size writer u.a u.i = u.word in let q = within lay laid u.a f.stands in
           inl (omega (arith, u.at, f.inside), omega (arith, q, u.at, f.inside, f.last, lay.apart))
 
   -- ---- words that stay
@@ -126,7 +126,7 @@ module _ {E : Era} {front low : ℕ} {size writer : ℕ → ℕ} {kind : ℕ →
     where
       by_place : InWord E size writer x ⊎ OnBoard E x → y ≡ x → ⊥
       by_place (inr b) e = omega (arith, b, e, l)
-      by_place (inl u) e = let f : IsWord E size writer u.a u.i = u.word in let q = free u.a f.stands in omega (arith, q, e, u.at, f.last)
+      by_place (inl u) e = let f : IsRecordWord E size writer u.a u.i = u.word in let q = free u.a f.stands in omega (arith, q, e, u.at, f.last)
 
   -- ---- parts
 

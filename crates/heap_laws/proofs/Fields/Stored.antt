@@ -1,6 +1,6 @@
 -- A mutator's store in a word of a record or on the board keeps the invariant and the cycle.
 use Rattle.std.proofs.Common.{◌≡◌, ◌≢◌, ℕ, ◌+◌, ◌/◌, ◌<◌, true, false, Some, refl, sym, ap, ◌∙◌, arith, ◌⊎◌, inl, inr}
-use Rattle.plain_state.specs.Layout.{is_field, word_of}
+use Rattle.plain_state.specs.Layout.{is_field, word_of_value}
 use Rattle.space_map.specs.declared.page_word.PageWord.TheVariants.{Open, Scanning}
 use Rattle.heap_state.specs.Era.{Era, IsLaidOut, Memory}
 use Rattle.heap_state.specs.Functions.{put}
@@ -56,12 +56,12 @@ slot_keeps E m team g x v st inv =
 
 -- a word of a record
 pub in_word : (E : Era) (m : Memory) (team : Team) (g : Ghost) (a x v : ℕ) → IsLaidOut E → Invariant E m team g → IsWordOf E g.size g.writer g.kind a x
-    → m.page ((a + word_of (g.kind a) x) / 64) ≡ Open E.epoch → MayStore E g.size g.writer (g.kind a) x v → Stores E m g (a + word_of (g.kind a) x) v
+    → m.page ((a + word_of_value (g.kind a) x) / 64) ≡ Open E.epoch → MayStore E g.size g.writer (g.kind a) x v → Stores E m g (a + word_of_value (g.kind a) x) v
 unfolding Here
 in_word E m team g a x v lay inv f open_page may = record { slot = slot; opens = open_page }
   where
     i : ℕ
-    i = word_of (g.kind a) x
+    i = word_of_value (g.kind a) x
 
     by_place : InRecord E g.size g.writer g.kind (a + i) ⊎ OnBoard E (a + i) → MayHold E g.size g.writer v
     by_place (inl u) =
@@ -90,10 +90,10 @@ on_board E m team g x v lay inv l open_page may = record {
 -- a store in a word of a record, whose page is open
 abbrev pub WordsAreStored : Type 0
 WordsAreStored = (E : Era) (m : Memory) (team : Team) (g : Ghost) (a x v : ℕ) → IsLaidOut E → Invariant E m team g → IsWordOf E g.size g.writer g.kind a x
-    → m.page ((a + word_of (g.kind a) x) / 64) ≡ Open E.epoch → MayStore E g.size g.writer (g.kind a) x v → Invariant E (with_word m (a + word_of (g.kind a) x) v) team g
+    → m.page ((a + word_of_value (g.kind a) x) / 64) ≡ Open E.epoch → MayStore E g.size g.writer (g.kind a) x v → Invariant E (with_word m (a + word_of_value (g.kind a) x) v) team g
 
 pub words_are_stored : WordsAreStored
-words_are_stored E m team g a x v lay inv f o may = slot_keeps E m team g (a + word_of (g.kind a) x) v (in_word E m team g a x v lay inv f o may) inv
+words_are_stored E m team g a x v lay inv f o may = slot_keeps E m team g (a + word_of_value (g.kind a) x) v (in_word E m team g a x v lay inv f o may) inv
 
 -- a store on the board, which is open
 abbrev pub BoardIsStored : Type 0
@@ -107,9 +107,9 @@ board_is_stored E m team g x v lay inv l o may = slot_keeps E m team g (E.board 
 
 pub words_are_loaded : WordsAreLoaded
 words_are_loaded E m team g k a x ready f o = let inv = ready.invariant in record {
-  held = λ t. let h = field_here E g.size g.writer g.kind a (word_of (g.kind a) x) (record { stands = f.stands; written = f.written; field = t; first = omega arith; last = f.last }) f.inside in
-      record { clean = inv.opened.opened (a + word_of (g.kind a) x) h o; lands = inv.landing.lands (a + word_of (g.kind a) x) h };
-  number = λ t. inv.raw_words.raw a (word_of (g.kind a) x) f.stands f.written (omega arith) f.last t;
+  held = λ t. let h = field_here E g.size g.writer g.kind a (word_of_value (g.kind a) x) (record { stands = f.stands; written = f.written; field = t; first = omega arith; last = f.last }) f.inside in
+      record { clean = inv.opened.opened (a + word_of_value (g.kind a) x) h o; lands = inv.landing.lands (a + word_of_value (g.kind a) x) h };
+  number = λ t. inv.raw_words.raw a (word_of_value (g.kind a) x) f.stands f.written (omega arith) f.last t;
 }
 
 pub board_is_loaded : BoardIsLoaded

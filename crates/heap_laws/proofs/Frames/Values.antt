@@ -9,7 +9,7 @@ use Rattle.heap_words.proofs.Decoding.{decode-number_word}
 use Rattle.plain_state.specs.State as plain
 use Rattle.plain_state.specs.declared.value.Identity.{Identity}
 use Rattle.plain_state.specs.declared.value.Value.TheVariants.{Number, Reference}
-use Rattle.plain_state.specs.Layout.{word_of, size_of}
+use Rattle.plain_state.specs.Layout.{word_of_value, size_of}
 use Rattle.plain_state.specs.declared.value.Value.{Value}
 use Rattle.heap_state.specs.Cycle.{StillLeads, Copying}
 use Rattle.heap_state.specs.Era.{Era}
@@ -105,7 +105,7 @@ value_agrees identity other w f = by_word (decode w) f
 
 -- a value of a copied record stands in one of its words
 pub copied_within : {E : Era} {front : ℕ} {size writer copy keeper : ℕ → ℕ} {kind : ℕ → Kind} {identity : ℕ → Identity} {heap : ℕ → ℕ} {p : plain.Plain} → Copying E front size writer copy keeper kind identity heap p
-    → (b x : ℕ) (r : plain.Record) (y : Value) → 0 < size b → E.start ≤ b → b < front → plain.record_of p.heap (identity b) ≡ Some r → slice_get r.values x ≡ Some y → word_of (kind b) x < size b
+    → (b x : ℕ) (r : plain.Record) (y : Value) → 0 < size b → E.start ≤ b → b < front → plain.record_of p.heap (identity b) ≡ Some r → slice_get r.values x ≡ Some y → word_of_value (kind b) x < size b
 copied_within {size = size} c b x r y st l u e o =
     let q = c.sizes b st l u in
     let same : q.0 ≡ r = some_same (sym q.1 ∙ e) in

@@ -16,7 +16,7 @@ use Rattle.heap_laws.proofs.Gate.Worker.{no_reset}
 use Rattle.heap_laws.proofs.Steps.Learning.{shown_put}
 
 -- worker k, which had this to do at the gate, passes it
-pub record Passing (E : Era) (m : Memory) (team : Team) (g : Ghost) (k : ℕ) (w' : Worker) : Type 0 where
+pub record GoesPastGate (E : Era) (m : Memory) (team : Team) (g : Ghost) (k : ℕ) (w' : Worker) : Type 0 where
   pub inv : Invariant E m team g
   pub below : k < team.count
   pub mutator : is_mutator w'.post ≡ is_mutator (team.worker k).post
@@ -26,7 +26,7 @@ pub record Passing (E : Era) (m : Memory) (team : Team) (g : Ghost) (k : ℕ) (w
   pub stock : (q : Stock) → w'.stock ≡ Some q → (team.worker k).stock ≡ Some q
   pub none_left : (r : ℕ) → r < 8 → is_late E.epoch (team.worker k) ≡ true → (team.worker k).done ≤ r → ⊥
 
-module _ {E : Era} {m : Memory} {team : Team} {g : Ghost} {k : ℕ} {w' : Worker} (passing : Passing E m team g k w') (gate' : GateWord) where
+module _ {E : Era} {m : Memory} {team : Team} {g : Ghost} {k : ℕ} {w' : Worker} (passing : GoesPastGate E m team g k w') (gate' : GateWord) where
   inv : Invariant E m team g
   inv = passing.inv
 
@@ -49,7 +49,7 @@ module _ {E : Era} {m : Memory} {team : Team} {g : Ghost} {k : ℕ} {w' : Worker
   }
 
 -- a passage that leaves as many behind as there were
-pub usual : (E : Era) (m : Memory) (team : Team) (g : Ghost) (k : ℕ) (w' : Worker) (live running left : ℕ) (request : Bool) → Passing E m team g k w' → (m.gate.request ≡ false) ⊎ ((0 < m.gate.running) ⊎ (0 < m.gate.behind))
+pub usual : (E : Era) (m : Memory) (team : Team) (g : Ghost) (k : ℕ) (w' : Worker) (live running left : ℕ) (request : Bool) → GoesPastGate E m team g k w' → (m.gate.request ≡ false) ⊎ ((0 < m.gate.running) ⊎ (0 < m.gate.behind))
     → Counted (record m.gate { live = live; running = running; left = left; request = request }) team.count (put team.worker k w')
     → Knows E (record m.gate { live = live; running = running; left = left; request = request }) m.traced m.front m.low m.old_front m.old_low m.old_owed g m.page m.cross m.announced m.heap k w'
     → Preserves E m (with_gate m (record m.gate { live = live; running = running; left = left; request = request })) team (with_worker team k w') g g

@@ -13,7 +13,7 @@ use Rattle.heap_state.specs.Worker.{Team, Worker}
 use Rattle.heap_state.proofs.Table.LaidOut.{laid_out, table_pages}
 use Rattle.heap_state.proofs.Workers.Teams.{team_changes}
 use Rattle.heap_state.proofs.Table.Stores.{stores_entry}
-use Rattle.heap_laws.specs.Lifting.{words_after, table_after, RowFits, stepped, StandingIsReady, StandsWith}
+use Rattle.heap_laws.specs.Lifting.{words_after_row, table_after, RowFits, configuration_after, StandingIsReady, StandsWith}
 
 pub ready : StandingIsReady
 ready c p s k l = record { laid_out = laid_out c.pages c.words; at_gate = refl; invariant = s.invariant; member = l }
@@ -31,11 +31,11 @@ below_board c p s a st =
 
 -- ---- what a step makes
 
-words_formed : (n : ℕ) (words : List ℕ) (e : Option Entry) → IsFormed n words → RowFits n e → IsFormed n (words_after n words e)
+words_formed : (n : ℕ) (words : List ℕ) (e : Option Entry) → IsFormed n words → RowFits n e → IsFormed n (words_after_row n words e)
 words_formed n words None formed fits = formed
 words_formed n words (Some e) formed fits = (stores_entry n words e formed fits).formed
 
-words_say : (n : ℕ) (words : List ℕ) (e : Option Entry) → IsFormed n words → RowFits n e → table_of n (words_after n words e) ≡ table_after (table_of n words) e
+words_say : (n : ℕ) (words : List ℕ) (e : Option Entry) → IsFormed n words → RowFits n e → table_of n (words_after_row n words e) ≡ table_after (table_of n words) e
 words_say n words None formed fits = refl
 words_say n words (Some e) formed fits = (stores_entry n words e formed fits).says
 
@@ -50,7 +50,7 @@ pub record Says (c : Configuration) (t : Table) (all : Team) : Type 0 where
 
 abbrev pub StepsAreSeen : Type 0
 StepsAreSeen = (c : Configuration) (e : Option Entry) (k : ℕ) (w : Worker) → IsFormed c.pages c.words → k < length c.workers → RowFits c.pages e
-    → Says (stepped c e k w) (table_after (table c) e) (with_worker (team c) k w)
+    → Says (configuration_after c e k w) (table_after (table c) e) (with_worker (team c) k w)
 
 pub seen : StepsAreSeen
 seen c e k w formed l fits =
@@ -66,7 +66,7 @@ abbrev pub StepsStand : Type 0
 StepsStand = (c : Configuration) (p q : Plain) (e : Option Entry) (k : ℕ) (w : Worker) (h : Ghost) → Stands c p → k < length c.workers → RowFits c.pages e
     → Invariant (era_of (table_after (table c) e)) (memory_of (table_after (table c) e)) (with_worker (team c) k w) h
     → Shown (era_of (table_after (table c) e)) (memory_of (table_after (table c) e)) (with_worker (team c) k w) h q
-    → StandsWith (stepped c e k w) q h
+    → StandsWith (configuration_after c e k w) q h
 
 pub stand : StepsStand
 stand c p q e k w h s l fits invariant shown =

@@ -9,7 +9,7 @@ use Rattle.heap_state.specs.Era.{Memory, era_of, era_at, memory_of, from_space}
 use Rattle.heap_state.specs.Table.{Table}
 use Rattle.heap_state.proofs.Table.Seen.{follows}
 use Rattle.heap_laws.specs.Lifting.{table_after, RowFits, StepsAreLifted, PlainStepsAreLifted, Flipped, FlipsAreLifted}
-use Rattle.heap_laws.specs.Steps.{Writes, NoRow, InGate, InTraced, InArea, InOldArea, InPage, InCross, InWord, InAnnounce}
+use Rattle.heap_laws.specs.Steps.{WritesRow, NoRow, InGate, InTraced, InArea, InOldArea, InPage, InCross, InWord, InAnnounce}
 use Rattle.heap_laws.proofs.Lifting.Configurations.{board_at, seen, stand, ready}
 use Rattle.heap_laws.specs.Flipping.Flip.{FlipKeeps, flipped_gate, after_flip, next_ghost, next_era, next_memory}
 use Rattle.heap_laws.proofs.Flipping.Flipped.{flip_keeps, table_flips}
@@ -40,7 +40,7 @@ memory_at t gate epoch = record {
   announced = t.announced;
 }
 
-row_seen : (c : Configuration) (e : Option Entry) (later : Memory) → Writes (era c) (memory c) e later → RowSeen c e later
+row_seen : (c : Configuration) (e : Option Entry) (later : Memory) → WritesRow (era c) (memory c) e later → RowSeen c e later
 row_seen c _ _ NoRow = record { fits = tt; era_stays = refl; memory_is = refl }
 row_seen c _ _ (InGate gate fits same) = record {
   fits = fits;

@@ -8,7 +8,7 @@ use Rattle.heap_state.specs.Parts.Scanning.{Claims}
 use Rattle.heap_state.specs.Worker.{Team, Claim}
 use Rattle.heap_state.proofs.Records.Holding.{writer}
 use Rattle.heap_state.proofs.Puts.{some_same}
-use Rattle.heap_laws.specs.Scanning.Claims.{claiming, claim_of, BeginningClaimKeeps, LookingAtPlaceKeeps, LookingAtGateKeeps}
+use Rattle.heap_laws.specs.Scanning.Claims.{claiming, claim_by_word, BeginningClaimKeeps, LookingAtPlaceKeeps, LookingAtGateKeeps}
 use Rattle.heap_laws.specs.Steps.{with_worker, Preserves}
 use Rattle.heap_laws.proofs.Steps.Learning.{learns, learnt}
 
@@ -23,7 +23,7 @@ module _ (E : Era) (m : Memory) (team : Team) (g : Ghost) (k : ℕ) (q : Claim) 
       assumption)
 
 pub begins_claim : BeginningClaimKeeps
-begins_claim E m team g k p old ready may = learnt (claims_more E m team g k (claim_of old p) ready.invariant ready.member (record {
+begins_claim E m team g k p old ready may = learnt (claims_more E m team g k (claim_by_word old p) ready.invariant ready.member (record {
   earlier = may.earlier;
   full = λ now _. ⊎_elim (λ b. inr b) (λ f. inl (f.0, ⊎_elim (λ y. y) (λ y. let z = ((ready.invariant.workers k ready.member).pages.round y.0 y.2).front_then y.1 y.3 now in omega (arith, z, y.4)) f.1)) (may.full now);
   clear = λ now i b j st w l. absurd (omega (arith, l));

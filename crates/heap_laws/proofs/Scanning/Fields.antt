@@ -9,10 +9,10 @@ use Rattle.heap_state.specs.Inductive.{Invariant, Knows}
 use Rattle.heap_state.specs.Parts.Copying.{IsOrigin, Seeks, Licensed}
 use Rattle.heap_state.specs.Parts.Pages.{ScannedBy}
 use Rattle.heap_state.specs.Parts.Scanning.{Stepping}
-use Rattle.heap_state.specs.Worker.{Worker, Team, Origin, Scanned, Quest, Copy, Scan, Seen, is_late}
+use Rattle.heap_state.specs.Worker.{Worker, Team, Origin, Scanned, Quest, Copy, Scan, SeenRecord, is_late}
 use Rattle.heap_state.proofs.Workers.Frames.{counted_put, staffed_put, stocks_put, numbered_put, rooted_put}
 use Rattle.heap_state.proofs.Puts.{put_same, team_put, some_same, none≢some}
-use Rattle.heap_state.specs.FieldSpan.{next_in, next_from}
+use Rattle.heap_state.specs.FieldSpan.{next_scanned, next_from}
 use Rattle.heap_state.proofs.Records.FieldSpans.{passes_no_field, next_within, span-within, field-span}
 use Rattle.heap_state.specs.Entries.{WordIs}
 use Rattle.heap_laws.specs.Scanning.Words.{scanning, on_to, AtField, PassingFieldKeeps, asking, AskingKeeps, HasFound, past_word}
@@ -37,7 +37,7 @@ module _ (E : Era) (m : Memory) (team : Team) (g : Ghost) (k : ℕ) (s : Scan) (
   unfolding Here
   here = ⊎_elim (λ b. inr b.0) (λ y. inl (in_field y.0 y.1 y.2)) at.place
     where
-      in_field : (r : Seen) → s.current ≡ Some r → s.cursor < r.fields_end → InRecord E g.size g.writer g.kind s.cursor
+      in_field : (r : SeenRecord) → s.current ≡ Some r → s.cursor < r.fields_end → InRecord E g.size g.writer g.kind s.cursor
       in_field r e l =
           let c = steps.current r e in
           let o = inv.laid.order in
@@ -59,8 +59,8 @@ module _ (E : Era) (m : Memory) (team : Team) (g : Ghost) (k : ℕ) (s : Scan) (
       (λ y. gone_on (Some y.0) y.1 (in_record y.0 y.1 y.2))
       at.place
     where
-      gone_on : (o : Option Seen) → s.current ≡ o → ScanGoesOn E m.front g.size g.writer g.kind heap s (on_to E s (next_from o (s.cursor + 1))) → ScanGoesOn E m.front g.size g.writer g.kind heap s (past_word E s)
-      gone_on o e goes = subst (λ (y : ℕ). ScanGoesOn E m.front g.size g.writer g.kind heap s (on_to E s y)) (ap (λ (c : Option Seen). next_from c (s.cursor + 1)) (sym e)) goes
+      gone_on : (o : Option SeenRecord) → s.current ≡ o → ScanGoesOn E m.front g.size g.writer g.kind heap s (on_to E s (next_from o (s.cursor + 1))) → ScanGoesOn E m.front g.size g.writer g.kind heap s (past_word E s)
+      gone_on o e goes = subst (λ (y : ℕ). ScanGoesOn E m.front g.size g.writer g.kind heap s (on_to E s y)) (ap (λ (c : Option SeenRecord). next_from c (s.cursor + 1)) (sym e)) goes
 
       on_board : OnBoard E s.cursor → s.current ≡ None → ScanGoesOn E m.front g.size g.writer g.kind heap s (on_to E s (s.cursor + 1))
       on_board b none = record {
@@ -70,7 +70,7 @@ module _ (E : Era) (m : Memory) (team : Team) (g : Ghost) (k : ℕ) (s : Scan) (
         stepping = stepping_on E m.front g.size g.writer g.kind s (s.cursor + 1) (omega arith) (λ r e. none≢some (sym none ∙ e)) steps;
       }
 
-      in_record : (r : Seen) → s.current ≡ Some r → s.cursor < r.fields_end → ScanGoesOn E m.front g.size g.writer g.kind heap s (on_to E s (next_in r (s.cursor + 1)))
+      in_record : (r : SeenRecord) → s.current ≡ Some r → s.cursor < r.fields_end → ScanGoesOn E m.front g.size g.writer g.kind heap s (on_to E s (next_scanned r (s.cursor + 1)))
       in_record r is l =
           let c = steps.current r is in
           let z = span-within (g.kind r.at) (g.size r.at) c.stands in
@@ -87,7 +87,7 @@ module _ (E : Era) (m : Memory) (team : Team) (g : Ghost) (k : ℕ) (s : Scan) (
                 passes_no_field r (g.kind r.at) (g.size r.at) c.stands c.fields c.whole (s.cursor + 1) x (omega arith) (omega (arith, entered, z, f)) (omega (arith, w, n)) n q.1))
                 (cases_eq x s.cursor);
             top = inr (let q = c.inside.1 in omega (arith, q, w));
-            stepping = stepping_on E m.front g.size g.writer g.kind s (next_in r (s.cursor + 1)) (omega (arith, w)) (λ q e.
+            stepping = stepping_on E m.front g.size g.writer g.kind s (next_scanned r (s.cursor + 1)) (omega (arith, w)) (λ q e.
                 let z : r ≡ q = some_same (sym is ∙ e) in
                 rw (← z) w.1) steps;
           }

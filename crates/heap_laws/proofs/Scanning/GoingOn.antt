@@ -7,7 +7,7 @@ use Rattle.heap_state.specs.Ghost.{Ghost, Here, Leads}
 use Rattle.heap_state.specs.Inductive.{Invariant, Knows}
 use Rattle.heap_state.specs.Parts.Copying.{Copies, IsOrigin, Keeps, Licensed, Seeks}
 use Rattle.heap_state.specs.Parts.Scanning.{Scans, Stepping}
-use Rattle.heap_state.specs.Worker.{Worker, Team, Copy, Scan, Seen, Quest, is_late}
+use Rattle.heap_state.specs.Worker.{Worker, Team, Copy, Scan, SeenRecord, Quest, is_late}
 use Rattle.heap_state.proofs.Records.Holding.{writer}
 use Rattle.heap_state.proofs.Puts.{some_same, none≢some}
 use Rattle.heap_laws.specs.Scanning.Words.{scanning, is_past, on_to}
@@ -29,7 +29,7 @@ past E page y e = ⊎_elim
     (cases_eq page (E.board / 64))
 
 -- which record the cursor is in, further on in the same
-pub stepping_on : (E : Era) (front : ℕ) (size writer : ℕ → ℕ) (kind : ℕ → Kind) (s : Scan) (y : ℕ) → s.cursor ≤ y → ((r : Seen) → s.current ≡ Some r → y ≤ r.next)
+pub stepping_on : (E : Era) (front : ℕ) (size writer : ℕ → ℕ) (kind : ℕ → Kind) (s : Scan) (y : ℕ) → s.cursor ≤ y → ((r : SeenRecord) → s.current ≡ Some r → y ≤ r.next)
     → Stepping E front size writer kind s → Stepping E front size writer kind (on_to E s y)
 stepping_on E front size writer kind s y forward within p = record {
   over = p.over;

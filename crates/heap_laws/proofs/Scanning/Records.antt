@@ -9,13 +9,13 @@ use Rattle.heap_state.specs.Era.{Era, Memory, IsLaidOut}
 use Rattle.heap_state.specs.Ghost.{Ghost, Here, said_kind}
 use Rattle.heap_state.specs.Inductive.{Invariant, Knows}
 use Rattle.heap_state.specs.Parts.Scanning.{Scans, Stepping, IsIn}
-use Rattle.heap_state.specs.Worker.{Team, Copy, Scan, Seen}
+use Rattle.heap_state.specs.Worker.{Team, Copy, Scan, SeenRecord}
 use Rattle.heap_state.proofs.Records.Holding.{writer, uncopied_here}
 use Rattle.heap_state.proofs.Puts.{some_same, none≢some}
 use Rattle.heap_state.proofs.Records.Headers.{said_kind-header_kind}
 use Rattle.heap_state.specs.FieldSpan.{seen_at, entry_of}
 use Rattle.heap_state.proofs.Records.FieldSpans.{enters_within, enters_past_no_field}
-use Rattle.heap_laws.specs.Scanning.Words.{scanning, in_record, IsScanning, ReadingCrossingKeeps, ReadingFirstHeaderKeeps, ReadingFrontKeeps, ReadingNextHeaderKeeps}
+use Rattle.heap_laws.specs.Scanning.Words.{scanning, scan_in_record, IsScanning, ReadingCrossingKeeps, ReadingFirstHeaderKeeps, ReadingFrontKeeps, ReadingNextHeaderKeeps}
 use Rattle.heap_laws.specs.Steps.{with_worker, Preserves}
 use Rattle.heap_laws.proofs.Fields.Slots.{here_field}
 use Rattle.heap_laws.proofs.Scanning.GoingOn.{past, goes_on, no_copy}
@@ -106,12 +106,12 @@ module _ (E : Era) (m : Memory) (team : Team) (g : Ghost) (k : ℕ) (s : Scan) (
 
   -- the scan enters the record at a
   enters : (a len serial mutator : ℕ) (head : HeaderKind) → 0 < g.size a → g.writer a ≡ 0 → E.start ≤ a → a + g.size a ≤ m.front → a ≤ s.cursor → s.cursor < a + g.size a
-      → decode (m.heap a) ≡ HeaderWord head len serial mutator → Preserves E m m team (with_worker team k (scanning (team.worker k) (in_record E s a (kind_at head a) (len + 1)))) g g
+      → decode (m.heap a) ≡ HeaderWord head len serial mutator → Preserves E m m team (with_worker team k (scanning (team.worker k) (scan_in_record E s a (kind_at head a) (len + 1)))) g g
   enters a len serial mutator head st w l n c d e =
       let h = header a len serial mutator head st w l n e in
-      let seen : Seen = seen_at a (kind_at head a) (len + 1) in
+      let seen : SeenRecord = seen_at a (kind_at head a) (len + 1) in
       let y = enters_within seen (kind_at head a) (len + 1) (omega arith) refl refl s.cursor (omega (arith, h.1, d)) in
-      goes_on E m team g k s inv below is.scans idle (in_record E s a (kind_at head a) (len + 1)) (record {
+      goes_on E m team g k s inv below is.scans idle (scan_in_record E s a (kind_at head a) (len + 1)) (record {
         page = refl;
         clean = λ x u p f o. absurd (no_field x u (omega (arith, c, f)) f (omega (arith, y.2, o)) o h.0 h.1);
         top = inr (omega (arith, y.2, h.1, n));
@@ -143,14 +143,14 @@ module _ (E : Era) (m : Memory) (team : Team) (g : Ghost) (k : ℕ) (s : Scan) (
 
   -- its header
   pub enters_first : (a len serial mutator : ℕ) (head : HeaderKind) → s.over ≡ Some a → s.cursor ≡ 64 * s.page → decode (m.heap a) ≡ HeaderWord head len serial mutator
-      → Preserves E m m team (with_worker team k (scanning (team.worker k) (in_record E s a (kind_at head a) (len + 1)))) g g
+      → Preserves E m m team (with_worker team k (scanning (team.worker k) (scan_in_record E s a (kind_at head a) (len + 1)))) g g
   enters_first a len serial mutator head e c d =
       let o = steps.over a e in
       let w = first_lies a e in
       enters a len serial mutator head o.0 o.1 w.0 w.1 (omega (arith, o.2, c)) (omega (arith, o.3, c)) d
 
   -- the next record stands below FRONT, and nobody writes it
-  pub next_lies : (r : Seen) → s.current ≡ Some r → s.cursor ≡ r.next → s.cursor < 64 * s.page + 64 → (s.inner ≡ true) ⊎ (s.in_place ≡ false)
+  pub next_lies : (r : SeenRecord) → s.current ≡ Some r → s.cursor ≡ r.next → s.cursor < 64 * s.page + 64 → (s.inner ≡ true) ⊎ (s.in_place ≡ false)
       → (0 < g.size s.cursor) × (g.writer s.cursor ≡ 0) × (E.start ≤ s.cursor) × (s.cursor + g.size s.cursor ≤ m.front)
   next_lies r e c p i =
       let t = steps.current r e in
@@ -160,7 +160,7 @@ module _ (E : Era) (m : Memory) (team : Team) (g : Ghost) (k : ℕ) (s : Scan) (
       let y = lies_below s.cursor s.cursor st (omega arith) (omega (arith, st)) f b in
       (st, written s.cursor s.cursor st (omega arith) (omega (arith, st)) (omega (arith, b, p)), y.0, y.1)
     where
-      follows : (r : Seen) → IsIn E m.front g.size g.writer g.kind s.cursor r → s.cursor ≡ r.next → s.cursor < m.front → 0 < g.size s.cursor
+      follows : (r : SeenRecord) → IsIn E m.front g.size g.writer g.kind s.cursor r → s.cursor ≡ r.next → s.cursor < m.front → 0 < g.size s.cursor
       follows r t c f =
           let whole = t.whole in
           let in_front = t.inside.1 in
@@ -170,8 +170,8 @@ module _ (E : Era) (m : Memory) (team : Team) (g : Ghost) (k : ℕ) (s : Scan) (
           (inv.laid.next r.at t.inside.0 (let st = t.stands in omega (arith, whole, c, f, st)) t.stands)
 
   -- its header
-  pub enters_next : (r : Seen) (len serial mutator : ℕ) (head : HeaderKind) → s.current ≡ Some r → s.cursor ≡ r.next → s.cursor < 64 * s.page + 64 → (s.inner ≡ true) ⊎ (s.in_place ≡ false)
-      → decode (m.heap s.cursor) ≡ HeaderWord head len serial mutator → Preserves E m m team (with_worker team k (scanning (team.worker k) (in_record E s s.cursor (kind_at head s.cursor) (len + 1)))) g g
+  pub enters_next : (r : SeenRecord) (len serial mutator : ℕ) (head : HeaderKind) → s.current ≡ Some r → s.cursor ≡ r.next → s.cursor < 64 * s.page + 64 → (s.inner ≡ true) ⊎ (s.in_place ≡ false)
+      → decode (m.heap s.cursor) ≡ HeaderWord head len serial mutator → Preserves E m m team (with_worker team k (scanning (team.worker k) (scan_in_record E s s.cursor (kind_at head s.cursor) (len + 1)))) g g
   enters_next r len serial mutator head e c p i d =
       let y = next_lies r e c p i in
       enters s.cursor len serial mutator head y.0 y.1 y.2 y.3 (omega arith) (let st = y.0 in omega (arith, st)) d

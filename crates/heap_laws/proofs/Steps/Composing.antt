@@ -16,7 +16,7 @@ use Rattle.heap_state.specs.Worker.{Worker, Team, Account, Quest, Scan, Round, O
 use Rattle.heap_state.proofs.Workers.Frames.{counted_put, staffed_put, stocks_put, numbered_put, rooted_put}
 use Rattle.heap_state.proofs.Puts.{put_same, put_twice, each_put, some_same}
 use Rattle.heap_laws.specs.Composing.{IsAtMost, IsLess, IsLessScan, IsLessRound, LessAtPages, IsScanWithin, SameScan, LessScan, StepsForget, StepsAreReady, StepsFollow, PlainStepsForget, PlainStepsAreReady, PlainStepsFollow}
-use Rattle.heap_laws.specs.Steps.{Writes, NoRow, InGate, with_worker, Preserves, Steps}
+use Rattle.heap_laws.specs.Steps.{WritesRow, NoRow, InGate, with_worker, Preserves, Steps}
 use Rattle.heap_laws.proofs.Steps.Learning.{shown_put, scanned_on}
 
 -- ---- forgetting
@@ -205,7 +205,7 @@ plain_steps_forget E m team g k e v w h q s most = record {
 -- ---- one after another
 
 -- a row other than the gate's leaves the gate, and the gate's is one of the same epoch
-still_at_gate : {E : Era} {m : Memory} {e : Option Entry} {n : Memory} → Writes E m e n → m.gate.epoch ≡ E.epoch → n.gate.epoch ≡ E.epoch
+still_at_gate : {E : Era} {m : Memory} {e : Option Entry} {n : Memory} → WritesRow E m e n → m.gate.epoch ≡ E.epoch → n.gate.epoch ≡ E.epoch
 still_at_gate NoRow y = y
 still_at_gate (InGate gate fits same) y = same
 still_at_gate _ y = y
@@ -223,7 +223,7 @@ record KeepsOn (E : Era) (n : Memory) (team after : Team) (h i : Ghost) : Type 0
 keeps_on : {E : Era} {n : Memory} {team : Team} {h : Ghost} {k : ℕ} {e : Option Entry} {w : Worker} {i : Ghost} → e ≡ None → (s : Steps E n team h k e w i) → KeepsOn E n team (with_worker team k w) h i
 keeps_on {E} {n} {team} {h} {k} {e} {w} {i} none s = by_row e s.later s.writes none s.keeps
   where
-    by_row : (e : Option Entry) (later : Memory) → Writes E n e later → e ≡ None → Preserves E n later team (with_worker team k w) h i → KeepsOn E n team (with_worker team k w) h i
+    by_row : (e : Option Entry) (later : Memory) → WritesRow E n e later → e ≡ None → Preserves E n later team (with_worker team k w) h i → KeepsOn E n team (with_worker team k w) h i
     by_row _ _ NoRow none p = record { keeps = p }
     by_row _ _ _ none p = absurd (cc)
 

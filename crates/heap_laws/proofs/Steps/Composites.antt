@@ -10,7 +10,7 @@ use Rattle.heap_state.proofs.Puts.{put_same, put_other}
 use Rattle.heap_laws.specs.Composing.{ends_round}
 use Rattle.heap_laws.specs.Composites.{AsksAt, AllDone, AsksNext, LeadNowhere, come_to, RegistersArePassed, forwarded_to, RegistersFindForwards, RegistersAreSettled, LookingAtLastPageKeeps, ClaimsBegin, RoundsEnd}
 use Rattle.heap_laws.specs.Flipping.Registers.{past_register, forwarded}
-use Rattle.heap_laws.specs.Scanning.Claims.{claiming, claim_of}
+use Rattle.heap_laws.specs.Scanning.Claims.{claiming, claim_by_word}
 use Rattle.heap_laws.specs.Steps.{Ready, Steps, with_worker}
 use Rattle.heap_laws.specs.Tracing.{looking}
 use Rattle.heap_laws.proofs.Steps.Composing.{steps_forget, steps_are_ready, steps_follow}
@@ -148,5 +148,5 @@ pub rounds_end : RoundsEnd
 rounds_end E m team g k ready = steps_forget E m team g k None (team.worker k) (ends_round (team.worker k)) g (nothing_else_changes E m team g k ready) (rounds_are_forgotten (team.worker k))
 
 pub claims_begin : ClaimsBegin
-claims_begin E m team g k p old ready may = steps_forget E m team g k None (claiming (team.worker k) (claim_of old p)) (claiming (ends_round (team.worker k)) (claim_of old p)) g (begins_claim E m team g k p old ready may)
-    (of_round (claiming (team.worker k) (claim_of old p)) (Some (claim_of old p)) None (λ _ e. e) (λ _ e. absurd (cc)))
+claims_begin E m team g k p old ready may = steps_forget E m team g k None (claiming (team.worker k) (claim_by_word old p)) (claiming (ends_round (team.worker k)) (claim_by_word old p)) g (begins_claim E m team g k p old ready may)
+    (of_round (claiming (team.worker k) (claim_by_word old p)) (Some (claim_by_word old p)) None (λ _ e. e) (λ _ e. absurd (cc)))

@@ -5,7 +5,7 @@ use Rattle.std.proofs.lemmas.Option.{slice_get_within}
 use Rattle.plain_state.specs.declared.value.Identity.{Identity}
 use Rattle.plain_state.specs.declared.value.Value.TheVariants.{Reference}
 use Rattle.plain_state.specs.State as plain
-use Rattle.plain_state.specs.Layout.{is_field, word_of, size_of}
+use Rattle.plain_state.specs.Layout.{is_field, word_of_value, size_of}
 use Rattle.heap_state.specs.Cycle.{Cycle, RootLeads, ByBoard, ByRegister, IsRoot, InRegister, OnTheBoard, IsCopied}
 use Rattle.heap_state.specs.Era.{Era, Memory, IsLaidOut}
 use Rattle.heap_state.specs.Ghost.{Ghost}
@@ -32,20 +32,20 @@ module _ (E : Era) (m : Memory) (team : Team) (g : Ghost) (p : plain.Plain) (out
       by_root (ByRegister k r l s late d t) = absurd (let q = (inv.workers k l).licensed.counted late in let z = (inv.tracing.quiet traced).none in omega (arith, q, z))
 
   -- what a copied record referred to is copied
-  closed : (i j : Identity) (r : plain.Record) (n : ℕ) → Copied i → plain.record_of p.heap i ≡ Some r → is_field r.kind (word_of r.kind n) ≡ true → slice_get r.values n ≡ Some (Reference j) → Copied j
+  closed : (i j : Identity) (r : plain.Record) (n : ℕ) → Copied i → plain.record_of p.heap i ≡ Some r → is_field r.kind (word_of_value r.kind n) ≡ true → slice_get r.values n ≡ Some (Reference j) → Copied j
   closed i j r n c of f refers =
       let s = cy.copying.sizes c.at c.stands.0 c.below.0 c.below.1 in
       let of' : plain.record_of p.heap (g.identity c.at) ≡ Some r = rw c.named of in
       let same : s.0 ≡ r = some_same (sym s.1 ∙ of') in
       let len : size_of r ≡ g.size c.at = rw same at s.2 in
       let kinds : r.kind ≡ g.kind c.at = rw same at s.3 in
-      let field : is_field (g.kind c.at) (word_of (g.kind c.at) n) ≡ true = rw kinds at f in
+      let field : is_field (g.kind c.at) (word_of_value (g.kind c.at) n) ≡ true = rw kinds at f in
       let within = slice_get_within r.values n (Reference j) refers in
-      let small : word_of (g.kind c.at) n < g.size c.at = omega (arith, within, len) in
+      let small : word_of_value (g.kind c.at) n < g.size c.at = omega (arith, within, len) in
       ⊎_elim (λ y. y)
-      (λ t. absurd (nothing.clean (c.at + word_of (g.kind c.at) n)
-      (field_here E g.size g.writer g.kind c.at (word_of (g.kind c.at) n) (record { stands = c.stands.0; written = c.stands.1; field = field; first = omega arith; last = small }) (c.below.0, let o = inv.laid.order in omega (arith, c.below.1, o)))
-      (still_leads E g.identity (m.heap (c.at + word_of (g.kind c.at) n)) j t)))
+      (λ t. absurd (nothing.clean (c.at + word_of_value (g.kind c.at) n)
+      (field_here E g.size g.writer g.kind c.at (word_of_value (g.kind c.at) n) (record { stands = c.stands.0; written = c.stands.1; field = field; first = omega arith; last = small }) (c.below.0, let o = inv.laid.order in omega (arith, c.below.1, o)))
+      (still_leads E g.identity (m.heap (c.at + word_of_value (g.kind c.at) n)) j t)))
       (cy.copying.complete c.at n r j c.stands.0 c.stands.1 c.below.0 c.below.1 of' field refers)
 
   all_copied : (i : Identity) → Reachable p i → Copied i

@@ -11,7 +11,7 @@ use Rattle.heap_state.specs.Parts.Scanning.{Rounds, Claims, Looks, LastLooks}
 use Rattle.heap_state.specs.Worker.{Team, Round, Claim, Look, LastLook}
 use Rattle.heap_state.proofs.Puts.{some_same, none≢some}
 use Rattle.heap_laws.specs.Steps.{with_worker, Preserves}
-use Rattle.heap_laws.specs.Tracing.{in_round, ReadingTracedKeeps, ReadingRoundFrontKeeps, looking, first_look, BeginningLookKeeps, LookingAtFrontKeeps, LookingAtBoardKeeps, LookingAtPageKeeps, LookingAtFillingPageKeeps, LooksAgain, about_to_trace, LookingAgainKeeps, filling_claim, about_to_fill, ClaimingFillingPageKeeps}
+use Rattle.heap_laws.specs.Tracing.{in_round, ReadingTracedKeeps, ReadingRoundFrontKeeps, looking, look_begun, BeginningLookKeeps, LookingAtFrontKeeps, LookingAtBoardKeeps, LookingAtPageKeeps, LookingAtFillingPageKeeps, LooksAgain, about_to_trace, LookingAgainKeeps, filling_claim, about_to_fill, ClaimingFillingPageKeeps}
 use Rattle.heap_laws.proofs.Steps.Learning.{learns, learnt}
 use Rattle.heap_laws.proofs.Scanning.Scanners.{open_age}
 
@@ -49,7 +49,7 @@ begins_look E m team g k r ready begins =
     let me = inv.workers k ready.member in
     let o = me.pages.round r begins.round in
     let d : (team.worker k).epoch ≡ E.epoch = sym begins.same ∙ ready.at_gate in
-    learnt (looks_more E m team g k inv ready.member (first_look E r) (record {
+    learnt (looks_more E m team g k inv ready.member (look_begun E r) (record {
       earlier = let a = o.traced_then in let t = inv.tracing.top in omega (arith, a, t, d);
       none = λ e. (begins.none, inv.laid.order.0);
       board = λ e b. absurd (cc);

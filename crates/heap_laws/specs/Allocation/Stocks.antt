@@ -23,7 +23,7 @@ pub record HasStock (team : Team) (k : ℕ) (q : Stock) : Type 0 where
 
 -- The area has room for n pages, and so many words are owed from then on. While the epoch is not traced there is room beside the
 -- words owed, and these stay.
-pub record HasRoom (E : Era) (m : Memory) (area : AreaWord) (n owed : ℕ) : Type 0 where
+pub record HasRoomForPages (E : Era) (m : Memory) (area : AreaWord) (n owed : ℕ) : Type 0 where
   pub room : area.front + PAGE_WORDS * n ≤ area.low
   pub beside : m.traced ≤ E.epoch → (owed ≡ area.owed) × (area.front + PAGE_WORDS * n + owed ≤ area.low)
   pub small : owed ≤ area.owed
@@ -43,7 +43,7 @@ SeesRoom traced_seen area n = area.front + PAGE_WORDS * n + owed_beside traced_s
 -- what it sees is so
 abbrev pub RoomIsSeen : Type 0
 RoomIsSeen = (E : Era) (m : Memory) (team : Team) (g : Ghost) (k n : ℕ) (area : AreaWord) → Ready E m team g k → SeesRoom (team.worker k).traced_seen area n
-    → HasRoom E m area n (owed_beside (team.worker k).traced_seen area)
+    → HasRoomForPages E m area n (owed_beside (team.worker k).traced_seen area)
 
 -- n pages below LOW, nothing of them 0 or open yet, claimed in an epoch whose space has this first word
 abbrev pub claimed : (epoch start : ℕ) → AreaWord → ℕ → Stock
@@ -58,7 +58,7 @@ claimed epoch start area n = record {
 -- the area word is exchanged by a running mutator
 abbrev pub StocksAreClaimed : Type 0
 StocksAreClaimed = (E : Era) (m : Memory) (team : Team) (g : Ghost) (k n owed : ℕ) (area : AreaWord) → Ready E m team g k → is_running (team.worker k).post ≡ true
-    → IsAreaNow E m area → HasRoom E m area n owed
+    → IsAreaNow E m area → HasRoomForPages E m area n owed
     → Steps E m team g k (Some (AreaIs (to_space E.epoch) (lowered area n owed))) (stocked (team.worker k) (claimed (team.worker k).epoch E.start area n)) g
 
 -- ---- words made 0

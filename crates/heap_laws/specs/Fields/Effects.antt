@@ -3,7 +3,7 @@ use Rattle.std.specs.Prelude.{◌≡◌, ℕ, ◌+◌, ◌<◌, ⊤, true, lengt
 use Rattle.heap_words.specs.declared.kind.Kind.{Kind as HeaderKind}
 use Rattle.heap_words.specs.Decoded.{NumberWord, PointerWord, HeaderWord, decode, number_in}
 use Rattle.heap_words.specs.Word.{number_word}
-use Rattle.plain_state.specs.Layout.{word_of}
+use Rattle.plain_state.specs.Layout.{word_of_value}
 use Rattle.plain_state.specs.State as plain
 use Rattle.plain_state.specs.declared.value.Value.{Value}
 use Rattle.plain_state.specs.declared.value.Value.TheVariants.{Number, Reference}
@@ -23,14 +23,14 @@ use Rattle.plain_state.specs.declared.sizes.TheConstants.{NUMBERS}
 -- ---- mutators
 
 -- mutator k is like the plain mutator q
-pub record IsMutator (E : Era) (m : Memory) (team : Team) (g : Ghost) (p : plain.Plain) (k : ℕ) (q : plain.Mutator) : Type 0 where
+pub record IsLikePlain (E : Era) (m : Memory) (team : Team) (g : Ghost) (p : plain.Plain) (k : ℕ) (q : plain.Mutator) : Type 0 where
   pub is : slice_get p.mutators k ≡ Some q
   pub same : IsAs g p.heap k (team.worker k) q
 
 -- each mutator has its plain one
 abbrev pub MutatorsAreShown : Type 0
 MutatorsAreShown = (E : Era) (m : Memory) (team : Team) (g : Ghost) (p : plain.Plain) (k : ℕ) → Ready E m team g k → Shown E m team g p
-    → is_mutator (team.worker k).post ≡ true → (q : plain.Mutator) × IsMutator E m team g p k q
+    → is_mutator (team.worker k).post ≡ true → (q : plain.Mutator) × IsLikePlain E m team g p k q
 
 -- ---- registers
 
@@ -42,7 +42,7 @@ pub record RegisterHolds (E : Era) (g : Ghost) (w : ℕ) (y : Value) : Type 0 wh
   pub reference : (a : ℕ) → decode w ≡ PointerWord a → y ≡ Reference (g.identity a)
 
 abbrev pub RegistersHold : Type 0
-RegistersHold = (E : Era) (m : Memory) (team : Team) (g : Ghost) (p : plain.Plain) (k : ℕ) (q : plain.Mutator) (j : ℕ) → Ready E m team g k → IsMutator E m team g p k q
+RegistersHold = (E : Era) (m : Memory) (team : Team) (g : Ghost) (p : plain.Plain) (k : ℕ) (q : plain.Mutator) (j : ℕ) → Ready E m team g k → IsLikePlain E m team g p k q
     → is_mutator (team.worker k).post ≡ true → is_late E.epoch (team.worker k) ≡ false → (team.worker k).account.end ≡ None → j < 8
     → (y : Value) × (slice_get q.registers j ≡ Some y) × RegisterHolds E g ((team.worker k).registers j) y
 
@@ -54,8 +54,8 @@ pub record HeaderSays (E : Era) (m : Memory) (g : Ghost) (p : plain.Plain) (a : 
   pub is : plain.record_of p.heap (g.identity a) ≡ Some record_there
   pub kind : record_there.kind ≡ said_kind head (m.heap (a + 1))
   pub long : length record_there.values ≡ len
-  pub access : (x : ℕ) (role : Role) → x < len → HasRole record_there.kind (word_of record_there.kind x) role
-      → Accesses E g.size g.writer g.kind (record { at = a; word = word_of record_there.kind x; role = role })
+  pub access : (x : ℕ) (role : Role) → x < len → HasRole record_there.kind (word_of_value record_there.kind x) role
+      → Accesses E g.size g.writer g.kind (record { at = a; word = word_of_value record_there.kind x; role = role })
 
 abbrev pub HeadersSay : Type 0
 HeadersSay = (E : Era) (m : Memory) (team : Team) (g : Ghost) (p : plain.Plain) (k a len serial mutator : ℕ) (w : ℕ) (head : HeaderKind) → Ready E m team g k → Shown E m team g p
@@ -83,7 +83,7 @@ pub record IsValueOf (E : Era) (m : Memory) (g : Ghost) (p : plain.Plain) (f : A
   pub record_there : plain.Record
   pub is : plain.record_of p.heap (g.identity f.at) ≡ Some record_there
   pub kind : record_there.kind ≡ g.kind f.at
-  pub role : HasRole record_there.kind (word_of record_there.kind x) f.role
+  pub role : HasRole record_there.kind (word_of_value record_there.kind x) f.role
   pub word : IsWordOf E g.size g.writer g.kind f.at x
   pub opens : m.page (page_of (f.at + f.word)) ≡ Open E.epoch
   pub value : Value
@@ -93,7 +93,7 @@ pub record IsValueOf (E : Era) (m : Memory) (g : Ghost) (p : plain.Plain) (f : A
 
 abbrev pub AccessesAreValues : Type 0
 AccessesAreValues = (E : Era) (m : Memory) (team : Team) (g : Ghost) (p : plain.Plain) (k : ℕ) (f : Access) (x : ℕ) → Ready E m team g k → Shown E m team g p
-    → (team.worker k).access ≡ Some f → (team.worker k).opened ≡ Some (page_of (f.at + f.word)) → f.word ≡ word_of (g.kind f.at) x → IsValueOf E m g p f x
+    → (team.worker k).access ≡ Some f → (team.worker k).opened ≡ Some (page_of (f.at + f.word)) → f.word ≡ word_of_value (g.kind f.at) x → IsValueOf E m g p f x
 
 -- ---- words of the board
 

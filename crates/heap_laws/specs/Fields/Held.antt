@@ -28,7 +28,7 @@ SameWords = (E : Era) (m : Memory) (team : Team) (g : Ghost) (k v w : ℕ) (x y 
 -- Mutator w goes on as `next`. It stands where it stood, and copies and scans what it did. What it knows it knew before, but
 -- for its access, a page found open and whether the epoch is traced, of which what it says is so. Its registers hold what a mutator may
 -- hold, as long as it has no end.
-pub record GoesOn (E : Era) (m : Memory) (g : Ghost) (w next : Worker) : Type 0 where
+pub record MutatorGoesOn (E : Era) (m : Memory) (g : Ghost) (w next : Worker) : Type 0 where
   pub post : next.post ≡ w.post
   pub epoch : next.epoch ≡ w.epoch
   pub done : next.done ≡ w.done
@@ -56,7 +56,7 @@ GoesOnSo = (E : Era) (m : Memory) (team : Team) (g : Ghost) (k : ℕ) (account :
     → account.serial ≡ (team.worker k).account.serial
     → ((f : Access) → access ≡ Some f → Accesses E g.size g.writer g.kind f) → ((p : ℕ) → opened ≡ Some p → m.page p ≡ Open E.epoch)
     → (account.end ≡ None → (j : ℕ) → j < 8 → MayHold E g.size g.writer (registers j))
-    → GoesOn E m g (team.worker k) (going_on (team.worker k) account registers access opened)
+    → MutatorGoesOn E m g (team.worker k) (going_on (team.worker k) account registers access opened)
 
 -- the plain state in which mutator k is this one
 abbrev pub with_mutator : plain.Plain → ℕ → plain.Mutator → plain.Plain

@@ -10,7 +10,7 @@ use Rattle.plain_state.specs.declared.kind.Kind.{Kind}
 use Rattle.plain_state.specs.declared.value.Value.{Value}
 use Rattle.plain_state.specs.State as plain
 use Rattle.plain_state.specs.Writing.{with_heap, stored, with_board, gained}
-use Rattle.plain_state.specs.Layout.{word_of}
+use Rattle.plain_state.specs.Layout.{word_of_value}
 use Rattle.space_map.specs.declared.area_word.AreaWord.{AreaWord}
 use Rattle.space_map.specs.declared.page_word.PageWord.TheVariants.{Open}
 use Rattle.heap_state.specs.Entries.{WordIs}
@@ -21,7 +21,7 @@ use Rattle.heap_state.specs.Worker.{Worker, Team, Stock, is_running}
 use Rattle.heap_state.specs.Functions.{put}
 use Rattle.heap_laws.specs.Allocation.Stocks.{SeesRoom}
 use Rattle.heap_laws.specs.Fields.Words.{IsWordOf, MayStore, StandsFor}
-use Rattle.heap_laws.specs.Fields.Held.{with_mutator, HoldsValue, GoesOn}
+use Rattle.heap_laws.specs.Fields.Held.{with_mutator, HoldsValue, MutatorGoesOn}
 use Rattle.heap_laws.specs.Allocation.Records.{PlacesNext, allocated, next_identity}
 use Rattle.heap_laws.specs.Steps.{Ready, IsAreaNow, StepsTo, Steps}
 use Rattle.space_map.specs.Spaces.{page_of}
@@ -37,30 +37,30 @@ pub record IsAs (g : Ghost) (heap : plain.Heap) (k : ℕ) (w : Worker) (q : plai
 -- a running mutator learns something, and its account and registers stay: a load that is no step of the plain machine
 abbrev pub MutatorsLearn : Type 0
 MutatorsLearn = (E : Era) (m : Memory) (team : Team) (g : Ghost) (k : ℕ) (next : Worker) → Ready E m team g k
-    → is_running (team.worker k).post ≡ true → GoesOn E m g (team.worker k) next → next.account ≡ (team.worker k).account → next.registers ≡ (team.worker k).registers
+    → is_running (team.worker k).post ≡ true → MutatorGoesOn E m g (team.worker k) next → next.account ≡ (team.worker k).account → next.registers ≡ (team.worker k).registers
     → Steps E m team g k None next g
 
 -- nothing is stored: mutator k of the plain state is the next one
 abbrev pub MutatorsStep : Type 0
 MutatorsStep = (E : Era) (m : Memory) (team : Team) (g : Ghost) (p : plain.Plain) (k : ℕ) (next : Worker) (q : plain.Mutator) → Ready E m team g k
-    → is_running (team.worker k).post ≡ true → Shown E m team g p → GoesOn E m g (team.worker k) next → IsAs g p.heap k next q
+    → is_running (team.worker k).post ≡ true → Shown E m team g p → MutatorGoesOn E m g (team.worker k) next → IsAs g p.heap k next q
     → StepsTo E m team g k None next g (with_mutator p k q)
 
 -- a store in a word of a record, whose page is open: the plain heap changes at that word
 abbrev pub MutatorsStore : Type 0
 MutatorsStore = (E : Era) (m : Memory) (team : Team) (g : Ghost) (p : plain.Plain) (k : ℕ) (next : Worker) (q : plain.Mutator) (a x v : ℕ) (r : plain.Record) (y : Value)
     → Ready E m team g k → is_running (team.worker k).post ≡ true → Shown E m team g p
-    → IsWordOf E g.size g.writer g.kind a x → m.page (page_of (a + word_of (g.kind a) x)) ≡ Open E.epoch → MayStore E g.size g.writer (g.kind a) x v
+    → IsWordOf E g.size g.writer g.kind a x → m.page (page_of (a + word_of_value (g.kind a) x)) ≡ Open E.epoch → MayStore E g.size g.writer (g.kind a) x v
     → plain.record_of p.heap (g.identity a) ≡ Some r → StandsFor g (g.kind a) x v y
-    → GoesOn E m g (team.worker k) next → IsAs g p.heap k next q
-    → StepsTo E m team g k (Some (WordIs (a + word_of (g.kind a) x) v)) next g (with_mutator (with_heap p (stored p.heap (g.identity a) r x y)) k q)
+    → MutatorGoesOn E m g (team.worker k) next → IsAs g p.heap k next q
+    → StepsTo E m team g k (Some (WordIs (a + word_of_value (g.kind a) x) v)) next g (with_mutator (with_heap p (stored p.heap (g.identity a) r x y)) k q)
 
 -- a store on the open board: the plain board changes at that word
 abbrev pub MutatorsStoreOnBoard : Type 0
 MutatorsStoreOnBoard = (E : Era) (m : Memory) (team : Team) (g : Ghost) (p : plain.Plain) (k : ℕ) (next : Worker) (q : plain.Mutator) (x v : ℕ) (y : Value)
     → Ready E m team g k → is_running (team.worker k).post ≡ true → Shown E m team g p
     → x < 16 → m.page (page_of E.board) ≡ Open E.epoch → HoldsValue E g v y
-    → GoesOn E m g (team.worker k) next → IsAs g p.heap k next q
+    → MutatorGoesOn E m g (team.worker k) next → IsAs g p.heap k next q
     → StepsTo E m team g k (Some (WordIs (E.board + x) v)) next g (with_mutator (with_heap p (with_board p.heap x y)) k q)
 
 -- the mutator that has placed a record of size z at the place of its stock s, with a pointer to it in register d
@@ -84,7 +84,7 @@ abbrev pub MutatorsPlace : Type 0
 MutatorsPlace = (E : Era) (m : Memory) (team : Team) (g : Ghost) (p : plain.Plain) (k : ℕ) (next : Worker) (q : plain.Mutator) (s : Stock) (c : Kind) (z v d pointer : ℕ) (r : plain.Record)
     → Ready E m team g k → Shown E m team g p → PlacesNext team k s c z v → Shows (value_of g.identity) m.heap s.at c z r
     → d < 8 → decode pointer ≡ PointerWord s.at
-    → GoesOn E m g (team.worker k) next → IsAs g p.heap k next q
+    → MutatorGoesOn E m g (team.worker k) next → IsAs g p.heap k next q
     → StepsTo E m team g k (Some (WordIs s.at v)) (with_record next s z d pointer) (allocated g s.at z c (next_identity team k))
     (with_mutator (with_heap p (gained p.heap k r)) k (with_reference p.heap k q d))
 

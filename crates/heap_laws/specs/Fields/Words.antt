@@ -4,7 +4,7 @@ use Rattle.heap_words.specs.Decoded.{NumberWord, PointerWord, HeaderWord, decode
 use Rattle.plain_state.specs.declared.value.Value.{Value}
 use Rattle.plain_state.specs.declared.value.Value.TheVariants.{Number}
 use Rattle.plain_state.specs.State as plain
-use Rattle.plain_state.specs.Layout.{is_field, is_raw, word_of}
+use Rattle.plain_state.specs.Layout.{is_field, is_raw, word_of_value}
 use Rattle.plain_state.specs.declared.kind.Kind.{Kind}
 use Rattle.space_map.specs.declared.page_word.PageWord.TheVariants.{Open}
 use Rattle.heap_state.specs.Era.{Era, Memory}
@@ -24,17 +24,17 @@ pub record IsWordOf (E : Era) (size writer : ℕ → ℕ) (kind : ℕ → Kind) 
   pub stands : 0 < size a
   pub written : writer a ≡ 0
   pub inside : (E.start ≤ a) × (a < E.start + E.span)
-  pub last : word_of (kind a) x < size a
+  pub last : word_of_value (kind a) x < size a
 
 -- a word may stand at value x of a record of this kind: in a field, what a mutator may hold; elsewhere a number below 2^62
 pub record MayStore (E : Era) (size writer : ℕ → ℕ) (k : Kind) (x v : ℕ) : Type 0 where
-  pub held : is_field k (word_of k x) ≡ true → MayHold E size writer v
-  pub number : is_field k (word_of k x) ≡ false → v < NUMBERS
+  pub held : is_field k (word_of_value k x) ≡ true → MayHold E size writer v
+  pub number : is_field k (word_of_value k x) ≡ false → v < NUMBERS
 
 -- what a word at value x of a record of this kind shows: in a field, the value that it denotes; else its number
 pub record StandsFor (g : Ghost) (k : Kind) (x v : ℕ) (y : Value) : Type 0 where
-  pub denotes : is_field k (word_of k x) ≡ true → value_of g.identity v ≡ Some y
-  pub number : is_raw k (word_of k x) ≡ true → Number v ≡ y
+  pub denotes : is_field k (word_of_value k x) ≡ true → value_of g.identity v ≡ Some y
+  pub number : is_raw k (word_of_value k x) ≡ true → Number v ≡ y
 
 -- ---- loads
 
@@ -53,7 +53,7 @@ HeadersAreRead = (E : Era) (m : Memory) (team : Team) (g : Ghost) (p : plain.Pla
 -- A word that a mutator has access to, and whose page it has found open, is one that it may load and store: of a record of the
 -- epoch's space that nobody writes, on an open page, and with the role that was read.
 pub record IsAccessed (E : Era) (m : Memory) (g : Ghost) (f : Access) : Type 0 where
-  pub word : (x : ℕ) → f.word ≡ word_of (g.kind f.at) x → IsWordOf E g.size g.writer g.kind f.at x
+  pub word : (x : ℕ) → f.word ≡ word_of_value (g.kind f.at) x → IsWordOf E g.size g.writer g.kind f.at x
   pub opens : m.page (page_of (f.at + f.word)) ≡ Open E.epoch
   pub role : HasRole (g.kind f.at) f.word f.role
 
@@ -65,7 +65,7 @@ AccessesAreAllowed = (E : Era) (m : Memory) (team : Team) (g : Ghost) (k : ℕ) 
 -- record is a number below 2^62
 abbrev pub WordsAreLoaded : Type 0
 WordsAreLoaded = (E : Era) (m : Memory) (team : Team) (g : Ghost) (k a x : ℕ) → Ready E m team g k → IsWordOf E g.size g.writer g.kind a x
-    → m.page (page_of (a + word_of (g.kind a) x)) ≡ Open E.epoch → MayStore E g.size g.writer (g.kind a) x (m.heap (a + word_of (g.kind a) x))
+    → m.page (page_of (a + word_of_value (g.kind a) x)) ≡ Open E.epoch → MayStore E g.size g.writer (g.kind a) x (m.heap (a + word_of_value (g.kind a) x))
 
 abbrev pub BoardIsLoaded : Type 0
 BoardIsLoaded = (E : Era) (m : Memory) (team : Team) (g : Ghost) (k x : ℕ) → Ready E m team g k → x < 16

@@ -24,12 +24,12 @@ pub record MayClaim (E : Era) (m : Memory) (team : Team) (k p : ℕ) (old : Page
   pub full : (team.worker k).epoch ≡ E.epoch → (p ≡ page_of E.board)
       ⊎ ((E.start ≤ first_word p) × ((first_word p + PAGE_WORDS ≤ m.front) ⊎ ((r : Round) × (f : ℕ) × ((team.worker k).round ≡ Some r) × (r.front ≡ Some f) × (first_word p + PAGE_WORDS ≤ f))))
 
-abbrev pub claim_of : PageWord → ℕ → Claim
-claim_of old p = record { page = p; old = old; in_place = false; looked = 0; sure = false }
+abbrev pub claim_by_word : PageWord → ℕ → Claim
+claim_by_word old p = record { page = p; old = old; in_place = false; looked = 0; sure = false }
 
 abbrev pub BeginningClaimKeeps : Type 0
 BeginningClaimKeeps = (E : Era) (m : Memory) (team : Team) (g : Ghost) (k p : ℕ) (old : PageWord) → Ready E m team g k → MayClaim E m team k p old
-    → Steps E m team g k None (claiming (team.worker k) (claim_of old p)) g
+    → Steps E m team g k None (claiming (team.worker k) (claim_by_word old p)) g
 
 -- the place that the next worker announces does not begin below the end of the page
 pub record SeesNoPlace (m : Memory) (team : Team) (k : ℕ) (q : Claim) : Type 0 where

@@ -5,7 +5,7 @@ use Rattle.plain_state.specs.declared.kind.Kind.{Kind}
 use Rattle.heap_words.specs.Decoded.{PointerWord, HeaderWord, decode}
 use Rattle.heap_state.specs.Era.{Era, Memory}
 use Rattle.heap_state.specs.Ghost.{Ghost, OnBoard, Leads, said_kind}
-use Rattle.heap_state.specs.Worker.{Worker, Team, Seen, Scanned, Quest, Scan}
+use Rattle.heap_state.specs.Worker.{Worker, Team, SeenRecord, Scanned, Quest, Scan}
 use Rattle.heap_state.specs.FieldSpan.{next_from, seen_at, entry_of}
 use Rattle.heap_state.specs.Entries.{WordIs}
 use Rattle.heap_laws.specs.Steps.{Ready, Steps}
@@ -27,8 +27,8 @@ abbrev pub on_to : Era → Scan → ℕ → Scan
 on_to E s y = record s { cursor = y; inner = false; ended = is_past E s.page y }
 
 -- the scan in a record at a whose header was read, at its first field from the cursor on
-abbrev pub in_record : Era → Scan → (a : ℕ) → Kind → (size : ℕ) → Scan
-in_record E s a k size = record (on_to E s (entry_of (seen_at a k size) k s.cursor)) { over = None; current = Some (seen_at a k size) }
+abbrev pub scan_in_record : Era → Scan → (a : ℕ) → Kind → (size : ℕ) → Scan
+scan_in_record E s a k size = record (on_to E s (entry_of (seen_at a k size) k s.cursor)) { over = None; current = Some (seen_at a k size) }
 
 -- the scan past the word at the cursor
 abbrev pub past_word : Era → Scan → Scan
@@ -42,7 +42,7 @@ pub record IsScanning (team : Team) (k : ℕ) (s : Scan) : Type 0 where
 -- the cursor stands on a board word, or on a field of a record
 pub record AtField (E : Era) (s : Scan) : Type 0 where
   pub on_page : page_of s.cursor ≡ s.page
-  pub place : (OnBoard E s.cursor × (s.current ≡ None)) ⊎ ((r : Seen) × (s.current ≡ Some r) × (s.cursor < r.fields_end))
+  pub place : (OnBoard E s.cursor × (s.current ≡ None)) ⊎ ((r : SeenRecord) × (s.current ≡ Some r) × (s.cursor < r.fields_end))
 
 -- ---- the records on the page
 
@@ -55,7 +55,7 @@ ReadingCrossingKeeps = (E : Era) (m : Memory) (team : Team) (g : Ghost) (k : ℕ
 abbrev pub ReadingFirstHeaderKeeps : Type 0
 ReadingFirstHeaderKeeps = (E : Era) (m : Memory) (team : Team) (g : Ghost) (k : ℕ) (s : Scan) (a len serial mutator : ℕ) (head : HeaderKind) → Ready E m team g k → IsScanning team k s
     → s.page ≢ page_of E.board → s.over ≡ Some a → s.cursor ≡ first_word s.page → decode (m.heap a) ≡ HeaderWord head len serial mutator
-    → Steps E m team g k None (scanning (team.worker k) (in_record E s a (said_kind head (m.heap (a + 1))) (len + 1))) g
+    → Steps E m team g k None (scanning (team.worker k) (scan_in_record E s a (said_kind head (m.heap (a + 1))) (len + 1))) g
 
 -- at a record's end on the page being filled, FRONT is read: the scan is at it, or another record begins
 abbrev pub ReadingFrontKeeps : Type 0
@@ -64,10 +64,10 @@ ReadingFrontKeeps = (E : Era) (m : Memory) (team : Team) (g : Ghost) (k : ℕ) (
 
 -- the header of the next record is read, on a full page or where FRONT was seen past it
 abbrev pub ReadingNextHeaderKeeps : Type 0
-ReadingNextHeaderKeeps = (E : Era) (m : Memory) (team : Team) (g : Ghost) (k : ℕ) (s : Scan) (r : Seen) (len serial mutator : ℕ) (head : HeaderKind) → Ready E m team g k → IsScanning team k s
+ReadingNextHeaderKeeps = (E : Era) (m : Memory) (team : Team) (g : Ghost) (k : ℕ) (s : Scan) (r : SeenRecord) (len serial mutator : ℕ) (head : HeaderKind) → Ready E m team g k → IsScanning team k s
     → s.page ≢ page_of E.board → s.current ≡ Some r → s.cursor ≡ r.next → s.cursor < first_word s.page + PAGE_WORDS → (s.inner ≡ true) ⊎ (s.in_place ≡ false)
     → decode (m.heap s.cursor) ≡ HeaderWord head len serial mutator
-    → Steps E m team g k None (scanning (team.worker k) (in_record E s s.cursor (said_kind head (m.heap (s.cursor + 1))) (len + 1))) g
+    → Steps E m team g k None (scanning (team.worker k) (scan_in_record E s s.cursor (said_kind head (m.heap (s.cursor + 1))) (len + 1))) g
 
 -- ---- the fields
 

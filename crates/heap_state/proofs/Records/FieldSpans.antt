@@ -4,8 +4,8 @@ use Rattle.std.proofs.lemmas.Bool.{cases_lt}
 use Rattle.plain_state.specs.declared.kind.Kind.{Kind}
 use Rattle.plain_state.specs.declared.kind.Kind.TheVariants.{Fields, Raw}
 use Rattle.plain_state.specs.Layout.{is_field}
-use Rattle.heap_state.specs.FieldSpan.{first_field, fields_end, next_in, entry_of}
-use Rattle.heap_state.specs.Worker.{Seen}
+use Rattle.heap_state.specs.FieldSpan.{first_field, fields_end, next_scanned, entry_of}
+use Rattle.heap_state.specs.Worker.{SeenRecord}
 
 -- a word behind the header is a field exactly where it lies from the first field up to the fields' end
 pub field-span : (k : Kind) (i size : ℕ) → 0 < i → i < size → (is_field k i ≡ true) ↔ ((first_field k ≤ i) × (i < fields_end k size))
@@ -17,16 +17,16 @@ pub span-within : (k : Kind) (size : ℕ) → 0 < size → (0 < first_field k) �
 span-within Fields size s = (omega arith, omega arith, omega arith)
 span-within Raw size s = (omega arith, omega arith, omega arith)
 
-module _ (r : Seen) (k : Kind) (size : ℕ) (some : 0 < size) (fields : r.fields_end ≡ r.at + fields_end k size) (whole : r.next ≡ r.at + size) where
+module _ (r : SeenRecord) (k : Kind) (size : ℕ) (some : 0 < size) (fields : r.fields_end ≡ r.at + fields_end k size) (whole : r.next ≡ r.at + size) where
   -- a scan goes on not before y, and not behind the record
-  pub next_within : (y : ℕ) → y ≤ r.next → (y ≤ next_in r y) × (next_in r y ≤ r.next)
+  pub next_within : (y : ℕ) → y ≤ r.next → (y ≤ next_scanned r y) × (next_scanned r y ≤ r.next)
   next_within y l = ⊎_elim
       (λ (n : y < r.fields_end). rw (lt-ltb y r.fields_end n) (omega arith, l))
       (λ (n : r.fields_end ≤ y). rw (le-ltb y r.fields_end n) (l, omega arith))
       (cases_lt y r.fields_end)
 
   -- what it passes over is no field
-  pub passes_no_field : (y x : ℕ) → y ≤ x → r.at < x → x < r.next → x < next_in r y → ¬ (is_field k (x - r.at) ≡ true)
+  pub passes_no_field : (y x : ℕ) → y ≤ x → r.at < x → x < r.next → x < next_scanned r y → ¬ (is_field k (x - r.at) ≡ true)
   passes_no_field y x l f b n e =
       let t = (field-span k (x - r.at) size (omega arith) (omega arith)).0 e in
       ⊎_elim

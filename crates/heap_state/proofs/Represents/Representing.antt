@@ -6,7 +6,7 @@ use Rattle.std.proofs.lemmas.Bool.{lt-ltb}
 use Rattle.std.proofs.lemmas.Option.{slice_get_within}
 use Rattle.plain_state.specs.declared.kind.Kind.{Kind}
 use Rattle.plain_state.specs.State as plain
-use Rattle.plain_state.specs.Layout.{is_raw, word_of}
+use Rattle.plain_state.specs.Layout.{is_raw, word_of_value}
 use Rattle.heap_state.specs.Configuration.{Configuration, table, era, memory, team}
 use Rattle.heap_state.specs.Denotes.{denoted}
 use Rattle.heap_state.specs.Era.{Era, Memory}
@@ -63,9 +63,9 @@ module _ (c : Configuration) (g : Ghost) (inv : Invariant (era c) (memory c) (te
         size = s.size ∙ o.known.sized.1;
         fields = λ x l f.
             let z = s.size in
-            let q = field_of c g inv w kind len serial mutator (word_of kind x) o (omega arith) (omega (arith, l, z, o.known.sized)) f in
-            denotes c g inv (m.heap (w.at + word_of kind x)) (field_lands c g inv w.at (word_of kind x) q o.known.inside).0 ∙ s.fields x l q.field;
-        numbers = λ x l f. s.numbers x l (ap (λ k. is_raw k (word_of k x)) (sym o.of_kind) ∙ f);
+            let q = field_of c g inv w kind len serial mutator (word_of_value kind x) o (omega arith) (omega (arith, l, z, o.known.sized)) f in
+            denotes c g inv (m.heap (w.at + word_of_value kind x)) (field_lands c g inv w.at (word_of_value kind x) q o.known.inside).0 ∙ s.fields x l q.field;
+        numbers = λ x l f. s.numbers x l (ap (λ k. is_raw k (word_of_value k x)) (sym o.of_kind) ∙ f);
       }
 
   -- in the epoch's space each record has its own header

@@ -4,7 +4,7 @@ use Rattle.std.specs.Prelude.{slice_get}
 use Rattle.std.proofs.lemmas.Bool.{lt-ltb}
 use Rattle.std.proofs.lemmas.Option.{slice_get_within}
 use Rattle.plain_state.specs.State as plain
-use Rattle.plain_state.specs.Layout.{word_of}
+use Rattle.plain_state.specs.Layout.{word_of_value}
 use Rattle.heap_state.specs.Configuration.{Configuration, era, memory, team}
 use Rattle.heap_state.specs.Denotes.{denoted}
 use Rattle.heap_state.specs.Dump.{dump_of}
@@ -41,8 +41,8 @@ module _ (c : Configuration) (g : Ghost) (inv : Invariant (era c) (memory c) (te
         size = s.size;
         fields = λ x l f.
             let z = s.size in
-            let i : IsField g.size g.writer g.kind a (word_of (g.kind a) x) = record { stands = st; written = w; field = f; first = omega arith; last = omega (arith, l, z) } in
-            sym (denotes c g inv (m.heap (a + word_of (g.kind a) x)) (field_lands c g inv a (word_of (g.kind a) x) i (in_reach a st)).0) ∙ s.fields x l f;
+            let i : IsField g.size g.writer g.kind a (word_of_value (g.kind a) x) = record { stands = st; written = w; field = f; first = omega arith; last = omega (arith, l, z) } in
+            sym (denotes c g inv (m.heap (a + word_of_value (g.kind a) x)) (field_lands c g inv a (word_of_value (g.kind a) x) i (in_reach a st)).0) ∙ s.fields x l f;
         numbers = s.numbers;
       }
 

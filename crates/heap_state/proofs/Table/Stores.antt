@@ -12,7 +12,7 @@ use Rattle.space_map.proofs.PageWords.{decode_page-encode_page}
 use Rattle.space_map.proofs.Rows.{row_eq, row_eq-decides}
 use Rattle.heap_state.specs.Entries.{Entry, GateIs, AreaIs, PageIs, EntryFits, row_of, word_of, with_entry}
 use Rattle.heap_state.specs.Functions.{put}
-use Rattle.heap_state.specs.Table.{HasForm, page_said, table_by, table_of, word_in}
+use Rattle.heap_state.specs.Table.{HasForm, page_in, table_by, table_of, word_in}
 use Rattle.heap_state.specs.Theorems.Rows.{StoresEntry}
 use Rattle.heap_state.proofs.Table.Places.{length-after, put_row, word_in-set}
 
@@ -51,7 +51,7 @@ module _ (n : ℕ) (words : Row → ℕ) where
       (put_said area_in (λ x. words (Area x)) space (encode_area area) area (area_in-encode_area area fits.1))
   one_part (PageIs page word) fits =
       ap (λ z. record (table_by n words) { page = z })
-      (put_said page_said (λ x. words (Page x)) page (encode_page word) word (rw (decode_page-encode_page word fits.1) refl))
+      (put_said page_in (λ x. words (Page x)) page (encode_page word) word (rw (decode_page-encode_page word fits.1) refl))
   one_part _ fits = refl
 
 -- ---- a store

@@ -14,10 +14,10 @@ use Rattle.heap_state.specs.Walk.{Met, AtEnd, Nothing, Reserved, Record, Broken,
 use Rattle.heap_state.proofs.Puts.{some_same, none≢some}
 use Rattle.heap_state.proofs.Walks.InHeap.{told_now}
 use Rattle.heap_state.proofs.Walks.Reserving.{tells}
-use Rattle.heap_state.proofs.Walks.SpaceWalks.{Told, TellsReserved, OnRecord, copied_part, copied_start}
-use Rattle.heap_state.proofs.Walks.Walking.{StandsAt, Part, IsItem, item, walk_end, sound, complete}
+use Rattle.heap_state.proofs.Walks.SpaceWalks.{SpaceSaysSizes, TellsReserved, OnRecord, copied_part, copied_start}
+use Rattle.heap_state.proofs.Walks.Walking.{MetAt, Part, IsItem, item, walk_end, sound, complete}
 
-module _ (start front low end epoch : ℕ) (size writer heap reserved : ℕ → ℕ) (page : ℕ → PageWord) (told : Told start front low end epoch size writer heap page)
+module _ (start front low end epoch : ℕ) (size writer heap reserved : ℕ → ℕ) (page : ℕ → PageWord) (told : SpaceSaysSizes start front low end epoch size writer heap page)
     (tells_so : TellsReserved start front size writer reserved) (quiet : (a : ℕ) → 0 < size a → writer a ≡ 0) where
   abbrev none : ℕ → Bool
   none = λ page. false
@@ -32,7 +32,7 @@ module _ (start front low end epoch : ℕ) (size writer heap reserved : ℕ → 
   stands at l o = ⊎_elim (λ (e : at ≡ front). absurd (omega (arith, e, l))) (λ (s : 0 < size at). s) o
 
   -- what is met at a record is that record
-  met : (at : ℕ) → 0 < size at → (m : Met) → StandsAt front size writer at m → m ≡ Record (size at)
+  met : (at : ℕ) → 0 < size at → (m : Met) → MetAt front size writer at m → m ≡ Record (size at)
   met at st AtEnd s = absurd s
   met at st Nothing s = absurd (let e = s at (omega arith) (omega arith) in omega (arith, e, st))
   met at st (Reserved z) s = absurd (let w = quiet at st in omega (arith, w, s))

@@ -14,11 +14,11 @@ use Rattle.space_map.specs.declared.page_word.PageWord.{PageWord}
 use Rattle.space_map.specs.declared.page_word.PageWord.TheVariants.{Unset, Open, Scanning}
 use Rattle.std.proofs.lemmas.Bool.{cases_eq, cases_lt, eq-eqb, ne_eqb}
 use Rattle.heap_state.specs.Sums.{sum_of_sizes}
-use Rattle.heap_state.specs.Walk.{Walked, walk_of, old_walk_of, walk_space, is_closed, is_closed_before, IsReadable, IsOldReadable, met_word, Record}
+use Rattle.heap_state.specs.Walk.{Walked, walk_of, old_walk_of, walk_space, is_protected, is_closed_before, IsWalkable, IsOldReadable, met_word, Record}
 use Rattle.heap_state.proofs.Records.Holding.{says}
 use Rattle.heap_state.proofs.Table.LaidOut.{laid_out}
 use Rattle.heap_state.proofs.Walks.Reserving.{tells}
-use Rattle.heap_state.proofs.Walks.SpaceWalks.{Told, IsClear}
+use Rattle.heap_state.proofs.Walks.SpaceWalks.{SpaceSaysSizes, IsClear}
 use Rattle.heap_state.proofs.Walks.Spaces.{IsOf, space_sound, space_read, space_complete, space_sum}
 use Rattle.heap_state.proofs.Walks.Walking.{item}
 use Rattle.heap_words.specs.Decoded.{decode}
@@ -28,7 +28,7 @@ abbrev pub IsInReach : Era → ℕ → ℕ → Type 0
 IsInReach E traced a = ((E.start ≤ a) × (a < E.start + E.span)) ⊎ ((traced ≤ E.epoch) × (E.old_start ≤ a) × (a < E.old_start + E.old_span))
 
 -- a record in the heap stands there, and nobody writes it
-pub record IsKnown (E : Era) (traced : ℕ) (g : Ghost) (w : Walked) : Type 0 where
+pub record StandsUnwritten (E : Era) (traced : ℕ) (g : Ghost) (w : Walked) : Type 0 where
   pub sized : (0 < w.size) × (g.size w.at ≡ w.size)
   pub written : g.writer w.at ≡ 0
   pub inside : IsInReach E traced w.at
@@ -46,7 +46,7 @@ module _ (c : Configuration) (g : Ghost) (inv : Invariant (era c) (memory c) (te
   says_here : (a : ℕ) → 0 < g.size a → g.writer a ≡ 0 → met_word (decode (m.heap a)) ≡ Record (g.size a)
   says_here = says E m (team c) g inv
 
-  pub told_now : Told E.start m.front m.low (E.start + E.span) E.epoch g.size g.writer m.heap m.page
+  pub told_now : SpaceSaysSizes E.start m.front m.low (E.start + E.span) E.epoch g.size g.writer m.heap m.page
   told_now = record {
     space = record {
       lies = λ a st f l. ⊎_elim
@@ -75,7 +75,7 @@ module _ (c : Configuration) (g : Ghost) (inv : Invariant (era c) (memory c) (te
     old_space : old
     old_space = inv.old_space.walks copying d before
 
-    told_old : Told E.old_start m.old_front m.old_low (E.old_start + E.old_span) d g.size g.writer m.heap m.page
+    told_old : SpaceSaysSizes E.old_start m.old_front m.old_low (E.old_start + E.old_span) d g.size g.writer m.heap m.page
     told_old = record {
       space = old_space;
       end_aligned = omega (arith, lay.old_start, lay.old_span);
@@ -95,7 +95,7 @@ module _ (c : Configuration) (g : Ghost) (inv : Invariant (era c) (memory c) (te
 
     -- a page is closed in the epoch before where it is not open in that epoch
     abbrev closed : ℕ → Bool
-    closed = λ p. is_closed d (m.page p)
+    closed = λ p. is_protected d (m.page p)
 
     abbrev closed_then : ℕ → Bool
     closed_then = λ p. is_closed_before E.epoch (m.page p)
@@ -103,7 +103,7 @@ module _ (c : Configuration) (g : Ghost) (inv : Invariant (era c) (memory c) (te
     closed_before : closed_then ≡ closed
     closed_before = λ i p. by_word (m.page p) i
       where
-        by_word : (w : PageWord) → is_closed_before E.epoch w ≡ is_closed d w
+        by_word : (w : PageWord) → is_closed_before E.epoch w ≡ is_protected d w
         by_word Unset = refl
         by_word (Open e) = ⊎_elim
             (λ (s : e ≡ d). rw (eq-eqb e d s, eq-eqb (e + 1) E.epoch (omega arith)) refl)
@@ -139,7 +139,7 @@ module _ (c : Configuration) (g : Ghost) (inv : Invariant (era c) (memory c) (te
   now_sound w h = space_sound E.start m.front m.low (E.start + E.span) E.epoch g.size g.writer m.heap (reserved_in (kept_of c.workers)) m.page told_now
       (λ a f l st. tells E m c.mutators c.workers g inv a st) clear_now w h
 
-  pub now_read : IsReadable (table c) (kept_of c.workers)
+  pub now_read : IsWalkable (table c) (kept_of c.workers)
   now_read = space_read E.start m.front m.low (E.start + E.span) E.epoch g.size g.writer m.heap (reserved_in (kept_of c.workers)) m.page told_now
       (λ a f l st. tells E m c.mutators c.workers g inv a st) clear_now
 
@@ -156,7 +156,7 @@ module _ (c : Configuration) (g : Ghost) (inv : Invariant (era c) (memory c) (te
   now_complete a f l st w = space_complete E.start m.front m.low (E.start + E.span) E.epoch g.size g.writer m.heap (reserved_in (kept_of c.workers)) m.page told_now
       (λ a f l st. tells E m c.mutators c.workers g inv a st) clear_now a f l st w
 
-  pub in_heap_sound : (w : Walked) → IsInHeap (dump_of c) w → IsKnown E m.traced g w
+  pub in_heap_sound : (w : Walked) → IsInHeap (dump_of c) w → StandsUnwritten E m.traced g w
   in_heap_sound w (inl h) = let i = now_sound w h in record { sized = i.sized; written = i.written; inside = inl i.inside }
   in_heap_sound w (inr h) =
       let t = still_copying h.0 in

@@ -5,8 +5,8 @@ use Rattle.heap_words.specs.Decoded.{NumberWord, decode}
 use Rattle.space_map.specs.declared.page_word.PageWord.{PageWord}
 use Rattle.space_map.specs.declared.page_word.PageWord.TheVariants.{Unset, Open, Scanning}
 use Rattle.heap_state.specs.Parts.Records.{SpaceOf}
-use Rattle.heap_state.specs.Walk.{Nothing, Reserved, Record, Broken, met_word, meets, next_place, is_closed}
-use Rattle.heap_state.proofs.Walks.Walking.{StandsAt, Part}
+use Rattle.heap_state.specs.Walk.{Nothing, Reserved, Record, Broken, met_word, meets, next_place, is_protected}
+use Rattle.heap_state.proofs.Walks.Walking.{MetAt, Part}
 use Rattle.heap_words.specs.Word.{tag_of}
 
 decode-zero : decode 0 ≡ NumberWord 0
@@ -35,7 +35,7 @@ module _ (passes : ℕ → Bool) (reserved heap : ℕ → ℕ) (end at : ℕ) (b
 -- ---- both parts of a space
 
 -- a space of which no two records share a word, and each that has a first word says its size there
-pub record Told (start front low end epoch : ℕ) (size writer heap : ℕ → ℕ) (page : ℕ → PageWord) : Type 0 where
+pub record SpaceSaysSizes (start front low end epoch : ℕ) (size writer heap : ℕ → ℕ) (page : ℕ → PageWord) : Type 0 where
   pub space : SpaceOf start front low end epoch size heap page
   pub end_aligned : end % 64 ≡ 0
   pub apart : (a b : ℕ) → 0 < size a → 0 < size b → a < b → a + size a ≤ b
@@ -54,14 +54,14 @@ IsClear size at = (a : ℕ) → 0 < size a → a < at → a + size a ≤ at
 abbrev pub OnRecord : (front : ℕ) (size : ℕ → ℕ) → ℕ → Type 0
 OnRecord front size at = (at ≡ front) ⊎ (0 < size at)
 
-module _ (start front low end epoch : ℕ) (size writer heap : ℕ → ℕ) (page : ℕ → PageWord) (told : Told start front low end epoch size writer heap page) where
+module _ (start front low end epoch : ℕ) (size writer heap : ℕ → ℕ) (page : ℕ → PageWord) (told : SpaceSaysSizes start front low end epoch size writer heap page) where
   abbrev none : ℕ → Bool
   none = λ page. false
 
   module _ (reserved : ℕ → ℕ) (tells : TellsReserved start front size writer reserved) where
     -- what a walk meets at a record below FRONT, and where it goes on
     meets_copy : (at : ℕ) → start ≤ at → at < front → 0 < size at
-        → StandsAt front size writer at (meets none reserved heap front at) × OnRecord front size (next_place front at (meets none reserved heap front at))
+        → MetAt front size writer at (meets none reserved heap front at) × OnRecord front size (next_place front at (meets none reserved heap front at))
     meets_copy at f l st = ⊎_elim
         (λ (t : (writer at ≡ 0) × (reserved at ≡ 0)).
         let m = meets_record none reserved heap front at l (size at) refl t.1 (told.says at st f (omega (arith, told.space.order)) t.0) in
@@ -92,21 +92,21 @@ module _ (start front low end epoch : ℕ) (size writer heap : ℕ → ℕ) (pag
   -- ---- from LOW up
 
   abbrev closed : ℕ → Bool
-  closed = λ p. is_closed epoch (page p)
+  closed = λ p. is_protected epoch (page p)
 
   abbrev unreserved : ℕ → ℕ
   unreserved = λ a. 0
 
-  open_page : (p : ℕ) → is_closed epoch (page p) ≡ false → page p ≡ Open epoch
+  open_page : (p : ℕ) → is_protected epoch (page p) ≡ false → page p ≡ Open epoch
   open_page p c = by_word (page p) refl c
     where
-      by_word : (w : PageWord) → page p ≡ w → is_closed epoch w ≡ false → page p ≡ Open epoch
+      by_word : (w : PageWord) → page p ≡ w → is_protected epoch w ≡ false → page p ≡ Open epoch
       by_word Unset e q = absurd (cc)
       by_word (Open d) e q = ⊎_elim (λ (s : d ≡ epoch). rw (e, s) refl) (λ (n : d ≢ epoch). absurd (let z : false ≡ true = sym (rw (ne_eqb d epoch n) at q) in cc)) (cases_eq d epoch)
       by_word (Scanning d k) e q = absurd (cc)
 
-  closed_page : (p : ℕ) → is_closed epoch (page p) ≡ true → page p ≢ Open epoch
-  closed_page p c e = let q : is_closed epoch (Open epoch) ≡ true = rw e at c in let z : false ≡ true = rw (eq-eqb epoch epoch refl) at q in absurd (cc)
+  closed_page : (p : ℕ) → is_protected epoch (page p) ≡ true → page p ≢ Open epoch
+  closed_page p c e = let q : is_protected epoch (Open epoch) ≡ true = rw e at c in let z : false ≡ true = rw (eq-eqb epoch epoch refl) at q in absurd (cc)
 
   -- on a closed page no record begins
   none_closed : (at b : ℕ) → low ≤ at → at < end → page (at / 64) ≢ Open epoch → at ≤ b → b < 64 * (at / 64 + 1) → size b ≡ 0
@@ -154,12 +154,12 @@ module _ (start front low end epoch : ℕ) (size writer heap : ℕ → ℕ) (pag
       (cases_lt a at)
 
   meets_new : (at : ℕ) → low ≤ at → at < end → IsClear size at
-      → StandsAt end size writer at (meets closed unreserved heap end at) × IsClear size (next_place end at (meets closed unreserved heap end at))
+      → MetAt end size writer at (meets closed unreserved heap end at) × IsClear size (next_place end at (meets closed unreserved heap end at))
   meets_new at f l clear = ⊎_elim
-      (λ (c : is_closed epoch (page (at / 64)) ≡ true).
+      (λ (c : is_protected epoch (page (at / 64)) ≡ true).
       let empty = λ (b : ℕ) (a : at ≤ b) (p : b < 64 * (at / 64 + 1)). none_closed at b f l (closed_page (at / 64) c) a p in
       rw (meets_closed closed unreserved heap end at l c) (empty, clear_after at clear empty))
-      (λ (c : is_closed epoch (page (at / 64)) ≡ false). ⊎_elim
+      (λ (c : is_protected epoch (page (at / 64)) ≡ false). ⊎_elim
       (λ (st : 0 < size at).
       let w = told.new_written at st f l in
       rw (meets_record closed unreserved heap end at l (size at) c refl (told.says at st (omega (arith, told.space.order)) l w)) ((st, refl, w), clear_past at clear st))
@@ -170,7 +170,7 @@ module _ (start front low end epoch : ℕ) (size writer heap : ℕ → ℕ) (pag
       let empty = λ (b : ℕ) (a : at ≤ b) (p : b < 64 * (at / 64 + 1)). none_blank (b - at) at b f l clear z (omega arith) a p in
       rw (meets_blank closed unreserved heap end at l c refl blank) (empty, clear_after at clear empty))
       (cases_lt 0 (size at)))
-      (cases_Bool (is_closed epoch (page (at / 64))))
+      (cases_Bool (is_protected epoch (page (at / 64))))
     where
       beside : (a : ℕ) → 0 < size a → size at ≡ 0 → (at < a) ⊎ (a + size a ≤ at)
       beside a sa z = ⊎_elim

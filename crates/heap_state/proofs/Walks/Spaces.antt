@@ -6,9 +6,9 @@ use Rattle.std.proofs.lemmas.List.Elements.{All-append, All-contains, All-weaker
 use Rattle.space_map.specs.declared.page_word.PageWord.{PageWord}
 use Rattle.heap_state.specs.Functions.{sum_below}
 use Rattle.heap_state.specs.Sums.{sum_of_sizes}
-use Rattle.heap_state.specs.Walk.{Walked, walk, walk_space, ReadsSpace, is_closed}
+use Rattle.heap_state.specs.Walk.{Walked, walk, walk_space, ReadsSpace, is_protected}
 use Rattle.heap_state.proofs.Walks.Walking.{IsItem, item, sound, reads_all, complete, sum_sound, sum_below-head}
-use Rattle.heap_state.proofs.Walks.SpaceWalks.{Told, TellsReserved, IsClear, copied_part, copied_start, new_part}
+use Rattle.heap_state.proofs.Walks.SpaceWalks.{SpaceSaysSizes, TellsReserved, IsClear, copied_part, copied_start, new_part}
 
 -- a walked record of the space
 pub record IsOf (start front low end : ℕ) (size writer : ℕ → ℕ) (w : Walked) : Type 0 where
@@ -17,10 +17,10 @@ pub record IsOf (start front low end : ℕ) (size writer : ℕ → ℕ) (w : Wal
   pub sized : (0 < w.size) × (size w.at ≡ w.size)
   pub written : writer w.at ≡ 0
 
-module _ (start front low end epoch : ℕ) (size writer heap reserved : ℕ → ℕ) (page : ℕ → PageWord) (told : Told start front low end epoch size writer heap page)
+module _ (start front low end epoch : ℕ) (size writer heap reserved : ℕ → ℕ) (page : ℕ → PageWord) (told : SpaceSaysSizes start front low end epoch size writer heap page)
     (tells : TellsReserved start front size writer reserved) (clear : IsClear size low) where
   abbrev space : List Walked
-  space = walk_space (λ p. is_closed epoch (page p)) reserved heap start front low end
+  space = walk_space (λ p. is_protected epoch (page p)) reserved heap start front low end
 
   low_of : (w : Walked) → IsItem start front size writer w → IsOf start front low end size writer w
   low_of w i = record { inside = (i.inside.0, omega (arith, i.inside, told.space.order)); part = inl i.inside.1; sized = i.sized; written = i.written }
@@ -34,7 +34,7 @@ module _ (start front low end epoch : ℕ) (size writer heap reserved : ℕ → 
       let upper = sound _ _ _ _ _ _ _ _ (new_part start front low end epoch size writer heap page told) (end - low) low (omega arith) clear in
       All-contains (IsOf start front low end size writer) space w (All-append (IsOf start front low end size writer) _ _ (All-weaker _ _ low_of _ lower) (All-weaker _ _ high_of _ upper)) h
 
-  pub space_read : ReadsSpace (λ p. is_closed epoch (page p)) reserved heap start front low end
+  pub space_read : ReadsSpace (λ p. is_protected epoch (page p)) reserved heap start front low end
   space_read = (
     reads_all _ _ _ _ _ _ _ _ (copied_part start front low end epoch size writer heap page told reserved tells) (front - start) start (omega arith) (copied_start start front low end epoch size writer heap page told reserved tells),
     reads_all _ _ _ _ _ _ _ _ (new_part start front low end epoch size writer heap page told) (end - low) low (omega arith) clear,
@@ -66,4 +66,4 @@ module _ (start front low end epoch : ℕ) (size writer heap reserved : ℕ → 
         let e : end - start - (low - start) ≡ end - low = omega (arith, told.space.order) in
         let f : start + (low - start) ≡ low = omega (arith, told.space.order) in
         let tail : sum_below (end - start - (low - start)) (λ x. owes (start + (low - start) + x)) ≡ sum_below (end - low) (λ x. owes (low + x)) = rw (e, f) refl in
-        rw (sum-append (walk (front - start) (λ p. false) reserved heap front start) (walk (end - low) (λ p. is_closed epoch (page p)) (λ a. 0) heap end low)) (omega arith)
+        rw (sum-append (walk (front - start) (λ p. false) reserved heap front start) (walk (end - low) (λ p. is_protected epoch (page p)) (λ a. 0) heap end low)) (omega arith)

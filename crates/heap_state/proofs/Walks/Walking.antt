@@ -11,18 +11,18 @@ use Rattle.heap_state.specs.Walk.{Met, AtEnd, Nothing, Reserved, Record, Broken,
 use Rattle.heap_state.proofs.Puts.{sum_below-same}
 
 -- what stands at a place where a walk meets this
-abbrev pub StandsAt : (end : ℕ) (size writer : ℕ → ℕ) → ℕ → Met → Type 0
-StandsAt end size writer at AtEnd = ⊥
-StandsAt end size writer at Nothing = (a : ℕ) → at ≤ a → a < first_word (page_of at + 1) → size a ≡ 0
-StandsAt end size writer at (Reserved z) = (0 < z) × (size at ≡ z) × (0 < writer at)
-StandsAt end size writer at (Record z) = (0 < z) × (size at ≡ z) × (writer at ≡ 0)
-StandsAt end size writer at Broken = ⊥
+abbrev pub MetAt : (end : ℕ) (size writer : ℕ → ℕ) → ℕ → Met → Type 0
+MetAt end size writer at AtEnd = ⊥
+MetAt end size writer at Nothing = (a : ℕ) → at ≤ a → a < first_word (page_of at + 1) → size a ≡ 0
+MetAt end size writer at (Reserved z) = (0 < z) × (size at ≡ z) × (0 < writer at)
+MetAt end size writer at (Record z) = (0 < z) × (size at ≡ z) × (writer at ≡ 0)
+MetAt end size writer at Broken = ⊥
 
 -- a part of a space, from a place to its end: `On` holds of each place that a walk comes to
 pub record Part (passes : ℕ → Bool) (reserved heap : ℕ → ℕ) (from end : ℕ) (size writer : ℕ → ℕ) (On : ℕ → Type 0) : Type 0 where
   pub apart : (a b : ℕ) → 0 < size a → 0 < size b → a < b → a + size a ≤ b
   pub within : (a : ℕ) → 0 < size a → from ≤ a → a < end → a + size a ≤ end
-  pub stands : (at : ℕ) → from ≤ at → at < end → On at → StandsAt end size writer at (meets passes reserved heap end at)
+  pub stands : (at : ℕ) → from ≤ at → at < end → On at → MetAt end size writer at (meets passes reserved heap end at)
   pub on : (at : ℕ) → from ≤ at → at < end → On at → On (next_place end at (meets passes reserved heap end at))
 
 -- an item of the walk is a record that nobody writes
@@ -91,7 +91,7 @@ module _ (passes : ℕ → Bool) (reserved heap : ℕ → ℕ) (from end : ℕ) 
   -- ---- each record that is met stands there
 
   sound_step : (n at : ℕ) → from ≤ at → at < end → ((next : ℕ) → from ≤ next → On next → All (IsItem from end size writer) (items n next))
-      → (m : Met) → StandsAt end size writer at m → On (next_place end at m) → All (IsItem from end size writer) (walked_at at m (items n (next_place end at m)))
+      → (m : Met) → MetAt end size writer at m → On (next_place end at m) → All (IsItem from end size writer) (walked_at at m (items n (next_place end at m)))
   sound_step n at f l rest AtEnd s o = absurd s
   sound_step n at f l rest Nothing s o = rest (first_word (page_of at + 1)) (omega arith) o
   sound_step n at f l rest (Reserved z) s o = rest (at + z) (omega arith) o
@@ -110,7 +110,7 @@ module _ (passes : ℕ → Bool) (reserved heap : ℕ → ℕ) (from end : ℕ) 
   -- ---- all that is met can be read
 
   reads_step : (n at : ℕ) → from ≤ at → at < end → ((next : ℕ) → from ≤ next → On next → ReadsAll n passes reserved heap end next)
-      → (m : Met) → StandsAt end size writer at m → On (next_place end at m) → IsRead m × ReadsAll n passes reserved heap end (next_place end at m)
+      → (m : Met) → MetAt end size writer at m → On (next_place end at m) → IsRead m × ReadsAll n passes reserved heap end (next_place end at m)
   reads_step n at f l rest AtEnd s o = absurd s
   reads_step n at f l rest Nothing s o = (tt, rest (first_word (page_of at + 1)) (omega arith) o)
   reads_step n at f l rest (Reserved z) s o = (tt, rest (at + z) (omega arith) o)
@@ -129,7 +129,7 @@ module _ (passes : ℕ → Bool) (reserved heap : ℕ → ℕ) (from end : ℕ) 
 
   complete_step : (n at b : ℕ) → from ≤ at → at < end → at ≤ b → b < end → 0 < size b → writer b ≡ 0
       → ((next : ℕ) → from ≤ next → On next → at < next → next ≤ b → Contains (items n next) (item b (size b)))
-      → (m : Met) → StandsAt end size writer at m → On (next_place end at m) → Contains (walked_at at m (items n (next_place end at m))) (item b (size b))
+      → (m : Met) → MetAt end size writer at m → On (next_place end at m) → Contains (walked_at at m (items n (next_place end at m))) (item b (size b))
   complete_step n at b f l a e st w rest AtEnd s o = absurd s
   complete_step n at b f l a e st w rest Nothing s o = rest (first_word (page_of at + 1)) (omega arith) o (omega arith)
       (⊎_elim (λ (c : b < first_word (page_of at + 1)). absurd (let z = s b a c in omega arith)) (λ (c : first_word (page_of at + 1) ≤ b). c) (cases_lt b (first_word (page_of at + 1))))
@@ -183,7 +183,7 @@ module _ (passes : ℕ → Bool) (reserved heap : ℕ → ℕ) (from end : ℕ) 
 
     sum_step : (n at m : ℕ) → from ≤ at → at < end → end ≤ at + m
         → ((next k : ℕ) → from ≤ next → On next → end ≤ next + k → total (items n next) ≤ sum_below k (λ x. owes (next + x)))
-        → (met : Met) → StandsAt end size writer at met → On (next_place end at met)
+        → (met : Met) → MetAt end size writer at met → On (next_place end at met)
         → total (walked_at at met (items n (next_place end at met))) ≤ sum_below m (λ x. owes (at + x))
     sum_step n at m f l t rest AtEnd s o = absurd s
     sum_step n at m f l t rest Nothing s o = later n at (first_word (page_of at + 1)) m (omega arith) t (rest (first_word (page_of at + 1)) (at + m - first_word (page_of at + 1)) (omega arith) o)

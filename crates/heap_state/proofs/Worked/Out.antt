@@ -20,7 +20,7 @@ use Rattle.heap_state.proofs.Puts.{some_same, none≢some}
 use Rattle.std.proofs.lemmas.List.Elements.{All-nil, All-cons}
 use Rattle.plain_state.specs.declared.kind.Kind.TheVariants as plain_kind
 use Rattle.plain_state.specs.declared.kind.Kind.TheVariants.{Fields}
-use Rattle.plain_state.specs.Layout.{word_of, size_of}
+use Rattle.plain_state.specs.Layout.{word_of_value, size_of}
 use Rattle.heap_state.specs.Configuration.{team}
 use Rattle.heap_state.specs.Cycle.{IsCopied, StillLeads, IsRoot, InRegister, OnTheBoard, Copying, Rooted, Cycle}
 use Rattle.heap_state.specs.Era.{era_of, memory_of}
@@ -198,15 +198,15 @@ copying = record {
   only = λ b st l m. all_reached b;
 }
   where
-    field : (x : ℕ) (i : Identity) → slice_get first_record.values x ≡ Some (Reference i) → IsCopied worked_era 261 size writer identity i ⊎ StillLeads worked_era identity (heap (256 + word_of Fields x)) i
+    field : (x : ℕ) (i : Identity) → slice_get first_record.values x ≡ Some (Reference i) → IsCopied worked_era 261 size writer identity i ⊎ StillLeads worked_era identity (heap (256 + word_of_value Fields x)) i
     field zero i v = no_number v
     field (suc zero) i v = inr (record { at = 195; points = word_258; old = (omega arith, omega arith); named = same_reference v })
     field (suc (suc x)) i v = none≢some v
 
     complete : (b : ℕ) → 0 < size b → writer b ≡ 0 → 256 ≤ b → (x : ℕ) (r : plain.Record) → plain.record_of worked_plain.heap (identity b) ≡ Some r → (i : Identity) → slice_get r.values x ≡ Some (Reference i)
-        → IsCopied worked_era 261 size writer identity i ⊎ StillLeads worked_era identity (heap (b + word_of Fields x)) i
+        → IsCopied worked_era 261 size writer identity i ⊎ StillLeads worked_era identity (heap (b + word_of_value Fields x)) i
     complete = each_place (λ b. writer b ≡ 0 → 256 ≤ b → (x : ℕ) (r : plain.Record) → plain.record_of worked_plain.heap (identity b) ≡ Some r → (i : Identity) → slice_get r.values x ≡ Some (Reference i)
-        → IsCopied worked_era 261 size writer identity i ⊎ StillLeads worked_era identity (heap (b + word_of Fields x)) i)
+        → IsCopied worked_era 261 size writer identity i ⊎ StillLeads worked_era identity (heap (b + word_of_value Fields x)) i)
         (λ w l x r e i v. absurd (omega (arith, l)))
         (λ w l x r e i v. absurd (omega (arith, l)))
         (λ w l x r e i v. let s : first_record ≡ r = some_same e in field x i (ap (λ (o : plain.Record). slice_get o.values x) s ∙ v))

@@ -6,7 +6,7 @@ use Rattle.space_map.specs.declared.page_word.PageWord.TheVariants.{Open, Scanni
 use Rattle.space_map.specs.PageWord.{age_of}
 use Rattle.heap_state.specs.Era.{Era}
 use Rattle.heap_state.specs.Ghost.{Leads, Here}
-use Rattle.heap_state.specs.Worker.{Seen, Scan, Round, Claim, Look, LastLook}
+use Rattle.heap_state.specs.Worker.{SeenRecord, Scan, Round, Claim, Look, LastLook}
 use Rattle.heap_state.specs.Parts.Pages.{Quiet, IsLastOpen}
 use Rattle.heap_state.specs.FieldSpan.{first_field, fields_end}
 use Rattle.space_map.specs.Spaces.{page_of, first_word}
@@ -25,7 +25,7 @@ pub record Scans (E : Era) (front : ℕ) (size writer : ℕ → ℕ) (kind : ℕ
 
 -- The record that a scan at x is in stands below FRONT, and nobody writes it. Its fields end and the next record begins where the
 -- scan has read it. The scan is past its header and what is before its fields.
-pub record IsIn (E : Era) (front : ℕ) (size writer : ℕ → ℕ) (kind : ℕ → Kind) (x : ℕ) (r : Seen) : Type 0 where
+pub record IsIn (E : Era) (front : ℕ) (size writer : ℕ → ℕ) (kind : ℕ → Kind) (x : ℕ) (r : SeenRecord) : Type 0 where
   pub stands : 0 < size r.at
   pub written : writer r.at ≡ 0
   pub fields : r.fields_end ≡ r.at + fields_end (kind r.at) (size r.at)
@@ -39,7 +39,7 @@ pub record IsIn (E : Era) (front : ℕ) (size writer : ℕ → ℕ) (kind : ℕ 
 -- FRONT. A page that wasn't claimed as the filling one is full or the board.
 pub record Stepping (E : Era) (front : ℕ) (size writer : ℕ → ℕ) (kind : ℕ → Kind) (s : Scan) : Type 0 where
   pub over : (a : ℕ) → s.over ≡ Some a → (0 < size a) × (writer a ≡ 0) × (a ≤ first_word s.page) × (first_word s.page < a + size a)
-  pub current : (r : Seen) → s.current ≡ Some r → IsIn E front size writer kind s.cursor r
+  pub current : (r : SeenRecord) → s.current ≡ Some r → IsIn E front size writer kind s.cursor r
   pub inner : s.inner ≡ true → s.cursor < front
   pub begun : first_word s.page ≤ s.cursor
   pub full : s.in_place ≡ false → (s.page ≡ page_of E.board) ⊎ (first_word s.page + PAGE_WORDS ≤ front)

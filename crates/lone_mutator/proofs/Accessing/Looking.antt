@@ -27,11 +27,11 @@ use Rattle.gc_worker.specs.declared.field_access.FieldAccess.{FieldAccess}
 use Rattle.gc_worker.specs.declared.field_access.FieldUse.{FieldUse}
 use Rattle.gc_worker.specs.declared.field_access.FieldUse.TheVariants as field_uses
 use Rattle.gc_worker.specs.declared.record_access.RecordAccess.{RecordAccess}
-use Rattle.gc_worker.specs.Access.{GoesTo, Comes, IsInHeap, answered, begun, field_at, left_at, let_through, looked, page_step}
+use Rattle.gc_worker.specs.Access.{GoesTo, Comes, IsHeapAddress, answered, begun, field_at, left_at, let_through, looked, page_step}
 use Rattle.gc_worker.specs.Access as access
-use Rattle.gc_worker.specs.Fits.{Executes}
+use Rattle.gc_worker.specs.Fits.{ExecutesAction}
 use Rattle.gc_worker.specs.Held.{Held}
-use Rattle.gc_worker.specs.Knows.{access_of as known_of}
+use Rattle.gc_worker.specs.Knows.{known_access}
 use Rattle.gc_worker.proofs.Eras.{board_is}
 use Rattle.gc_worker.proofs.Rounds.Words.{page_now, page_says}
 use Rattle.gc_worker.proofs.Accessing.Acting.{Held_value, led, names}
@@ -117,7 +117,7 @@ module _ (c : Configuration) (p : Plain) (s : Stands c p) (y : Held) where
     at_address : (u : RecordAccess) → Some (LooksAtRecord u) ≡ Some (LooksAtRecord r) → Holds_it u.at → Holds_it r.at
     at_address u e holds = let same : u.at ≡ r.at = cc in subst Holds_it same holds
 
-    named_by : (act : Action) → Executes y.account y.registers y.task act → begun act ≡ Some (LooksAtRecord r) → Holds_it r.at
+    named_by : (act : Action) → ExecutesAction y.account y.registers y.task act → begun act ≡ Some (LooksAtRecord r) → Holds_it r.at
     named_by (Measures d j) executes e = at_address _ e (names c p s 0 y stage a.is (Measures d j) executes)
     named_by (Loads d j v) executes e = at_address _ e (names c p s 0 y stage a.is (Loads d j v) executes)
     named_by (Stores j v w) executes e = at_address _ e (names c p s 0 y stage a.is (Stores j v w) executes).0
@@ -130,7 +130,7 @@ module _ (c : Configuration) (p : Plain) (s : Stands c p) (y : Held) where
     named_by (Puts v w) executes e = absurd (cc)
     named_by (Swaps d v w) executes e = absurd (cc)
 
-    pub leads : IsInHeap y.layout.pages r.at → (act : Action) → Executes y.account y.registers y.task act → begun act ≡ Some (LooksAtRecord r) → IsLedTo (era c) (memory c) s.ghost p r.at
+    pub leads : IsHeapAddress y.layout.pages r.at → (act : Action) → ExecutesAction y.account y.registers y.task act → begun act ≡ Some (LooksAtRecord r) → IsLedTo (era c) (memory c) s.ghost p r.at
     leads inside act executes e = led c p s 0 y stage a.is r.at inside (named_by act executes e)
 
   -- the pages of a record are open in a traced epoch
@@ -141,7 +141,7 @@ module _ (c : Configuration) (p : Plain) (s : Stands c p) (y : Held) where
 
   -- ---- the three looks
 
-  within_heap : (n at : ℕ) → IsInHeap n at → n ≡ c.pages → page_of at ≤ 2 * c.pages
+  within_heap : (n at : ℕ) → IsHeapAddress n at → n ≡ c.pages → page_of at ≤ 2 * c.pages
   within_heap n at inside same = omega (arith, inside, same)
 
   pub looks_at_record : (r : RecordAccess) → IsAlone c (at c p s 0 y (LooksAtRecord r)) → StepsLower c (at c p s 0 y (LooksAtRecord r))
@@ -153,8 +153,8 @@ module _ (c : Configuration) (p : Plain) (s : Stands c p) (y : Held) where
 
   module _ (f : FieldAccess) where
     module _ (usage : FieldUse) (a : IsAlone c (at c p s 0 y (LooksAtField f usage))) where
-      in_field : parts.Accesses (era c) s.ghost.size s.ghost.writer s.ghost.kind (known_of f)
-      in_field = knew_access c p s 0 y (LooksAtField f usage) a.is (known_of f) refl
+      in_field : parts.Accesses (era c) s.ghost.size s.ghost.writer s.ghost.kind (known_access f)
+      in_field = knew_access c p s 0 y (LooksAtField f usage) a.is (known_access f) refl
 
       field_open : IsTracedNow → (table c).page (page_of (field_at f)) ≡ Open (table c).gate.epoch
       field_open = let i = in_field in let word = i.word in open_at f.at (field_at f) i.stands i.inside.0 i.inside.1 (omega arith) (omega (arith, word))

@@ -16,7 +16,7 @@ use Rattle.gc_worker.specs.declared.stage.Stage.TheVariants.{Forwards}
 use Rattle.gc_worker.specs.Held.{Held, at_stage}
 use Rattle.gc_worker.specs.Knows.{copy_at, knows, quest_for}
 use Rattle.gc_worker.specs.Turned.{Pointed, first_pointer, forwards_it, turned_register, with_copy, with_evac}
-use Rattle.gc_worker.proofs.Pointers.{Found, Nowhere, There, found}
+use Rattle.gc_worker.proofs.Pointers.{FirstPointer, Nowhere, There, found}
 use Rattle.lone_mutator.specs.Law.{Lowers, IsAlone, StepsLower}
 use Rattle.lone_mutator.specs.Lone.{GoesOnPlacing}
 use Rattle.lone_mutator.specs.Potential.{due_in}
@@ -87,7 +87,7 @@ module _ (c : Configuration) (p : Plain) (s : Stands c p) (y : Held) (w : Forwar
     abbrev copied : Held
     copied = with_copy x w.register to
 
-    next_by : (o : Option Pointed) → Found copied.registers (8 - (w.register + 1)) (w.register + 1) o → Lowers c.pages t after x (at_stage copied (forwards_it copied w.after o))
+    next_by : (o : Option Pointed) → FirstPointer copied.registers (8 - (w.register + 1)) (w.register + 1) o → Lowers c.pages t after x (at_stage copied (forwards_it copied w.after o))
     next_by None (Nowhere none) = record {
       remembers = record { began = a.remembers.began; quiet = goes.quiet; stands = (placing after (Ended to) goes, tt) };
       falls = (let fewer = less after (Ended to) goes in omega (arith, fewer));

@@ -27,7 +27,7 @@ use Rattle.gc_worker.specs.declared.after.After.TheVariants as afters
 use Rattle.gc_worker.specs.declared.stage.Stage.TheVariants.{Places}
 use Rattle.gc_worker.specs.declared.task.Task.{Task}
 use Rattle.gc_worker.specs.Held.{Held, at_stage}
-use Rattle.gc_worker.specs.Turned.{Silent, end_of, ended, full_by, is_full, passes, told_end, told_full, told_place, turned_place}
+use Rattle.gc_worker.specs.Turned.{Silent, end_by_shortage, ended, full_by, finds_full, passes, told_end, told_full, told_place, turned_place}
 use Rattle.gc_worker.proofs.Areas.{area_says, is_space}
 use Rattle.gc_worker.proofs.Rounds.Words.{traced_now, traced_word}
 use Rattle.lone_mutator.specs.Bound.{flip_cost}
@@ -125,16 +125,16 @@ module _ (c : Configuration) (p : Plain) (s : Stands c p) (y : Held) (run : Run)
         }
 
     -- it requests a flip, unless none can help
-    request_by : (b : Bool) → is_full x ≡ b → LowersWhereTold c.pages (table c) (table c) x (cond b (ended x (end_of short)) (at_stage x (passes x Request afters.Places))) (cond b (told_end x.task (end_of short)) Silent)
+    request_by : (b : Bool) → finds_full x ≡ b → LowersWhereTold c.pages (table c) (table c) x (cond b (ended x (end_by_shortage short)) (at_stage x (passes x Request afters.Places))) (cond b (told_end x.task (end_by_shortage short)) Silent)
     request_by true full =
-        subst (λ (task : Option Task). LowersWhereTold c.pages (table c) (table c) x (ended x (end_of short)) (told_end task (end_of short))) (sym a.is.fits.task.0.executes.task_is) tt
+        subst (λ (task : Option Task). LowersWhereTold c.pages (table c) (table c) x (ended x (end_by_shortage short)) (told_end task (end_by_shortage short))) (sym a.is.fits.task.0.executes.task_is) tt
     request_by false full =
         let unseen : nat_lt y.begun y.epoch ≡ false = neither (nat_lt y.begun y.epoch) (y.epoch == 2 ^ 32 - 1) full in
         let flip : flip_left c.pages x ≡ flip_cost c.pages = rw unseen refl in
         record { remembers = record { began = λ past. a.remembers.began tt; quiet = a.remembers.quiet; stands = (tt, tt) }; falls = omega (arith, flip) }
 
     full_so : (b : Bool) → PlaceStands (table c) (placing (LoadsArea b)) (LoadsArea b) → LowersWhereTold c.pages (table c) (table c) x (full_by x short b) (told_full x short b)
-    full_so true stands = request_by (is_full x) refl
+    full_so true stands = request_by (finds_full x) refl
     full_so false stands = serves stands
 
     area_by : (b : Bool) → Comes (cond b (ExchangesArea f) (Ended (Full short)))

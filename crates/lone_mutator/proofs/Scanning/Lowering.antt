@@ -22,7 +22,7 @@ use Rattle.page_scan.specs.declared.spot.Spot.TheVariants.{OnBoard, InRecord}
 use Rattle.page_scan.specs.Left.{left_at, advances}
 use Rattle.page_scan.specs.Scanning.{address_of}
 use Rattle.page_scan.specs.Soundness.{IsOnPage, FitsStage}
-use Rattle.page_scan.specs.Taken.{board_words, by_area, by_header, by_word, enters, goes_on, is_old, passes, record_at, scan_end, stage_after}
+use Rattle.page_scan.specs.Taken.{board_words, by_area, by_header, by_word, enters, goes_on_at, is_old, passes_word, record_at, scan_end, stage_after}
 use Rattle.page_scan.proofs.Lowering.{passes-lt}
 
 -- what a copy costs that is asked for, before its room is reserved
@@ -36,12 +36,12 @@ cost end stage = left_at end stage + asks_cost stage
 
 -- ---- a word
 
-passes_cost : (page : ℕ) (in_place : Bool) (spot : Spot) → asks_cost (passes page in_place spot) ≡ 0
+passes_cost : (page : ℕ) (in_place : Bool) (spot : Spot) → asks_cost (passes_word page in_place spot) ≡ 0
 passes_cost page in_place (OnBoard x) = grind (arith, nat_tests)
 passes_cost page in_place (InRecord r x) = grind (arith, nat_tests)
 
 passed-lt : (l : Layout) (p : ℕ) (in_place : Bool) (spot : Spot) → IsOnPage l.pages p spot
-    → cost (scan_end l p) (passes p in_place spot) < 7 * (scan_end l p - address_of spot)
+    → cost (scan_end l p) (passes_word p in_place spot) < 7 * (scan_end l p - address_of spot)
 passed-lt l p in_place spot fits =
     let none = passes_cost p in_place spot in let fewer = passes-lt l p in_place spot fits in omega (arith, none, fewer)
 
@@ -51,7 +51,7 @@ asked-lt l p (OnBoard x) fits = grind (arith, nat_tests)
 asked-lt l p (InRecord r x) fits = grind (arith, nat_tests)
 
 by_old : (l : Layout) (p : ℕ) (in_place old : Bool) (spot : Spot) (address : ℕ) → IsOnPage l.pages p spot
-    → cost (scan_end l p) (cond old (Asks (record { spot = spot; old = address })) (passes p in_place spot)) < 7 * (scan_end l p - address_of spot)
+    → cost (scan_end l p) (cond old (Asks (record { spot = spot; old = address })) (passes_word p in_place spot)) < 7 * (scan_end l p - address_of spot)
 by_old l p in_place true spot address fits = asked-lt l p spot fits
 by_old l p in_place false spot address fits = passed-lt l p in_place spot fits
 
@@ -70,7 +70,7 @@ scan_end-page : (l : Layout) (p : ℕ) → p < board_page l.pages → scan_end l
 scan_end-page l p low = let other = ne_eqb p (board_page l.pages) (λ (e : p ≡ board_page l.pages). absurd (omega (arith, low, e))) in rw other refl
 
 -- from a word on, it is no more than what the words from there on have left
-goes_on-cost : (end page : ℕ) (in_place : Bool) (r : ScannedRecord) (x from : ℕ) → from ≤ x → from ≤ r.next → cost end (goes_on page in_place r x) ≤ 7 * (end - from)
+goes_on-cost : (end page : ℕ) (in_place : Bool) (r : ScannedRecord) (x from : ℕ) → from ≤ x → from ≤ r.next → cost end (goes_on_at page in_place r x) ≤ 7 * (end - from)
 goes_on-cost end page in_place r x from low next =
     let P : (ScanStage → Type 0) = (λ (stage : ScanStage). cost end stage ≤ 7 * (end - from)) in
     cond_both (nat_lt x r.fields_end) _ _ P
@@ -79,8 +79,8 @@ goes_on-cost end page in_place r x from low next =
     (λ _. cond_both in_place (LoadsFront r) (LoadsNext r) P (λ _. omega (arith, next)) (λ _. omega (arith, next))) (λ _. omega arith))
 
 -- on a page it is no more than what a page has
-entered-cost : (n page end : ℕ) (in_place : Bool) (r : ScannedRecord) (x : ℕ) → end ≡ first_word (page + 1) → FitsStage n page (goes_on page in_place r x)
-    → cost end (goes_on page in_place r x) ≤ 448
+entered-cost : (n page end : ℕ) (in_place : Bool) (r : ScannedRecord) (x : ℕ) → end ≡ first_word (page + 1) → FitsStage n page (goes_on_at page in_place r x)
+    → cost end (goes_on_at page in_place r x) ≤ 448
 entered-cost n page end in_place r x is =
     let P : (ScanStage → Type 0) = (λ (stage : ScanStage). FitsStage n page stage → cost end stage ≤ 448) in
     cond_both (nat_lt x r.fields_end) _ _ P
@@ -127,7 +127,7 @@ header-cost end page in_place r (BusyWord len worker) inside head = absurd (cc)
 header-cost end page in_place r Malformed inside head = absurd (cc)
 
 stored-cost : (l : Layout) (p : ℕ) (in_place : Bool) (spot : Spot) → IsOnPage l.pages p spot
-    → cost (scan_end l p) (passes p in_place spot) < 7 * (scan_end l p - address_of spot - 1) + 1
+    → cost (scan_end l p) (passes_word p in_place spot) < 7 * (scan_end l p - address_of spot - 1) + 1
 stored-cost l p in_place (OnBoard x) fits =
     cond_both (nat_lt (x + 1) (first_word p + board_words)) (LoadsWord (OnBoard (x + 1))) _ (λ (stage : ScanStage). cost (scan_end l p) stage < 7 * (scan_end l p - x - 1) + 1)
     (λ _. omega arith) (λ _. omega arith)

@@ -30,7 +30,7 @@ use Rattle.heap_laws.proofs.Steps.Answers.{scans_are_answered}
 use Rattle.gc_worker.specs.declared.back.Back.{Back}
 use Rattle.gc_worker.specs.declared.stage.Stage.TheVariants.{Scans}
 use Rattle.gc_worker.specs.Held.{Held, at_stage}
-use Rattle.gc_worker.specs.Knows.{quest_at, scan_of, seen_of}
+use Rattle.gc_worker.specs.Knows.{quest_at, scan_of, seen_record}
 use Rattle.gc_worker.specs.Wanted.{wanted}
 use Rattle.gc_worker.proofs.Areas.{area_says, is_space}
 use Rattle.gc_worker.proofs.Scan.Headers.{heap_word}
@@ -112,7 +112,7 @@ module _ (c : Configuration) (p : Plain) (s : Stands c p) (y : Held) (z : Scanni
       let n = pages stage a in
       let inside = f.1 in
       let below = f.3 in
-      let header = (answers stage a refl).next (seen_of r) (apart stage a inside) refl refl (omega (arith, below)) (inner_or_not z.in_place refl) in
+      let header = (answers stage a refl).next (seen_record r) (apart stage a inside) refl refl (omega (arith, below)) (inner_or_not z.in_place refl) in
       loads_it stage a (HeapWord r.next) (omega (arith, inside, below, n)) refl (meets r.next header)
 
   stores_copy : (asked : Asked) (to : ℕ) → Owes (StoresCopy asked to)

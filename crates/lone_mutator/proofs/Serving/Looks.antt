@@ -62,7 +62,7 @@ module _ (E : Era) (m : Memory) (d : Round) (a : RoundIsAlone E m d) where
   mutator_goes : (w : ℕ) → Duty.mutator_at_gate d w m.gate ≡ at_stage d (LoadsTraced None)
   mutator_goes w = rw (eq-eqb m.gate.epoch d.epoch a.gate, unhindered w) refl
 
-  caller_goes : (w : ℕ) (caller : Caller) → d.caller ≡ caller → Duty.looked_by d caller w m.gate ≡ at_stage d (LoadsTraced None)
+  caller_goes : (w : ℕ) (caller : Caller) → d.caller ≡ caller → Duty.looked_by_gate d caller w m.gate ≡ at_stage d (LoadsTraced None)
   caller_goes w (Faulted page) is = mutator_goes w
   caller_goes w Allocates is = mutator_goes w
   caller_goes w (Scans mutators) is = absurd (a.mutator mutators is)
@@ -119,12 +119,12 @@ module _ (E : Era) (m : Memory) (d : Round) (a : RoundIsAlone E m d) where
 
     -- by whether it is the board
     abbrev one : Bool → DutyStage
-    one b = cond b (Duty.claimed_by d page says false (Duty.state_of says d.epoch)) (LoadsFrontFor found w)
+    one b = cond b (Duty.claim_by_state d page says false (Duty.state_of says d.epoch)) (LoadsFrontFor found w)
 
     wanted_goes : (word : ℕ) (b : Bool) → nat_eq page (board_page d.layout.pages) ≡ b → decode_page word ≡ Some says → RoundGoes E m d (LoadsWanted found page) (Value word)
     wanted_goes word true test read = record {
       next = Duty.claim_of d page says false;
-      same = waits_one word read ∙ (ap (λ (t : Bool). at_stage d (one t)) test ∙ ap (λ st. at_stage d (Duty.claimed_by d page says false st)) state);
+      same = waits_one word read ∙ (ap (λ (t : Bool). at_stage d (one t)) test ∙ ap (λ st. at_stage d (Duty.claim_by_state d page says false st)) state);
       more = refl;
       found = refl;
       advances = ap is_some read;
@@ -229,7 +229,7 @@ module _ (E : Era) (m : Memory) (d : Round) (a : RoundIsAlone E m d) where
         full = λ p from below. open_next.below p from (let beyond : choice.front < 64 * (next_page + 1) = grind (arith, nat_tests) in let f = is.front in omega (arith, below, beyond, f));
       }
 
-      passes : (word : ℕ) → decode_page word ≡ Some (m.page page) → at_stage d (Duty.looked_at_page d choice page word (decode_page word)) ≡ at_stage d (Duty.passed_by d choice page)
+      passes : (word : ℕ) → decode_page word ≡ Some (m.page page) → at_stage d (Duty.looked_at_page d choice page word (decode_page word)) ≡ at_stage d (Duty.passed_page d choice page)
       passes word read =
           ap (λ o. at_stage d (Duty.looked_at_page d choice page word o)) read
           ∙ ap (λ st. at_stage d (Duty.chosen_by d choice page word (m.page page) st)) (ap (λ (w : PageWord). Duty.state_of w d.epoch) now ∙ (ap (λ e. Duty.state_of (page_word.Open e) d.epoch) a.epoch ∙ opened_now d.epoch))

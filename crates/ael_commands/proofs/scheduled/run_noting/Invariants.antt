@@ -1,5 +1,5 @@
 use Rattle.gc_core.specs.Run.{all_ended, run_from}
-use Rattle.gc_core.proofs.Runs.{ComesTo}
+use Rattle.gc_core.proofs.Runs.{HasComeTo}
 use Rattle.std.proofs.Common.{◌≡◌, ◌+◌, ℕ}
 use Rattle.ael_commands.proofs.Noting.{HasCome}
 use Rattle.ael_commands.proofs.scheduled.run_noting.Given as goal
@@ -11,6 +11,6 @@ invariant-loop g l =
     record {
       names : (at : ℕ) → g.S.Scheduler.to_come l.scheduler at ≡ schedule (l.counter + at);
       over : l.over ≡ all_ended l.core;
-      core : ComesTo schedule l.counter l.fn.steps l.core all;
+      core : HasComeTo schedule l.counter l.fn.steps l.core all;
       order : HasCome schedule l.counter l.fn.steps l.core (g.N.Notes.HasNoted l.notes) all;
     }

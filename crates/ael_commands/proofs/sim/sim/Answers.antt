@@ -1,7 +1,7 @@
 use Rattle.std.proofs.Common.{refl, ◌∙◌}
 use Rattle.std.proofs.lemmas.Result.{IfOk-weaker}
 use Rattle.ael_commands.specs.Runs.{IsRunOf, Scheduled}
-use Rattle.ael_commands.specs.Simulation.{config, run_of, scheduled}
+use Rattle.ael_commands.specs.Simulation.{config, simulated_run, scheduled}
 use Rattle.ael_commands.proofs.Simulating.{simulated}
 use Rattle.ael_commands.proofs.sim.sim.Goals as goal
 
@@ -16,7 +16,7 @@ returns c =
     let turns = c.requires.turns.1 in
     let scanners = c.requires.scanners in
     let follows = c.runs_follow.ensures program items (config options.run) schedule options.steps formed pages turns scanners in
-    let is : IsRunOf (Scheduled options) program items (run_of options program items) = record {
+    let is : IsRunOf (Scheduled options) program items (simulated_run options program items) = record {
       made = record {
         is = refl;
         full = follows.full;

@@ -1,13 +1,13 @@
 use Rattle.ael_commands.specs.Call.{Call, call_with}
 use Rattle.ael_commands.specs.Ends.{filled}
-use Rattle.ael_commands.specs.Headline.{IsAnswered}
+use Rattle.ael_commands.specs.Headline.{CallIsAnswered}
 use Rattle.ael_commands.proofs.Plainly.{holds}
 use Rattle.ael_commands.proofs.top_call.finish.Goals as goal
 
 pub returns-clause-holds : goal.returns-clause-holds
 returns-clause-holds g c = λ words source is.
     let call : Call = call_with words source (filled g.O.Sink c.args.out.now c.emit.new.out) (filled g.E.Sink c.args.err.now c.emit.new.err) c.code.result in
-    let answered : IsAnswered call = record {
+    let answered : CallIsAnswered call = record {
       output = c.args.answer.now.output.items;
       status = c.args.answer.now.status;
       answer = is;

@@ -2,8 +2,8 @@ use Rattle.std.proofs.Common.{◌≡◌, ℕ, List, ◌++◌, drop, length, take
 use Rattle.ael_threads.specs.declared.view.Plan.{Plan}
 use Rattle.ael_threads.specs.Histories.{Each}
 use Rattle.ael_threads.specs.Opened.{plan_of}
-use Rattle.ael_threads.specs.Outputs.{HasEnd, IsTold, Runs}
-use Rattle.ael_threads.specs.Readers.{Scanning}
+use Rattle.ael_threads.specs.Outputs.{HasEnd, IsToldOnClose, Runs}
+use Rattle.ael_threads.specs.Readers.{SeatedScanner}
 use Rattle.ael_threads.specs.Running.{AreReady, AreScanning}
 use Rattle.ael_threads.specs.Seats.{Seated}
 use Rattle.ael_threads.proofs.Starting.{all_back, all_ended, all_ready, all_scanning, callers_length, mutators_of, of_ok, scanners_length, scanners_of, were_scanning}
@@ -34,7 +34,7 @@ run_workers-requires-clause-scanners g c κs within =
     let t = c.in_ok-heap.heap.table.shared.table_id in
     let plan : Plan = plan_of c.len.result c.args.config.now in
     let is = c.as_mut_slice-scanners.ensures.value ∙ c.in_ok-heap.ensures.scanners in
-    subst (λ (z : Plan × List Scanning). AreScanning (record { code = code; turns = turns; table = t; plan = z.0 }) z.0.mutators z.1) (λ i. (sym c.in_ok-heap.ensures.key i, sym is i))
+    subst (λ (z : Plan × List SeatedScanner). AreScanning (record { code = code; turns = turns; table = t; plan = z.0 }) z.0.mutators z.1) (λ i. (sym c.in_ok-heap.ensures.key i, sym is i))
     (all_scanning code turns t plan c.len.result c.args.config.now.scanners)
 
 pub tell-requires-clause-some : goal.tell-requires-clause-some
@@ -59,7 +59,7 @@ tell-requires-clause-scanners g c =
     let t = c.in_ok-heap.heap.table.shared.table_id in
     let back = all_back c.in_ok-heap.seats.scanners.len c.in_ok-heap.seats.scanners.items c.run_workers.new.scanners (sym c.in_ok-heap.seats.scanners.ok.0)
     (c.run_workers.ensures.as_many.1 ∙ ap length c.as_mut_slice-scanners.ensures.value) in
-    subst (Each (λ (s : Scanning). s.seated.table ≡ t)) (sym back)
+    subst (Each (λ (s : SeatedScanner). s.seated.table ≡ t)) (sym back)
     (scanners_of _ _ c.run_workers.new.scanners (were_scanning _ _ c.run_workers.new.scanners c.run_workers.ensures.scanners))
 
 pub tell-requires-clause-ended : goal.tell-requires-clause-ended
@@ -75,7 +75,7 @@ returns-clause-runs g c =
     let t = c.in_ok-heap.heap.table.shared.table_id in
     let plan = c.in_ok-heap.heap.table.shared.key in
     let ms : List Seated = c.run_workers.new.mutators in
-    let ss : List Scanning = c.run_workers.new.scanners in
+    let ss : List SeatedScanner = c.run_workers.new.scanners in
     let mutators = c.run_workers.ensures.as_many.0 ∙ ap length c.as_mut_slice-mutators.ensures.value in
     let scanners = c.run_workers.ensures.as_many.1 ∙ ap length c.as_mut_slice-scanners.ensures.value in
     let opened : Plan = plan_of c.len.result config in
@@ -84,8 +84,8 @@ returns-clause-runs g c =
     let is : plan ≡ plan_of (length code) config = c.in_ok-heap.ensures.key ∙ ap (λ (n : ℕ). plan_of n config) c.len.ensures in
     let all_ms = all_back c.in_ok-heap.seats.mutators.len c.in_ok-heap.seats.mutators.items ms (sym c.in_ok-heap.seats.mutators.ok.0) mutators in
     let all_ss = all_back c.in_ok-heap.seats.scanners.len c.in_ok-heap.seats.scanners.items ss (sym c.in_ok-heap.seats.scanners.ok.0) scanners in
-    of_ok (IsTold plan (take c.in_ok-heap.seats.mutators.len (ms ++ drop (length ms) c.in_ok-heap.seats.mutators.items)) (take c.in_ok-heap.seats.scanners.len (ss ++ drop (length ss) c.in_ok-heap.seats.scanners.items)))
+    of_ok (IsToldOnClose plan (take c.in_ok-heap.seats.mutators.len (ms ++ drop (length ms) c.in_ok-heap.seats.mutators.items)) (take c.in_ok-heap.seats.scanners.len (ss ++ drop (length ss) c.in_ok-heap.seats.scanners.items)))
     (Runs code config)
     (λ told h. runs_told code config t plan ms ss is many few c.run_workers.ensures.mutators c.run_workers.ensures.scanners told
-    (subst (λ (z : List Seated × List Scanning). IsTold plan z.0 z.1 told) (λ i. (all_ms i, all_ss i)) h))
+    (subst (λ (z : List Seated × List SeatedScanner). IsToldOnClose plan z.0 z.1 told) (λ i. (all_ms i, all_ss i)) h))
     c.tell.result c.tell.ensures.told

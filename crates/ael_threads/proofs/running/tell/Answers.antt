@@ -3,7 +3,7 @@ use Rattle.space_map.specs.Spaces.{to_space}
 use Rattle.space_map.specs.Table.{Area, Gate, Traced, place_of}
 use Rattle.gc_worker.specs.Readers.{live_said}
 use Rattle.gc_worker.specs.Turned.{epoch_said}
-use Rattle.ael_threads.specs.Outputs.{registers_by, seen_by}
+use Rattle.ael_threads.specs.Outputs.{seat_registers, seat_seen}
 use Rattle.ael_threads.proofs.Telling.{word_read}
 use Rattle.ael_threads.proofs.running.tell.Goals as goal
 
@@ -19,8 +19,8 @@ returns-clause-told c =
     record {
       closes = c.close-words.ensures.closes;
       all_words = c.close-words.ensures.whole ∙ c.requires.words;
-      printed = c.in_ok-mutators.ensures ∙ ap (map seen_by) c.deref.ensures.value;
-      registers = c.in_ok-regs.ensures ∙ ap (map registers_by) c.deref-2.ensures.value;
+      printed = c.in_ok-mutators.ensures ∙ ap (map seat_seen) c.deref.ensures.value;
+      registers = c.in_ok-regs.ensures ∙ ap (map seat_registers) c.deref-2.ensures.value;
       kept = c.in_ok-kept.ensures;
       cycles = c.epoch_said-cycles.ensures ∙ ap (epoch_said 0) gate;
       live = c.live_said-live.ensures ∙ (λ i. live_said cycles (traced i) (area i));

@@ -1,7 +1,7 @@
 use Rattle.std.proofs.Common.{◌∙◌, ◌≡◌, ◌-◌, ◌/◌, true, false, refl, sym, ap, arith}
 use Rattle.space_map.specs.Table.{Page, place_of}
 use Rattle.heap_state.specs.Table.{table_of}
-use Rattle.heap_state.specs.Walk.{is_closed}
+use Rattle.heap_state.specs.Walk.{is_protected}
 use Rattle.crossing_map.specs.Walking.{next_in, nothing_reserved, passes_closed}
 use Rattle.crossing_map.proofs.Parts.{next_in-end}
 use Rattle.crossing_map.proofs.Steps.{at_word, heap-word, over_page, page-word}
@@ -17,7 +17,7 @@ returns-then-is_open c =
     let page = page-word n words (x / 64) c.page_place.result (omega arith) (c.page_place.ensures.place ∙ ap (λ p. place_of n (Page p)) c.page_of.ensures) in
     c.item.ensures
     ∙ sym (at_word (passes_closed (table_of n words) c.args.epoch) nothing_reserved (table_of n words).heap c.args.end x c.loop-next-test.true _
-    (ap (is_closed c.args.epoch) page ∙ c.is_open.ensures.0 c.if-is_open.true) refl is c.if-word-ne0.true)
+    (ap (is_protected c.args.epoch) page ∙ c.is_open.ensures.0 c.if-is_open.true) refl is c.if-word-ne0.true)
     ∙ sym c.loop-next.invariant.0
 
 pub loop-next-preserved : goal.loop-next-preserved
@@ -34,7 +34,7 @@ loop-next-preserved c =
           (let page = page-word n words (x / 64) w.page_place.result (omega arith) (w.page_place.ensures.place ∙ ap (λ p. place_of n (Page p)) w.page_of.ensures) in (
             c.loop-next.invariant.0
                 ∙ over_page passes nothing_reserved heap c.args.end x c.loop-next-test.true (λ open_page. absurd
-                (let opened = w.is_open.ensures.1 (sym (ap (is_closed c.args.epoch) page) ∙ open_page) in
+                (let opened = w.is_open.ensures.1 (sym (ap (is_protected c.args.epoch) page) ∙ open_page) in
                 let z : true ≡ false = sym opened ∙ w.if-is_open.false in cc)) ∙ on,
             omega arith,
           ))

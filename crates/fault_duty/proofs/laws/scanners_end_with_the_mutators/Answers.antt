@@ -2,7 +2,7 @@ use Rattle.std.proofs.Common.{refl}
 use Rattle.space_map.specs.Table.{Gate}
 use Rattle.fault_duty.specs.declared.duty_stage.DutyStage.TheVariants.{LoadsGate}
 use Rattle.fault_duty.specs.Duty.{at_stage}
-use Rattle.fault_duty.specs.Theorems.{row_of}
+use Rattle.fault_duty.specs.Theorems.{word_of_row}
 use Rattle.fault_duty.proofs.Telling.{left_told}
 use Rattle.fault_duty.proofs.Rounds.{sees_left}
 use Rattle.fault_duty.proofs.laws.scanners_end_with_the_mutators.Goals as goal
@@ -14,5 +14,5 @@ pub returns-clause-told : goal.returns-clause-told
 returns-clause-told c = λ d mutators gate words scans says left. record {
   has_step = refl;
   makes = refl;
-  tells = rw says (left_told (at_stage d LoadsGate) mutators (row_of d Gate words) gate d.caller scans left);
+  tells = rw says (left_told (at_stage d LoadsGate) mutators (word_of_row d Gate words) gate d.caller scans left);
 }

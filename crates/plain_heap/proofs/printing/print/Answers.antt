@@ -1,16 +1,16 @@
 use Rattle.std.proofs.Common.{◌≡◌, ℕ, ◌+◌, ◌<◌, ◌≤◌, List, ◌++◌, length, drop, get_or, append_assoc, refl, ap, sym, string_bytes, ◌∙◌}
 use Rattle.std.proofs.lemmas.List.{append-nil, at_drop_more, at_drop_all}
 use Rattle.plain_state.specs.State.{Mutator}
-use Rattle.plain_heap.specs.Print.{lines_of, lines_seen, seen_in}
+use Rattle.plain_heap.specs.Print.{printed_lines, lines_seen, seen_in}
 use Rattle.plain_heap.proofs.printing.print.Goals as goal
 
 -- the lines of one mutator more
-lines_more : (out now all : List ℕ) (ks : List Mutator) (m : ℕ) (k : Mutator) → m < length ks → k ≡ get_or ks m k → now ≡ out ++ lines_of m k.printed k.end
+lines_more : (out now all : List ℕ) (ks : List Mutator) (m : ℕ) (k : Mutator) → m < length ks → k ≡ get_or ks m k → now ≡ out ++ printed_lines m k.printed k.end
     → out ++ lines_seen m (seen_in (drop m ks)) ≡ all → now ++ lines_seen (m + 1) (seen_in (drop (m + 1) ks)) ≡ all
 lines_more out now all ks m k lt is added so_far =
     let rest = lines_seen (m + 1) (seen_in (drop (m + 1) ks)) in
-    rw added (append_assoc out (lines_of m k.printed k.end) rest
-    ∙ ap (λ (k : Mutator). out ++ (lines_of m k.printed k.end ++ rest)) is
+    rw added (append_assoc out (printed_lines m k.printed k.end) rest
+    ∙ ap (λ (k : Mutator). out ++ (printed_lines m k.printed k.end ++ rest)) is
     ∙ sym (at_drop_more (λ ks. out ++ lines_seen m (seen_in ks)) ks m k lt) ∙ so_far)
 
 -- no mutator is left

@@ -13,7 +13,7 @@ use Rattle.atomic_table.specs.Table as table
 use Rattle.gc_worker.specs.declared.config.Config.{Config}
 use Rattle.ael_threads.specs.declared.view.Plan.{Plan}
 use Rattle.ael_threads.specs.Opened.{new_scanners}
-use Rattle.ael_threads.specs.Rule.{Kept, crew, first_view}
+use Rattle.ael_threads.specs.Rule.{RuleHolds, crew, first_view}
 use Rattle.ael_threads.specs.Seats.{new_callers}
 use Rattle.ael_threads.proofs.Beginning.{opens_kept}
 use Rattle.ael_threads.proofs.shared.Shared.open.Goals as goal
@@ -42,7 +42,7 @@ pub of_words-requires : goal.of_words-requires
 of_words-requires c =
     let plan : Plan = record { spaces = c.in_ok-spaces.spaces; mutators = c.args.mutators; scanners = c.args.config.now.scanners } in
     let all : crew plan ≤ 24 = (let a = c.requires.mutators.1 in let b = c.requires.scanners in omega (arith, a, b)) in
-    subst (λ (words : List ℕ). Kept plan (table.opening {S = ℕ} words [] (first_view plan))) (sym (c.as_slice.ensures.value ∙ c.in_ok-words.ensures))
+    subst (λ (words : List ℕ). RuleHolds plan (table.opening {S = ℕ} words [] (first_view plan))) (sym (c.as_slice.ensures.value ∙ c.in_ok-words.ensures))
     (opens_kept plan c.known.ensures c.requires.mutators.1 all)
 
 pub deal-requires-clause-few : goal.deal-requires-clause-few

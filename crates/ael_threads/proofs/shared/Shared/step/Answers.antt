@@ -14,7 +14,7 @@ use Rattle.gc_worker.proofs.Places.{places_fit}
 use Rattle.ael_threads.specs.declared.view.Hand.{Hand}
 use Rattle.ael_threads.specs.declared.view.Plan.{Plan}
 use Rattle.ael_threads.specs.declared.view.View.{View}
-use Rattle.ael_threads.specs.Rule.{Kept}
+use Rattle.ael_threads.specs.Rule.{RuleHolds}
 use Rattle.ael_threads.specs.Seats.{Heads, IsMine, Me, Moves, Plays, ShowsSeen, first_number, reply_to}
 use Rattle.ael_threads.proofs.Allowing.{allows, word_after}
 use Rattle.ael_threads.proofs.shared.Shared.step.Goals as goal
@@ -25,7 +25,7 @@ bound plan words [] x q q' h e want is = absurd h
 bound plan words (was ∷ others) x q q' h e want is = subst (λ (z : Step). place_in z < words) is (let l = places_fit plan.spaces.pages plan.mutators was.number x q h.fits want in omega (arith, e, l))
 
 now_allows : (key : Plan) (slots id : ℕ) (me : Me) (x j : Held) (q q' : Step) (st : table.Step ℕ) → Heads me.0.plan x me.0.hands → 0 < me.0.plan.spaces.pages → IsMine me.0 → ShowsSeen x me.0 → x ≡ j → wanted x ≡ Some q → q ≡ q' → (says : ℕ → ℕ)
-    → ((found : ℕ) → reply_to q' (says found) ≡ reply_to q' found) → Allows (Kept key) slots id me (place_in q') (word_after q') (λ found later. Plays j st me (says found) later)
+    → ((found : ℕ) → reply_to q' (says found) ≡ reply_to q' found) → Allows (RuleHolds key) slots id me (place_in q') (word_after q') (λ found later. Plays j st me (says found) later)
 now_allows key slots id me x j q q' st heads live mine shows now want is says same =
     allows key slots id me j q' (subst (λ (z : Held). Heads me.0.plan z me.0.hands) now heads) live mine (subst (λ (z : Held). ShowsSeen z me.0) now shows) (sym (ap wanted now) ∙ (want ∙ ap (λ (z : Step). Some z) is)) st says same
 

@@ -5,7 +5,7 @@ use Rattle.gc_core.specs.Inside.{core_in}
 use Rattle.gc_core.specs.Law.{IsLawful}
 use Rattle.gc_core.specs.Run.{all_ended}
 use Rattle.gc_core.proofs.CoreReads.{read_held}
-use Rattle.gc_core.proofs.CoreSteps.{IsWorker, IsReady, readies_soundly, has_counted, is_ready, steps_soundly, may_step, has_room, stepped_told, stepped_core}
+use Rattle.gc_core.proofs.CoreSteps.{IsWorkerOfCore, WorkerIsReady, readies_soundly, has_counted, is_ready, steps_soundly, may_step, has_room, stepped_told, stepped_core}
 use Rattle.gc_core.proofs.Ending.{ends_are_told}
 use Rattle.gc_core.proofs.Lawful.{lawful_after}
 use Rattle.gc_core.proofs.machine.Core.step.Goals as goal
@@ -13,7 +13,7 @@ use Rattle.gc_core.proofs.machine.Core.step.Goals.{After-index_mut-slot, After-r
 
 -- ---- the worker whose slot is borrowed
 
-borrowed : (c : After-index_mut-slot) → IsWorker (core_in c.self.inside) c.args.worker c.index_mut-slot.result.now
+borrowed : (c : After-index_mut-slot) → IsWorkerOfCore (core_in c.self.inside) c.args.worker c.index_mut-slot.result.now
 borrowed c =
     let below : c.args.worker < workers_of (core_in c.self.inside) = subst (λ (s : CoreState). c.args.worker < workers_of s) (sym c.self.view_is) c.requires in
     record { lawful = c.self.invariant.2; below = below; held = read_held (core_in c.self.inside) c.args.worker c.index_mut-slot.result.now below c.index_mut-slot.ensures.value }
@@ -26,7 +26,7 @@ ready-requires-clause-counted c = has_counted _ _ _ (borrowed (goal.at.ready-req
 
 -- ---- it is made ready, and makes its step
 
-readied : (c : After-ready) → IsWorker (core_in c.self.inside) c.args.worker c.index_mut-slot.result.now → IsReady (core_in c.self.inside) c.args.worker c.ready.new.self
+readied : (c : After-ready) → IsWorkerOfCore (core_in c.self.inside) c.args.worker c.index_mut-slot.result.now → WorkerIsReady (core_in c.self.inside) c.args.worker c.ready.new.self
 readied c is = is_ready _ _ _ is c.ready.new.self c.ready.ensures
 
 pub step-requires-clause-sound : goal.step-requires-clause-sound

@@ -2,7 +2,7 @@ use Rattle.std.proofs.Common.{◌≡◌, ℕ, ◌+◌, ◌<◌, sym, ap, subst, 
 use Rattle.gc_worker.specs.declared.stepped.Stepped.TheVariants.{Effect}
 use Rattle.gc_worker.specs.Counted.{counted}
 use Rattle.gc_worker.specs.Held.{Held}
-use Rattle.gc_worker.specs.Made.{MayMake, made}
+use Rattle.gc_worker.specs.Made.{MayMake, step_made}
 use Rattle.gc_worker.specs.Stepped.{IsSound}
 use Rattle.gc_core.proofs.Counting.{may_apart, words_apart, told_apart, made_effect, made_other}
 use Rattle.gc_core.proofs.slot.Slot.step.Goals as goal
@@ -17,27 +17,27 @@ pub returns-in-Effect-clause-state : goal.returns-in-Effect-clause-state
 returns-in-Effect-clause-state c =
     ap (counted (c.self.inside.count + 1)) c.step-told.ensures.state
     ∙ (made_effect c.self.inside.count c.self.inside.worker (subst IsSound (sym c.self.view_is) c.requires.sound) c.args.on.now c.in-Effect.field-0 (sym c.step-told.ensures.tells ∙ c.in-Effect.is)
-    ∙ ap (λ (x : Held). (made x c.args.on.now).held) c.self.view_is)
+    ∙ ap (λ (x : Held). (step_made x c.args.on.now).held) c.self.view_is)
 
 pub returns-in-Effect-clause-words : goal.returns-in-Effect-clause-words
 returns-in-Effect-clause-words c =
-    c.step-told.ensures.words ∙ (words_apart c.self.inside.count c.self.inside.worker (subst IsSound (sym c.self.view_is) c.requires.sound) c.args.on.now ∙ ap (λ (x : Held). (made x c.args.on.now).words) c.self.view_is)
+    c.step-told.ensures.words ∙ (words_apart c.self.inside.count c.self.inside.worker (subst IsSound (sym c.self.view_is) c.requires.sound) c.args.on.now ∙ ap (λ (x : Held). (step_made x c.args.on.now).words) c.self.view_is)
 
 pub returns-in-Effect-clause-tells : goal.returns-in-Effect-clause-tells
 returns-in-Effect-clause-tells c =
-    c.step-told.ensures.tells ∙ (told_apart c.self.inside.count c.self.inside.worker (subst IsSound (sym c.self.view_is) c.requires.sound) c.args.on.now ∙ ap (λ (x : Held). (made x c.args.on.now).told) c.self.view_is)
+    c.step-told.ensures.tells ∙ (told_apart c.self.inside.count c.self.inside.worker (subst IsSound (sym c.self.view_is) c.requires.sound) c.args.on.now ∙ ap (λ (x : Held). (step_made x c.args.on.now).told) c.self.view_is)
 
 pub returns-in_default : goal.returns-in_default
 returns-in_default c = record {
   state = ap (counted c.self.inside.count) c.step-told.ensures.state
       ∙ (made_other c.self.inside.count c.self.inside.worker (subst IsSound (sym c.self.view_is) c.requires.sound) c.args.on.now (λ m is. c.in_default.not-Effect m (c.step-told.ensures.tells ∙ is))
-      ∙ ap (λ (x : Held). (made x c.args.on.now).held) c.self.view_is);
-  words = c.step-told.ensures.words ∙ (words_apart c.self.inside.count c.self.inside.worker (subst IsSound (sym c.self.view_is) c.requires.sound) c.args.on.now ∙ ap (λ (x : Held). (made x c.args.on.now).words) c.self.view_is);
-  tells = c.step-told.ensures.tells ∙ (told_apart c.self.inside.count c.self.inside.worker (subst IsSound (sym c.self.view_is) c.requires.sound) c.args.on.now ∙ ap (λ (x : Held). (made x c.args.on.now).told) c.self.view_is);
+      ∙ ap (λ (x : Held). (step_made x c.args.on.now).held) c.self.view_is);
+  words = c.step-told.ensures.words ∙ (words_apart c.self.inside.count c.self.inside.worker (subst IsSound (sym c.self.view_is) c.requires.sound) c.args.on.now ∙ ap (λ (x : Held). (step_made x c.args.on.now).words) c.self.view_is);
+  tells = c.step-told.ensures.tells ∙ (told_apart c.self.inside.count c.self.inside.worker (subst IsSound (sym c.self.view_is) c.requires.sound) c.args.on.now ∙ ap (λ (x : Held). (step_made x c.args.on.now).told) c.self.view_is);
 }
 
 pub overflow_add-self : goal.overflow_add-self
 overflow_add-self c =
-    let room = subst (λ (x : Held). (m : ℕ) → (made x c.args.on.now).told ≡ Effect m → x.account.executed < 4294967295) (sym c.self.view_is) c.requires.room in
+    let room = subst (λ (x : Held). (m : ℕ) → (step_made x c.args.on.now).told ≡ Effect m → x.account.executed < 4294967295) (sym c.self.view_is) c.requires.room in
     let l = room c.in-Effect.field-0 (sym (told_apart c.self.inside.count c.self.inside.worker (subst IsSound (sym c.self.view_is) c.requires.sound) c.args.on.now) ∙ (sym c.step-told.ensures.tells ∙ c.in-Effect.is)) in
     omega (arith, l)

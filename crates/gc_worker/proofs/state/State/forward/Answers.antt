@@ -1,7 +1,7 @@
 use Rattle.std.proofs.Common.{◌+◌, sym, ap, ◌∙◌}
 use Rattle.gc_worker.specs.Held.{Held, at_stage}
 use Rattle.gc_worker.specs.Stepped.{uncounted}
-use Rattle.gc_worker.specs.Turned.{forwards_from, turned, with_copy, with_word}
+use Rattle.gc_worker.specs.Turned.{forwards_from, turned, with_copy, with_register_word}
 use Rattle.gc_worker.specs.contracts.state.State.{the_view}
 use Rattle.gc_worker.specs.declared.stage.Stage.{Stage}
 use Rattle.gc_worker.specs.declared.stage.Stage.TheVariants.{Forwards}
@@ -17,7 +17,7 @@ returns-in-Finished c =
     let turns = register_turned x w c.args.reply to c.in-Forwards.is (sym c.take.ensures.told ∙ c.in-Finished.is) in
     ap (λ (y : Held). at_stage y c.forwarding-self-inside.result) c.self-in-Finished.view_is
     ∙ ap (at_stage c.set.new.self) c.forwarding-self-inside.ensures
-    ∙ ap (λ (y : Held). at_stage y (forwards_from y w.after (w.register + 1))) (c.set.ensures ∙ ap (with_word (at_stage x was) w.register) c.pointer.ensures.word)
+    ∙ ap (λ (y : Held). at_stage y (forwards_from y w.after (w.register + 1))) (c.set.ensures ∙ ap (with_register_word (at_stage x was) w.register) c.pointer.ensures.word)
     ∙ forwards_on (with_copy x w.register to.0) was w.after (w.register + 1)
     ∙ sym (ap uncounted turns)
     ∙ ap (λ (y : Held). uncounted (turned y c.args.reply)) c.self.view_is

@@ -1,6 +1,6 @@
 use Rattle.std.proofs.Common.{◌≡◌, Bool, true, false, not, refl, sym, arith}
 use Rattle.std.proofs.lemmas.Bool.Decides.{nat_tests}
-use Rattle.gc_worker.specs.Turned.{is_full}
+use Rattle.gc_worker.specs.Turned.{finds_full}
 use Rattle.gc_worker.proofs.state.State.has_no_room.Goals as goal
 
 is_false : (b : Bool) → not b ≡ true → b ≡ false
@@ -11,10 +11,10 @@ is_true : (b : Bool) → not b ≡ false → b ≡ true
 is_true true h = refl
 is_true false h = sym h
 
-full : (c : goal.After-end_with) → is_full c.args.self.now ≡ true
+full : (c : goal.After-end_with) → finds_full c.args.self.now ≡ true
 full c = rw (← c.self.view_is) (grind (arith, nat_tests))
 
-not_full : (c : goal.After-self-2-1) → is_full c.args.self.now ≡ false
+not_full : (c : goal.After-self-2-1) → finds_full c.args.self.now ≡ false
 not_full c = rw (← c.self.view_is) (grind (arith, nat_tests))
 
 pub returns-then-not-s-clause-state : goal.returns-then-not-s-clause-state
