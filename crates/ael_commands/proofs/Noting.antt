@@ -6,7 +6,7 @@ use Rattle.gc_worker.specs.Marks.{mark_of}
 use Rattle.gc_core.specs.Core.{CoreState}
 use Rattle.gc_core.specs.Event.{event_of, core_after}
 use Rattle.gc_core.specs.Run.{Ran, all_ended}
-use Rattle.gc_core.proofs.Runs.{ComesToOrder, came_out_order, came_over_order, comes_on_order}
+use Rattle.gc_core.proofs.Runs.EventByEvent.{ComesToOrder, came_out_order, came_over_order, comes_on_order}
 
 -- how far a run has come, where this holds of the marks that were noted
 pub record HasCome (schedule : ℕ → ℕ) (at steps : ℕ) (s : CoreState) (HasNoted : List Mark → Type 0) (all : Ran) : Type 0 where

@@ -30,7 +30,7 @@ use Rattle.ael_commands.specs.Success.{Succeeds}
 use Rattle.ael_commands.specs.Task.{NeededInput, Nothing, Everything, IsGiven, IsInput, IsUnread}
 use Rattle.ael_commands.specs.Words.{job_of}
 use Rattle.plain_heap.specs.Order.{plain}
-use Rattle.plain_heap.proofs.Staying.{plain_count}
+use Rattle.plain_heap.proofs.States.SameMutators.{plain_count}
 
 -- ---- the input
 

@@ -39,10 +39,10 @@ use Rattle.ael_threads.specs.declared.view.Plan.{Plan}
 use Rattle.ael_threads.specs.Began.{BeginsAt, EachAfter, FlippedSinceBegun, HasLooked, FlippedIfFull, FlippedSinceByEnd, flips_of}
 use Rattle.ael_threads.specs.Histories.{first_plain, opening_tally}
 use Rattle.ael_threads.specs.Workers.{heap_of}
-use Rattle.ael_threads.proofs.Began.{answers_in_call, none_at, was_in_call}
-use Rattle.ael_threads.proofs.Elements.{prefix_more}
-use Rattle.ael_threads.proofs.Epochs.{has_flipped, runs_now}
-use Rattle.ael_threads.proofs.Places.{at_inside, get_of}
+use Rattle.ael_threads.proofs.WholeCalls.Began.{answers_in_call, none_at, was_in_call}
+use Rattle.ael_threads.proofs.Lists.Elements.{prefix_more}
+use Rattle.ael_threads.proofs.TableRule.Epochs.{has_flipped, runs_now}
+use Rattle.ael_threads.proofs.Lists.Reads.{at_inside, get_of}
 
 -- ---- lists
 

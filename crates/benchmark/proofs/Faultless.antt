@@ -10,7 +10,7 @@ use Rattle.mutator_asm.specs.Line.{Line, Nothing, lines_of, named_of, unlabelled
 use Rattle.mutator_asm.specs.Text.{begins_section, code_of, error_of, schedule_of, IsCleanUpTo}
 use Rattle.mutator_asm.specs.Theorems.{Means}
 use Rattle.mutator_asm.specs.Token.{label_of, number_of, register_of}
-use Rattle.mutator_asm.proofs.Clean.{clean_more, clean_none, error_is}
+use Rattle.mutator_asm.proofs.Texts.Clean.{clean_more, clean_none, error_is}
 use Rattle.benchmark.specs.Text.{bench_text}
 use Rattle.benchmark.proofs.Bounds.{pow_from_1_to_9}
 use Rattle.benchmark.proofs.Sections.{lines_are, lines_below}

@@ -9,9 +9,9 @@ use Rattle.mutator_asm.specs.Line.{Line, Does, line_from, named_of, unlabelled}
 use Rattle.mutator_asm.specs.Listing.{register_token}
 use Rattle.mutator_asm.specs.Program.{is_number}
 use Rattle.mutator_asm.specs.Token.{label_of, number_of, register_of}
-use Rattle.mutator_asm.proofs.Rereading.{number_reread}
-use Rattle.mutator_asm.proofs.Splitting.{is_token}
-use Rattle.mutator_asm.proofs.Tokens.{instr_is_tokens}
+use Rattle.mutator_asm.proofs.Listings.RereadTokens.{number_reread}
+use Rattle.mutator_asm.proofs.Listings.Split.{is_token}
+use Rattle.mutator_asm.proofs.Listings.Tokens.{instr_is_tokens}
 use Rattle.benchmark.proofs.Tokens.{lines, section_tokens}
 
 -- the digits of a number are a token

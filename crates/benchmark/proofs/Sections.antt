@@ -9,7 +9,7 @@ use Rattle.std.proofs.lemmas.List.Folds.{list_all-append}
 use Rattle.mutator_asm.specs.Line.{Line, Nothing, line_from, lines_of, unlabelled}
 use Rattle.mutator_asm.specs.Listing.{line_text}
 use Rattle.mutator_asm.specs.Program.{is_number}
-use Rattle.mutator_asm.proofs.Splitting.{is_token, line_length, lines_split}
+use Rattle.mutator_asm.proofs.Listings.Split.{is_token, line_length, lines_split}
 use Rattle.benchmark.specs.declared.keys.Keys.{Keys}
 use Rattle.benchmark.specs.Text.{keys_by, keys_of, sections_text}
 use Rattle.benchmark.proofs.Reading.{are_tokens, says, section_lines}

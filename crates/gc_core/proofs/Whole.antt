@@ -1,26 +1,26 @@
 -- What holds of all events and runs, from the laws of a worker's step.
 use Rattle.plain_heap.specs.Order.{Story, opening}
-use Rattle.plain_heap.proofs.Stories.{story_after-now}
+use Rattle.plain_heap.proofs.Orders.Stories.{story_after-now}
 use Rattle.gc_worker.proofs.Between.Beginning.{tasks_may_begin}
 use Rattle.gc_worker.proofs.Between.GoingOn.{workers_go_on}
-use Rattle.gc_worker.proofs.Between.ByClaims.{pages_are_opened_by_claims}
-use Rattle.gc_worker.proofs.Between.Claims.{copied_pages_are_below_low, flips_are_of_traced, traced_pages_are_open}
+use Rattle.gc_worker.proofs.Between.Pages.ByClaims.{pages_are_opened_by_claims}
+use Rattle.gc_worker.proofs.Between.Pages.Claims.{copied_pages_are_below_low, flips_are_of_traced, traced_pages_are_open}
 use Rattle.gc_worker.proofs.Between.Opening.{heaps_open}
 use Rattle.gc_worker.proofs.Between.Readying.{readying_stands}
 use Rattle.gc_worker.proofs.Between.Standing.{what_stands_is_so}
 use Rattle.gc_worker.proofs.Between.Wanting.{workers_want}
-use Rattle.gc_worker.proofs.Represented.{represented_workers}
-use Rattle.gc_worker.proofs.Whole.{steps_keep}
+use Rattle.gc_worker.proofs.Plain.Represented.{represented_workers}
+use Rattle.gc_worker.proofs.StepKeeps.{steps_keep}
 use Rattle.gc_core.specs.Core.{CoreState, opening_core}
 use Rattle.gc_core.specs.Law.{EventsKeep, EventsMeet}
 use Rattle.gc_core.specs.Run.{Ran, run_from}
 use Rattle.gc_core.specs.Whole.{RunsArePlainRuns, RunsFollow, NoPageIsWonTwice, CopiedPagesAreWonOnce, FlipsAreOfTracedCores}
-use Rattle.gc_core.proofs.Events as events
-use Rattle.gc_core.proofs.Begun.{opening_stands, opening_steady, opening_lawful, opening_epoch}
-use Rattle.gc_core.proofs.Claims.{pages_are_won_once}
-use Rattle.gc_core.proofs.Copied.{pages_are_won, flipped_of_traced}
-use Rattle.gc_core.proofs.Dumping.{told_represents}
-use Rattle.gc_core.proofs.Running.{run_law, run_acts, run_full, stands_seen}
+use Rattle.gc_core.proofs.Events.Law as events
+use Rattle.gc_core.proofs.Events.Opening.{opening_stands, opening_steady, opening_lawful, opening_epoch}
+use Rattle.gc_core.proofs.Runs.WonPages.{pages_are_won_once}
+use Rattle.gc_core.proofs.Runs.CopiedPages.{pages_are_won, flipped_of_traced}
+use Rattle.gc_core.proofs.Told.Dumps.{told_represents}
+use Rattle.gc_core.proofs.Runs.Stories.{run_law, run_acts, run_full, stands_seen}
 
 pub events_keep : EventsKeep
 events_keep = events.events_keep steps_keep readying_stands tasks_may_begin workers_go_on workers_want what_stands_is_so

@@ -1,10 +1,5 @@
 pub mod Standing
-pub mod Copied
-pub mod Claims
-pub mod Written
-pub mod Leaving
-pub mod PageWords
-pub mod ByClaims
+pub mod Pages
 pub mod Begun
 pub mod Readying
 pub mod Beginning

@@ -147,7 +147,7 @@ impl Access {
     }
 
     /// A header's word was read. What is no header can't be there.
-    #[tactic(auto, using(crate::proofs::Reading::headers_are_read, crate::proofs::Reading::others_are_not_read))]
+    #[tactic(auto, using(crate::proofs::Words::Read::headers_are_read, crate::proofs::Words::Read::others_are_not_read))]
     #[inline(always)]
     fn read_header(&mut self, r: RecordAccess, word: u64) -> Turn<Accessed>
         requires in_heap { IsHeapAddress self.old.spaces.pages r.at }

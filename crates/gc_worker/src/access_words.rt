@@ -50,7 +50,7 @@ pub fn held(role: Role, word: u64) -> u64
 }
 
 /// What stands in a record for a register's word, else the end for a pointer that it may not hold.
-#[tactic(auto, using(crate::proofs::Reading::word_of_value_seen))]
+#[tactic(auto, using(crate::proofs::Words::Read::word_of_value_seen))]
 pub fn stored(role: Role, new: u64) -> Result<u64, End>
     requires { IsValueWord new }
     ensures { result ≡ result_map_both (access.word_as role) (λ why. why) (may_hold (access.kind_of role) (value_seen new)) }

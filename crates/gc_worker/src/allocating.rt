@@ -61,7 +61,7 @@ impl State {
     }
 
     /// The record that an instruction makes, if it makes one.
-    #[tactic(auto, using(crate::proofs::Asking::made_of))]
+    #[tactic(auto, using(crate::proofs::Plain::RecordsMade::made_of))]
     fn making(&self, instr: Instr) -> Option<Making>
         ensures { result ≡ making_in (action (seen_by self.now) instr) }
     {
@@ -111,7 +111,7 @@ impl State {
     }
 
     /// A step of the allocation.
-    #[tactic(auto, using(crate::proofs::Reading::serial_fits))]
+    #[tactic(auto, using(crate::proofs::Words::Read::serial_fits))]
     #[inline(always)]
     pub fn place(&mut self, reply: Reply) -> Stepped
         requires at { IsPlacing self.old.stage }
@@ -180,7 +180,7 @@ impl State {
 }
 
 /// The header of the record after the one with this serial, if a header can say that.
-#[tactic(auto, using(crate::proofs::Reading::header_made, crate::proofs::Reading::no_header_long, crate::proofs::Reading::no_header_late))]
+#[tactic(auto, using(crate::proofs::Words::Read::header_made, crate::proofs::Words::Read::no_header_long, crate::proofs::Words::Read::no_header_late))]
 fn header_after(serial: u64, kind: HeaderKind, len: u16, mutator: u8) -> Option<Header>
     ensures { result ≡ header_in (HeaderWord kind len (serial + 1) mutator) }
 {

@@ -183,7 +183,7 @@ impl State {
 }
 
 /// The first register from this one on that holds a pointer, and where that leads.
-#[tactic(auto, using(crate::proofs::Reading::pointer_found, crate::proofs::Reading::pointer_not_there, crate::proofs::Reading::no_pointer_left))]
+#[tactic(auto, using(crate::proofs::Words::Read::pointer_found, crate::proofs::Words::Read::pointer_not_there, crate::proofs::Words::Read::no_pointer_left))]
 fn first_pointer(registers: &[u64; REGISTERS], from: u8) -> Option<(u8, u32)>
     requires { from ≤ 8 }
     ensures { option_map pointed result ≡ first_pointer registers.now (8 - from) from }

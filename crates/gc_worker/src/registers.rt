@@ -14,7 +14,7 @@ use plain_state::{BOARD_WORDS, End, Identity, LONGEST_RECORD, NUMBERS, Value};
 
 impl State {
     /// What a register holds.
-    #[tactic(auto, using(crate::proofs::Reading::register_seen, crate::proofs::Reading::no_register_seen))]
+    #[tactic(auto, using(crate::proofs::Words::Read::register_seen, crate::proofs::Words::Read::no_register_seen))]
     pub fn value(&self, r: u8) -> Value
         ensures exact { result ≡ register (seen_by self.now) r }
         ensures fits { FitsValue result }

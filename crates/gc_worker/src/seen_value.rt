@@ -9,7 +9,7 @@ use heap_words::Word;
 use plain_state::{Identity, Value};
 
 /// The value that a word is to a worker: a record's identity is its address.
-#[tactic(auto, using(crate::proofs::Reading::seen_number, crate::proofs::Reading::seen_pointer, crate::proofs::Reading::seen_neither))]
+#[tactic(auto, using(crate::proofs::Words::Read::seen_number, crate::proofs::Words::Read::seen_pointer, crate::proofs::Words::Read::seen_neither))]
 pub fn value_in(word: u64) -> Value
     ensures exact { result ≡ value_seen word }
     ensures fits { FitsValue result }

@@ -71,7 +71,7 @@ impl State {
     }
 
     /// A step of a round.
-    #[tactic(auto, using(crate::proofs::Reading::served_after, crate::proofs::Reading::served_fits))]
+    #[tactic(auto, using(crate::proofs::Words::Read::served_after, crate::proofs::Words::Read::served_fits))]
     #[inline(always)]
     pub fn serve(&mut self, reply: Reply)
         requires at { IsServing self.old.stage }
@@ -122,7 +122,7 @@ impl State {
     /// The worker goes on where it was before the round, in this epoch.
     ///
     /// It has the arms of `return_to` itself: if it hands on to that, each step of a run takes two machine instructions more.
-    #[tactic(auto, using(crate::proofs::Reading::placing_fits))]
+    #[tactic(auto, using(crate::proofs::Words::Read::placing_fits))]
     fn go_back(&mut self, epoch: u32)
         requires at { IsServing self.old.stage }
         requires fits { FitsStage (back_from (record self.old { epoch = epoch }) (back_at self.old.stage)) (goes_back (record self.old { epoch = epoch }) (back_at self.old.stage)) }
@@ -154,7 +154,7 @@ impl State {
     }
 
     /// The worker goes on where it was before the round.
-    #[tactic(auto, using(crate::proofs::Reading::placing_fits))]
+    #[tactic(auto, using(crate::proofs::Words::Read::placing_fits))]
     fn return_to(&mut self, back: Back)
         requires { FitsStage (back_from self.old back) (goes_back self.old back) }
         ensures { self.new ≡ back_from self.old back }

@@ -89,7 +89,7 @@ impl Worker {
     }
 
     /// Takes the reply to it.
-    #[tactic(auto, using(crate::proofs::Sound::uncounted_are_sound))]
+    #[tactic(auto, using(crate::proofs::Workers::Sound::uncounted_are_sound))]
     pub fn take(&mut self, reply: Reply) -> Stepped
         requires wants { IsSome (wanted self.old) }
         requires takes { Takes self.old reply }
@@ -122,7 +122,7 @@ impl Worker {
     }
 
     /// An instruction, which the next look at the gate begins.
-    #[tactic(auto, using(crate::proofs::Sound::begun_are_sound))]
+    #[tactic(auto, using(crate::proofs::Workers::Sound::begun_are_sound))]
     pub fn begin(&mut self, instr: &Instr)
         requires idle { IsIdle self.old }
         requires may_begin { MayBegin self.old.account self.old.registers (Some (Calls instr.now)) }
@@ -132,7 +132,7 @@ impl Worker {
     }
 
     /// An end in place of an instruction.
-    #[tactic(auto, using(crate::proofs::Sound::begun_are_sound))]
+    #[tactic(auto, using(crate::proofs::Workers::Sound::begun_are_sound))]
     pub fn begin_end(&mut self, end: End)
         requires idle { IsIdle self.old }
         requires may_stop { MayStop end }

@@ -1,30 +1,5 @@
-pub mod Passing
-pub mod Firsts
 pub mod Lists
-pub mod OperandLists
-pub mod Options
-pub mod Numerals
-pub mod Programs
-pub mod Sections
-pub mod Places
-pub mod Seams
-pub mod Clean
-pub mod Limits
-pub mod Counts
-pub mod Sound
-pub mod Readings
-pub mod Fetching
-pub mod Forming
-pub mod Listed
-pub mod Writing
-pub mod Splitting
 pub mod Tokens
-pub mod Rereading
-pub mod Relisted
-pub mod ListedLabels
-pub mod ListedRows
-pub mod ListedClean
-pub mod ListedCode
+pub mod Programs
+pub mod Texts
 pub mod Listings
-mod Targets
-mod Names

@@ -1,19 +1,5 @@
-pub mod Opening
-pub mod Stepping
-pub mod Owning
-pub mod Outcomes
-pub mod Calls
-pub mod Records
-pub mod Named
-pub mod Alike
-pub mod Counting
+pub mod States
 pub mod Alone
-pub mod Apart
-pub mod Moving
-pub mod Ordering
+pub mod Calls
 mod Examples
-pub mod Stories
-pub mod Consistency
-pub mod Reached
-pub mod Marks
-pub mod Staying
+pub mod Orders

@@ -7,7 +7,7 @@ use Rattle.plain_state.specs.declared.end.End.TheVariants.{HeapFull}
 use Rattle.plain_state.specs.State.{Heap, Mutator, Plain}
 use Rattle.mutator_asm.specs.declared.instr.Instr.{Instr}
 use Rattle.plain_heap.specs.Call.{After, call}
-use Rattle.plain_heap.proofs.Alike.{GoAlike, Same}
+use Rattle.plain_heap.proofs.Alone.Alike.{GoAlike, Same}
 use Rattle.gc_worker.specs.declared.task.Task.{Task}
 use Rattle.gc_worker.specs.declared.task.Task.TheVariants.{Calls, Stops}
 use Rattle.gc_worker.specs.Answer.{ComesTo, MayCome, MayEnd, after_answer, after_outcome}

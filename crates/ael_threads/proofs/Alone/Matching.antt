@@ -15,9 +15,9 @@ use Rattle.mutator_asm.specs.declared.instr.Instr.{Instr}
 use Rattle.plain_heap.specs.Alone.{leaves_board}
 use Rattle.plain_heap.specs.Call.{After, call}
 use Rattle.plain_heap.specs.Step.{ended, settled}
-use Rattle.plain_heap.proofs.Alike.{GoAlike, Same, call-alike}
-use Rattle.plain_heap.proofs.Apart.{moved}
-use Rattle.plain_heap.proofs.Owning.{AllOf, LeadsToOwn, OwnsRecords, read_all}
+use Rattle.plain_heap.proofs.Alone.Alike.{GoAlike, Same, call-alike}
+use Rattle.plain_heap.proofs.Alone.Apart.{moved}
+use Rattle.plain_heap.proofs.Alone.Owned.{AllOf, LeadsToOwn, OwnsRecords, read_all}
 use Rattle.ael_threads.proofs.Alone.Sparing.{AllElse, IsElse, IsSpared, Spares, call-spares}
 
 -- Mutator m of state p is that of state u, with the same records; it is led to these alone, and nobody else in p is led to one of them.

@@ -23,9 +23,9 @@ use Rattle.plain_heap.specs.declared.action.Action.{Action}
 use Rattle.plain_heap.specs.declared.action.Action.TheVariants.{Sets, Jumps, Links, Prints, Makes, Measures, Loads, Stores, Gets, Puts, Swaps}
 use Rattle.plain_heap.specs.Action.{◌>>=◌, action, in_record, next_of, register}
 use Rattle.plain_heap.specs.Call.{After, board_word, call, jumped, may_hold, performed, set_register, store_in, value_in, values_of, went_on, zeros}
-use Rattle.plain_heap.proofs.Named.{Names, Spells, named}
-use Rattle.plain_heap.proofs.Outcomes.{if_ok-bind, if_ok-then}
-use Rattle.plain_heap.proofs.Owning.{found_serial, read_all}
+use Rattle.plain_heap.proofs.Calls.Named.{Names, Spells, named}
+use Rattle.plain_heap.proofs.Calls.Outcomes.{if_ok-bind, if_ok-then}
+use Rattle.plain_heap.proofs.Alone.Owned.{found_serial, read_all}
 
 -- a number, or a reference to a record of another than mutator m
 abbrev pub IsElse : ℕ → Value → Type 0

@@ -3,7 +3,7 @@ use Rattle.std.proofs.Common.{ℕ, replicate}
 use Rattle.std.proofs.lemmas.List.Elements.{All-replicate}
 use Rattle.plain_state.specs.declared.sizes.TheConstants.{BOARD_WORDS, REGISTERS}
 use Rattle.plain_state.specs.declared.value.Value.TheVariants.{Number}
-use Rattle.plain_heap.proofs.Owning.{LeadsToOwn}
+use Rattle.plain_heap.proofs.Alone.Owned.{LeadsToOwn}
 use Rattle.heap_laws.specs.Opening.{opening_mutator, opening_plain}
 use Rattle.ael_threads.specs.Alone.{LoneCallsComeToTheSame}
 use Rattle.gc_worker.specs.History.Legal.{calls_of}

@@ -17,13 +17,13 @@ use Rattle.gc_worker.specs.Law.{WorkersStand, epoch_of, nobody}
 use Rattle.gc_worker.specs.Stepped.{stepped_by}
 use Rattle.gc_worker.specs.Turned.{Told, Silent, Answers, Marks, epoch_in_gate, told}
 use Rattle.gc_worker.specs.Wanted.{wanted}
-use Rattle.gc_worker.proofs.Between.Copied.{full_tells_live}
+use Rattle.gc_worker.proofs.Between.Pages.Copied.{full_tells_live}
 use Rattle.gc_worker.proofs.Cycles.Lows.{low_falls_by_claims}
 use Rattle.gc_core.specs.Core.{CoreState}
 use Rattle.gc_core.specs.Cycles.{FillsTheSpace, claims_after, claims_next}
 use Rattle.gc_core.specs.Event.{core_after, event_of, readied, ready}
-use Rattle.gc_core.proofs.History.{HasHistory, first, its_ready}
-use Rattle.gc_core.proofs.Readied.{ReadyToStep}
+use Rattle.gc_core.proofs.Runs.History.{HasHistory, first, its_ready}
+use Rattle.gc_core.proofs.Events.Readied.{ReadyToStep}
 
 -- so many words were claimed since the last flip, of a space with so many pages
 pub record HasClaimed (n : ℕ) (s : CoreState) (claims : ℕ) : Type 0 where

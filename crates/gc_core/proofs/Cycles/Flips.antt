@@ -16,7 +16,7 @@ use Rattle.gc_worker.proofs.History.Tallies.{entry_at, tally_append}
 use Rattle.gc_core.specs.Core.{CoreState}
 use Rattle.gc_core.specs.Cycles.{flips_after, flips_next}
 use Rattle.gc_core.specs.Event.{core_after, event_of, ready}
-use Rattle.gc_core.proofs.History.{HasHistory, adds, adds_by, event_history, first}
+use Rattle.gc_core.proofs.Runs.History.{HasHistory, adds, adds_by, event_history, first}
 
 -- mutator m has flipped once since its last answer, if it has asked for a flip since then, and else not
 abbrev pub FlippedOnce : (m : ℕ) → Tally → (flips : ℕ) → Type 0

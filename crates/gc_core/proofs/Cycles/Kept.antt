@@ -15,8 +15,8 @@ use Rattle.heap_laws.proofs.Steps.Answers.{areas_are_read}
 use Rattle.gc_worker.specs.Copied.{CopiedWasLive, IsTraced}
 use Rattle.gc_worker.specs.Law.{read, WorkersStand}
 use Rattle.gc_worker.specs.Turned.{epoch_in_gate}
-use Rattle.gc_worker.proofs.Areas.{area_now, area_says, is_space}
-use Rattle.gc_worker.proofs.Gate.Words.{gate_says}
+use Rattle.gc_worker.proofs.Words.Areas.{area_now, area_says, is_space}
+use Rattle.gc_worker.proofs.Stages.Gate.Words.{gate_says}
 use Rattle.gc_core.specs.Core.{CoreState}
 use Rattle.gc_core.specs.Cycles.{KeepsWhatIsLive}
 use Rattle.gc_core.specs.Readers.{cycles_of, live_of}

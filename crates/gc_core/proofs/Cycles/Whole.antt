@@ -20,7 +20,7 @@ use Rattle.gc_worker.specs.History.Order.{entry_mark, order_of}
 use Rattle.gc_worker.specs.History.Tally.{aside_in, tally}
 use Rattle.gc_worker.specs.Law.{WorkersStand}
 use Rattle.gc_worker.specs.Marks.{EachActs, mark_of}
-use Rattle.gc_worker.proofs.Between.Copied.{copied_was_live}
+use Rattle.gc_worker.proofs.Between.Pages.Copied.{copied_was_live}
 use Rattle.gc_worker.proofs.Between.Opening.{heaps_open}
 use Rattle.gc_worker.proofs.History.Lone.{flip_before, lone_is_never_full}
 use Rattle.gc_worker.proofs.History.Needs.{at_full, large_is_never_full}
@@ -32,13 +32,13 @@ use Rattle.gc_core.specs.Law.{IsSteady, IsTold}
 use Rattle.gc_core.specs.Needs.{ClaimsAreForRecords, ClaimsAreMadeOrSetAside, LargeHeapsAreNeverFull, LoneFullsFollowTheirFlips, LoneHeapsAreNeverFull, OrdersAreFilledByClaims, OrdersFillTheSpace}
 use Rattle.gc_core.specs.Run.{run_of, Ran}
 use Rattle.gc_core.specs.Whole.{FullsFollowFlips}
-use Rattle.gc_core.proofs.Begun.{opening_stands, opening_steady, size_fits}
+use Rattle.gc_core.proofs.Events.Opening.{opening_stands, opening_steady, size_fits}
 use Rattle.gc_core.proofs.Cycles.Filling.{HasClaimed, event_fills, full_is_filled}
 use Rattle.gc_core.proofs.Cycles.Flips.{FlippedOnce, event_once}
 use Rattle.gc_core.proofs.Cycles.Kept.{keeps_what_is_live}
-use Rattle.gc_core.proofs.History.{HasHistory, adds, event_history, first, history_fills, history_made, holds_after, log_from, log_order, order_adds}
-use Rattle.gc_core.proofs.Running.{IsRunOf, run_acts, run_law}
-use Rattle.gc_core.proofs.Runs.{mark_is_reached}
+use Rattle.gc_core.proofs.Runs.History.{HasHistory, adds, event_history, first, history_fills, history_made, holds_after, log_from, log_order, order_adds}
+use Rattle.gc_core.proofs.Runs.Stories.{IsRunOf, run_acts, run_law}
+use Rattle.gc_core.proofs.Runs.EventByEvent.{mark_is_reached}
 use Rattle.gc_core.proofs.Whole.{events_keep}
 
 module _ (code : List (List Instr)) (items : List Item) (config : Config) (schedule : ℕ → ℕ) (n : ℕ)

@@ -34,8 +34,8 @@ use Rattle.gc_worker.specs.Turned.{turned}
 use Rattle.gc_worker.specs.Wanted.{wanted, wanted_at}
 use Rattle.gc_worker.proofs.Between.Gone.{who_is_gone_saw_why}
 use Rattle.gc_worker.proofs.Between.Opening.{is_there, many}
-use Rattle.gc_worker.proofs.Gate.Words.{gate_says}
-use Rattle.gc_worker.proofs.Members.{member}
+use Rattle.gc_worker.proofs.Stages.Gate.Words.{gate_says}
+use Rattle.gc_worker.proofs.Workers.Members.{member}
 
 -- ---- counts
 

@@ -19,7 +19,7 @@ use Rattle.gc_worker.specs.Held.{Held}
 use Rattle.gc_worker.specs.Knows.{knows}
 use Rattle.gc_worker.specs.Law.{read, nobody}
 use Rattle.gc_worker.specs.Seen.{IsValueAs, IsValueWord}
-use Rattle.gc_worker.proofs.Fitting.{new_worker}
+use Rattle.gc_worker.proofs.Workers.Parts.{new_worker}
 
 -- ---- one worker
 

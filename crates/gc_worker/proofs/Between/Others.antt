@@ -8,7 +8,7 @@ use Rattle.plain_heap.specs.Action.{action}
 use Rattle.plain_heap.specs.Call.{After, call, zeros}
 use Rattle.plain_heap.specs.Calls.{IsMadeBy}
 use Rattle.plain_heap.specs.Step.{ended, new_record, settled}
-use Rattle.plain_heap.proofs.Calls.{call-others, call-count, call-makes, call-none, new_record-made}
+use Rattle.plain_heap.proofs.Calls.Rest.{call-others, call-count, call-makes, call-none, new_record-made}
 use Rattle.gc_worker.specs.declared.task.Task.{Task}
 use Rattle.gc_worker.specs.declared.task.Task.TheVariants.{Calls, Stops}
 use Rattle.gc_worker.specs.Answer.{after_answer, after_outcome}

@@ -36,10 +36,10 @@ use Rattle.gc_worker.specs.Held.{Held}
 use Rattle.gc_worker.specs.Knows.{knows, post_in, epoch_at, epoch_in}
 use Rattle.gc_worker.specs.Law.{Heap, read, held_at, WorkersStand, epoch_of}
 use Rattle.gc_worker.specs.Turned.{epoch_in_gate}
-use Rattle.gc_worker.proofs.Copying.Words.{heap_word}
-use Rattle.gc_worker.proofs.Eras.{start_is, span_is}
-use Rattle.gc_worker.proofs.Gate.Words.{gate_says}
-use Rattle.gc_worker.proofs.Members.{member}
+use Rattle.gc_worker.proofs.Stages.Copies.Words.{heap_word}
+use Rattle.gc_worker.proofs.Words.Eras.{start_is, span_is}
+use Rattle.gc_worker.proofs.Stages.Gate.Words.{gate_says}
+use Rattle.gc_worker.proofs.Workers.Members.{member}
 
 -- who runs and makes a round makes it in its own epoch
 round_epoch : (own : ℕ) (d : Round) (stage : DutyStage) → d.epoch ≡ own → epoch_at own d stage ≡ own

@@ -48,7 +48,7 @@ use Rattle.gc_worker.specs.Access as access
 use Rattle.gc_worker.specs.Fits.{Fits, FitsEnd, FitsTask, FitsTaskAfter, FitsTaskBack, FitsTaskBefore, IsGoneBy, IsMaking, IsOnSide, IsOnSideBack}
 use Rattle.gc_worker.specs.Held.{Held, at_stage, header_for}
 use Rattle.gc_worker.specs.Turned.{Pointed, Silent, end_by_shortage, ended, epoch_said, first_pointer, forwards_from, forwards_it, full_by, goes_back, goes_on, finds_full, passed_by, passes, places, served_by, told_access, told_at, told_effect, told_end, told_full, told_place, turned_access, turned_at, turned_copy, turned_flip, turned_gate, turned_opening, turned_place, turned_register, turned_round, turned_scan, with_copy, with_evac}
-use Rattle.gc_worker.proofs.NewRecords.{header_is}
+use Rattle.gc_worker.proofs.Plain.NewRecords.{header_is}
 
 -- ---- where it goes on
 

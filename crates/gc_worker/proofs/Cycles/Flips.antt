@@ -55,7 +55,7 @@ use Rattle.gc_worker.specs.Access as access
 use Rattle.gc_worker.specs.Held.{Held, at_stage, header_for, making_for}
 use Rattle.gc_worker.specs.Seen.{Making, seen}
 use Rattle.gc_worker.specs.Turned.{Pointed, acted, accesses, acts, begins, end_by_shortage, ended, epoch_said, first_pointer, forwards_from, forwards_it, full_by, goes_back, goes_on, finds_full, looked_by, passed_by, passes, places, served_by, started, turned_access, turned_at, turned_copy, turned_flip, turned_gate, turned_look, turned_opening, turned_place, turned_register, turned_round, turned_scan, with_copy, with_evac, with_record}
-use Rattle.gc_worker.proofs.Between.Claims.{flips_at}
+use Rattle.gc_worker.proofs.Between.Pages.Claims.{flips_at}
 
 -- ---- stages at which nobody asks for a flip
 

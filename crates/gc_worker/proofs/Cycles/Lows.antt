@@ -58,14 +58,14 @@ use Rattle.gc_worker.specs.Held.{Held, at_stage}
 use Rattle.gc_worker.specs.Law.{Heap, FlipsWhereTold, WorkersStand, read, held_at, epoch_of}
 use Rattle.gc_worker.specs.Turned.{Told, Silent, Answers, Marks, epoch_in_gate, told, told_at, told_flip}
 use Rattle.gc_worker.specs.Wanted.{wanted, wanted_at}
-use Rattle.gc_worker.proofs.Accessing.RowsFit as access_rows
-use Rattle.gc_worker.proofs.Areas.{area_says, is_space}
-use Rattle.gc_worker.proofs.Between.Claims.{NoMark, flips_at}
-use Rattle.gc_worker.proofs.Between.Written.{IsNoArea, area_stays}
-use Rattle.gc_worker.proofs.Eras.{old_span_is}
-use Rattle.gc_worker.proofs.Gate.Words.{gate_says}
-use Rattle.gc_worker.proofs.Members.{member}
-use Rattle.gc_worker.proofs.Whole.{steps_keep}
+use Rattle.gc_worker.proofs.Stages.Access.RowsFit as access_rows
+use Rattle.gc_worker.proofs.Words.Areas.{area_says, is_space}
+use Rattle.gc_worker.proofs.Between.Pages.Claims.{NoMark, flips_at}
+use Rattle.gc_worker.proofs.Between.Pages.Written.{IsNoArea, area_stays}
+use Rattle.gc_worker.proofs.Words.Eras.{old_span_is}
+use Rattle.gc_worker.proofs.Stages.Gate.Words.{gate_says}
+use Rattle.gc_worker.proofs.Workers.Members.{member}
+use Rattle.gc_worker.proofs.StepKeeps.{steps_keep}
 
 -- ---- one area word
 

@@ -26,11 +26,11 @@ use Rattle.gc_worker.specs.Held.{Held, at_stage, pages_needed, header_for, pages
 use Rattle.gc_worker.specs.Law.{Heap, WorkersStand, read}
 use Rattle.gc_worker.specs.declared.did.Did.TheVariants.{Done, Trap}
 use Rattle.gc_worker.specs.Turned.{Told, Silent, Answers, Marks, told, told_effect, told_place, turned, turned_place}
-use Rattle.gc_worker.proofs.Answering.{its_mutator}
-use Rattle.gc_worker.proofs.Gate.Resuming.{end_none}
-use Rattle.gc_worker.proofs.NewRecords.{asked_is, plain_pages}
-use Rattle.gc_worker.proofs.Members.{member}
-use Rattle.gc_worker.proofs.Place.Acts.{makes_alike}
+use Rattle.gc_worker.proofs.Plain.AnswerSteps.{its_mutator}
+use Rattle.gc_worker.proofs.Stages.Gate.Resuming.{end_none}
+use Rattle.gc_worker.proofs.Plain.NewRecords.{asked_is, plain_pages}
+use Rattle.gc_worker.proofs.Workers.Members.{member}
+use Rattle.gc_worker.proofs.Stages.Place.Acts.{makes_alike}
 
 -- ---- a step
 

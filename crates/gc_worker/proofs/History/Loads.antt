@@ -16,7 +16,7 @@ use Rattle.plain_heap.specs.Action.{action}
 use Rattle.plain_heap.specs.Call.{After, call, set_register, went_on}
 use Rattle.plain_heap.specs.Records.{RecordShape, record_word, shape_of, word_after}
 use Rattle.plain_heap.specs.Step.{settled}
-use Rattle.plain_heap.proofs.Records.{loads_take_the_word, only_stores_change_words, shapes_stay}
+use Rattle.plain_heap.proofs.Calls.Records.{loads_take_the_word, only_stores_change_words, shapes_stay}
 use Rattle.heap_laws.specs.Opening.{opening_plain}
 use Rattle.gc_worker.specs.Answer.{ComesTo, MayCome, after_answer, after_outcome}
 use Rattle.gc_worker.specs.declared.call.Call.{Call}

@@ -11,8 +11,8 @@ use Rattle.plain_heap.specs.declared.mark.Mark.{Mark}
 use Rattle.plain_heap.specs.declared.mark.Mark.TheVariants.{Step, Flip, Full}
 use Rattle.plain_heap.specs.Order.{Story, end_of, marked, opening, plain, state_after, story_after, story_marked}
 use Rattle.plain_heap.specs.Step.{asked_by, asked_if}
-use Rattle.plain_heap.proofs.Staying.{plain_count}
-use Rattle.plain_heap.proofs.Stories.{story-now, story_after-append}
+use Rattle.plain_heap.proofs.States.SameMutators.{plain_count}
+use Rattle.plain_heap.proofs.Orders.Stories.{story-now, story_after-append}
 use Rattle.heap_state.specs.Functions.{sum_below}
 use Rattle.heap_state.specs.Reachable.{IsLive}
 use Rattle.gc_worker.specs.History.Needs.{EachFullIs, EachMayCome, EndsWithFlip, HasNoFull, IsEnoughForOne, being_made, flips_by, flips_in, made_after, made_by_mark, made_since, first_story, since_by, since_in}

@@ -29,7 +29,7 @@ use Rattle.gc_worker.proofs.Between.Others.{answers_leave_the_others}
 use Rattle.gc_worker.proofs.History.Extensions.{as_many}
 use Rattle.gc_worker.proofs.History.Orders.{call_turns}
 use Rattle.gc_worker.proofs.History.Sums.{sum_below-most}
-use Rattle.gc_worker.proofs.Outcomes.{Sort, IsFull, IsStep, asks, sort}
+use Rattle.gc_worker.proofs.Plain.Outcomes.{Sort, IsFull, IsStep, asks, sort}
 
 -- ---- what mutators do next
 

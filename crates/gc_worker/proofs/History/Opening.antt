@@ -15,9 +15,9 @@ use Rattle.gc_worker.specs.Cycles.{IsFirst, low_at, low_of, low_said}
 use Rattle.gc_worker.specs.Held.{Held}
 use Rattle.gc_worker.specs.Law.{Heap, WorkersStand, epoch_of, held_at, read}
 use Rattle.gc_worker.specs.Turned.{epoch_in_gate}
-use Rattle.gc_worker.proofs.Areas.{area_says, is_space}
+use Rattle.gc_worker.proofs.Words.Areas.{area_says, is_space}
 use Rattle.gc_worker.proofs.Between.Opening.{heaps_open, is_there, many}
-use Rattle.gc_worker.proofs.Gate.Words.{gate_says}
+use Rattle.gc_worker.proofs.Stages.Gate.Words.{gate_says}
 use Rattle.gc_worker.specs.History.Tally.{IsTallied, first_tally}
 
 whole_at_first : (n : ℕ) → ((table_with n (opening_entries n)).area 0).low ≡ PAGE_WORDS * n

@@ -24,7 +24,7 @@ use Rattle.mutator_asm.specs.Program.{is_operand, is_register, is_valid}
 use Rattle.plain_heap.specs.declared.action.Action.{Action}
 use Rattle.plain_heap.specs.declared.action.Action.TheVariants.{Makes, Prints}
 use Rattle.plain_heap.specs.Action.{◌>>=◌, action, allocates, board_place, computes, length_of, as_number, operand, reference_in, register}
-use Rattle.plain_heap.proofs.Outcomes.{if_ok-bind, if_ok-is}
+use Rattle.plain_heap.proofs.Calls.Outcomes.{if_ok-bind, if_ok-is}
 use Rattle.gc_worker.specs.Between.{ShowsRegisters}
 use Rattle.gc_worker.specs.Fits.{IsMaking}
 use Rattle.gc_worker.specs.Held.{Held}

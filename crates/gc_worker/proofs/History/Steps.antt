@@ -29,17 +29,17 @@ use Rattle.gc_worker.specs.declared.did.Did.TheVariants.{Done, Trap}
 use Rattle.gc_worker.specs.Turned.{Told, Silent, Answers, Marks, epoch_in_gate, told, turned}
 use Rattle.gc_worker.specs.Wanted.{wanted}
 use Rattle.gc_worker.proofs.Between.Begun.{beginnings_are_kept, full_is_found_later}
-use Rattle.gc_worker.proofs.Between.Claims.{flips_at}
-use Rattle.gc_worker.proofs.Between.Copied.{full_tells_live}
+use Rattle.gc_worker.proofs.Between.Pages.Claims.{flips_at}
+use Rattle.gc_worker.proofs.Between.Pages.Copied.{full_tells_live}
 use Rattle.gc_worker.proofs.Between.GoingOn.{workers_go_on}
 use Rattle.gc_worker.proofs.Between.Standing.{what_stands_is_so}
 use Rattle.gc_worker.proofs.Cycles.Calls.{calls_go_on}
 use Rattle.gc_worker.proofs.Cycles.Flips.{flips_are_first, flips_stay_first}
 use Rattle.gc_worker.proofs.Cycles.Lows.{low_falls_by_claims}
 use Rattle.gc_worker.proofs.Cycles.SetAside.{claims_are_set_aside}
-use Rattle.gc_worker.proofs.Gate.Resuming.{end_none}
-use Rattle.gc_worker.proofs.NewRecords.{asked_is, plain_pages}
-use Rattle.gc_worker.proofs.Whole.{steps_keep}
+use Rattle.gc_worker.proofs.Stages.Gate.Resuming.{end_none}
+use Rattle.gc_worker.proofs.Plain.NewRecords.{asked_is, plain_pages}
+use Rattle.gc_worker.proofs.StepKeeps.{steps_keep}
 use Rattle.gc_worker.specs.declared.entry.Entry.{Entry}
 use Rattle.gc_worker.specs.History.Tally.{FitsTally, EachEntry, EntryIs, IsAskedFor, IsFilled, IsFilledByEnd, IsTallied, Tally, Tasks, aside_in, asked_by_task, made_next, next_task, pages_by_task, tally, tasks_held}
 use Rattle.gc_worker.specs.History.Legal.{worker_call, extra}

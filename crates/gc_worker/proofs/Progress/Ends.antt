@@ -45,8 +45,8 @@ use Rattle.gc_worker.specs.Held.{Held, at_stage, header_for, making_for}
 use Rattle.gc_worker.specs.Progress.{IsSameMachine, MayWait}
 use Rattle.gc_worker.specs.Seen.{Making}
 use Rattle.gc_worker.specs.Turned.{Pointed, accessed_by, end_by_shortage, ended, first_pointer, flipped_by, forwarded_to, forwards_it, full_by, goes_back, goes_on, finds_full, passed_by, passes, places, scanned_by, served_by, with_copy, with_record, allocated_by}
-use Rattle.gc_worker.proofs.NewRecords.{made_is}
-use Rattle.gc_worker.proofs.Pointers.{FirstPointer, There, Nowhere, found}
+use Rattle.gc_worker.proofs.Plain.NewRecords.{made_is}
+use Rattle.gc_worker.proofs.Words.Pointers.{FirstPointer, There, Nowhere, found}
 
 -- ---- passages
 

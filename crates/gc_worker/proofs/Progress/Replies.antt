@@ -56,10 +56,10 @@ use Rattle.gc_worker.specs.declared.access_stage.AccessStage.TheVariants.{LooksA
 use Rattle.gc_worker.specs.declared.board_access.BoardSwap.{BoardSwap}
 use Rattle.gc_worker.specs.declared.record_access.RecordAccess.{RecordAccess}
 use Rattle.gc_worker.specs.Access as access
-use Rattle.gc_worker.proofs.Areas.{area_says, is_space}
-use Rattle.gc_worker.proofs.Copying.Words.{heap_word}
-use Rattle.gc_worker.proofs.Gate.Words.{gate_says}
-use Rattle.gc_worker.proofs.Rounds.Words.{page_says}
+use Rattle.gc_worker.proofs.Words.Areas.{area_says, is_space}
+use Rattle.gc_worker.proofs.Stages.Copies.Words.{heap_word}
+use Rattle.gc_worker.proofs.Stages.Gate.Words.{gate_says}
+use Rattle.gc_worker.proofs.Stages.Rounds.Words.{page_says}
 
 -- the reply takes the machine on, the exchange is lost, or this is so
 pub data TakesOn (advances : Reply → Bool) (r : Reply) (kept : Type 0) : Type 0 where

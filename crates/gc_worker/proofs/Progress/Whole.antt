@@ -56,20 +56,20 @@ use Rattle.gc_worker.specs.Law.{read}
 use Rattle.gc_worker.specs.Progress.{Progress, LessIsLeft, ExchangeWasLost, AnotherCopies, OthersGoFirst, IsSameMachine, IsWaiting, MachinesGoOn, left_at}
 use Rattle.gc_worker.specs.Turned.{turned_access, turned_at, turned_copy, turned_flip, turned_gate, turned_opening, turned_place, turned_register, turned_round, turned_scan, with_evac}
 use Rattle.gc_worker.specs.Wanted.{wanted_at}
-use Rattle.gc_worker.proofs.Accessing.Going as accessing_going
-use Rattle.gc_worker.proofs.Accessing.Stages.{header_there}
-use Rattle.gc_worker.proofs.Copying.Finding.{answers}
-use Rattle.gc_worker.proofs.Copying.Hosts.{Host, ForScan, ForRegister}
-use Rattle.gc_worker.proofs.Copying.Hosts as hosts
-use Rattle.gc_worker.proofs.Copying.Words.{heap_word}
-use Rattle.gc_worker.proofs.Members.{member}
+use Rattle.gc_worker.proofs.Stages.Access.Going as accessing_going
+use Rattle.gc_worker.proofs.Stages.Access.Stages.{header_there}
+use Rattle.gc_worker.proofs.Stages.Copies.Finding.{answers}
+use Rattle.gc_worker.proofs.Stages.Copies.Hosts.{Host, ForScan, ForRegister}
+use Rattle.gc_worker.proofs.Stages.Copies.Hosts as hosts
+use Rattle.gc_worker.proofs.Stages.Copies.Words.{heap_word}
+use Rattle.gc_worker.proofs.Workers.Members.{member}
 use Rattle.gc_worker.proofs.Progress.Accesses.{accesses_lower}
 use Rattle.gc_worker.proofs.Progress.Replies.{TakesOn, Advances, Loses, Waits, MeetsBusy, On, accessing, copying, flipping, loads_header, opening, passing, placing, scanning, serving, word_at, word_is}
 use Rattle.gc_worker.proofs.Progress.Copies.{copies_lower}
 use Rattle.gc_worker.proofs.Progress.Ends.{IsOfScanner, accesses_end, allocations_end, flips_end, openings_end, passages_end, registers_end, rounds_end, scans_end}
 use Rattle.gc_worker.proofs.Progress.Lowering.{allocations_lower, flips_lower, openings_lower, passages_lower}
 use Rattle.gc_worker.proofs.Progress.Scans.{first-lt, scans_lower}
-use Rattle.gc_worker.proofs.Scan.Headers.{answer2, first_header}
+use Rattle.gc_worker.proofs.Stages.Scan.Headers.{answer2, first_header}
 
 module _ (c : Configuration) (p : Plain) (s : Stands c p) (k : ℕ) (x : Held) (q : Step) where
   abbrev r : Reply

@@ -1,5 +1,5 @@
 use Rattle.std.proofs.Common.{◌≡◌, ◌+◌, sym, ap, ◌∙◌, arith}
-use Rattle.gc_core.proofs.Runs.{comes_on, came_over, came_out}
+use Rattle.gc_core.proofs.Runs.EventByEvent.{comes_on, came_over, came_out}
 use Rattle.ael_commands.proofs.Noting.{comes_on_noted, came_over_noted, came_out_noted}
 use Rattle.ael_commands.proofs.scheduled.run_noting.Goals as goal
 use Rattle.ael_commands.proofs.scheduled.run_noting.Goals.{else-loop-test, then-loop-test+then-over}

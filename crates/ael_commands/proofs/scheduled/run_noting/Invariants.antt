@@ -1,5 +1,5 @@
 use Rattle.gc_core.specs.Run.{all_ended, run_from}
-use Rattle.gc_core.proofs.Runs.{HasComeTo}
+use Rattle.gc_core.proofs.Runs.EventByEvent.{HasComeTo}
 use Rattle.std.proofs.Common.{◌≡◌, ◌+◌, ℕ}
 use Rattle.ael_commands.proofs.Noting.{HasCome}
 use Rattle.ael_commands.proofs.scheduled.run_noting.Given as goal

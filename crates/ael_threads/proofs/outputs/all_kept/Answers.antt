@@ -3,7 +3,7 @@ use Rattle.std.proofs.lemmas.List.{append-nil, map-append}
 use Rattle.std.proofs.lemmas.Simd.{map-map}
 use Rattle.ael_threads.specs.Outputs.{seat_kept}
 use Rattle.ael_threads.specs.Readers.{SeatedScanner, seated}
-use Rattle.ael_threads.proofs.Elements.{made_all, made_more}
+use Rattle.ael_threads.proofs.Lists.Elements.{made_all, made_more}
 use Rattle.ael_threads.proofs.outputs.all_kept.Goals as goal
 
 abbrev kept_of : SeatedScanner → ℕ × ℕ

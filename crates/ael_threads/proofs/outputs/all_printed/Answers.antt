@@ -1,7 +1,7 @@
 use Rattle.std.proofs.Common.{◌+◌, ◌≤◌, ℕ, [], refl, sym, ◌∙◌, ap, subst, length, map}
 use Rattle.std.proofs.lemmas.List.{map_push}
 use Rattle.ael_threads.specs.Outputs.{printed_by, seat_seen}
-use Rattle.ael_threads.proofs.Elements.{has_room, made_all, made_more}
+use Rattle.ael_threads.proofs.Lists.Elements.{has_room, made_all, made_more}
 use Rattle.ael_threads.proofs.outputs.all_printed.Goals as goal
 
 pub push_reserved-requires : goal.push_reserved-requires

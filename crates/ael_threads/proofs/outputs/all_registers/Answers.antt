@@ -3,7 +3,7 @@ use Rattle.gc_worker.specs.Held.{Held}
 use Rattle.ael_threads.specs.Outputs.{seat_registers}
 use Rattle.ael_threads.specs.Seats.{Seated}
 use Rattle.ael_threads.specs.declared.mutator.Mutator.TheInside.{Inside}
-use Rattle.ael_threads.proofs.Elements.{has_room, made_all, made_more}
+use Rattle.ael_threads.proofs.Lists.Elements.{has_room, made_all, made_more}
 use Rattle.ael_threads.proofs.outputs.all_registers.Goals as goal
 
 pub push_reserved-requires : goal.push_reserved-requires

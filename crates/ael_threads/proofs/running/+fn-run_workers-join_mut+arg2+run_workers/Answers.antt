@@ -1,4 +1,4 @@
-use Rattle.ael_threads.proofs.Starting.{scanners_of}
+use Rattle.ael_threads.proofs.ProgramRuns.StartAndEnd.{scanners_of}
 use Rattle.ael_threads.proofs.running.+fn-run_workers-join_mut+arg2+run_workers.Goals as goal
 
 pub run_scanners-requires-after_bounds : goal.run_scanners-requires-after_bounds

@@ -6,8 +6,8 @@ use Rattle.ael_threads.specs.Outputs.{HasEnd, IsToldOnClose, Runs}
 use Rattle.ael_threads.specs.Readers.{SeatedScanner}
 use Rattle.ael_threads.specs.Running.{AreReady, AreScanning}
 use Rattle.ael_threads.specs.Seats.{Seated}
-use Rattle.ael_threads.proofs.Starting.{all_back, all_ended, all_ready, all_scanning, callers_length, mutators_of, of_ok, scanners_length, scanners_of, were_scanning}
-use Rattle.ael_threads.proofs.Telling.{runs_told}
+use Rattle.ael_threads.proofs.ProgramRuns.StartAndEnd.{all_back, all_ended, all_ready, all_scanning, callers_length, mutators_of, of_ok, scanners_length, scanners_of, were_scanning}
+use Rattle.ael_threads.proofs.ProgramRuns.Outputs.{runs_told}
 use Rattle.ael_threads.proofs.running.run.Goals as goal
 
 pub run_workers-requires-clause-few : goal.run_workers-requires-clause-few

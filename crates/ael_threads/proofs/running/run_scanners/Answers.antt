@@ -1,7 +1,7 @@
 use Rattle.std.proofs.Common.{sym, subst, rules}
 use Rattle.ael_threads.specs.Readers.{SeatedScanner}
 use Rattle.ael_threads.specs.Running.{HasSeenAllLeave, RunsAsScanner}
-use Rattle.ael_threads.proofs.Starting.{each_scanned}
+use Rattle.ael_threads.proofs.ProgramRuns.StartAndEnd.{each_scanned}
 use Rattle.ael_threads.proofs.running.run_scanners.Goals as goal
 
 pub returns-clause-scanned : goal.returns-clause-scanned

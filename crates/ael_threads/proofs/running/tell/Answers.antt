@@ -4,7 +4,7 @@ use Rattle.space_map.specs.Table.{Area, Gate, Traced, place_of}
 use Rattle.gc_worker.specs.Readers.{live_said}
 use Rattle.gc_worker.specs.Turned.{epoch_said}
 use Rattle.ael_threads.specs.Outputs.{seat_registers, seat_seen}
-use Rattle.ael_threads.proofs.Telling.{word_read}
+use Rattle.ael_threads.proofs.ProgramRuns.Outputs.{word_read}
 use Rattle.ael_threads.proofs.running.tell.Goals as goal
 
 pub returns-clause-told : goal.returns-clause-told

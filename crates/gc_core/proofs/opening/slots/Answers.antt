@@ -1,6 +1,6 @@
 use Rattle.std.proofs.Common.{◌≡◌, ◌+◌, ◌∙◌, sym, arith}
 use Rattle.gc_worker.specs.Between.{fresh_workers}
-use Rattle.gc_core.proofs.Begun.{fresh_push}
+use Rattle.gc_core.proofs.Events.Opening.{fresh_push}
 use Rattle.gc_core.proofs.opening.slots.Goals as goal
 
 pub loop-k-init : goal.loop-k-init

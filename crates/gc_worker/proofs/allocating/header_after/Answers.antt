@@ -1,4 +1,4 @@
-use Rattle.gc_worker.proofs.Reading.{header_made}
+use Rattle.gc_worker.proofs.Words.Read.{header_made}
 use Rattle.gc_worker.proofs.allocating.header_after.Goals as goal
 
 pub returns : goal.returns

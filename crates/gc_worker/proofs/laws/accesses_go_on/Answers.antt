@@ -1,4 +1,4 @@
-use Rattle.gc_worker.proofs.Accessing.GoingOn.{accesses_go_on, lost_swaps_load_again}
+use Rattle.gc_worker.proofs.Stages.Access.GoingOn.{accesses_go_on, lost_swaps_load_again}
 use Rattle.gc_worker.proofs.laws.accesses_go_on.Goals as goal
 
 pub returns-clause-held_up : goal.returns-clause-held_up

@@ -1,4 +1,4 @@
-use Rattle.gc_worker.proofs.Counting.{counts_are_apart, counted_fit}
+use Rattle.gc_worker.proofs.Workers.ApartFromCount.{counts_are_apart, counted_fit}
 use Rattle.gc_worker.proofs.laws.counts_are_apart.Goals as goal
 
 pub returns-clause-same : goal.returns-clause-same

@@ -1,4 +1,4 @@
-use Rattle.gc_worker.proofs.Past.{past_claims_are_lost, past_marks_are_lost, pages_are_won_now}
+use Rattle.gc_worker.proofs.Epochs.PastEpochs.{past_claims_are_lost, past_marks_are_lost, pages_are_won_now}
 use Rattle.gc_worker.proofs.laws.exchanges_of_past_epochs_are_lost.Goals as goal
 
 pub returns-clause-pages : goal.returns-clause-pages

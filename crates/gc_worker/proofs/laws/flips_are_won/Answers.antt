@@ -1,4 +1,4 @@
-use Rattle.gc_worker.proofs.Won.{flips_are_won}
+use Rattle.gc_worker.proofs.Epochs.WonFlips.{flips_are_won}
 use Rattle.gc_worker.proofs.laws.flips_are_won.Goals as goal
 
 pub returns : goal.returns

@@ -1,4 +1,4 @@
-use Rattle.gc_worker.proofs.FullTold.{full_is_told}
+use Rattle.gc_worker.proofs.Epochs.FullTold.{full_is_told}
 use Rattle.gc_worker.proofs.laws.full_is_told.Goals as goal
 
 pub returns : goal.returns

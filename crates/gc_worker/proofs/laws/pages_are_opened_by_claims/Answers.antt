@@ -1,5 +1,5 @@
-use Rattle.gc_worker.proofs.Between.ByClaims.{pages_are_opened_by_claims, low_rises_at_flips}
-use Rattle.gc_worker.proofs.Between.Claims.{copied_pages_are_below_low}
+use Rattle.gc_worker.proofs.Between.Pages.ByClaims.{pages_are_opened_by_claims, low_rises_at_flips}
+use Rattle.gc_worker.proofs.Between.Pages.Claims.{copied_pages_are_below_low}
 use Rattle.gc_worker.proofs.laws.pages_are_opened_by_claims.Goals as goal
 
 pub returns-clause-opened : goal.returns-clause-opened

@@ -1,4 +1,4 @@
-use Rattle.gc_worker.proofs.LeadingBack.{registers_lead_back}
+use Rattle.gc_worker.proofs.Plain.LeadingBack.{registers_lead_back}
 use Rattle.gc_worker.proofs.laws.registers_lead_back.Goals as goal
 
 pub returns : goal.returns

@@ -1,4 +1,4 @@
-use Rattle.gc_worker.proofs.Whole.{steps_keep}
+use Rattle.gc_worker.proofs.StepKeeps.{steps_keep}
 use Rattle.gc_worker.proofs.laws.steps_keep.Goals as goal
 
 pub returns : goal.returns

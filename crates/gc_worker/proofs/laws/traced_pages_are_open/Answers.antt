@@ -1,4 +1,4 @@
-use Rattle.gc_worker.proofs.Between.Claims.{traced_pages_are_open, flips_are_of_traced}
+use Rattle.gc_worker.proofs.Between.Pages.Claims.{traced_pages_are_open, flips_are_of_traced}
 use Rattle.gc_worker.proofs.laws.traced_pages_are_open.Goals as goal
 
 pub returns-clause-opened : goal.returns-clause-opened

@@ -1,4 +1,4 @@
-use Rattle.gc_worker.proofs.Represented.{represented_workers}
+use Rattle.gc_worker.proofs.Plain.Represented.{represented_workers}
 use Rattle.gc_worker.proofs.laws.what_is_represented_stands.Goals as goal
 
 pub returns : goal.returns

@@ -1,4 +1,4 @@
-use Rattle.gc_worker.proofs.Between.Copied.{copied_was_live, full_tells_live}
+use Rattle.gc_worker.proofs.Between.Pages.Copied.{copied_was_live, full_tells_live}
 use Rattle.gc_worker.proofs.laws.what_was_copied_was_live.Goals as goal
 
 pub returns-clause-copied : goal.returns-clause-copied

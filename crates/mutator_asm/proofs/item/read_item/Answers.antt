@@ -1,6 +1,6 @@
 use Rattle.std.proofs.Common.{sym, ap, ◌∙◌}
 use Rattle.mutator_asm.specs.Item.{is_star, item_of, times_of}
-use Rattle.mutator_asm.proofs.Firsts.{found_before, found_after, found_one, found_none}
+use Rattle.mutator_asm.proofs.Lists.Firsts.{found_before, found_after, found_one, found_none}
 use Rattle.mutator_asm.proofs.item.read_item.Goals as goal
 
 pub returns-in-Some : goal.returns-in-Some

@@ -1,6 +1,6 @@
 use Rattle.std.proofs.Common.{◌∙◌, sym}
 use Rattle.std.proofs.lemmas.Map.Text.{hash_map_updates_str}
-use Rattle.mutator_asm.proofs.Places.{kept_new, kept_first}
+use Rattle.mutator_asm.proofs.Texts.Labels.{kept_new, kept_first}
 use Rattle.mutator_asm.proofs.labels.keep.Goals as goal
 
 pub returns-in_ok-insert : goal.returns-in_ok-insert

@@ -1,5 +1,5 @@
 use Rattle.std.proofs.Common.{arith}
-use Rattle.mutator_asm.proofs.Places.{place_step, place_end, weight-le}
+use Rattle.mutator_asm.proofs.Texts.Labels.{place_step, place_end, weight-le}
 use Rattle.mutator_asm.proofs.labels.labels.Goals as goal
 
 pub loop-at-preserved : goal.loop-at-preserved

@@ -2,7 +2,7 @@ use Rattle.std.proofs.Common.{◌≡◌, ◌≤◌, List, ℕ, drop}
 use Rattle.std.specs.Option.{option_or}
 use Rattle.mutator_asm.specs.Labels.{get_place}
 use Rattle.mutator_asm.specs.Read.{lines_view}
-use Rattle.mutator_asm.proofs.Places.{place_from}
+use Rattle.mutator_asm.proofs.Texts.Labels.{place_from}
 use Rattle.mutator_asm.proofs.labels.labels.Given as goal
 
 abbrev pub invariant-loop-at : goal.invariant-loop-at

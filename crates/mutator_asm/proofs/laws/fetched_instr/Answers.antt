@@ -1,4 +1,4 @@
-use Rattle.mutator_asm.proofs.Fetching.{fetches_instrs, fetches_early}
+use Rattle.mutator_asm.proofs.Programs.Fetched.{fetches_instrs, fetches_early}
 use Rattle.mutator_asm.proofs.laws.fetched_instr.Goals as goal
 
 pub returns-clause-sound : goal.returns-clause-sound

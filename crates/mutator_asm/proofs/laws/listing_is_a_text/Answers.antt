@@ -1,5 +1,5 @@
-use Rattle.mutator_asm.proofs.Forming.{text_well_formed}
-use Rattle.mutator_asm.proofs.Listings.{listing_is_text, listing_has_no_fault, listing_reads_back}
+use Rattle.mutator_asm.proofs.Programs.WellFormed.{text_well_formed}
+use Rattle.mutator_asm.proofs.Listings.TextOfProgram.{listing_is_text, listing_has_no_fault, listing_reads_back}
 use Rattle.mutator_asm.proofs.laws.listing_is_a_text.Goals as goal
 
 pub returns-clause-well_formed : goal.returns-clause-well_formed

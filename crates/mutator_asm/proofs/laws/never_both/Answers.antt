@@ -1,5 +1,5 @@
 use Rattle.mutator_asm.specs.Line.{lines_of}
-use Rattle.mutator_asm.proofs.Readings.{no_fault_in}
+use Rattle.mutator_asm.proofs.Texts.OneReading.{no_fault_in}
 use Rattle.mutator_asm.proofs.laws.never_both.Goals as goal
 
 pub returns : goal.returns

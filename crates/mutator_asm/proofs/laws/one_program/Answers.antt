@@ -1,4 +1,4 @@
-use Rattle.mutator_asm.proofs.Listings.{one_text}
+use Rattle.mutator_asm.proofs.Listings.TextOfProgram.{one_text}
 use Rattle.mutator_asm.proofs.laws.one_program.Goals as goal
 
 pub returns : goal.returns

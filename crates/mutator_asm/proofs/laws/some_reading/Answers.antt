@@ -1,4 +1,4 @@
-use Rattle.mutator_asm.proofs.Readings.{some_reading_of}
+use Rattle.mutator_asm.proofs.Texts.OneReading.{some_reading_of}
 use Rattle.mutator_asm.proofs.laws.some_reading.Goals as goal
 
 pub returns : goal.returns

@@ -1,6 +1,6 @@
 use Rattle.std.proofs.Common.{arith, rules}
 use Rattle.mutator_asm.specs.Instr.{instr_of}
-use Rattle.mutator_asm.proofs.Names.{two_letters, three_letters, four_letters, made_of}
+use Rattle.mutator_asm.proofs.Tokens.Names.{two_letters, three_letters, four_letters, made_of}
 use Rattle.mutator_asm.proofs.line.instr.Goals as goal
 
 pub returns-in-li : goal.returns-in-li

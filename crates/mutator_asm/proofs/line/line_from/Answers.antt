@@ -1,5 +1,5 @@
 use Rattle.std.proofs.Common.{rules}
-use Rattle.mutator_asm.proofs.OperandLists.{first}
+use Rattle.mutator_asm.proofs.Tokens.Operands.{first}
 use Rattle.mutator_asm.proofs.line.line_from.Goals as goal
 
 pub returns-in-len1-up : goal.returns-in-len1-up

@@ -1,6 +1,6 @@
 use Rattle.std.proofs.Common.{arith}
 use Rattle.mutator_asm.specs.Line.{named_of}
-use Rattle.mutator_asm.proofs.Names.{two_letters, three_letters}
+use Rattle.mutator_asm.proofs.Tokens.Names.{two_letters, three_letters}
 use Rattle.mutator_asm.proofs.line.named.Goals as goal
 
 pub returns-in-jmp : goal.returns-in-jmp

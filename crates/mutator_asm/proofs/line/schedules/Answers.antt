@@ -4,7 +4,7 @@ use Rattle.std.proofs.Math.Bool.{and-false}
 use Rattle.std.specs.Option.{is_some}
 use Rattle.mutator_asm.specs.Item.{item_of}
 use Rattle.mutator_asm.specs.Line.{is_item_token, schedules_of}
-use Rattle.mutator_asm.proofs.Lists.{kept_more, all_more, not_all}
+use Rattle.mutator_asm.proofs.Lists.Views.{kept_more, all_more, not_all}
 use Rattle.mutator_asm.proofs.line.schedules.Goals as goal
 
 pub returns-in-None : goal.returns-in-None

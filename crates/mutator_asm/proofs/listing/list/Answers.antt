@@ -1,8 +1,8 @@
 use Rattle.std.proofs.Common.{◌∙◌, ap, sym, subst, ℕ, List, ◌<◌, ◌^◌, length}
 use Rattle.std.specs.Global.{Vec}
 use Rattle.mutator_asm.specs.Text.{IsText}
-use Rattle.mutator_asm.proofs.Listings.{listing_short}
-use Rattle.mutator_asm.proofs.Writing.{listing_text, section_few, section_closed, section_more}
+use Rattle.mutator_asm.proofs.Listings.TextOfProgram.{listing_short}
+use Rattle.mutator_asm.proofs.Listings.Written.{listing_text, section_few, section_closed, section_more}
 use Rattle.mutator_asm.proofs.listing.list.Goals as goal
 
 pub push_section-requires-clause-few : goal.push_section-requires-clause-few

@@ -1,5 +1,5 @@
 use Rattle.std.proofs.Common.{sym, ◌∙◌, lit<}
-use Rattle.mutator_asm.proofs.Writing.{schedule_text}
+use Rattle.mutator_asm.proofs.Listings.Written.{schedule_text}
 use Rattle.mutator_asm.proofs.listing.push_schedule.Goals as goal
 
 pub returns : goal.returns

@@ -1,6 +1,6 @@
 use Rattle.std.proofs.Common.{arith}
 use Rattle.std.proofs.lemmas.Result.{on_ok_weaker}
-use Rattle.mutator_asm.proofs.Writing.{known_target, line_more, section_text}
+use Rattle.mutator_asm.proofs.Listings.Written.{known_target, line_more, section_text}
 use Rattle.mutator_asm.proofs.listing.push_section.Goals as goal
 
 pub loop-k-preserved : goal.loop-k-preserved

@@ -1,5 +1,5 @@
 use Rattle.std.proofs.Common.{arith}
-use Rattle.mutator_asm.proofs.OperandLists.{two}
+use Rattle.mutator_asm.proofs.Tokens.Operands.{two}
 use Rattle.mutator_asm.proofs.operands.two_registers.Goals as goal
 
 pub returns-in_err-d-in-len2 : goal.returns-in_err-d-in-len2

@@ -1,5 +1,5 @@
 use Rattle.std.proofs.Common.{arith}
-use Rattle.mutator_asm.proofs.OperandLists.{three}
+use Rattle.mutator_asm.proofs.Tokens.Operands.{three}
 use Rattle.mutator_asm.proofs.operands.two_registers_operand.Goals as goal
 
 pub returns-in_err-d-in-len3 : goal.returns-in_err-d-in-len3

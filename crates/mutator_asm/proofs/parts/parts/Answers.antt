@@ -2,7 +2,7 @@ use Rattle.std.proofs.Common.{ap, ◌∙◌, List, ◌∷◌, [], arith}
 use Rattle.std.proofs.lemmas.Iterator.Adapters.{YieldsList-from_vec}
 use Rattle.std.proofs.lemmas.Iterator.Consumers.{YieldsList-turn, YieldsList-end}
 use Rattle.mutator_asm.specs.Line.{Line}
-use Rattle.mutator_asm.proofs.Sections.{section_short, sections_all}
+use Rattle.mutator_asm.proofs.Programs.Sections.{section_short, sections_all}
 use Rattle.mutator_asm.proofs.parts.parts.Goals as goal
 
 pub add-requires-in-loop-lines : goal.add-requires-in-loop-lines

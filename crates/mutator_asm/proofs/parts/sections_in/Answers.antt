@@ -4,7 +4,7 @@ use Rattle.std.proofs.lemmas.Iterator.Adapters.{YieldsList-from_skip}
 use Rattle.std.proofs.lemmas.Iterator.Splits.{YieldsList-from_slice_split}
 use Rattle.mutator_asm.specs.Read.{line_view}
 use Rattle.mutator_asm.specs.Text.{begins_section}
-use Rattle.mutator_asm.proofs.Sections.{sections_view}
+use Rattle.mutator_asm.proofs.Programs.Sections.{sections_view}
 use Rattle.mutator_asm.proofs.parts.sections_in.Goals as goal
 
 pub returns : goal.returns

@@ -1,7 +1,7 @@
 use Rattle.std.proofs.Common.{◌≡◌, refl}
 use Rattle.mutator_asm.specs.Line.{lines_of}
 use Rattle.mutator_asm.specs.Read.{lines_view}
-use Rattle.mutator_asm.proofs.Forming.{lines_few, text_is, text_well_formed}
+use Rattle.mutator_asm.proofs.Programs.WellFormed.{lines_few, text_is, text_well_formed}
 use Rattle.mutator_asm.proofs.text.assemble.Goals as goal
 
 pub parts-requires : goal.parts-requires

@@ -3,10 +3,10 @@ use Rattle.std.proofs.lemmas.List.{length-map}
 use Rattle.mutator_asm.specs.declared.before.Before.{Before}
 use Rattle.mutator_asm.specs.Labels.{and_line}
 use Rattle.mutator_asm.specs.Read.{line_view, lines_view}
-use Rattle.mutator_asm.proofs.Clean.{first_error, clean_more}
-use Rattle.mutator_asm.proofs.Counts.{few_read, before_more, parts_enough, read_at, error_here, all_read}
-use Rattle.mutator_asm.proofs.Limits.{within_step, within_up_to}
-use Rattle.mutator_asm.proofs.Options.{none_if_not}
+use Rattle.mutator_asm.proofs.Texts.Clean.{first_error, clean_more}
+use Rattle.mutator_asm.proofs.Texts.Before.{few_read, before_more, parts_enough, read_at, error_here, all_read}
+use Rattle.mutator_asm.proofs.Texts.Limits.{within_step, within_up_to}
+use Rattle.mutator_asm.proofs.Tokens.Options.{none_if_not}
 use Rattle.mutator_asm.proofs.text.check.Goals as goal
 
 pub offset_bounds-parts-before : goal.offset_bounds-parts-before

@@ -1,7 +1,7 @@
 use Rattle.std.proofs.Common.{ap, drop, map, ◌∙◌, List}
 use Rattle.mutator_asm.specs.Line.{Line}
 use Rattle.mutator_asm.specs.Text.{section_of, code_of}
-use Rattle.mutator_asm.proofs.Forming.{text_is}
+use Rattle.mutator_asm.proofs.Programs.WellFormed.{text_is}
 use Rattle.mutator_asm.proofs.text.program.Goals as goal
 
 pub new-requires : goal.new-requires

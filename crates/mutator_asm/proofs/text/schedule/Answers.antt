@@ -3,7 +3,7 @@ use Rattle.std.proofs.Common.{arith, ap, ◌∙◌}
 use Rattle.mutator_asm.specs.declared.line.Line.{Line as Read}
 use Rattle.mutator_asm.specs.Read.{line_view}
 use Rattle.mutator_asm.specs.Text.{items_on}
-use Rattle.mutator_asm.proofs.Lists.{gathered_more}
+use Rattle.mutator_asm.proofs.Lists.Views.{gathered_more}
 use Rattle.mutator_asm.proofs.text.schedule.Goals as goal
 
 pub loop-line-preserved : goal.loop-line-preserved

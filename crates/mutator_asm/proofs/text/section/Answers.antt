@@ -4,7 +4,7 @@ use Rattle.std.proofs.lemmas.Iterator.Consumers.{YieldsList-from_filter_map, Yie
 use Rattle.mutator_asm.specs.Part.{part_view}
 use Rattle.mutator_asm.specs.Read.{line_view}
 use Rattle.mutator_asm.specs.Text.{instr_by, target_of, section_of}
-use Rattle.mutator_asm.proofs.Sections.{filter_map-map}
+use Rattle.mutator_asm.proofs.Programs.Sections.{filter_map-map}
 use Rattle.mutator_asm.proofs.text.section.Goals as goal
 
 pub returns : goal.returns

@@ -1,6 +1,6 @@
 use Rattle.std.proofs.Common.{sym}
 use Rattle.mutator_asm.specs.Token.{is_semicolon}
-use Rattle.mutator_asm.proofs.Firsts.{found_before, found_whole}
+use Rattle.mutator_asm.proofs.Lists.Firsts.{found_before, found_whole}
 use Rattle.mutator_asm.proofs.token.before_comment.Goals as goal
 
 pub returns-in-Some : goal.returns-in-Some

@@ -1,5 +1,5 @@
 use Rattle.std.proofs.Common.{◌+◌, arith, sym}
-use Rattle.mutator_asm.proofs.Numerals.{value_more, number_or-err}
+use Rattle.mutator_asm.proofs.Tokens.Numerals.{value_more, number_or-err}
 use Rattle.mutator_asm.proofs.token.value.Goals as goal
 
 pub returns-then-longer-ge-NUMBERS_END : goal.returns-then-longer-ge-NUMBERS_END

@@ -1,4 +1,4 @@
-use Rattle.plain_heap.proofs.Ordering.{order-same, run_alone-ends}
+use Rattle.plain_heap.proofs.Alone.Orders.{order-same, run_alone-ends}
 use Rattle.plain_heap.proofs.laws.alone_mutators_are_independent.Goals as goal
 
 pub returns-clause-same : goal.returns-clause-same

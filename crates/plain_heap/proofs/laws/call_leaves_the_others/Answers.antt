@@ -1,4 +1,4 @@
-use Rattle.plain_heap.proofs.Calls.{call-others, call-count}
+use Rattle.plain_heap.proofs.Calls.Rest.{call-others, call-count}
 use Rattle.plain_heap.proofs.laws.call_leaves_the_others.Goals as goal
 
 pub returns-clause-others : goal.returns-clause-others

@@ -1,4 +1,4 @@
-use Rattle.plain_heap.proofs.Calls.{call-makes, new_record-made, call-none, asks-new_record}
+use Rattle.plain_heap.proofs.Calls.Rest.{call-makes, new_record-made, call-none, asks-new_record}
 use Rattle.plain_heap.proofs.laws.call_makes_the_new_record.Goals as goal
 
 pub returns-clause-made : goal.returns-clause-made

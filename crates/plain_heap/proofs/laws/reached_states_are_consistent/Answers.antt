@@ -1,4 +1,4 @@
-use Rattle.plain_heap.proofs.Reached.{opening-consistent, marks-keep, plain-consistent}
+use Rattle.plain_heap.proofs.States.Reached.{opening-consistent, marks-keep, plain-consistent}
 use Rattle.plain_heap.proofs.laws.reached_states_are_consistent.Goals as goal
 
 pub returns-clause-opening : goal.returns-clause-opening

@@ -1,4 +1,4 @@
-use Rattle.plain_heap.proofs.Records.{shapes_stay}
+use Rattle.plain_heap.proofs.Calls.Records.{shapes_stay}
 use Rattle.plain_heap.proofs.laws.shapes_stay.Goals as goal
 
 pub returns : goal.returns

@@ -1,4 +1,4 @@
-use Rattle.plain_heap.proofs.Stories.{story-now, story-no_flip, story-flip}
+use Rattle.plain_heap.proofs.Orders.Stories.{story-now, story-no_flip, story-flip}
 use Rattle.plain_heap.proofs.laws.stories_keep_the_last_flip.Goals as goal
 
 pub returns-clause-now : goal.returns-clause-now

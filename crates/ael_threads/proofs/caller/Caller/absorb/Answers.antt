@@ -3,8 +3,8 @@ use mathlib.Core.Option.{none}
 use Rattle.atomic_table.specs.Table.{step}
 use Rattle.crossbeam_utils.specs.Padded.{padded_value}
 use Rattle.ael_threads.specs.Seats.{Me, Seated}
-use Rattle.ael_threads.proofs.Joining.{joins, learns}
-use Rattle.ael_threads.proofs.Readying.{absorbed, absorbed_heads, still_live}
+use Rattle.ael_threads.proofs.WorkerSeats.Joined.{joins, learns}
+use Rattle.ael_threads.proofs.WholeCalls.BetweenSteps.{absorbed, absorbed_heads, still_live}
 use Rattle.ael_threads.proofs.caller.Caller.absorb.Goals as goal
 
 pub join_seat-requires : goal.join_seat-requires

@@ -1,8 +1,8 @@
 use Rattle.std.proofs.Common.{◌≡◌, ◌∙◌, sym, subst}
 use Rattle.gc_worker.specs.Held.{Held}
 use Rattle.ael_threads.specs.Seats.{Acts, Heads, Seated, ShowsSeen}
-use Rattle.ael_threads.proofs.Acting.{acts}
-use Rattle.ael_threads.proofs.Readying.{moved_heads, still_live}
+use Rattle.ael_threads.proofs.WholeCalls.Acts.{acts}
+use Rattle.ael_threads.proofs.WholeCalls.BetweenSteps.{moved_heads, still_live}
 use Rattle.ael_threads.proofs.caller.Caller.act.Goals as goal
 
 pub step-reply-requires-clause-shows : goal.step-reply-requires-clause-shows

@@ -5,9 +5,9 @@ use Rattle.gc_worker.specs.Between.{IsIdle, with_task}
 use Rattle.gc_worker.specs.Held.{Held}
 use Rattle.gc_worker.specs.Fits.{MayBegin}
 use Rattle.ael_threads.specs.Seats.{Seated, first_number}
-use Rattle.ael_threads.proofs.Acting.{heads_fit}
-use Rattle.ael_threads.proofs.Began.{given_none}
-use Rattle.ael_threads.proofs.Readying.{begins, begun_shows}
+use Rattle.ael_threads.proofs.WholeCalls.Acts.{heads_fit}
+use Rattle.ael_threads.proofs.WholeCalls.Began.{given_none}
+use Rattle.ael_threads.proofs.WholeCalls.BetweenSteps.{begins, begun_shows}
 use Rattle.ael_threads.proofs.caller.Caller.begin.Goals as goal
 
 pub invariant_of-self : goal.invariant_of-self

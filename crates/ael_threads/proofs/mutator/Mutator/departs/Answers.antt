@@ -1,5 +1,5 @@
 use Rattle.std.proofs.Common.{◌∙◌}
-use Rattle.ael_threads.proofs.Calling.{quiet_more}
+use Rattle.ael_threads.proofs.WholeCalls.FromActs.{quiet_more}
 use Rattle.ael_threads.proofs.mutator.Mutator.departs.Goals as goal
 
 pub loop-preserved : goal.loop-preserved

@@ -2,8 +2,8 @@ use Rattle.std.proofs.Common.{◌≡◌, ◌∙◌, ◌<◌, Some, ap, subst, sy
 use Rattle.gc_worker.specs.Held.{Held}
 use Rattle.ael_threads.specs.Seats.{Seated}
 use Rattle.ael_threads.specs.declared.mutator.Mutator.TheInside.{Inside}
-use Rattle.ael_threads.proofs.Acting.{heads_of, is_there, no_task}
-use Rattle.ael_threads.proofs.Readying.{shows_of}
+use Rattle.ael_threads.proofs.WholeCalls.Acts.{heads_of, is_there, no_task}
+use Rattle.ael_threads.proofs.WholeCalls.BetweenSteps.{shows_of}
 use Rattle.ael_threads.proofs.mutator.Mutator.ended.Goals as goal
 
 pub returns-clause-shows : goal.returns-clause-shows

@@ -1,5 +1,5 @@
 use Rattle.gc_worker.specs.declared.task.Task.TheVariants.{Calls}
-use Rattle.ael_threads.proofs.Calling.{under_way}
+use Rattle.ael_threads.proofs.WholeCalls.FromActs.{under_way}
 use Rattle.ael_threads.proofs.mutator.Mutator.exec.Goals as goal
 
 pub returns-clause-called : goal.returns-clause-called

@@ -5,8 +5,8 @@ use Rattle.gc_worker.specs.declared.task.Task.TheVariants.{Calls, Stops}
 use Rattle.gc_worker.specs.declared.did.Did.{Did}
 use Rattle.ael_threads.specs.Calls.{Called}
 use Rattle.ael_threads.specs.Running.{Work}
-use Rattle.ael_threads.proofs.Along.{executing_ends, executing_more, is_done, next_call, next_jumps, out_of_turns, read_off}
-use Rattle.ael_threads.proofs.Programs.{call_may_begin}
+use Rattle.ael_threads.proofs.ProgramRuns.Executions.{executing_ends, executing_more, is_done, next_call, next_jumps, out_of_turns, read_off}
+use Rattle.ael_threads.proofs.ProgramRuns.Programs.{call_may_begin}
 use Rattle.ael_threads.proofs.mutator.Mutator.executes.Goals as goal
 
 pub returns-in_default : goal.returns-in_default

@@ -1,7 +1,7 @@
 use Rattle.std.proofs.Common.{◌∙◌, sym, ap, subst}
 use Rattle.ael_threads.specs.Calls.{Departs}
 use Rattle.ael_threads.specs.Seats.{Seated}
-use Rattle.ael_threads.proofs.Calling.{departs_halted, departs_more, departs_with, halt_may_begin, no_end_by, quiet_first}
+use Rattle.ael_threads.proofs.WholeCalls.FromActs.{departs_halted, departs_more, departs_with, halt_may_begin, no_end_by, quiet_first}
 use Rattle.ael_threads.proofs.mutator.Mutator.leave.Goals as goal
 use Rattle.ael_threads.proofs.mutator.Mutator.leave.Goals.{then-is_none, else-is_none}
 

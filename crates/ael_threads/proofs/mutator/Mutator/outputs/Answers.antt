@@ -1,8 +1,8 @@
 use Rattle.std.proofs.Common.{◌<◌, ap, subst}
 use Rattle.ael_threads.specs.Seats.{Seated}
 use Rattle.ael_threads.specs.declared.mutator.Mutator.TheInside.{Inside}
-use Rattle.ael_threads.proofs.Acting.{heads_of, is_there}
-use Rattle.ael_threads.proofs.Readying.{shows_of}
+use Rattle.ael_threads.proofs.WholeCalls.Acts.{heads_of, is_there}
+use Rattle.ael_threads.proofs.WholeCalls.BetweenSteps.{shows_of}
 use Rattle.ael_threads.proofs.mutator.Mutator.outputs.Goals as goal
 
 pub returns-clause-shows : goal.returns-clause-shows

@@ -1,4 +1,4 @@
-use Rattle.ael_threads.proofs.Along.{left}
+use Rattle.ael_threads.proofs.ProgramRuns.Executions.{left}
 use Rattle.ael_threads.proofs.mutator.Mutator.runs.Goals as goal
 
 pub returns : goal.returns

@@ -2,8 +2,8 @@ use Rattle.std.proofs.Common.{subst}
 use Rattle.gc_worker.specs.declared.task.Task.TheVariants.{Stops}
 use Rattle.gc_worker.specs.declared.did.Did.{Did}
 use Rattle.ael_threads.specs.Calls.{Called}
-use Rattle.ael_threads.proofs.Along.{stops}
-use Rattle.ael_threads.proofs.Calling.{under_way}
+use Rattle.ael_threads.proofs.ProgramRuns.Executions.{stops}
+use Rattle.ael_threads.proofs.WholeCalls.FromActs.{under_way}
 use Rattle.ael_threads.proofs.mutator.Mutator.stop.Goals as goal
 
 pub returns-clause-called : goal.returns-clause-called

@@ -1,5 +1,5 @@
 use Rattle.std.proofs.Common.{◌∙◌}
-use Rattle.ael_threads.proofs.Calling.{ended, executed, way_more}
+use Rattle.ael_threads.proofs.WholeCalls.FromActs.{ended, executed, way_more}
 use Rattle.ael_threads.proofs.mutator.Mutator.tries.Goals as goal
 
 pub returns-in-Effect-clause-tries : goal.returns-in-Effect-clause-tries

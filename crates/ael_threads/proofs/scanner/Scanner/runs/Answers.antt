@@ -1,5 +1,5 @@
 use Rattle.std.proofs.Common.{◌∙◌}
-use Rattle.ael_threads.proofs.Along.{scanning_more}
+use Rattle.ael_threads.proofs.ProgramRuns.Executions.{scanning_more}
 use Rattle.ael_threads.proofs.scanner.Scanner.runs.Goals as goal
 
 pub loop-preserved : goal.loop-preserved

@@ -1,7 +1,7 @@
 use Rattle.std.proofs.Common.{◌++◌, List, map, sym, subst}
 use Rattle.ael_threads.specs.Readers.{seated}
 use Rattle.ael_threads.specs.Seats.{Gathers, Seated}
-use Rattle.ael_threads.proofs.Gathering.{closes}
+use Rattle.ael_threads.proofs.WorkerSeats.AllInOne.{closes}
 use Rattle.ael_threads.proofs.shared.Shared.close.Goals as goal
 
 pub returns-clause-closes : goal.returns-clause-closes

@@ -1,6 +1,6 @@
 use Rattle.std.proofs.Common.{◌+◌, ◌≤◌, ℕ, sym, ◌∙◌, ap, subst, le-add_right, vec_capacity}
-use Rattle.ael_threads.proofs.Elements.{has_room}
-use Rattle.ael_threads.proofs.Seating.{has_all, has_fewer, has_scanners, held_mutator, held_scanner, is_mutator, mutators_all, mutators_more, scanners_all, scanners_more}
+use Rattle.ael_threads.proofs.Lists.Elements.{has_room}
+use Rattle.ael_threads.proofs.WorkerSeats.OneByOne.{has_all, has_fewer, has_scanners, held_mutator, held_scanner, is_mutator, mutators_all, mutators_more, scanners_all, scanners_more}
 use Rattle.ael_threads.proofs.shared.Shared.deal.Goals as goal
 
 pub loop-k-init : goal.loop-k-init

@@ -1,6 +1,6 @@
 use Rattle.std.proofs.Common.{◌≡◌, [], ◌∷◌, ◌∙◌, ap, sym, subst}
 use Rattle.ael_threads.specs.Seats.{Gathers, Seated}
-use Rattle.ael_threads.proofs.Gathering.{gathers_more, gathers_one, next_has, shifts}
+use Rattle.ael_threads.proofs.WorkerSeats.AllInOne.{gathers_more, gathers_one, next_has, shifts}
 use Rattle.ael_threads.proofs.shared.Shared.gather_mutators.Goals as goal
 
 pub loop-other-init : goal.loop-other-init

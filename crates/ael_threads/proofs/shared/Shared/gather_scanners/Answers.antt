@@ -1,7 +1,7 @@
 use Rattle.std.proofs.Common.{◌≡◌, ◌∷◌, ◌++◌, map, ◌∙◌, ap, subst}
 use Rattle.ael_threads.specs.Readers.{SeatedScanner, seated}
 use Rattle.ael_threads.specs.Seats.{Gathers}
-use Rattle.ael_threads.proofs.Gathering.{gathers_more, next_has, shifts}
+use Rattle.ael_threads.proofs.WorkerSeats.AllInOne.{gathers_more, next_has, shifts}
 use Rattle.ael_threads.proofs.shared.Shared.gather_scanners.Goals as goal
 
 pub absorb-requires-clause-mine : goal.absorb-requires-clause-mine

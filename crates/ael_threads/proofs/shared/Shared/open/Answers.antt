@@ -15,7 +15,7 @@ use Rattle.ael_threads.specs.declared.view.Plan.{Plan}
 use Rattle.ael_threads.specs.Opened.{new_scanners}
 use Rattle.ael_threads.specs.Rule.{RuleHolds, crew, first_view}
 use Rattle.ael_threads.specs.Seats.{new_callers}
-use Rattle.ael_threads.proofs.Beginning.{opens_kept}
+use Rattle.ael_threads.proofs.TableRule.Opening.{opens_kept}
 use Rattle.ael_threads.proofs.shared.Shared.open.Goals as goal
 
 -- the words are as many as the table has

@@ -5,8 +5,8 @@ use Rattle.space_map.specs.Spaces.{IsPageCount}
 use Rattle.ael_threads.specs.declared.view.View.{View}
 use Rattle.ael_threads.specs.Rule.{crew}
 use Rattle.ael_threads.specs.Seats.{IsMine, Me, new_seated}
-use Rattle.ael_threads.proofs.Dealing.{deals, gives, leaves}
-use Rattle.ael_threads.proofs.Readying.{fresh_heads, fresh_shows, still_live}
+use Rattle.ael_threads.proofs.WorkerSeats.Dealt.{deals, gives, leaves}
+use Rattle.ael_threads.proofs.WholeCalls.BetweenSteps.{fresh_heads, fresh_shows, still_live}
 use Rattle.ael_threads.proofs.shared.Shared.seated.Goals as goal
 
 pub split_seat-own-requires : goal.split_seat-own-requires

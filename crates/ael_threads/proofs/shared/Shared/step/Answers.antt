@@ -10,13 +10,13 @@ use Rattle.atom_store.specs.Step.{place_in}
 use Rattle.space_map.specs.Table.{table_length}
 use Rattle.gc_worker.specs.Held.{Held}
 use Rattle.gc_worker.specs.Wanted.{wanted}
-use Rattle.gc_worker.proofs.Places.{places_fit}
+use Rattle.gc_worker.proofs.Words.Rows.{places_fit}
 use Rattle.ael_threads.specs.declared.view.Hand.{Hand}
 use Rattle.ael_threads.specs.declared.view.Plan.{Plan}
 use Rattle.ael_threads.specs.declared.view.View.{View}
 use Rattle.ael_threads.specs.Rule.{RuleHolds}
 use Rattle.ael_threads.specs.Seats.{Heads, IsMine, Me, Moves, Plays, ShowsSeen, first_number, reply_to}
-use Rattle.ael_threads.proofs.Allowing.{allows, word_after}
+use Rattle.ael_threads.proofs.TableRule.AllowedSteps.{allows, word_after}
 use Rattle.ael_threads.proofs.shared.Shared.step.Goals as goal
 
 -- the place of the step is in the table

@@ -5,7 +5,7 @@ use Rattle.std.specs.Option.{is_some}
 use Rattle.gc_worker.specs.Held.{Held}
 use Rattle.gc_core.specs.Inside.{core_in}
 use Rattle.gc_core.specs.Run.{all_ended}
-use Rattle.gc_core.proofs.CoreReads.{ends_seen}
+use Rattle.gc_core.proofs.Told.Readers.{ends_seen}
 use Rattle.gc_core.proofs.machine.Core.all_ended.Goals as goal
 
 abbrev ended : Held → Bool

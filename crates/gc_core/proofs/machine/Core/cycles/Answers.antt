@@ -1,5 +1,5 @@
 use Rattle.std.proofs.Common.{ap, ◌∙◌}
-use Rattle.gc_worker.proofs.Said.{epoch_read}
+use Rattle.gc_worker.proofs.Words.Said.{epoch_read}
 use Rattle.gc_core.specs.Inside.{core_in}
 use Rattle.gc_core.specs.Readers.{cycles_of}
 use Rattle.gc_core.proofs.machine.Core.cycles.Goals as goal

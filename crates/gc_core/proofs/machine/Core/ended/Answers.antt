@@ -4,7 +4,7 @@ use Rattle.plain_heap.specs.Print.{Seen}
 use Rattle.gc_core.specs.Core.{CoreState}
 use Rattle.gc_core.specs.Inside.{core_in}
 use Rattle.gc_core.specs.Readers.{seen_of}
-use Rattle.gc_core.proofs.CoreReads.{end_there}
+use Rattle.gc_core.proofs.Told.Readers.{end_there}
 use Rattle.gc_core.proofs.machine.Core.ended.Goals as goal
 
 pub returns : goal.returns

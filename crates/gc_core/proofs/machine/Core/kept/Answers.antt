@@ -2,7 +2,7 @@ use Rattle.std.proofs.Common.{◌≡◌, ◌<◌, slice_get, Some, sym, subst}
 use Rattle.gc_core.specs.Core.{CoreState, workers_of}
 use Rattle.gc_core.specs.Inside.{core_in}
 use Rattle.gc_core.specs.Readers.{kept_in}
-use Rattle.gc_core.proofs.CoreReads.{kept_here}
+use Rattle.gc_core.proofs.Told.Readers.{kept_here}
 use Rattle.gc_core.proofs.machine.Core.kept.Goals as goal
 
 pub returns : goal.returns

@@ -1,6 +1,6 @@
 use Rattle.std.proofs.Common.{ℕ, ap, sym, ◌∙◌}
 use Rattle.space_map.specs.Table.{Area, place_of}
-use Rattle.gc_worker.proofs.Said.{live_read}
+use Rattle.gc_worker.proofs.Words.Said.{live_read}
 use Rattle.gc_core.specs.Inside.{core_in}
 use Rattle.gc_core.specs.Readers.{cycles_of, live_of}
 use Rattle.gc_core.proofs.machine.Core.live_words.Goals as goal

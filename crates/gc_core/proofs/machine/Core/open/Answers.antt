@@ -1,7 +1,7 @@
 use Rattle.std.proofs.Common.{◌≡◌, ◌+◌, length, refl, ap, ◌∙◌, arith}
 use Rattle.gc_worker.proofs.Between.Opening.{many}
-use Rattle.gc_core.proofs.Begun.{size_is}
-use Rattle.gc_core.proofs.Lawful.{lawful_opening}
+use Rattle.gc_core.proofs.Events.Opening.{size_is}
+use Rattle.gc_core.proofs.Events.Lawful.{lawful_opening}
 use Rattle.gc_core.proofs.machine.Core.open.Goals as goal
 
 all_there : (c : goal.In_ok-slots) → length c.in_ok-slots.slots.items ≡ length c.args.program.now.code + c.args.config.now.scanners

@@ -4,7 +4,7 @@ use Rattle.gc_worker.specs.Counted.{counted}
 use Rattle.gc_worker.specs.Held.{Held}
 use Rattle.gc_worker.specs.Made.{MayMake, step_made}
 use Rattle.gc_worker.specs.Stepped.{IsSound}
-use Rattle.gc_core.proofs.Counting.{may_apart, words_apart, told_apart, made_effect, made_other}
+use Rattle.gc_core.proofs.Events.Tasks.{may_apart, words_apart, told_apart, made_effect, made_other}
 use Rattle.gc_core.proofs.slot.Slot.step.Goals as goal
 
 pub step-told-requires : goal.step-told-requires

@@ -5,7 +5,7 @@ use Rattle.gc_worker.specs.Turned.{forwards_from, turned, with_copy, with_regist
 use Rattle.gc_worker.specs.contracts.state.State.{the_view}
 use Rattle.gc_worker.specs.declared.stage.Stage.{Stage}
 use Rattle.gc_worker.specs.declared.stage.Stage.TheVariants.{Forwards}
-use Rattle.gc_worker.proofs.Reading.{forwards_on, register_turned}
+use Rattle.gc_worker.proofs.Words.Read.{forwards_on, register_turned}
 use Rattle.gc_worker.proofs.state.State.forward.Goals as goal
 
 pub returns-in-Finished : goal.returns-in-Finished

@@ -1,5 +1,5 @@
 use Rattle.std.proofs.Common.{sym, ap, ◌∙◌, rules}
-use Rattle.gc_worker.proofs.Asking.{makes_it, makes_one}
+use Rattle.gc_worker.proofs.Plain.RecordsMade.{makes_it, makes_one}
 use Rattle.gc_worker.proofs.state.State.has_placed.Goals as goal
 
 pub unreachable-requires : goal.unreachable-requires

@@ -5,7 +5,7 @@ use Rattle.gc_worker.specs.Stepped.{uncounted}
 use Rattle.gc_worker.specs.Turned.{turned}
 use Rattle.gc_worker.specs.contracts.state.State.{the_view}
 use Rattle.gc_worker.specs.declared.stage.Stage.TheVariants.{Serves}
-use Rattle.gc_worker.proofs.Reading.{round_turned, served_after, served_fits, served_uncounted}
+use Rattle.gc_worker.proofs.Words.Read.{round_turned, served_after, served_fits, served_uncounted}
 use Rattle.gc_worker.proofs.state.State.serve.Goals as goal
 
 pub has_served-requires-clause-fits : goal.has_served-requires-clause-fits

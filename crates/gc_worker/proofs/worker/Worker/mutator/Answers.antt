@@ -1,5 +1,5 @@
 use Rattle.space_map.specs.Spaces.{IsPageCount}
-use Rattle.gc_worker.proofs.Sound.{mutators_are_sound}
+use Rattle.gc_worker.proofs.Workers.Sound.{mutators_are_sound}
 use Rattle.gc_worker.proofs.worker.Worker.mutator.Goals as goal
 
 pub invariant_of-result : goal.invariant_of-result

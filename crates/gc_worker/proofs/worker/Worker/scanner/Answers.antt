@@ -1,5 +1,5 @@
 use Rattle.space_map.specs.Spaces.{IsPageCount}
-use Rattle.gc_worker.proofs.Sound.{scanners_are_sound}
+use Rattle.gc_worker.proofs.Workers.Sound.{scanners_are_sound}
 use Rattle.gc_worker.proofs.worker.Worker.scanner.Goals as goal
 
 pub invariant_of-result : goal.invariant_of-result

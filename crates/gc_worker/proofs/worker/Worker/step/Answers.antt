@@ -1,7 +1,7 @@
 use Rattle.std.proofs.Common.{sym, subst}
 use Rattle.gc_worker.specs.Held.{Held}
 use Rattle.gc_worker.specs.Made.{MayMake}
-use Rattle.gc_worker.proofs.Sound.{made_are_sound}
+use Rattle.gc_worker.proofs.Workers.Sound.{made_are_sound}
 use Rattle.gc_worker.proofs.worker.Worker.step.Goals as goal
 
 pub invariant_of-self : goal.invariant_of-self

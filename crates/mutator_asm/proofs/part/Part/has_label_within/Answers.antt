@@ -1,6 +1,6 @@
 use Rattle.std.proofs.Common.{sym}
 use Rattle.mutator_asm.specs.Part.{part_view}
-use Rattle.mutator_asm.proofs.Places.{within_some, within_none}
+use Rattle.mutator_asm.proofs.Texts.Labels.{within_some, within_none}
 use Rattle.mutator_asm.proofs.part.Part.has_label_within.Goals as goal
 
 pub returns-in-Some : goal.returns-in-Some

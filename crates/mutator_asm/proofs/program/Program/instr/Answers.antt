@@ -1,4 +1,4 @@
-use Rattle.mutator_asm.proofs.Programs.{valid_at}
+use Rattle.mutator_asm.proofs.Programs.Instructions.{valid_at}
 use Rattle.mutator_asm.proofs.program.Program.instr.Goals as goal
 
 pub returns-clause-valid : goal.returns-clause-valid

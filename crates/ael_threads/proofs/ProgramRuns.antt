@@ -1,0 +1,4 @@
+pub mod Programs
+pub mod Executions
+pub mod Outputs
+pub mod StartAndEnd

@@ -1,0 +1,7 @@
+pub mod WonPages
+pub mod Views
+pub mod Epochs
+pub mod Flips
+pub mod StepKeeps
+pub mod AllowedSteps
+pub mod Opening

@@ -1,0 +1,117 @@
+-- The epochs of workers and of the gate, and the flips of a history that its epoch counts.
+use Rattle.std.proofs.Common.{◌≡◌, ℕ, ◌<◌, ◌≤◌, true, List, [], ◌∷◌, ◌++◌, length, Some, None, refl, sym, ◌∙◌, ap, subst, arith}
+use mathlib.Core.List.{IsPrefix}
+use Rattle.plain_state.specs.State.{Plain}
+use Rattle.heap_state.specs.Configuration.{era, team}
+use Rattle.heap_state.specs.Worker.{Worker, is_running}
+use Rattle.gc_worker.specs.declared.back.Back.TheVariants.{ToAccess, ToPlace, ToScanner}
+use Rattle.gc_worker.specs.declared.entry.Entry.{Entry}
+use Rattle.gc_worker.specs.declared.entry.Entry.TheVariants.{Exchanged, Made}
+use Rattle.gc_worker.specs.declared.stage.Stage.{Stage}
+use Rattle.gc_worker.specs.declared.stage.Stage.TheVariants.{Accesses, Evacuates, Flips, Forwards, Gone, Looks, Opens, Passes, Places, Scans, Serves}
+use Rattle.gc_worker.specs.declared.task.Task.{Task}
+use Rattle.gc_worker.specs.Between.{IsSo}
+use Rattle.gc_worker.specs.Fits.{Fits, FitsTask}
+use Rattle.gc_worker.specs.Held.{Held}
+use Rattle.gc_worker.specs.History.Tally.{Tally, after_entry, tally}
+use Rattle.gc_worker.specs.Knows.{epoch_in, post_in}
+use Rattle.gc_worker.specs.Law.{Heap, WorkersStand, epoch_of, held_at, read}
+use Rattle.gc_worker.specs.Turned.{epoch_in_gate}
+use Rattle.gc_worker.proofs.Between.Standing.{what_stands_is_so}
+use Rattle.gc_worker.proofs.Stages.Gate.Words.{gate_says}
+use Rattle.gc_worker.proofs.History.Tallies.{tally_append}
+use Rattle.gc_worker.proofs.Workers.Members.{member}
+use Rattle.ael_threads.specs.declared.view.Plan.{Plan}
+use Rattle.ael_threads.specs.Began.{HasFlipped, flips_of}
+use Rattle.ael_threads.specs.Histories.{opening_tally}
+use Rattle.ael_threads.proofs.WorkerSeats.Shown.{mutator_at, runs_aside}
+
+-- ---- a worker's epoch
+
+module _ (h : Heap) (p o : Plain) (st : WorkersStand h p o) (k : ℕ) (below : k < length h.workers) where
+  abbrev x : Held
+  x = held_at h k
+
+  fits : Fits h.pages h.mutators k x
+  fits = st.fit k below
+
+  so : IsSo h p
+  so = what_stands_is_so h p o st
+
+  -- that of a mutator that runs is the gate's
+  pub runs_now : is_running (post_in x x.stage) ≡ true → epoch_of h.pages h.words ≡ x.epoch
+  runs_now runs =
+      let side = runs_aside h.pages h.mutators k x fits runs in
+      let many = so.as_many in
+      let w = mutator_at p.mutators k (omega (arith, side, many)) in
+      (so.mutators k w.0 w.1).epoch runs
+
+  timely : epoch_in x.epoch x.stage ≤ epoch_of h.pages h.words
+  timely =
+      let there = member h p o k x st below refl in
+      let past = (st.stands.invariant.workers k there.below).timely.past in
+      let own : ((team (read h)).worker k).epoch ≡ epoch_in x.epoch x.stage = ap (λ (v : Worker). v.epoch) there.as_known in
+      let gate : epoch_of h.pages h.words ≡ (era (read h)).epoch = ap (epoch_in_gate 0) (gate_says (read h) p st.stands) in
+      omega (arith, past, own, gate)
+
+  -- that of one that has a task is not past the gate's
+  pub no_later : (task : Task) → x.task ≡ Some task → x.epoch ≤ epoch_of h.pages h.words
+  no_later task is = by_stage x.stage refl fits.task
+    where
+      runs_at : (stage : Stage) → x.stage ≡ stage → is_running (post_in x stage) ≡ true → x.epoch ≤ epoch_of h.pages h.words
+      runs_at stage at runs = let same = runs_now (subst (λ (s : Stage). is_running (post_in x s) ≡ true) (sym at) runs) in omega (arith, same)
+
+      rests_at : (stage : Stage) → x.stage ≡ stage → epoch_in x.epoch stage ≡ x.epoch → x.epoch ≤ epoch_of h.pages h.words
+      rests_at stage at same =
+          let t = timely in
+          let e : epoch_in x.epoch x.stage ≡ x.epoch = ap (epoch_in x.epoch) at ∙ same in
+          omega (arith, t, e)
+
+      by_stage : (stage : Stage) → x.stage ≡ stage → FitsTask x stage → x.epoch ≤ epoch_of h.pages h.words
+      by_stage (Serves d (ToAccess a)) at f = runs_at (Serves d (ToAccess a)) at refl
+      by_stage (Serves d ToPlace) at f = runs_at (Serves d ToPlace) at refl
+      by_stage (Serves d ToScanner) at f = absurd (let none : None ≡ Some task = sym f ∙ is in cc)
+      by_stage Looks at f = rests_at Looks at refl
+      by_stage (Passes g after) at f = rests_at (Passes g after) at refl
+      by_stage (Flips g) at f = rests_at (Flips g) at refl
+      by_stage (Forwards w) at f = rests_at (Forwards w) at refl
+      by_stage (Accesses a) at f = rests_at (Accesses a) at refl
+      by_stage (Places z) at f = rests_at (Places z) at refl
+      by_stage (Scans s back) at f = rests_at (Scans s back) at refl
+      by_stage (Evacuates v s back) at f = rests_at (Evacuates v s back) at refl
+      by_stage (Opens z s back) at f = rests_at (Opens z s back) at refl
+      by_stage Gone at f = rests_at Gone at refl
+
+-- ---- flips
+
+more_flips : (t : Tally) (more : List Entry) → t.flips ≤ (tally t more).flips
+more_flips t [] = omega arith
+more_flips t (Made c ∷ es) = more_flips (after_entry t (Made c)) es
+more_flips t (Exchanged by asked ∷ es) = let more = more_flips (after_entry t (Exchanged by asked)) es in omega (arith, more)
+
+pub flips_rise : (plan : Plan) (early late : List Entry) → IsPrefix early late → flips_of plan early ≤ flips_of plan late
+flips_rise plan early late h =
+    let all : flips_of plan late ≡ (tally (tally (opening_tally plan) early) h.0).flips =
+    ap (λ (log : List Entry). flips_of plan log) (sym h.1) ∙ ap (λ (t : Tally). t.flips) (tally_append (opening_tally plan) early h.0) in
+    let more = more_flips (tally (opening_tally plan) early) h.0 in
+    omega (arith, all, more)
+
+-- where there are more flips one stands in what came since
+record IsMore (more : List Entry) : Type 0 where
+  between : List Entry
+  by : ℕ
+  asked : ℕ
+  rest : List Entry
+  is : more ≡ between ++ Exchanged by asked ∷ rest
+
+is_more : (t : Tally) (more : List Entry) → t.flips < (tally t more).flips → IsMore more
+is_more t [] h = absurd (omega (arith, h))
+is_more t (Made c ∷ es) h = let f = is_more (after_entry t (Made c)) es h in record { between = Made c ∷ f.between; by = f.by; asked = f.asked; rest = f.rest; is = ap (λ (z : List Entry). Made c ∷ z) f.is }
+is_more t (Exchanged by asked ∷ es) h = record { between = []; by = by; asked = asked; rest = es; is = refl }
+
+pub has_flipped : (plan : Plan) (early late : List Entry) → IsPrefix early late → flips_of plan early < flips_of plan late → HasFlipped early late
+has_flipped plan early late h fewer =
+    let all : flips_of plan late ≡ (tally (tally (opening_tally plan) early) h.0).flips =
+    ap (λ (log : List Entry). flips_of plan log) (sym h.1) ∙ ap (λ (t : Tally). t.flips) (tally_append (opening_tally plan) early h.0) in
+    let f = is_more (tally (opening_tally plan) early) h.0 (omega (arith, all, fewer)) in
+    record { between = f.between; by = f.by; asked = f.asked; rest = f.rest; is = sym h.1 ∙ ap (λ (z : List Entry). early ++ z) f.is }

@@ -1,0 +1,430 @@
+-- A step keeps the rule.
+use Rattle.std.proofs.Common.{◌≡◌, ◌≢◌, ℕ, ◌<◌, inl, inr, ⊎_elim, Option, Some, None, List, [], ◌∷◌, ◌++◌, length, slice_get, slice_set, set, refl, sym, ◌∙◌, ap, subst, length-set, arith, get_or-set_same}
+use mathlib.Core.Option.{some}
+use mathlib.Core.List.{IsPrefix}
+use lib.ListN.{get_elem?}
+use Rattle.atomic_table.specs.Table as table
+use Rattle.atom_store.specs.declared.reply.Reply.{Reply}
+use Rattle.atom_store.specs.declared.step.Step.{Step}
+use Rattle.atom_store.specs.Step.{words_after, reply_of}
+use Rattle.plain_state.specs.declared.end.End.{End}
+use Rattle.plain_state.specs.State.{Mutator, Plain}
+use Rattle.gc_worker.specs.declared.stage.Stage.TheVariants.{Looks}
+use Rattle.gc_worker.specs.declared.task.Task.{Task}
+use Rattle.gc_worker.specs.Answer.{ComesTo, IsAnswered, after_told}
+use Rattle.gc_worker.specs.Between.{Begins, AreAlike, KeepsToTask, IsAsPlain, IsSo, RegistersLand, Readies, ShowsRegisters, with_task}
+use Rattle.gc_worker.specs.Cycles.{IsInCall}
+use Rattle.gc_worker.specs.Counted.{CountsApart, counted, count_after}
+use Rattle.gc_worker.specs.Fits.{Fits}
+use Rattle.gc_worker.specs.Full.{FullWhereTold}
+use Rattle.gc_worker.specs.Held.{Held}
+use Rattle.gc_worker.specs.Law.{FlipsWhereTold, Heap, StepKeeps, WorkersStand, at_flip, held_at, nobody}
+use Rattle.gc_worker.specs.Stepped.{uncounted}
+use Rattle.gc_worker.specs.declared.did.Did.TheVariants.{Done, Trap}
+use Rattle.gc_worker.specs.Turned.{Told, Silent, Answers, Marks, told, turned, won}
+use Rattle.gc_worker.specs.Wanted.{wanted}
+use Rattle.gc_worker.proofs.Between.GoingOn.{workers_go_on}
+use Rattle.gc_worker.proofs.Between.Readying.{readying_stands}
+use Rattle.gc_worker.proofs.Between.Standing.{what_stands_is_so}
+use Rattle.gc_worker.proofs.Workers.ApartFromCount.{counted_fit, counts_are_apart}
+use Rattle.gc_worker.proofs.StepKeeps.{steps_keep}
+use Rattle.gc_worker.specs.declared.call.Call.{Call}
+use Rattle.ael_threads.specs.declared.view.WonClaim.{WonClaim}
+use Rattle.gc_worker.specs.declared.entry.Entry.{Entry}
+use Rattle.gc_worker.specs.declared.entry.Entry.TheVariants.{Made, Exchanged}
+use Rattle.ael_threads.specs.declared.view.Hand.{Hand}
+use Rattle.ael_threads.specs.declared.view.Plan.{Plan}
+use Rattle.ael_threads.specs.declared.view.View.{View}
+use Rattle.gc_worker.specs.History.Tally.{IsTallied}
+use Rattle.ael_threads.specs.Histories.{opening_tally, HasOwnCalls, first_plain, hand}
+use Rattle.gc_worker.specs.History.Legal.{IsLegal, after_all, worker_call, calls_of, extra, last_flip, own_after}
+use Rattle.ael_threads.specs.Rule.{FitsView, HasHand, RuleHolds, crew, heap_of, view}
+use Rattle.ael_threads.specs.Seats.{Follows, IsRunning, IsShown, Moves, Sees, ShowsSeen, StandWith, plain_after_seen, seen_after, with_claim, LiveByEnd, LiveWhereTold}
+use Rattle.ael_threads.specs.Began.{EachAfter, HasLooked, FlippedIfFull}
+use Rattle.ael_threads.proofs.WholeCalls.Began.{given_none}
+use Rattle.ael_threads.proofs.Looks.{flipped_more, looked}
+use Rattle.ael_threads.proofs.Lists.Reads.{at_inside, at_set, get_of, set_else, set_here}
+use Rattle.ael_threads.proofs.Lists.Elements.{each_map, prefix_more, prefix_self}
+use Rattle.gc_worker.proofs.History.Steps.{step_tallied}
+use Rattle.ael_threads.proofs.TableRule.Flips.{flips_by}
+use Rattle.gc_worker.proofs.History.Extensions.{Agrees, after_more, calls_more, calls_other, flip_more, legal_more, seen_keeps}
+use Rattle.ael_threads.proofs.WorkerSeats.Shown.{alike_by, ends_with, full_by, lands_by, live_by, mutator_at, no_end, runs_aside, shown_by}
+use Rattle.gc_worker.proofs.History.Tallies.{tally_flip, tally_now}
+use Rattle.gc_worker.proofs.History.Tasks.{task_tallied}
+use Rattle.ael_threads.proofs.TableRule.Views.{all_fit, my_fit}
+use Rattle.ael_threads.proofs.TableRule.WonPages.{KeepsPagesOut, won_after}
+
+abbrev pub TableState : Type 0
+TableState = table.State ℕ View
+
+-- what a step must come to
+abbrev pub Came : Plan → ℕ → View → ℕ → Held → Reply → TableState → List ℕ → Type 0
+Came plan id v m x r s later = (w : View) × RuleHolds plan (record { words = later; homes = s.homes; views = slice_set s.views id w }) × Moves v m x r w
+
+-- ---- what is seen after it
+
+seen_fits : (seen log : List Entry) (m : ℕ) (t : Told) → IsPrefix seen log → IsPrefix (seen_after seen (log ++ extra m t) t) (log ++ extra m t)
+seen_fits seen log m Silent h = prefix_more seen log [] h
+seen_fits seen log m (Answers task outcome) h = prefix_self (log ++ Made (worker_call m task outcome) ∷ [])
+seen_fits seen log m (Marks asked) h = prefix_more seen log (Exchanged m asked ∷ []) h
+
+sees : (v w : View) (log : List Entry) (m : ℕ) (t : Told) → IsPrefix v.seen log → w.seen ≡ seen_after v.seen (log ++ extra m t) t
+    → IsLegal (first_plain v.plan) (log ++ extra m t) → HasOwnCalls (log ++ extra m t) w.hands → Sees v m t w
+sees v w log m Silent pre is legal own = is
+sees v w log m (Answers task outcome) pre is legal own = record {
+  between = pre.0;
+  is = is ∙ ap (λ (z : List Entry). z ++ Made (worker_call m task outcome) ∷ []) (sym pre.1);
+  own = subst (λ (z : List Entry). HasOwnCalls z w.hands) (sym is) own;
+  legal = subst (IsLegal (first_plain v.plan)) (sym is) legal;
+}
+sees v w log m (Marks asked) pre is legal own = is
+
+-- where the seat's worker had all its calls in what was seen, it has them in what is seen now
+mine_after : (seen log : List Entry) (m : ℕ) (own : List Call) (t : Told) → calls_of m seen ≡ own → calls_of m (log ++ extra m t) ≡ own_after m own t → calls_of m (seen_after seen (log ++ extra m t) t) ≡ own_after m own t
+mine_after seen log m own Silent was is = was
+mine_after seen log m own (Answers task outcome) was is = is
+mine_after seen log m own (Marks asked) was is = was
+
+-- an answer is no flip
+live_seen : (p : Plain) (seen log : List Entry) (m : ℕ) (t : Told) → LiveWhereTold (last_flip p log) t → LiveWhereTold (last_flip p (seen_after seen (log ++ extra m t) t)) t
+live_seen p seen log m Silent h = tt
+live_seen p seen log m (Answers task Done) h = tt
+live_seen p seen log m (Answers task (Trap end)) h = subst (λ (o : Plain). LiveByEnd o end) (sym (flip_more p p log m (Answers task (Trap end)))) h
+live_seen p seen log m (Marks asked) h = tt
+
+-- whatever it has counted, it was given a task or not
+begins_counted : (count : ℕ) (was now : Held) → Begins was now → Begins (counted count was) (counted count now)
+begins_counted count was now (inl same) = inl (ap (counted count) same)
+begins_counted count was now (inr given) = inr (given.0, given.1, ap (counted count) given.2)
+
+-- ---- the step of the seat's own worker, which held was.worker after its last step, and whose code holds x now
+
+module _ (plan : Plan) (id : ℕ) (was : Hand) (x : Held) (others : List Hand) (seen heard : List Entry) (claims : List WonClaim) (q : Step) (s : TableState) (b : RuleHolds plan s)
+    (at : get_elem? s.views id ≡ some (view plan (was ∷ others) seen heard claims)) (follows : Follows plan was.number was.worker x) (is_mine : calls_of was.number seen ≡ was.own) (showed : ShowsSeen x (view plan (was ∷ others) seen heard claims))
+    (want : wanted x ≡ Some q) where
+  abbrev v : View
+  v = view plan (was ∷ others) seen heard claims
+
+  abbrev n : ℕ
+  n = plan.spaces.pages
+
+  abbrev m : ℕ
+  m = was.number
+
+  abbrev r : Reply
+  r = reply_of q s.words
+
+  abbrev later : List ℕ
+  later = words_after q s.words
+
+  abbrev t : Told
+  t = told x r
+
+  abbrev z : Held
+  z = turned x r
+
+  abbrev p : Plain
+  p = after_all (first_plain plan) b.log
+
+  abbrev o : Plain
+  o = last_flip (first_plain plan) b.log
+
+  abbrev log' : List Entry
+  log' = b.log ++ extra m t
+
+  abbrev p' : Plain
+  p' = after_all (first_plain plan) log'
+
+  abbrev fits_view : FitsView plan s.words b.workers b.log b.owner b.winner id v
+  fits_view = b.seats id v at
+
+  abbrev has : HasHand b.workers b.log b.owner id was
+  has = fits_view.hands.0
+
+  -- as it stands in the list, and then as its code has it, with its count
+  abbrev old : Held
+  old = has.state.held
+
+  abbrev count : ℕ
+  count = old.account.executed
+
+  abbrev y : Held
+  y = counted count x
+
+  inside : m < length b.workers
+  inside = at_inside b.workers m old has.state.is
+
+  abbrev workers1 : List Held
+  workers1 = set b.workers m y
+
+  inside1 : m < length workers1
+  inside1 = let l = length-set b.workers m y in let i = inside in omega (arith, l, i)
+
+  old_is : held_at (heap_of plan s.words b.workers) m ≡ counted count was.worker
+  old_is = get_of b.workers m old nobody has.state.is ∙ ap (counted count) has.state.shown
+
+  readied : WorkersStand (heap_of plan s.words workers1) p o
+  readied = readying_stands (heap_of plan s.words b.workers) p o m y b.stands inside (subst (λ (w : Held). Readies n plan.mutators m w y) (sym old_is) (follows.readies count))
+
+  apart : CountsApart count x
+  apart = counts_are_apart n plan.mutators m count x follows.fits
+
+  readied_tallied : IsTallied (heap_of plan s.words workers1) (opening_tally plan) b.log
+  readied_tallied = task_tallied (heap_of plan s.words b.workers) m y inside (subst (λ (w : Held). Begins w y) (sym old_is) (begins_counted count was.worker x follows.begins)) (opening_tally plan) b.log b.tallied
+
+  law : StepKeeps (heap_of plan s.words workers1) p o m y q
+  law = steps_keep (heap_of plan s.words workers1) p o m y q readied inside1 (get_or-set_same b.workers m y nobody inside) (apart.wants ∙ want)
+
+  tells : told y r ≡ t
+  tells = apart.tells r
+
+  abbrev count' : ℕ
+  count' = count_after count t
+
+  becomes : turned y r ≡ counted count' z
+  becomes = apart.turns r
+
+  abbrev workers2 : List Held
+  workers2 = set workers1 m (turned y r)
+
+  abbrev heap' : Heap
+  heap' = heap_of plan later workers2
+
+  answered : IsAnswered p m t
+  answered = subst (IsAnswered p m) tells law.answered
+
+  fits_z : Fits n plan.mutators m z
+  fits_z = (counted_fit n plan.mutators m count' z).0 (subst (Fits n plan.mutators m) becomes law.fits)
+
+  stands' : WorkersStand heap' p' (last_flip (first_plain plan) log')
+  stands' = subst (λ (w : Plain × Plain). WorkersStand heap' w.0 w.1)
+      (λ i. ((ap (after_told p m) tells ∙ sym (after_more (first_plain plan) b.log m t)) i, (ap (at_flip p o) tells ∙ sym (flip_more (first_plain plan) (first_plain plan) b.log m t)) i)) law.stands
+
+  tallied' : IsTallied heap' (opening_tally plan) log'
+  tallied' = subst (λ (u : Told). IsTallied heap' (opening_tally plan) (b.log ++ extra m u)) tells
+      (step_tallied (heap_of plan s.words workers1) m y q inside1 (get_or-set_same b.workers m y nobody inside) (apart.wants ∙ want) (opening_tally plan) b.log readied_tallied
+      (subst (λ (w : Plain × Plain). WorkersStand (heap_of plan s.words workers1) w.0 w.1) (λ i. (sym (tally_now (opening_tally plan) b.log) i, sym (tally_flip (opening_tally plan) b.log) i)) readied))
+
+  so' : IsSo heap' p'
+  so' = what_stands_is_so heap' p' (last_flip (first_plain plan) log') stands'
+
+  as_plain : (w : Mutator) → slice_get p'.mutators m ≡ Some w → IsAsPlain heap' p' m (counted count' z) w
+  as_plain w its = subst (λ (h : Held). IsAsPlain heap' p' m h w) (get_or-set_same workers1 m (turned y r) nobody inside1 ∙ becomes) (so'.mutators m w its)
+
+  looks : (task : Task) → t ≡ Answers task Done → z.stage ≡ Looks
+  looks task is = ((workers_go_on n plan.mutators m x r follows.fits).answers task Done is).after
+
+  -- the plain mutator of who runs
+  its_mutator : IsRunning z → (w : Mutator) × (slice_get p'.mutators m ≡ Some w)
+  its_mutator runs =
+      let many = so'.as_many in
+      let below = runs_aside n plan.mutators m z fits_z runs.1 in
+      mutator_at p'.mutators m (omega (arith, many, below))
+
+  lands : IsRunning z → RegistersLand n later z
+  lands runs = let w = its_mutator runs in lands_by heap' p' m count' z w.0 (as_plain w.0 w.1) runs
+
+  alike : IsRunning z → (w : Mutator) → slice_get p'.mutators m ≡ Some w → AreAlike z.registers w
+  alike runs w its = alike_by heap' p' m count' z w (as_plain w its) runs
+
+  -- ---- its registers, also once it has its end
+
+  -- what was shown before is shown of the whole history
+  agreed : Agrees m (plain_after_seen v) p
+  agreed = seen_keeps (first_plain plan) seen b.log m was.own fits_view.seen is_mine has.calls
+
+  showed_at : (w : Mutator) → slice_get p.mutators m ≡ Some w → IsShown (plain_after_seen v).heap m x w
+  showed_at w its = showed w (sym agreed.mutator ∙ its)
+
+  goes : KeepsToTask x r
+  goes = workers_go_on n plan.mutators m x r follows.fits
+
+  -- who had its end keeps its registers
+  stays_ended : (w : Mutator) (end : End) → slice_get p.mutators m ≡ Some w → w.end ≡ Some end → ShowsRegisters z.registers w
+  stays_ended w end its e = let s = showed_at w its in subst (λ (registers : List ℕ). ShowsRegisters registers w) (sym (goes.ended end (s.end ∙ e)).1) s.registers
+
+  shows_ended : (w : Mutator) (end : End) (u : Told) → t ≡ u → slice_get (after_told p m u).mutators m ≡ Some w → slice_get p'.mutators m ≡ Some w → w.end ≡ Some end → ShowsRegisters z.registers w
+  shows_ended w end Silent is was_its its e = stays_ended w end was_its e
+  shows_ended w end (Marks asked) is was_its its e = stays_ended w end was_its e
+  shows_ended w end (Answers task Done) is was_its its e = (as_plain w its).shows (no_end heap' p' n plan.mutators m count' z w (as_plain w its) fits_z (looks task is))
+  shows_ended w end (Answers task (Trap why)) is was_its its e =
+      let comes : ComesTo p m task (Trap why) = subst (IsAnswered p m) is answered in
+      let s = showed_at comes.mutator comes.is in
+      let same = (goes.answers task (Trap why) is).after.1 in
+      ends_with p m comes.mutator task why w z.registers comes.is was_its (subst (λ (registers : List ℕ). ShowsRegisters registers comes.mutator) (sym same) s.registers)
+
+  shows_registers : (w : Mutator) → slice_get p'.mutators m ≡ Some w → ShowsRegisters z.registers w
+  shows_registers w its = by_end w.end refl
+    where
+      by_end : (end : Option End) → w.end ≡ end → ShowsRegisters z.registers w
+      by_end None e = (as_plain w its).shows e
+      by_end (Some end) e = shows_ended w end t refl (ap (λ (s : Plain). slice_get s.mutators m) (sym (after_more (first_plain plan) b.log m t)) ∙ its) its e
+
+  -- ---- the rule after it
+
+  abbrev d : Hand
+  d = hand m (uncounted z) (own_after m was.own t)
+
+  abbrev seen' : List Entry
+  seen' = seen_after seen log' t
+
+  abbrev v' : View
+  v' = view plan (d ∷ others) seen' log' (with_claim claims (won x r))
+
+  has' : HasHand workers2 log' b.owner id d
+  has' = record {
+    owns = has.owns;
+    state = record { held = turned y r; is = set_here workers1 m (turned y r) inside1; shown = ap uncounted becomes };
+    calls = calls_more b.log m t was.own has.calls;
+  }
+
+  keeps : KeepsPagesOut n s.words later (won x r)
+  keeps = record { kept = law.kept; wins = law.wins }
+
+  same : (j : ℕ) → j ≢ m → get_elem? workers2 j ≡ get_elem? b.workers j
+  same j other = set_else workers1 m j (turned y r) other ∙ set_else b.workers m j y other
+
+  fit : FitsView plan later workers2 log' b.owner (won_after b.winner id (won x r)) id v'
+  fit = my_fit plan s.words later b.workers workers2 b.log t b.owner b.winner id m (won x r) keeps same plan was d others seen seen' heard log' claims fits_view refl refl has'
+      (seen_fits seen b.log m t fits_view.seen) (prefix_self log')
+
+  legal' : IsLegal (first_plain plan) log'
+  legal' = legal_more (first_plain plan) b.log m t b.legal answered
+
+  count1 : length workers1 ≡ crew plan
+  count1 = length-set b.workers m y ∙ b.count
+
+  count2 : length workers2 ≡ crew plan
+  count2 = length-set workers1 m (turned y r) ∙ count1
+
+  -- ---- who is in a call
+
+  stage_kept : IsInCall x.stage → HasLooked plan m y b.log
+  stage_kept call = ⊎_elim as_it_was given follows.begins
+    where
+      as_it_was : x ≡ was.worker → HasLooked plan m y b.log
+      as_it_was same =
+          let its : x ≡ uncounted old = same ∙ sym has.state.shown in
+          let l = b.begun m old has.state.is (subst IsInCall (ap (λ (w : Held). w.stage) its) call) in record {
+            task = l.task;
+            task_is = ap (λ (w : Held). w.task) its ∙ l.task_is;
+            began = l.began;
+            look = l.look;
+            begins = l.begins;
+            calls = l.calls;
+            flips = l.flips ∙ sym (ap (λ (w : Held). w.begun) its);
+          }
+
+      given : (task : Task) × (was.worker.task ≡ None) × (x ≡ with_task was.worker task) → HasLooked plan m y b.log
+      given g =
+          let fits_was = (counted_fit n plan.mutators m count was.worker).0 (subst (Fits n plan.mutators m) old_is (b.stands.fit m inside)) in
+          absurd (given_none n plan.mutators m was.worker x g.0 fits_was g.1 g.2 call)
+
+  abbrev at_y : get_elem? workers1 m ≡ some y
+  at_y = set_here b.workers m y inside
+
+  begun' : (j : ℕ) (w : Held) → get_elem? workers2 j ≡ some w → IsInCall w.stage → HasLooked plan j w log'
+  begun' j w is call = ⊎_elim
+      (λ (here : (j ≡ m) × (turned y r ≡ w)). subst (λ (v : ℕ × Held). HasLooked plan v.0 v.1 log') (λ i. (sym here.0 i, here.1 i))
+      (subst (λ (u : Told). HasLooked plan m (turned y r) (b.log ++ extra m u)) tells
+      (looked plan m y q s.words workers1 b.log at_y (apart.wants ∙ want) readied readied_tallied stage_kept law.fits law.full (subst (λ (v : Held). IsInCall v.stage) (sym here.1) call))))
+      (λ (there : (j ≢ m) × (get_elem? workers1 j ≡ some w)).
+      let l = b.begun j w (sym (set_else b.workers m j y there.0) ∙ there.1) call in
+      record { task = l.task; task_is = l.task_is; began = l.began; look = l.look; begins = prefix_more l.began b.log (extra m t) l.begins; calls = l.calls ∙ sym (calls_other j b.log m t there.0); flips = l.flips })
+      (at_set workers1 m j (turned y r) w is)
+
+  flipped' : EachAfter (FlippedIfFull plan) [] log'
+  flipped' = subst (λ (u : Told). EachAfter (FlippedIfFull plan) [] (b.log ++ extra m u)) tells
+      (flipped_more plan m y q s.words workers1 b.log at_y (apart.wants ∙ want) readied readied_tallied stage_kept law.fits law.full b.flipped)
+
+  kept' : RuleHolds plan (record { words = later; homes = s.homes; views = slice_set s.views id v' })
+  kept' = record {
+    log = log';
+    workers = workers2;
+    count = count2;
+    owner = b.owner;
+    winner = won_after b.winner id (won x r);
+    legal = legal';
+    stands = stands';
+    tallied = tallied';
+    begun = begun';
+    flipped = flipped';
+    seats = all_fit plan s.words later b.workers workers2 b.log t b.owner b.winner id m (won x r) keeps same has.owns s.views v' b.seats fit;
+  }
+
+  -- ---- what it tells
+
+  mine' : calls_of m seen' ≡ own_after m was.own t
+  mine' = mine_after seen b.log m was.own t is_mine has'.calls
+
+  agrees : Agrees m (plain_after_seen v') p'
+  agrees = seen_keeps (first_plain plan) seen' log' m (own_after m was.own t) fit.seen mine' has'.calls
+
+  shows' : ShowsSeen (uncounted z) v'
+  shows' w its = let h = shown_by heap' p' m count' z w (as_plain w (agrees.mutator ∙ its)) (shows_registers w (agrees.mutator ∙ its)) in record {
+    counter = h.counter;
+    printed = h.printed;
+    end = h.end;
+    serial = h.serial ∙ agrees.serial;
+    registers = h.registers;
+  }
+
+  -- the words that it finds, and those that it leaves
+  abbrev found : StandWith plan m x seen s.words
+  found = record {
+    log = b.log;
+    legal = b.legal;
+    begins = fits_view.seen;
+    workers = workers1;
+    count = count1;
+    here = record { held = y; is = set_here b.workers m y inside; shown = refl };
+    stands = readied;
+    tallied = readied_tallied;
+  }
+
+  abbrev stands_after : StandWith plan m z seen' later
+  stands_after = record {
+    log = log';
+    legal = legal';
+    begins = fit.seen;
+    workers = workers2;
+    count = count2;
+    here = has'.state;
+    stands = stands';
+    tallied = tallied';
+  }
+
+  pub moves : Came plan id v m x r s later
+  moves = (
+    v',
+    kept',
+    record {
+      takes = law.takes;
+      fits = fits_z;
+      hands = refl;
+      plan = refl;
+      claims = refl;
+      seen = sees v v' b.log m t fits_view.seen refl legal' (each_map (HasHand workers2 log' b.owner id) (λ (h : Hand). calls_of h.number log' ≡ h.own) (λ h k. k.calls) (d ∷ others) fit.hands);
+      mine = mine';
+      shows = shows';
+      step = q;
+      wants = want;
+      before = s.words;
+      reply = refl;
+      after = later;
+      left = refl;
+      found = found;
+      stands = stands_after;
+      grows = refl;
+      heard = fits_view.heard;
+      own = has.calls;
+      hears = refl;
+      sees = refl;
+      others = λ j other. set_else workers1 m j (turned y r) other;
+      flips = flips_by n plan.mutators m count x r follows.fits s.words later t refl (subst (FlipsWhereTold n s.words later y) tells law.flips);
+      full = full_by n s.words count x t (subst (FullWhereTold n s.words y) tells law.full);
+      live = live_seen (first_plain plan) seen b.log m t (subst (LiveWhereTold o) tells (live_by (heap_of plan s.words workers1) p o readied y (told y r) law.full));
+      lands = lands;
+      alike = λ h w its. alike h w (agrees.mutator ∙ its);
+    },
+  )

@@ -1,0 +1,6 @@
+pub mod Began
+pub mod BetweenSteps
+pub mod Acts
+pub mod Underway
+pub mod FromActs
+pub mod OneMore

@@ -1,0 +1,158 @@
+-- A caller between two steps.
+use Rattle.std.proofs.Common.{None, inl, inr, ◌≡◌, ℕ, ◌+◌, ◌<◌, ◌≤◌, Bool, true, false, nat_lt, List, [], ◌∷◌, ◌++◌, Some, refl, sym, ap, subst, ◌∙◌, slice_get, arith}
+use Rattle.std.specs.Prelude.{if◌then◌else◌}
+use mathlib.Core.List.{IsPrefix}
+use Rattle.atomic_table.specs.Seated.{TableId}
+use Rattle.atom_store.specs.declared.reply.Reply.{Reply}
+use Rattle.plain_state.specs.State.{Mutator}
+use Rattle.space_map.specs.Spaces.{IsPageCount}
+use Rattle.space_map.specs.Table.{table_length}
+use Rattle.gc_worker.specs.declared.task.Task.{Task}
+use Rattle.gc_worker.specs.Between.{Begins, IsAsPlain, IsIdle, fresh_mutator, fresh_scanner, opening_heap, with_task}
+use Rattle.gc_worker.specs.Counted.{counted}
+use Rattle.gc_worker.specs.Fits.{Fits, MayBegin}
+use Rattle.gc_worker.specs.Held.{Held}
+use Rattle.gc_worker.specs.Law.{Heap, held_at, nobody}
+use Rattle.gc_worker.specs.Stepped.{IsSound, uncounted}
+use Rattle.gc_worker.specs.Turned.{turned}
+use Rattle.gc_worker.proofs.Between.Beginning.{tasks_may_begin}
+use Rattle.gc_worker.proofs.Between.Opening.{heaps_open, mutator_fits, scanner_fits}
+use Rattle.gc_worker.proofs.Between.Standing.{what_stands_is_so}
+use Rattle.gc_worker.proofs.Workers.ApartFromCount.{beginning, counted_fit}
+use Rattle.gc_worker.specs.declared.entry.Entry.{Entry}
+use Rattle.ael_threads.specs.declared.view.Hand.{Hand}
+use Rattle.ael_threads.specs.declared.view.Plan.{Plan}
+use Rattle.ael_threads.specs.declared.view.View.{View}
+use Rattle.gc_worker.specs.History.Legal.{after_all, calls_of}
+use Rattle.ael_threads.specs.Histories.{HasOwnCalls, first_held, first_plain, hand}
+use Rattle.ael_threads.specs.Rule.{crew, view}
+use Rattle.ael_threads.specs.Seats.{Follows, Heads, IsSeatOf, IsMine, IsShown, Learned, Moves, Seated, ShowsSeen, both_of, first_number, first_own}
+use Rattle.ael_threads.proofs.Lists.Reads.{get_of}
+use Rattle.gc_worker.proofs.History.Extensions.{seen_keeps}
+use Rattle.ael_threads.proofs.TableRule.Opening.{uncounted_first, worker_at}
+use Rattle.ael_threads.proofs.WorkerSeats.Shown.{shown_by}
+
+-- ---- its own worker
+
+-- one without a task was not given one since
+begins_more : (was x : Held) (task : Task) → Begins was x → x.task ≡ None → Begins was (with_task x task)
+begins_more was x task (inl same) none = inr (task, ap (λ (z : Held). z.task) (sym same) ∙ none, ap (λ (z : Held). with_task z task) same)
+begins_more was x task (inr given) none = absurd (let some : None ≡ Some given.0 = sym none ∙ ap (λ (z : Held). z.task) given.2 in cc)
+
+-- a worker that is given a task is to the proofs of the heap as it was
+pub begins : (plan : Plan) (x now : Held) (task : Task) (hs : List Hand) → now ≡ with_task x task → Heads plan x hs → IsIdle x → MayBegin x.account x.registers (Some task) → Heads plan now hs
+begins plan x now task [] is h idle may = absurd h
+begins plan x now task (was ∷ others) is h idle may = subst (Follows plan was.number was.worker) (sym is) (record {
+  begins = begins_more was.worker x task h.begins idle.no_task;
+  readies = λ count.
+      let r = h.readies count in
+      let s = tasks_may_begin plan.spaces.pages plan.mutators was.number (counted count x) task ((counted_fit plan.spaces.pages plan.mutators was.number count x).1 h.fits)
+      (record { is_mutator = idle.is_mutator; no_end = idle.no_end; no_task = idle.no_task }) (beginning count x (Some task) may) in
+      record { same = s.same ∙ r.same; fits = λ f. s.fits (r.fits f) };
+  fits = (tasks_may_begin plan.spaces.pages plan.mutators was.number x task h.fits idle may).fits h.fits;
+})
+
+-- and shows what it did
+pub begun_shows : (x now : Held) (task : Task) (v : View) → now ≡ with_task x task → ShowsSeen x v → ShowsSeen now v
+begun_shows x now task v is h = subst (λ (z : Held). ShowsSeen z v) (sym is) (λ q its. let s = h q its in record {
+  counter = s.counter;
+  printed = s.printed;
+  end = s.end;
+  serial = s.serial;
+  registers = s.registers;
+})
+
+pub shows_of : (a b : Seated) → a ≡ b → ShowsSeen a.worker a.knows → ShowsSeen b.worker b.knows
+shows_of a b same h = subst (λ (z : Seated). ShowsSeen z.worker z.knows) same h
+
+-- as it stands after a step
+stays : (plan : Plan) (m : ℕ) (x : Held) → Fits plan.spaces.pages plan.mutators m x → Follows plan m x x
+stays plan m x f = record { begins = inl refl; readies = λ count. record { same = refl; fits = λ g. g }; fits = f }
+
+pub moved_heads : (v : View) (m : ℕ) (x now : Held) (r : Reply) (w : View) → Moves v m x r w → now ≡ uncounted (turned x r) → Heads w.plan now w.hands
+moved_heads v m x now r w t e =
+    let f : Fits v.plan.spaces.pages v.plan.mutators m (uncounted (turned x r)) = (counted_fit v.plan.spaces.pages v.plan.mutators m 0 (turned x r)).1 t.fits in
+    subst (λ (z : Plan × (Held × List Hand)). Heads z.0 z.1.0 z.1.1) (λ i. (sym t.plan i, (sym e i, sym t.hands i))) (stays v.plan m (uncounted (turned x r)) f)
+
+pub sound_by : (n mutators k : ℕ) (x : Held) → Fits n mutators k x → IsSound x
+sound_by n mutators k x f = subst (λ (j : ℕ). Fits x.layout.pages x.mutators j x) (sym f.number)
+    (subst (λ (m : ℕ). Fits x.layout.pages m k x) (sym f.beside) (subst (λ (pages : ℕ). Fits pages mutators k x) (sym f.pages) f))
+
+pub still_live : (t u : TableId) (v w : View) → t ≡ u → w.plan ≡ v.plan → IsSeatOf u v → IsSeatOf t w
+still_live t u v w e f live = subst (λ (z : TableId × Plan). (0 < z.1.spaces.pages) × (z.0.words ≡ table_length z.1.spaces.pages)) (λ i. (sym e i, sym f i)) live
+
+-- ---- a new caller
+
+first_fits : (plan : Plan) (k : ℕ) → IsPageCount plan.spaces.pages → k ≤ 23 → Fits plan.spaces.pages plan.mutators k (first_held plan k)
+first_fits plan k size few = by_side (nat_lt k plan.mutators) refl
+  where
+    by_side : (b : Bool) → nat_lt k plan.mutators ≡ b → Fits plan.spaces.pages plan.mutators k (if b then fresh_mutator plan.spaces.pages plan.mutators k else fresh_scanner plan.spaces.pages plan.mutators k)
+    by_side true e = mutator_fits plan.spaces.pages plan.mutators k size few e
+    by_side false e = scanner_fits plan.spaces.pages plan.mutators k size few e
+
+pub fresh_heads : (plan : Plan) (k : ℕ) (x : Held) (v : View) → IsPageCount plan.spaces.pages → k ≤ 23 → x ≡ first_held plan k → v ≡ view plan (hand k (first_held plan k) [] ∷ []) [] [] [] → Heads v.plan x v.hands
+fresh_heads plan k x v size few e is =
+    subst (λ (z : Held × View). Heads z.1.plan z.0 z.1.hands) (λ i. (sym e i, sym is i)) (stays plan k (first_held plan k) (first_fits plan k size few))
+
+first_end : (plan : Plan) (k : ℕ) → (first_held plan k).account.end ≡ None
+first_end plan k = by_side (nat_lt k plan.mutators)
+  where
+    by_side : (b : Bool) → (if b then fresh_mutator plan.spaces.pages plan.mutators k else fresh_scanner plan.spaces.pages plan.mutators k).account.end ≡ None
+    by_side true = refl
+    by_side false = refl
+
+-- what it shows is the opening's plain mutator
+fresh_shown : (plan : Plan) (k : ℕ) → IsPageCount plan.spaces.pages → plan.mutators ≤ 16 → crew plan ≤ 24 → k < crew plan → (q : Mutator) → slice_get (first_plain plan).mutators k ≡ Some q
+    → IsShown (first_plain plan).heap k (first_held plan k) q
+fresh_shown plan k size few all below q its =
+    let n = plan.spaces.pages in
+    let h : Heap = opening_heap n plan.mutators plan.scanners in
+    let so = what_stands_is_so h (first_plain plan) (first_plain plan) (heaps_open n plan.mutators plan.scanners size few all) in
+    let same : 0 + k ≡ k = omega arith in
+    let held : held_at h k ≡ counted 0 (first_held plan k) = get_of h.workers k (first_held plan (0 + k)) nobody (worker_at n plan.mutators 0 (crew plan) k below) ∙ (ap (first_held plan) same ∙ sym (uncounted_first n plan.mutators k)) in
+    subst (λ (x : Held). IsShown (first_plain plan).heap k x q) (uncounted_first n plan.mutators k)
+    (let a : IsAsPlain h (first_plain plan) k (counted 0 (first_held plan k)) q = subst (λ (x : Held). IsAsPlain h (first_plain plan) k x q) held (so.mutators k q its) in
+    shown_by h (first_plain plan) k 0 (first_held plan k) q a (a.shows (sym a.account.end ∙ first_end plan k)))
+
+pub fresh_shows : (plan : Plan) (k : ℕ) (x : Held) (v : View) → IsPageCount plan.spaces.pages → plan.mutators ≤ 16 → crew plan ≤ 24 → k < crew plan → x ≡ first_held plan k
+    → v ≡ view plan (hand k (first_held plan k) [] ∷ []) [] [] [] → ShowsSeen x v
+fresh_shows plan k x v size few all below e is =
+    subst (λ (z : Held × View). ShowsSeen z.0 z.1) (λ i. (sym e i, sym is i)) (fresh_shown plan k size few all below)
+
+-- ---- a caller that has taken in another
+
+-- the first worker stays the first
+more_heads : (plan : Plan) (x : Held) (hs gs : List Hand) → Heads plan x hs → Heads plan x (hs ++ gs)
+more_heads plan x [] gs h = absurd h
+more_heads plan x (was ∷ others) gs h = h
+
+pub absorbed_heads : (v u y w : View) (x : Held) → Heads v.plan x v.hands → y ≡ both_of v u → Learned y w → Heads w.plan x w.hands
+absorbed_heads v u y w x h e l =
+    subst (λ (z : Plan × List Hand). Heads z.0 x z.1) (λ i. ((sym (l.plan ∙ ap (λ (b : View). b.plan) e)) i, (sym (l.hands ∙ ap (λ (b : View). b.hands) e)) i))
+    (more_heads v.plan x v.hands u.hands h)
+
+-- the first worker's calls stand in the whole history
+first_mine : (plan : Plan) (x : Held) (hs gs : List Hand) (log : List Entry) → Heads plan x hs → HasOwnCalls log (hs ++ gs) → (first_number (hs ++ gs) ≡ first_number hs) × (first_own (hs ++ gs) ≡ first_own hs) × (calls_of (first_number hs) log ≡ first_own hs)
+first_mine plan x [] gs log h own = absurd h
+first_mine plan x (was ∷ others) gs log h own = (refl, refl, own.0)
+
+-- what is shown stays so where more was seen
+pub absorbed : (v u y w : View) (x : Held) → Heads v.plan x v.hands → IsMine v → ShowsSeen x v → y ≡ both_of v u → Learned y w → IsMine w × ShowsSeen x w
+absorbed v u y w x h mine shows e l =
+    let hands : w.hands ≡ v.hands ++ u.hands = l.hands ∙ ap (λ (b : View). b.hands) e in
+    let f = first_mine v.plan x v.hands u.hands w.seen h (subst (HasOwnCalls w.seen) hands l.own) in
+    let number_is : first_number w.hands ≡ first_number v.hands = ap first_number hands ∙ f.0 in
+    let own_is : first_own w.hands ≡ first_own v.hands = ap first_own hands ∙ f.1 in
+    let pre : IsPrefix v.seen w.seen = subst (λ (b : View). IsPrefix b.seen w.seen) e l.seen in
+    let plan_is : w.plan ≡ v.plan = l.plan ∙ ap (λ (b : View). b.plan) e in
+    let kept = seen_keeps (first_plain v.plan) v.seen w.seen (first_number v.hands) (first_own v.hands) pre mine f.2 in (
+      (λ i. calls_of (number_is i) w.seen) ∙ (f.2 ∙ sym own_is),
+      subst (λ (z : Plan × ℕ). (q : Mutator) → slice_get (after_all (first_plain z.0) w.seen).mutators z.1 ≡ Some q → IsShown (after_all (first_plain z.0) w.seen).heap z.1 x q)
+          (λ i. (sym plan_is i, sym number_is i)) (λ q its. let s = shows q (sym kept.mutator ∙ its) in record {
+            counter = s.counter;
+            printed = s.printed;
+            end = s.end;
+            serial = s.serial ∙ sym kept.serial;
+            registers = s.registers;
+          }),
+    )

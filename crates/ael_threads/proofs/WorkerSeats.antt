@@ -1,0 +1,5 @@
+pub mod OneByOne
+pub mod Shown
+pub mod Dealt
+pub mod Joined
+pub mod AllInOne

@@ -1,0 +1,92 @@
+-- All callers in one, and what stands at the end.
+use Rattle.std.proofs.Common.{◌≡◌, ℕ, ◌<◌, length, List, [], ◌∷◌, ◌++◌, map, take, ◌-◌, arith, refl, ◌∙◌, ap, subst, append_assoc}
+use mathlib.Core.List.{IsPrefix}
+use Rattle.atomic_table.specs.Table as table
+use Rattle.atomic_table.specs.Seated.{TableId}
+use Rattle.std.proofs.lemmas.List.{length-map, length-replicate}
+use Rattle.heap_laws.specs.Opening.{opening_mutator}
+use Rattle.gc_worker.specs.declared.entry.Entry.{Entry}
+use Rattle.gc_worker.specs.Held.{Held}
+use Rattle.gc_worker.specs.Law.{WorkersStand, epoch_of}
+use Rattle.gc_worker.proofs.Between.Pages.Copied.{copied_was_live}
+use Rattle.ael_threads.specs.declared.view.WonClaim.{WonClaim}
+use Rattle.ael_threads.specs.declared.view.Hand.{Hand}
+use Rattle.ael_threads.specs.declared.view.Plan.{Plan}
+use Rattle.ael_threads.specs.Histories.{AreBy, opening_tally, Each, IsOnce, first_plain, hand_number}
+use Rattle.gc_worker.proofs.History.Large.{large_has_no_full}
+use Rattle.gc_worker.specs.History.Tally.{tally, tasks_held}
+use Rattle.gc_worker.specs.History.Legal.{IsLegal, after_all, last_flip}
+use Rattle.ael_threads.specs.Rule.{HasHand, RuleHolds, crew, heap_of}
+use Rattle.ael_threads.specs.Seats.{Absorbs, Closes, Gathers, Seated, Stays, all_hands}
+use Rattle.ael_threads.proofs.Callers.{are_by, each_is_there}
+use Rattle.ael_threads.proofs.Lists.Elements.{each_at, each_map, each_to_map, prefix_self, prefix_trans}
+use Rattle.ael_threads.proofs.Lists.Reads.{at_inside}
+
+pub gathers_one : (t : TableId) (one : Seated) → one.table ≡ t → Gathers t (one ∷ []) one
+gathers_one t one same = record { table = same; hands = refl; claims = refl; seen = (prefix_self one.knows.seen, tt) }
+
+pub gathers_more : (t : TableId) (all : List Seated) (one other one' : Seated) → Gathers t all one → one'.table ≡ one.table → Absorbs one.knows other.knows one'.knows → Gathers t (other ∷ all) one'
+gathers_more t all one other one' g same a = record {
+  table = same ∙ g.table;
+  hands = a.hands ∙ ap (λ (z : List Hand). z ++ other.knows.hands) g.hands;
+  claims = a.claims ∙ ap (λ (z : List WonClaim). z ++ other.knows.claims) g.claims;
+  seen = (
+    a.other,
+    each_map (λ (s : Seated). IsPrefix s.knows.seen one.knows.seen) (λ (s : Seated). IsPrefix s.knows.seen one'.knows.seen)
+        (λ s h. prefix_trans s.knows.seen one.knows.seen one'.knows.seen h a.mine) all g.seen,
+  );
+}
+
+-- the calls are by these, where all workers are among them
+all_by : (plan : Plan) (workers : List Held) (log : List Entry) (hands : List Hand) → length workers ≡ crew plan → IsLegal (first_plain plan) log → Each (Stays workers log) hands → IsOnce (map hand_number hands)
+    → length hands ≡ crew plan → AreBy (map hand_number hands) log
+all_by plan workers log hands count legal stays apart many =
+    let below : Each (λ j. j < crew plan) (map hand_number hands) =
+    each_to_map (λ j. j < crew plan) hand_number hands (each_map (Stays workers log) (λ (h : Hand). h.number < crew plan) (λ h k. let i = at_inside workers h.number k.state.held k.state.is in omega (arith, i, count)) hands stays) in
+    let mutators : length (first_plain plan).mutators ≡ plan.mutators = length-replicate plan.mutators opening_mutator in
+    are_by (map hand_number hands) (first_plain plan) log (λ j mine. each_is_there (crew plan) (map hand_number hands) apart below (length-map hands hand_number ∙ many) j (omega (arith, mine, mutators))) legal
+
+-- what the table's end tells of the caller that has taken in all
+pub closes : (plan : Plan) (id : ℕ) (t : TableId) (all : List Seated) (one : Seated) (words xs : List ℕ) → Gathers t all one → table.Final (table.Seen (RuleHolds plan) id one.knows) words xs → Closes plan all words
+closes plan id t all one words xs g end =
+    let s = end.0 in
+    let b = end.1.0 in
+    let stands : WorkersStand (heap_of plan words b.workers) (after_all (first_plain plan) b.log) (last_flip (first_plain plan) b.log) =
+    subst (λ (z : List ℕ). WorkersStand (heap_of plan z b.workers) (after_all (first_plain plan) b.log) (last_flip (first_plain plan) b.log)) end.2 b.stands in
+    let f = b.seats id one.knows end.1.1 in
+    let hands = subst (Each (Stays b.workers b.log)) g.hands (each_map (HasHand b.workers b.log b.owner id) (Stays b.workers b.log) (λ h k. record { state = k.state; calls = k.calls }) one.knows.hands f.hands) in
+    let apart = subst (λ (hands : List Hand). IsOnce (map hand_number hands)) g.hands f.apart in record {
+      log = b.log;
+      workers = b.workers;
+      legal = b.legal;
+      count = b.count;
+      stands = stands;
+      copied = copied_was_live (heap_of plan words b.workers) (after_all (first_plain plan) b.log) (last_flip (first_plain plan) b.log) stands;
+      epoch = subst (λ (z : List ℕ). epoch_of plan.spaces.pages z ≡ (tally (opening_tally plan) b.log).flips) end.2 b.tallied.counts.epoch;
+      entries = b.tallied.entries;
+      large = large_has_no_full plan.spaces.pages (tasks_held b.workers) (opening_tally plan) b.log b.tallied.entries;
+      flipped = b.flipped;
+      seen = each_map (λ (c : Seated). IsPrefix c.knows.seen one.knows.seen) (λ (c : Seated). IsPrefix c.knows.seen b.log) (λ c h. prefix_trans c.knows.seen one.knows.seen b.log h f.seen) all g.seen;
+      hands = hands;
+      others = λ many. all_by plan b.workers b.log (all_hands all) b.count b.legal hands apart many;
+      apart = apart;
+      once = subst IsOnce g.claims f.once;
+    }
+
+-- ---- the callers that are still to be taken in
+
+module _ {A : Type 0} where
+  -- the last of what was left goes in front of what was done
+  pub shifts : (all old new done : List A) (x : A) → all ≡ old ++ done → old ≡ new ++ x ∷ [] → all ≡ new ++ x ∷ done
+  shifts all old new done x is e = is ∙ (ap (λ z. z ++ done) e ∙ append_assoc new (x ∷ []) done)
+
+  -- all that were left were done
+  pub ends : (all old new done : List A) (n : ℕ) → all ≡ old ++ done → old ≡ new ++ [] → new ≡ take (n - 1) old → n ≡ 0 → all ≡ done
+  ends all old new done n is e rest none =
+      let none' : n - 1 ≡ 0 = omega arith in
+      let empty : new ≡ [] = rest ∙ ap (λ (k : ℕ). take k old) none' in
+      is ∙ (ap (λ z. z ++ done) e ∙ ap (λ z. (z ++ []) ++ done) empty)
+
+  -- a fact of all is one of the next
+  pub next_has : (P : A → Type 0) (all new done : List A) (x : A) → all ≡ new ++ x ∷ done → Each P all → P x
+  next_has P all new done x e h = each_at P new done x (subst (Each P) e h)

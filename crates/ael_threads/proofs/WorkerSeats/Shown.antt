@@ -1,0 +1,186 @@
+-- What a worker shows of its plain mutator, whatever its count of instructions is.
+use Rattle.std.proofs.Common.{◌≡◌, ℕ, zero, suc, ◌<◌, Bool, true, false, nat_lt, ltb-true, Option, Some, None, List, [], ◌∷◌, length, slice_get, refl, sym, ◌∙◌, ap, subst, arith}
+use Rattle.std.specs.Option.{is_some}
+use Rattle.plain_state.specs.declared.end.End.{End}
+use Rattle.plain_state.specs.declared.end.End.TheVariants.{Halt, NotPointer, NotNumber, OutOfRange, IntoRaw, ZeroDivisor, JumpOut, TurnsOut, OutputFull, HeapFull}
+use Rattle.plain_state.specs.State.{Mutator, Plain}
+use Rattle.plain_state.proofs.Lists.{slice_get-set_same}
+use Rattle.std.proofs.lemmas.Option.{same_Some, slice_get_within}
+use Rattle.heap_state.specs.Worker.{is_running}
+use Rattle.gc_worker.specs.declared.stage.Stage.{Stage}
+use Rattle.gc_worker.specs.declared.back.Back.{Back}
+use Rattle.gc_worker.specs.declared.back.Back.TheVariants.{ToAccess, ToPlace, ToScanner}
+use Rattle.gc_worker.specs.declared.stage.Stage.TheVariants.{Accesses, Evacuates, Flips, Forwards, Gone, Looks, Opens, Passes, Places, Scans, Serves}
+use Rattle.gc_worker.specs.declared.task.Task.{Task}
+use Rattle.gc_worker.specs.declared.task.Task.TheVariants.{Calls, Stops}
+use Rattle.gc_worker.specs.Answer.{after_answer, after_told}
+use Rattle.gc_worker.specs.Between.{AreAlike, IsAsPlain, RegistersLand, ShowsRegisters}
+use Rattle.gc_worker.specs.Counted.{counted}
+use Rattle.gc_worker.specs.Fits.{Fits, FitsEnd, IsOnSide, IsOnSideBack}
+use Rattle.gc_worker.specs.Full.{FullByEnd, FullWhereTold}
+use Rattle.gc_worker.specs.Held.{Held}
+use Rattle.gc_worker.specs.Knows.{post_back, post_gone, post_in}
+use Rattle.gc_worker.specs.Law.{Heap, WorkersStand}
+use Rattle.gc_worker.proofs.Between.Pages.Copied.{full_tells_live}
+use Rattle.gc_worker.specs.Stepped.{uncounted}
+use Rattle.gc_worker.specs.declared.did.Did.TheVariants.{Done, Trap}
+use Rattle.gc_worker.specs.Turned.{Told, Silent, Answers, Marks}
+use Rattle.ael_threads.specs.Seats.{IsRunning, IsShown, LiveByEnd, LiveWhereTold}
+
+pub shown_by : (h : Heap) (p : Plain) (m count : ℕ) (z : Held) (q : Mutator) → IsAsPlain h p m (counted count z) q → ShowsRegisters z.registers q → IsShown p.heap m (uncounted z) q
+shown_by h p m count z q a shows = record {
+  counter = a.account.counter;
+  printed = a.account.printed;
+  end = a.account.end;
+  serial = a.account.serial;
+  registers = shows;
+}
+
+-- ---- who runs
+
+pub none_of : (o : Option End) → is_some o ≡ false → o ≡ None
+none_of None e = refl
+none_of (Some end) e = absurd (cc)
+
+-- who looks at the gate has no end
+pub no_end : (h : Heap) (p : Plain) (n mutators m count : ℕ) (z : Held) (q : Mutator) → IsAsPlain h p m (counted count z) q → Fits n mutators m z → z.stage ≡ Looks → q.end ≡ None
+no_end h p n mutators m count z q a f looks = sym a.account.end ∙ none_of z.account.end (subst (λ (stage : Stage). FitsEnd stage (is_some z.account.end)) looks f.end)
+
+-- and runs
+pub looks_run : (n mutators m : ℕ) (z : Held) → Fits n mutators m z → z.stage ≡ Looks → IsRunning z
+looks_run n mutators m z f looks = (
+  none_of z.account.end (subst (λ (stage : Stage). FitsEnd stage (is_some z.account.end)) looks f.end),
+  ap (λ (stage : Stage). is_running (post_in z stage)) looks,
+)
+
+-- a scanner never runs
+gone_stops : (b : Bool) → is_running (post_gone b) ≡ true → ⊥
+gone_stops true e = cc
+gone_stops false e = cc
+
+back_runs : (back : Back) (b : Bool) → IsOnSideBack back b → is_running (post_back back) ≡ true → b ≡ true
+back_runs (ToAccess a) b side e = side
+back_runs ToPlace b side e = side
+back_runs ToScanner b side e = absurd (cc)
+
+pub runs_aside : (n mutators m : ℕ) (z : Held) → Fits n mutators m z → is_running (post_in z z.stage) ≡ true → m < mutators
+runs_aside n mutators m z f runs =
+    let less = ltb-true z.number z.mutators (by_stage z.stage f.side runs) in
+    let number = f.number in
+    let beside = f.beside in
+    omega (arith, less, number, beside)
+  where
+    by_stage : (stage : Stage) → IsOnSide stage (nat_lt z.number z.mutators) (is_some z.account.end) → is_running (post_in z stage) ≡ true → nat_lt z.number z.mutators ≡ true
+    by_stage Looks side e = side
+    by_stage (Passes g after) side e = side
+    by_stage (Flips g) side e = side
+    by_stage (Forwards w) side e = side
+    by_stage (Accesses a) side e = side
+    by_stage (Places p) side e = side
+    by_stage (Serves d back) side e = back_runs back (nat_lt z.number z.mutators) side e
+    by_stage (Scans s back) side e = back_runs back (nat_lt z.number z.mutators) side e
+    by_stage (Evacuates v s back) side e = back_runs back (nat_lt z.number z.mutators) side e
+    by_stage (Opens o s back) side e = back_runs back (nat_lt z.number z.mutators) side e
+    by_stage Gone side e = absurd (gone_stops (nat_lt z.number z.mutators) e)
+
+-- whatever its count is
+counted_post : (count : ℕ) (z : Held) (stage : Stage) → post_in (counted count z) stage ≡ post_in z stage
+counted_post count z Looks = refl
+counted_post count z (Passes g after) = refl
+counted_post count z (Flips g) = refl
+counted_post count z (Forwards w) = refl
+counted_post count z (Accesses a) = refl
+counted_post count z (Places p) = refl
+counted_post count z (Serves d back) = refl
+counted_post count z (Scans s back) = refl
+counted_post count z (Evacuates v s back) = refl
+counted_post count z (Opens o s back) = refl
+counted_post count z Gone = refl
+
+module _ (h : Heap) (p : Plain) (m count : ℕ) (z : Held) (q : Mutator) (a : IsAsPlain h p m (counted count z) q) (r : IsRunning z) where
+  unended : q.end ≡ None
+  unended = sym a.account.end ∙ r.0
+
+  counted_runs : is_running (post_in (counted count z) z.stage) ≡ true
+  counted_runs = ap is_running (counted_post count z z.stage) ∙ r.1
+
+  pub lands_by : RegistersLand h.pages h.words z
+  lands_by = let l = a.lands unended counted_runs in record { in_space = l.in_space; header = l.header }
+
+  pub alike_by : AreAlike z.registers q
+  alike_by = a.alike unended counted_runs
+
+pub mutator_at : (l : List Mutator) (i : ℕ) → i < length l → (q : Mutator) × (slice_get l i ≡ Some q)
+mutator_at [] i h = absurd (omega arith)
+mutator_at (q ∷ qs) zero h = (q, refl)
+mutator_at (q ∷ qs) (suc i) h = mutator_at qs i (omega arith)
+
+-- ---- a full heap
+
+full_end : (n : ℕ) (words : List ℕ) (count : ℕ) (x : Held) (end : End) → FullByEnd n words (counted count x) end → FullByEnd n words x end
+full_end n words count x (HeapFull asked room live) h = record {
+  gate = h.gate;
+  gate_is = h.gate_is;
+  epoch = h.epoch;
+  traced = h.traced;
+  area = h.area;
+  area_is = h.area_is;
+  room_is = h.room_is;
+  live_is = h.live_is;
+  short = h.short;
+  no_flip = h.no_flip;
+}
+full_end n words count x Halt h = tt
+full_end n words count x NotPointer h = tt
+full_end n words count x NotNumber h = tt
+full_end n words count x OutOfRange h = tt
+full_end n words count x IntoRaw h = tt
+full_end n words count x ZeroDivisor h = tt
+full_end n words count x JumpOut h = tt
+full_end n words count x TurnsOut h = tt
+full_end n words count x OutputFull h = tt
+
+pub full_by : (n : ℕ) (words : List ℕ) (count : ℕ) (x : Held) (t : Told) → FullWhereTold n words (counted count x) t → FullWhereTold n words x t
+full_by n words count x Silent h = tt
+full_by n words count x (Answers task Done) h = tt
+full_by n words count x (Answers task (Trap end)) h = full_end n words count x end h
+full_by n words count x (Marks asked) h = tt
+
+-- ---- an end
+
+module _ (p : Plain) (m : ℕ) (q : Mutator) (why : End) (its : slice_get p.mutators m ≡ Some q) where
+  abbrev with_end : Mutator
+  with_end = record q { end = Some why }
+
+  -- who answers by an end keeps its registers
+  ended_is : (task : Task) → slice_get (after_told p m (Answers task (Trap why))).mutators m ≡ Some with_end
+  ended_is (Calls instr) = ap (λ (o : Option Mutator). slice_get (after_answer p m (Calls instr) (Trap why) o).mutators m) its ∙ slice_get-set_same p.mutators m with_end (slice_get_within p.mutators m q its)
+  ended_is (Stops end) = ap (λ (o : Option Mutator). slice_get (after_answer p m (Stops end) (Trap why) o).mutators m) its ∙ slice_get-set_same p.mutators m with_end (slice_get_within p.mutators m q its)
+
+pub ends_with : (p : Plain) (m : ℕ) (q : Mutator) (task : Task) (why : End) (w : Mutator) (registers : List ℕ) → slice_get p.mutators m ≡ Some q → slice_get (after_told p m (Answers task (Trap why))).mutators m ≡ Some w
+    → ShowsRegisters registers q → ShowsRegisters registers w
+ends_with p m q task why w registers its was s =
+    let new : Mutator = record q { end = Some why } in
+    let same : new ≡ w = same_Some new w (sym (ended_is p m q why its task) ∙ was) in
+    subst (ShowsRegisters registers) same (record { numbers = s.numbers; pointers = s.pointers })
+
+-- ---- what is told as live
+
+module _ (h : Heap) (p o : Plain) (stands : WorkersStand h p o) (x : Held) where
+  live_end : (end : End) → FullByEnd h.pages h.words x end → LiveByEnd o end
+  live_end (HeapFull asked room live) f = full_tells_live h p o x asked room live stands f
+  live_end Halt f = tt
+  live_end NotPointer f = tt
+  live_end NotNumber f = tt
+  live_end OutOfRange f = tt
+  live_end IntoRaw f = tt
+  live_end ZeroDivisor f = tt
+  live_end JumpOut f = tt
+  live_end TurnsOut f = tt
+  live_end OutputFull f = tt
+
+  pub live_by : (t : Told) → FullWhereTold h.pages h.words x t → LiveWhereTold o t
+  live_by Silent f = tt
+  live_by (Answers task Done) f = tt
+  live_by (Answers task (Trap end)) f = live_end end f
+  live_by (Marks asked) f = tt

@@ -1,0 +1,354 @@
+-- The law of an event, from the law of a worker's step.
+use Rattle.std.proofs.Common.{◌≡◌, ◌≢◌, ℕ, ◌+◌, ◌<◌, ◌≤◌, true, false, nat_lt, length, Option, Some, None, slice_get, get_or, refl, ap, sym, subst, ◌∙◌, arith, get_or-set_same, get_or-set_other, length-set, lt-ltb, ⊎_elim}
+use Rattle.std.specs.Option.{is_some, option_map, option_to_list}
+use Rattle.std.proofs.lemmas.Bool.{cases_eq, cases_lt}
+use Rattle.std.proofs.lemmas.List.{get_or_past}
+use Rattle.std.proofs.lemmas.Option.{slice_get_within, slice_get-get_or, slice_get_past}
+use Rattle.plain_state.specs.declared.end.End.{End}
+use Rattle.plain_state.specs.declared.end.End.TheVariants as ends
+use Rattle.plain_state.specs.State.{Plain, Mutator}
+use Rattle.plain_heap.specs.Order.{Story, fresh, end_of}
+use Rattle.plain_heap.specs.Step.{fetch, asked_by}
+use Rattle.plain_heap.proofs.Orders.Stories.{story_after-now}
+use Rattle.heap_state.specs.Represents.{Represents}
+use Rattle.heap_state.specs.Values.{Accounts}
+use Rattle.heap_state.proofs.Puts.{none≢some}
+use Rattle.atom_store.specs.declared.step.Step.{Step}
+use Rattle.atom_store.specs.Step.{words_after, reply_of}
+use Rattle.gc_worker.specs.declared.stage.Stage.TheVariants.{Gone}
+use Rattle.gc_worker.specs.declared.task.Task.{Task}
+use Rattle.gc_worker.specs.Answer.{ComesTo, MayCome, IsAnswered, after_outcome, after_told}
+use Rattle.gc_worker.specs.Between.{ReadyingStands, TasksMayBegin, WorkersGoOn, WorkersWant, WhatStandsIsSo, KeepsToTask, IsSo, IsNoAnswer}
+use Rattle.gc_worker.specs.Fits.{Fits, IsOnSide}
+use Rattle.gc_worker.specs.Full.{FullByEnd, FullWhereTold}
+use Rattle.gc_worker.specs.Gone.{ScannersAreLast}
+use Rattle.gc_worker.specs.Held.{Held}
+use Rattle.gc_worker.specs.Law.{Heap, nobody, held_at, read, moved, WorkersStand, StepKeeps, StepsKeep, FlipsWhereTold, epoch_of, at_flip}
+use Rattle.gc_worker.specs.declared.did.Did.{Did}
+use Rattle.gc_worker.specs.declared.did.Did.TheVariants.{Done, Trap}
+use Rattle.gc_worker.specs.Turned.{Told, Silent, Answers, Marks, turned, told}
+use Rattle.gc_worker.specs.Wanted.{wanted}
+use Rattle.gc_worker.specs.declared.stepped.Stepped.{Stepped}
+use Rattle.gc_worker.specs.declared.stepped.Stepped.TheVariants as tells
+use Rattle.gc_worker.specs.Marks.{mark_of, task_of}
+use Rattle.gc_core.specs.Core.{CoreState}
+use Rattle.gc_core.specs.Event.{event_of, ready}
+use Rattle.gc_worker.specs.Stepped.{stepped_by}
+use Rattle.gc_worker.specs.Claims.{epoch_of_heap}
+use Rattle.gc_core.specs.Law.{AllHaveLeft, IsOnTask, IsScanner, IsSteady, IsForWant, IsTold, KeepsStory, EventsKeep, EventsMeet, plain_after, story_by}
+use Rattle.gc_core.specs.Whole.{MissingWorkersAreIdle}
+use Rattle.gc_worker.proofs.Between.Last.{scanners_last_with, scanners_stay_last}
+use Rattle.gc_worker.proofs.Plain.Represented.{represented_workers}
+use Rattle.gc_worker.proofs.Plain.Outcomes.{Sort, IsFull, IsStep, sort, comes, end_then, asks_then, counted_then, was_running}
+use Rattle.gc_core.proofs.Events.Readied.{ReadyToStep, readied_stands, same_task, ready_task, ready_account, ready_stage}
+
+-- ---- idle
+
+module _ (s : CoreState) (w : ℕ) (story : Story) (steady : IsSteady s) (stands : WorkersStand s.heap story.now story.flip) where
+  idle_event : wanted (ready s w) ≡ None → event_of s w ≡ record { told = tells.Idle; after = s.heap }
+  unfolding event_of
+  idle_event none = rw none refl
+
+  pub idle_keeps : wanted (ready s w) ≡ None → end_of story.now w ≢ Some None → (IsScanner s.heap w → AllHaveLeft s.heap) → KeepsStory s w story
+  idle_keeps none ended left = let e = idle_event none in record { steady = rw e steady; stands = rw e stands; told = rw e (refl, ended, left) }
+
+-- ---- the story
+
+-- an answer is no flip
+answer_story : (s : CoreState) (story : Story) (w : ℕ) (task : Task) (outcome : Did)
+    → story_by s story (stepped_by w (Answers task outcome)) ≡ record { flip = story.flip; now = plain_after s story.now (stepped_by w (Answers task outcome)) }
+answer_story s story w task Done = refl
+answer_story s story w task (Trap why) = by_sort (sort w why)
+  where
+    by_sort : Sort w why → story_by s story (tells.Ended w why) ≡ record { flip = story.flip; now = plain_after s story.now (tells.Ended w why) }
+    by_sort (IsStep e c) = rw e refl
+    by_sort (IsFull asked room live e) = rw e refl
+
+-- an end for want of room comes for want of room
+for_want : (s : CoreState) (p : Plain) (w : ℕ) (why : End) → ((asked room live : ℕ) → why ≡ ends.HeapFull asked room live → asked_by s.code s.turns p w ≡ Some asked)
+    → FullByEnd s.heap.pages s.heap.words (ready s w) why → IsForWant s p w why
+for_want s p w ends.Halt asks full = tt
+for_want s p w ends.NotPointer asks full = tt
+for_want s p w ends.NotNumber asks full = tt
+for_want s p w ends.OutOfRange asks full = tt
+for_want s p w ends.IntoRaw asks full = tt
+for_want s p w ends.ZeroDivisor asks full = tt
+for_want s p w ends.JumpOut asks full = tt
+for_want s p w ends.TurnsOut asks full = tt
+for_want s p w ends.OutputFull asks full = tt
+for_want s p w (ends.HeapFull asked room live) asks full = (asks asked room live refl, full)
+
+-- ---- the step of a worker that is there
+
+module _ (law : StepsKeep) (goes : WorkersGoOn) (wants : WorkersWant) (so : WhatStandsIsSo) (s : CoreState) (w : ℕ) (story : Story) (steady : IsSteady s)
+    (r : ReadyToStep s w story.now story.flip) where
+  abbrev p : Plain
+  p = story.now
+
+  abbrev y : Held
+  y = ready s w
+
+  is_so : IsSo r.heap p
+  is_so = so r.heap p story.flip r.stands
+
+  fits : Fits r.heap.pages r.heap.mutators w y
+  fits = subst (Fits r.heap.pages r.heap.mutators w) r.holds (r.stands.fit w r.below)
+
+  -- a mutator of the plain state
+  few : (q : Mutator) → slice_get p.mutators w ≡ Some q → w < s.heap.mutators
+  few q is = let l = slice_get_within p.mutators w q is in let a = is_so.as_many in let b = r.mutators in omega (arith, l, a, b)
+
+  has_code : (q : Mutator) → slice_get p.mutators w ≡ Some q → w < length s.code
+  has_code q is = let l = few q is in let a = steady.sections in omega (arith, l, a)
+
+  account : (q : Mutator) → slice_get p.mutators w ≡ Some q → Accounts p.heap w y.account q
+  account q is = rw r.holds at (is_so.mutators w q is).account
+
+  -- the worker had this account before
+  account_before : (q : Mutator) → slice_get p.mutators w ≡ Some q → Accounts p.heap w (held_at s.heap w).account q
+  account_before q is = rw (ready_account s w) at (account q is)
+
+  -- ---- it wants nothing
+
+  -- who is gone has its end, or is no mutator
+  gone_ended : y.stage ≡ Gone → end_of p w ≢ Some None
+  gone_ended gone is = by_found (slice_get p.mutators w) refl is
+    where
+      by_end : (q : Mutator) → slice_get p.mutators w ≡ Some q → q.end ≡ None → ⊥
+      by_end q found none =
+          let l = few q found in
+          let a = fits.number in
+          let b = fits.beside in
+          let c = r.mutators in
+          let mutator : nat_lt y.number y.mutators ≡ true = lt-ltb y.number y.mutators (omega (arith, l, a, b, c)) in
+          let side : IsOnSide Gone true (is_some y.account.end) = rw (gone, mutator) at fits.side in
+          let end : y.account.end ≡ None = (account q found).end ∙ none in
+          let no : is_some y.account.end ≡ false = ap (λ (o : Option End). is_some o) end in
+          absurd (cc)
+
+      by_found : (o : Option Mutator) → slice_get p.mutators w ≡ o → option_map (λ k. k.end) o ≡ Some None → ⊥
+      by_found None e f = absurd (cc)
+      by_found (Some q) e f = by_end q e (let g : q.end ≡ None = cc in g)
+
+  -- and all mutators are, where it is a scanner
+  gone_last : y.stage ≡ Gone → IsScanner s.heap w → AllHaveLeft s.heap
+  gone_last gone scanner m l = steady.last w m scanner.1 scanner.0 (sym (ready_stage s w) ∙ gone) l
+
+  -- ---- it makes a step
+
+  module _ (q : Step) (asked : wanted y ≡ Some q) where
+    keeps : StepKeeps r.heap story.now story.flip w y q
+    keeps = law r.heap story.now story.flip w y q r.stands r.below r.holds asked
+
+    abbrev t : Told
+    t = told y (reply_of q r.heap.words)
+
+    abbrev after : Heap
+    after = moved r.heap w y q
+
+    pub event_is : event_of s w ≡ record { told = stepped_by w t; after = after }
+    unfolding event_of
+    event_is = rw asked (λ i. record { told = stepped_by w (told y (reply_of q (sym r.words i))); after = sym (r.moves y q) i })
+
+    goes_on : KeepsToTask y (reply_of q r.heap.words)
+    goes_on = goes r.heap.pages r.heap.mutators w y (reply_of q r.heap.words) fits
+
+    -- ---- an answer
+
+    -- the task is the next one of the plain mutator
+    pub own_task : (task : Task) (outcome : Did) (k : Mutator) → t ≡ Answers task outcome → slice_get p.mutators w ≡ Some k → task ≡ task_of (fetch s.code s.turns w k)
+    own_task task outcome k e is =
+        let a = account_before k is in
+        ready_task s w steady (few k is) task (goes_on.answers task outcome e).asked ∙ rw (a.counter, a.executed) refl
+
+    -- the story after a step that is this
+    abbrev Stands : Told → Type 0
+    Stands t = ((story_by s story (stepped_by w t)).now ≡ after_told p w t) × ((story_by s story (stepped_by w t)).flip ≡ at_flip p story.flip t)
+
+    answers_stand : (task : Task) (outcome : Did) (k : Mutator) → slice_get p.mutators w ≡ Some k → k.end ≡ None → task ≡ task_of (fetch s.code s.turns w k) → MayCome w p.heap k task outcome
+        → Stands (Answers task outcome)
+    answers_stand task outcome k is none own may =
+        let may' : MayCome w p.heap k (task_of (fetch s.code s.turns w k)) outcome = rw own at may in
+        let c = comes s.code s.turns p w k (has_code k is) is none outcome may' in
+        rw (own, answer_story s story w (task_of (fetch s.code s.turns w k)) outcome) (c ∙ rw is refl, refl)
+
+    story_stands : (u : Told) → t ≡ u → IsAnswered p w u → Stands u
+    story_stands Silent e answered = (refl, refl)
+    story_stands (Marks asked) e answered = (refl, refl)
+    story_stands (Answers task outcome) e answered =
+        answers_stand task outcome answered.mutator answered.is answered.no_end (own_task task outcome answered.mutator e answered.is) answered.may
+
+    -- ---- what is told
+
+    epoch_same : epoch_of r.heap.pages (words_after q r.heap.words) ≡ epoch_of r.heap.pages r.heap.words → epoch_of_heap after ≡ epoch_of_heap s.heap
+    epoch_same e = e ∙ (λ i. epoch_of (r.pages i) (r.words i))
+
+    module _ (task : Task) (outcome : Did) (e : t ≡ Answers task outcome) (answered : ComesTo p w task outcome) where
+      abbrev k : Mutator
+      k = answered.mutator
+
+      own : task ≡ task_of (fetch s.code s.turns w k)
+      own = own_task task outcome k e answered.is
+
+      may : MayCome w p.heap k (task_of (fetch s.code s.turns w k)) outcome
+      may = rw own at answered.may
+
+      was : end_of p w ≡ Some None
+      was = was_running s.code s.turns p w k (has_code k answered.is) answered.is answered.no_end
+
+    full_asks : (k : Mutator) → slice_get p.mutators w ≡ Some k → k.end ≡ None → (why : End) → MayCome w p.heap k (task_of (fetch s.code s.turns w k)) (Trap why)
+        → (asked room live : ℕ) → why ≡ ends.HeapFull asked room live → asked_by s.code s.turns p w ≡ Some asked
+    full_asks k is none why may asked room live f =
+        asks_then s.code s.turns p w k (has_code k is) is none asked room live (subst (λ (e : End). MayCome w p.heap k (task_of (fetch s.code s.turns w k)) (Trap e)) f may)
+
+    told_by : (u : Told) → t ≡ u → IsAnswered p w u → FullWhereTold r.heap.pages r.heap.words y u → FlipsWhereTold r.heap.pages r.heap.words (words_after q r.heap.words) y u
+        → IsTold s w p after (stepped_by w u)
+    told_by Silent e answered full flips = epoch_same flips
+    told_by (Marks asked) e answered full flips =
+        (flips.asked_is, flips.next ∙ ap (λ n. n + 1) (sym flips.epoch ∙ (λ i. epoch_of (r.pages i) (r.words i))))
+    told_by (Answers task Done) e answered full flips =
+        let k = answered.mutator in
+        (refl, was task Done e answered, end_then s.code s.turns p w k (has_code k answered.is) answered.is answered.no_end Done (may task Done e answered), epoch_same flips)
+    told_by (Answers task (Trap why)) e answered full flips =
+        let k = answered.mutator in
+        let comes_to = may task (Trap why) e answered in (
+          refl,
+          was task (Trap why) e answered,
+          end_then s.code s.turns p w k (has_code k answered.is) answered.is answered.no_end (Trap why) comes_to,
+          for_want s p w why
+              (full_asks k answered.is answered.no_end why comes_to)
+              (rw (r.pages, r.words) at full),
+          epoch_same flips,
+        )
+
+    -- ---- what is kept
+
+    abbrev later : CoreState
+    later = record s { heap = after }
+
+    other_task : (m : ℕ) → m < s.heap.mutators → m ≢ w → IsOnTask later m
+    other_task m l d =
+        let same : held_at after m ≡ held_at s.heap m = ap (λ (h : Heap). held_at h m) (r.moves y q) ∙ get_or-set_other s.heap.workers w m (turned y (reply_of q s.heap.words)) nobody d in
+        let was = steady.on_task m l in
+        record { counted = rw same was.counted; within = rw same was.within; task = rw same was.task }
+
+    here : held_at after w ≡ turned y (reply_of q r.heap.words)
+    here = get_or-set_same r.heap.workers w (turned y (reply_of q r.heap.words)) nobody r.below
+
+    account_after : (k : Mutator) → slice_get (after_told p w t).mutators w ≡ Some k → Accounts (after_told p w t).heap w (held_at after w).account k
+    account_after k is = ((so after (after_told p w t) (at_flip p story.flip t) keeps.stands).mutators w k is).account
+
+    -- where nothing is answered
+    still_task : w < s.heap.mutators → after_told p w t ≡ p → IsNoAnswer t → IsOnTask later w
+    still_task l same none =
+        let length_is = is_so.as_many in
+        let c = r.mutators in
+        let k : Mutator = get_or p.mutators w fresh in
+        let is : slice_get p.mutators w ≡ Some k = slice_get-get_or p.mutators w fresh (omega (arith, l, length_is, c)) in
+        let b = account_before k is in
+        let a : Accounts p.heap w (held_at after w).account k = subst (λ (u : Plain). slice_get u.mutators w ≡ Some k → Accounts u.heap w (held_at after w).account k) same (account_after k) is in
+        let was = steady.on_task w l in
+        record {
+          counted = omega (arith, a.serial, a.executed, b.serial, b.executed, was.counted);
+          within = omega (arith, a.executed, b.executed, was.within);
+          task = λ task e.
+              ready_task s w steady l task (sym (goes_on.kept none) ∙ sym (ap (λ (h : Held). h.task) here) ∙ e)
+              ∙ same_task s.code s.turns w (held_at s.heap w) (held_at after w) (b.counter ∙ sym a.counter) (b.executed ∙ sym a.executed);
+        }
+
+    -- and where something is
+    answered_task : w < s.heap.mutators → (task : Task) (outcome : Did) → t ≡ Answers task outcome → ComesTo p w task outcome → IsOnTask later w
+    answered_task l task outcome e answered =
+        let k = answered.mutator in
+        let own_is = own task outcome e answered in
+        let b = account_before k answered.is in
+        let was = steady.on_task w l in
+        let made = is_so.sound.represents.dump.as_many.1 in
+        let length_is = r.mutators in
+        let c = counted_then s.code s.turns p w k (has_code k answered.is) answered.is answered.no_end outcome (may task outcome e answered) (omega (arith, l, made, length_is)) (omega (arith, was.counted, b.serial, b.executed)) (omega (arith, was.within, b.executed)) in
+        let same : after_told p w t ≡ after_outcome p w k (task_of (fetch s.code s.turns w k)) outcome = rw e (rw (answered.is, own_is) refl) in
+        let a : Accounts (after_outcome p w k (task_of (fetch s.code s.turns w k)) outcome).heap w (held_at after w).account c.mutator =
+        subst (λ (u : Plain). slice_get u.mutators w ≡ Some c.mutator → Accounts u.heap w (held_at after w).account c.mutator) same (account_after c.mutator) c.found in
+        record {
+          counted = omega (arith, a.serial, a.executed, c.counted);
+          within = omega (arith, a.executed, c.bounded);
+          task = λ other f. none≢some (sym ((goes_on.answers task outcome e).rests) ∙ sym (ap (λ (h : Held). h.task) here) ∙ f);
+        }
+
+    own_on : w < s.heap.mutators → (u : Told) → t ≡ u → IsAnswered p w u → IsOnTask later w
+    own_on l Silent e answered = still_task l (rw e refl) (rw e tt)
+    own_on l (Marks asked) e answered = still_task l (rw e refl) (rw e tt)
+    own_on l (Answers task outcome) e answered = answered_task l task outcome e answered
+
+    ready_last : ScannersAreLast r.heap
+    ready_last =
+        let below : w < length s.heap.workers = (let n = length-set s.heap.workers w y in let a = ap (λ (h : Heap). length h.workers) r.is in let b = r.below in omega (arith, n, a, b)) in
+        subst ScannersAreLast (sym r.is) (scanners_last_with s.heap w y below (ready_stage s w) steady.last)
+
+    later_steady : IsSteady later
+    later_steady = record {
+      valid = steady.valid;
+      sections = steady.sections ∙ sym r.mutators;
+      turns_fit = steady.turns_fit;
+      on_task = λ m l. let c = r.mutators in ⊎_elim
+          (λ (e : m ≡ w). rw e (own_on (omega (arith, l, e, c)) t refl keeps.answered))
+          (λ (d : m ≢ w). other_task m (omega (arith, l, c)) d)
+          (cases_eq m w);
+      last = scanners_stay_last r.heap p story.flip w y q r.stands r.below r.holds asked ready_last;
+    }
+
+    pub step_keeps : KeepsStory s w story
+    step_keeps =
+        let stood = story_stands t refl keeps.answered in
+        record {
+          steady = rw event_is later_steady;
+          stands = rw (event_is, stood.0, stood.1) keeps.stands;
+          told = rw event_is (told_by t refl keeps.answered keeps.full keeps.flips);
+        }
+
+-- ---- any event
+
+module _ (law : StepsKeep) (readies : ReadyingStands) (tasks : TasksMayBegin) (goes : WorkersGoOn) (wants : WorkersWant) (so : WhatStandsIsSo) where
+  by_want : (s : CoreState) (w : ℕ) (story : Story) (steady : IsSteady s) (stands : WorkersStand s.heap story.now story.flip) (r : ReadyToStep s w story.now story.flip)
+      → (o : Option Step) → wanted (ready s w) ≡ o → KeepsStory s w story
+  by_want s w story steady stands r None e =
+      let gone = (wants r.heap.pages r.heap.mutators w (ready s w) (fits law goes wants so s w story steady r)).0 e in
+      idle_keeps s w story steady stands e (gone_ended law goes wants so s w story steady r gone) (gone_last law goes wants so s w story steady r gone)
+  by_want s w story steady stands r (Some q) e = step_keeps law goes wants so s w story steady r q e
+
+  -- there is no such worker
+  missing : (s : CoreState) (w : ℕ) → length s.heap.workers ≤ w → wanted (ready s w) ≡ None
+  missing s w past = rw (get_or_past s.heap.workers w nobody past) refl
+
+  not_there : (s : CoreState) (w : ℕ) (p o : Plain) → WorkersStand s.heap p o → length s.heap.workers ≤ w → end_of p w ≢ Some None
+  not_there s w p o stands past is =
+      let all = so s.heap p o stands in
+      let none : slice_get p.mutators w ≡ None = slice_get_past p.mutators w (let a = all.as_many in let b = all.enough in omega (arith, a, b, past)) in
+      let e : end_of p w ≡ None = rw none refl in
+      absurd (cc)
+
+  pub events_keep : EventsKeep
+  events_keep s w story steady stands = ⊎_elim
+      (λ (below : w < length s.heap.workers). by_want s w story steady stands (readied_stands readies tasks s w story.now story.flip steady stands below) (wanted (ready s w)) refl)
+      (λ (past : length s.heap.workers ≤ w). idle_keeps s w story steady stands (missing s w past) (not_there s w story.now story.flip stands past)
+      (λ scanner m l. absurd (let there = scanner.1 in omega (arith, there, past))))
+      (cases_lt w (length s.heap.workers))
+
+  -- ---- of each plain state that is represented
+
+  story_now : (s : CoreState) (story : Story) (told : Stepped) → (story_by s story told).now ≡ plain_after s story.now told
+  story_now s story told = story_after-now s.code s.turns story (option_to_list (mark_of told))
+
+  pub events_meet : EventsMeet
+  events_meet s w p lawful represents =
+      let story : Story = record { flip = lawful.flip; now = p } in
+      let stands = represented_workers s.heap lawful.plain p lawful.flip lawful.stands represents in
+      let k = events_keep s w story lawful.steady stands in
+      let later = so (event_of s w).after (story_by s story (event_of s w).told).now (story_by s story (event_of s w).told).flip k.stands in
+      record { represents = subst (Represents (read (event_of s w).after)) (story_now s story (event_of s w).told) later.sound.represents; told = k.told }
+
+pub missing_workers_are_idle : MissingWorkersAreIdle
+unfolding event_of
+missing_workers_are_idle s w past =
+    let none : wanted (ready s w) ≡ None = rw (get_or_past s.heap.workers w nobody past) refl in
+    (rw none refl, rw none refl)

@@ -1,0 +1,3 @@
+pub mod WonFlips
+pub mod FullTold
+pub mod PastEpochs

@@ -1,0 +1,11 @@
+pub mod Tasks
+pub mod NewRecords
+pub mod Targets
+pub mod AnswerSteps
+pub mod LeadingBack
+pub mod Represented
+pub mod Actions
+pub mod Effects
+pub mod Registers
+pub mod Outcomes
+pub mod RecordsMade

@@ -1,0 +1,86 @@
+-- The record that an instruction makes: `new` and `raw` make one, of the length that their operand names, and no other does.
+use Rattle.std.proofs.Common.{◌≡◌, ℕ, Bool, true, false, Option, Some, None, Result, Ok, Err, nat_lt, if◌then◌else◌, length, refl, sym, ap, ◌∙◌}
+use Rattle.mutator_asm.specs.declared.instr.Instr.{Instr}
+use Rattle.mutator_asm.specs.declared.instr.Instr.TheVariants as instrs
+use Rattle.plain_state.specs.declared.end.End.{End}
+use Rattle.plain_state.specs.declared.end.End.TheVariants.{OutputFull}
+use Rattle.plain_state.specs.declared.kind.Kind.TheVariants as kinds
+use Rattle.plain_state.specs.declared.operation.Operation.{Operation}
+use Rattle.plain_state.specs.declared.operation.Operation.TheVariants as operations
+use Rattle.plain_state.specs.declared.sizes.TheConstants.{MOST_PRINTED}
+use Rattle.plain_state.specs.Operation.{applied}
+use Rattle.plain_state.specs.State.{Mutator}
+use Rattle.plain_heap.specs.declared.action.Action.{Action}
+use Rattle.plain_heap.specs.declared.action.Action.TheVariants.{Prints}
+use Rattle.plain_heap.specs.Action.{◌>>=◌, action, allocates, board_place, computes, as_number, operand, reference_in, register}
+use Rattle.gc_worker.specs.declared.due.Due.{Due}
+use Rattle.gc_worker.specs.declared.due.Due.TheVariants as dues
+use Rattle.gc_worker.specs.declared.task.Task.{Task}
+use Rattle.gc_worker.specs.declared.task.Task.TheVariants.{Calls}
+use Rattle.gc_worker.specs.Fits.{IsMaking}
+use Rattle.gc_worker.specs.Seen.{Making, making_in, seen}
+use Rattle.gc_worker.specs.Stepped.{task_due}
+use Rattle.gc_worker.specs.Held.{Held, making_for}
+use Rattle.gc_worker.proofs.Plain.NewRecords.{made_is}
+
+no_record_then : {A : Type 0} (o : Result A End) (f : A → Result Action End) → ((a : A) → making_in (f a) ≡ None) → making_in (o >>= f) ≡ None
+no_record_then (Ok a) f h = h a
+no_record_then (Err why) f h = refl
+
+computes_no_record : (operation : Operation) (q : Mutator) (d a b : ℕ) → making_in (computes operation q d a b) ≡ None
+computes_no_record operation q d a b =
+    no_record_then (as_number (register q a)) _ (λ x. no_record_then (as_number (register q b)) _ (λ y. no_record_then (applied operation x y) _ (λ n. refl)))
+
+prints_no_record : (n : ℕ) (few : Bool) → making_in (if few then Ok (Prints n) else Err OutputFull) ≡ None
+prints_no_record n true = refl
+prints_no_record n false = refl
+
+-- what an instruction makes, as the code works it out
+abbrev pub makes_of : Mutator → Instr → Option Making
+makes_of q (instrs.New d x) = making_in (allocates q kinds.Fields d x)
+makes_of q (instrs.Raw d x) = making_in (allocates q kinds.Raw d x)
+makes_of q instr = None
+
+pub made_of : (q : Mutator) (instr : Instr) → making_in (action q instr) ≡ makes_of q instr
+unfolding action
+made_of q (instrs.Li d n) = refl
+made_of q (instrs.Mov d a) = refl
+made_of q (instrs.Add d a b) = computes_no_record operations.Add q d a b
+made_of q (instrs.Sub d a b) = computes_no_record operations.Sub q d a b
+made_of q (instrs.Mul d a b) = computes_no_record operations.Mul q d a b
+made_of q (instrs.Div d a b) = computes_no_record operations.Div q d a b
+made_of q (instrs.Rem d a b) = computes_no_record operations.Rem q d a b
+made_of q (instrs.Lt d a b) = computes_no_record operations.Lt q d a b
+made_of q (instrs.Eq d a b) = refl
+made_of q (instrs.Jmp target) = refl
+made_of q (instrs.Jz a target) = refl
+made_of q (instrs.Jal d target) = refl
+made_of q (instrs.Jr a) = no_record_then (as_number (register q a)) _ (λ n. refl)
+made_of q (instrs.New d x) = refl
+made_of q (instrs.Raw d x) = refl
+made_of q (instrs.Ld d a x) = no_record_then (reference_in (register q a)) _ (λ i. no_record_then (operand q x) _ (λ n. refl))
+made_of q (instrs.St a x b) = no_record_then (reference_in (register q a)) _ (λ i. no_record_then (operand q x) _ (λ n. refl))
+made_of q (instrs.Len d a) = no_record_then (reference_in (register q a)) _ (λ i. refl)
+made_of q (instrs.Isp d a) = refl
+made_of q (instrs.Get d x) = no_record_then (board_place q x) _ (λ n. refl)
+made_of q (instrs.Put x a) = no_record_then (board_place q x) _ (λ n. refl)
+made_of q (instrs.Swap d x) = no_record_then (board_place q x) _ (λ n. refl)
+made_of q (instrs.Out a) = no_record_then (as_number (register q a)) _ (λ n. prints_no_record n (nat_lt (length q.printed) MOST_PRINTED))
+made_of q instrs.Halt = refl
+
+-- ---- a worker that makes a record
+
+same_instr : (due : Due) (instr i : Instr) (stop : End) (t : Option Task) → t ≡ task_due due instr stop → t ≡ Some (Calls i) → instr ≡ i
+same_instr dues.Call instr i stop t due is = cc
+same_instr dues.Nothing instr i stop t due is = cc
+same_instr dues.Stop instr i stop t due is = cc
+
+module _ (x : Held) (due : Due) (instr : Instr) (stop : End) (task : x.task ≡ task_due due instr stop) (m : IsMaking x.account x.registers x.task) where
+  -- the record is the one that its instruction makes
+  pub makes_it : making_for x x.task ≡ making_in (action (seen x.account x.registers) instr)
+  makes_it =
+      ap (making_for x) m.executes.task_is
+      ∙ ap (λ (i : Instr). making_in (action (seen x.account x.registers) i)) (sym (same_instr due instr m.executes.instr stop x.task task m.executes.task_is))
+
+  pub makes_one : None ≡ making_in (action (seen x.account x.registers) instr) → ⊥
+  makes_one none = let e : None ≡ Some m.making = none ∙ (sym makes_it ∙ made_is x m) in cc

@@ -1,0 +1,102 @@
+-- A late mutator's task stays what it is when a pointer in a register takes another's place.
+use Rattle.std.proofs.Common.{◌≡◌, ◌≢◌, ℕ, ◌<◌, List, length, map, Option, Some, None, Result, Ok, slice_index, slice_set, refl, sym, ap, ◌∙◌, ⊎_elim, get_or-set_same, get_or-set_other, length-set, arith}
+use Rattle.std.specs.Prelude.{slice_index_or}
+use Rattle.std.proofs.lemmas.Option.{same_Some}
+use Rattle.std.proofs.lemmas.Bool.{cases_eq}
+use Rattle.std.proofs.lemmas.List.{map-set, get_or-map}
+use Rattle.heap_words.specs.Decoded.{PointerWord, decode}
+use Rattle.plain_state.specs.declared.end.End.{End}
+use Rattle.plain_state.specs.declared.value.Value.TheVariants.{Number}
+use Rattle.plain_state.specs.State.{Mutator}
+use Rattle.plain_state.specs.declared.kind.Kind.{Kind}
+use Rattle.plain_state.specs.declared.kind.Kind.TheVariants as kinds
+use Rattle.mutator_asm.specs.declared.instr.Instr.{Instr}
+use Rattle.mutator_asm.specs.declared.instr.Instr.TheVariants as instrs
+use Rattle.mutator_asm.specs.declared.operand.Operand.{Operand}
+use Rattle.mutator_asm.specs.declared.operand.Operand.TheVariants as operands
+use Rattle.plain_heap.specs.declared.action.Action.{Action}
+use Rattle.plain_heap.specs.declared.action.Action.TheVariants.{Makes}
+use Rattle.plain_heap.specs.Action.{◌>>=◌, action, allocates, length_of, operand, register, as_number}
+use Rattle.heap_state.specs.Worker.{Account}
+use Rattle.gc_worker.proofs.Plain.RecordsMade.{makes_of, made_of}
+use Rattle.gc_worker.specs.declared.after.After.{After}
+use Rattle.gc_worker.specs.declared.after.After.TheVariants as afters
+use Rattle.gc_worker.specs.declared.task.Task.{Task}
+use Rattle.gc_worker.specs.declared.task.Task.TheVariants.{Calls, Stops}
+use Rattle.gc_worker.specs.Fits.{FitsCall, MayBegin, IsMaking}
+use Rattle.gc_worker.specs.Seen.{Making, making_in, seen, seen_as, value_seen}
+
+abbrev TaskAfter : Account → List ℕ → Option Task → After → Type 0
+TaskAfter account registers task afters.Looks = MayBegin account registers task
+TaskAfter account registers task afters.Places = IsMaking account registers task
+
+-- ---- the record that an instruction makes
+
+-- two mutators whose operands are the same make the same record
+module _ (k j : Mutator) (same : (x : Operand) → operand k x ≡ operand j x) where
+  allocates_same : (kind : Kind) (d : ℕ) (x : Operand) → making_in (allocates k kind d x) ≡ making_in (allocates j kind d x)
+  allocates_same kind d x = ap (λ (o : Result ℕ End). making_in (o >>= (λ n. length_of n >>= (λ len. Ok (Makes kind d len))))) (same x)
+
+  makes_of_same : (i : Instr) → makes_of k i ≡ makes_of j i
+  makes_of_same (instrs.New d x) = allocates_same kinds.Fields d x
+  makes_of_same (instrs.Raw d x) = allocates_same kinds.Raw d x
+  makes_of_same i = refl
+
+  makes_same : (i : Instr) → making_in (action k i) ≡ making_in (action j i)
+  makes_same i = made_of k i ∙ makes_of_same i ∙ sym (made_of j i)
+
+-- ---- a register gets a copy
+
+module _ (account : Account) (registers : List ℕ) (r a b : ℕ) (new : ℕ) (inside : r < length registers) (was : decode (slice_index registers r) ≡ PointerWord a) (now : decode new ≡ PointerWord b) where
+  abbrev before : Mutator
+  before = seen account registers
+
+  abbrev after : Mutator
+  after = seen account (slice_set registers r new)
+
+  seen_at : (rs : List ℕ) (i : ℕ) → i < length rs → register (seen account rs) i ≡ value_seen (slice_index rs i)
+  seen_at rs i l = get_or-map value_seen rs i 0 (Number 0) l
+
+  number_same : (i : ℕ) → as_number (register after i) ≡ as_number (register before i)
+  number_same i = ⊎_elim
+      (λ (e : i ≡ r). let rs = slice_set registers r new in let n = length-set registers r new in
+      ap as_number (ap (register after) e ∙ (seen_at rs r (omega (arith, n, inside)) ∙ ap value_seen (get_or-set_same registers r new 0 inside))) ∙ ap (λ d. as_number (seen_as d)) now
+      ∙ sym (ap as_number (ap (register before) e ∙ seen_at registers r inside) ∙ ap (λ d. as_number (seen_as d)) was))
+      (λ (other : i ≢ r). ap (λ values. as_number (slice_index_or values i (Number 0))) (map-set value_seen registers r new)
+      ∙ ap as_number (get_or-set_other (map value_seen registers) r i (value_seen new) (Number 0) other))
+      (cases_eq i r)
+
+  operand_same : (x : Operand) → operand after x ≡ operand before x
+  operand_same (operands.Reg i) = number_same i
+  operand_same (operands.Number n) = refl
+
+  same : (i : Instr) → making_in (action after i) ≡ making_in (action before i)
+  same = makes_same after before operand_same
+
+  call_stays : (i : Instr) → FitsCall account registers i → FitsCall account (slice_set registers r new) i
+  call_stays i call = record { valid = call.valid; serial = λ m is. call.serial m (sym (same i) ∙ is) }
+
+  begins_still : (task : Option Task) → MayBegin account registers task → MayBegin account (slice_set registers r new) task
+  begins_still None may = tt
+  begins_still (Some (Calls i)) may = call_stays i may
+  begins_still (Some (Stops end)) may = may
+
+  -- what is made is Ok of that action
+  made : (o : Result Action End) (m : Making) → making_in o ≡ Some m → o ≡ Ok (Makes m.kind m.into m.len)
+  made (Ok (Makes kind d n)) m is = ap (λ (q : Making). Ok (Makes q.kind q.into q.len)) (same_Some (record { kind = kind; into = d; len = n }) m is)
+  made o m is = absurd (cc)
+
+  makes_still : (task : Option Task) → IsMaking account registers task → IsMaking account (slice_set registers r new) task
+  makes_still task making = record {
+    making = making.making;
+    executes = record {
+      instr = making.executes.instr;
+      task_is = making.executes.task_is;
+      call = call_stays making.executes.instr making.executes.call;
+      acts = made (action after making.executes.instr) making.making (same making.executes.instr ∙ ap making_in making.executes.acts);
+    };
+  }
+
+  pub task_stays : (x : After) (task : Option Task) → TaskAfter account registers task x → TaskAfter account (slice_set registers r new) task x
+  task_stays afters.Looks task may = begins_still task may
+  task_stays afters.Places task making = makes_still task making

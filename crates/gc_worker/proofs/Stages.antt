@@ -1,0 +1,9 @@
+pub mod Gate
+pub mod Flip
+pub mod OpenedPage
+pub mod Scan
+pub mod Rounds
+pub mod Copies
+pub mod Place
+pub mod Access
+pub mod Look

@@ -1,0 +1,230 @@
+-- The load and the store of a value of a record, whose page was found open: the instruction's effect.
+use Rattle.std.proofs.Common.{◌≡◌, ℕ, ◌+◌, ◌*◌, ◌<◌, ◌≤◌, true, [], length, Option, None, Some, Ok, slice_get, refl, ap, sym, subst, ◌∙◌, arith}
+use Rattle.std.specs.Prelude.{Result, nat_lt}
+use Rattle.std.specs.Option.{option_map_or}
+use Rattle.std.proofs.lemmas.Bool.{lt-ltb}
+use Rattle.std.proofs.lemmas.Option.{slice_get_within, get_or_from_slice_get}
+use Rattle.plain_state.specs.declared.end.End.{End}
+use Rattle.plain_state.specs.declared.kind.Kind as kinds
+use Rattle.plain_state.specs.declared.kind.Kind.TheVariants as kind
+use Rattle.plain_state.specs.declared.sizes.TheConstants.{NUMBERS}
+use Rattle.plain_state.specs.declared.value.Identity.{Identity}
+use Rattle.plain_state.specs.declared.value.Value.{Value}
+use Rattle.plain_state.specs.declared.value.Value.TheVariants.{Number, Reference}
+use Rattle.plain_state.specs.State.{Heap, Plain, Record, record_of}
+use Rattle.plain_state.specs.Writing.{stored}
+use Rattle.plain_heap.specs.declared.action.Action.{Action}
+use Rattle.plain_heap.specs.declared.action.Action.TheVariants.{Sets, Jumps, Links, Prints, Makes, Measures, Loads, Stores, Gets, Puts, Swaps}
+use Rattle.plain_heap.specs.Action.{◌>>=◌}
+use Rattle.plain_heap.specs.Call as plain
+use Rattle.plain_heap.specs.Call.{After, performed, values_of, value_in, store_in, may_hold, went_on}
+use Rattle.atom_store.specs.declared.step.Step.TheVariants.{Load, Store}
+use Rattle.atom_store.specs.declared.reply.Reply.TheVariants as replies
+use Rattle.heap_words.specs.Decoded.{number_in}
+use Rattle.space_map.specs.Spaces.{page_of}
+use Rattle.space_map.specs.Table.{HeapWord, place_of}
+use Rattle.heap_state.specs.Configuration.{Configuration, Stands, era, memory, team}
+use Rattle.heap_state.specs.Entries.{Entry, WordIs}
+use Rattle.heap_state.specs.Parts.Knowledge as parts
+use Rattle.heap_state.specs.Table.{word_in}
+use Rattle.heap_state.specs.Worker.{Worker}
+use Rattle.heap_laws.specs.Fields.Effects.{IsValueOf, FitsRole, word_held, word_stored}
+use Rattle.heap_laws.specs.Fields.Held.{HoldsValue}
+use Rattle.heap_laws.specs.Fields.Words.{MayStore, StandsFor}
+use Rattle.heap_laws.proofs.Fields.Effects.{accesses_are_values}
+use Rattle.heap_laws.proofs.Fields.Laws.{mutators_store}
+use Rattle.heap_laws.proofs.Fields.Stored.{words_are_loaded}
+use Rattle.gc_worker.specs.declared.access_stage.AccessStage.{AccessStage}
+use Rattle.gc_worker.specs.declared.access_stage.AccessStage.TheVariants.{LoadsField, StoresField}
+use Rattle.gc_worker.specs.declared.field_access.FieldAccess.{FieldAccess}
+use Rattle.gc_worker.specs.declared.field_access.FieldUse.TheVariants as field_uses
+use Rattle.gc_worker.specs.declared.field_access.Role.{Role}
+use Rattle.gc_worker.specs.declared.field_access.Role.TheVariants as roles
+use Rattle.gc_worker.specs.Access.{IsFieldOfAction, IsHeapAddress, field_at, field_of, kind_of, role_of, word_as}
+use Rattle.gc_worker.specs.Fits.{ExecutesAction}
+use Rattle.gc_worker.specs.Goes.{Is, Goes, StepsSo}
+use Rattle.gc_worker.specs.Held.{Held}
+use Rattle.gc_worker.specs.Knows.{known_access, access_at, opened_at}
+use Rattle.gc_worker.specs.Seen.{word_for}
+use Rattle.gc_worker.proofs.Plain.Actions.{plain_value}
+use Rattle.gc_worker.proofs.Plain.Effects.{moved, moved_goes, moved_as}
+use Rattle.gc_worker.proofs.Stages.Gate.Words.{wants}
+use Rattle.gc_worker.proofs.Stages.Scan.Headers.{heap_word}
+use Rattle.gc_worker.proofs.Words.RowSteps.{loads, stores}
+use Rattle.gc_worker.proofs.Stages.Access.Acting.{q, its, names, is_small, value_word, Held_value, IsSmall, decode_number}
+use Rattle.gc_worker.proofs.Stages.Access.Going.{at, ready, running, no_end}
+use Rattle.gc_worker.proofs.Stages.Access.Outcomes.{goes_loading, goes_storing}
+
+-- ---- words and roles
+
+kind_by : (o : Role) (of : kinds.Kind) (word : ℕ) → parts.HasRole of word (role_of o) → of ≡ kind_of o
+kind_by roles.Field kind.Fields word has = refl
+kind_by roles.Field kind.Raw word has = absurd (cc)
+kind_by roles.Number kind.Fields word has = absurd (cc)
+kind_by roles.Number kind.Raw word has = refl
+
+-- what is stored for a value that may be held
+stored_as : (o : Role) (v : Value) → IsSmall v → may_hold (kind_of o) v ≡ Ok v → word_stored (role_of o) (word_for v) ≡ Some (word_as o v)
+stored_as roles.Field v small may = refl
+stored_as roles.Number (Number n) small may = ap number_in (decode_number n small)
+stored_as roles.Number (Reference i) small may = absurd (cc)
+
+may_plain : (identity : ℕ → Identity) (o : Role) (v : Value) → may_hold (kind_of o) v ≡ Ok v → may_hold (kind_of o) (plain_value identity v) ≡ Ok (plain_value identity v)
+may_plain identity roles.Field v may = refl
+may_plain identity roles.Number (Number n) may = refl
+may_plain identity roles.Number (Reference i) may = absurd (cc)
+
+fits_as : (o : Role) (v : Value) → IsSmall v → may_hold (kind_of o) v ≡ Ok v → FitsRole (role_of o) (word_as o v)
+fits_as roles.Field v small may = tt
+fits_as roles.Number (Number n) small may = small
+fits_as roles.Number (Reference i) small may = absurd (cc)
+
+-- ---- the plain heap
+
+module _ (heap : Heap) (i : Identity) (r : Record) (x : ℕ) (v : Value) (there : record_of heap i ≡ Some r) (is : slice_get r.values x ≡ Some v) where
+  value_there : value_in heap i x ≡ Ok v
+  value_there =
+      let values : values_of heap i ≡ r.values = ap (λ (o : Option Record). option_map_or (λ (r : Record). r.values) o []) there in
+      let within : nat_lt x (length r.values) ≡ true = lt-ltb x (length r.values) (slice_get_within r.values x v is) in
+      rw (values, within) (ap Ok (get_or_from_slice_get r.values x v (Number 0) is))
+
+module _ (c : Configuration) (p : Plain) (s : Stands c p) (k : ℕ) (y : Held) where
+  -- a field of the record that an action names
+  module _ (j : Identity) (role : Role) (x : ℕ) where
+    abbrev f : FieldAccess
+    f = field_of j.serial role x
+
+    abbrev word : ℕ
+    word = word_in c.pages c.words (HeapWord (field_at f))
+
+    module _ (stage : AccessStage) (is : Is c k (at c p s k y stage)) (knows_it : access_at stage ≡ Some (known_access f)) (found : opened_at y.layout stage ≡ Some (page_of (field_at f))) where
+      value_is : IsValueOf (era c) (memory c) s.ghost p (known_access f) x
+      value_is =
+          accesses_are_values (era c) (memory c) (team c) s.ghost p k (known_access f) x (ready c p s k y stage is) s.shown (ap (λ (w : Worker). w.access) is.as_known ∙ knows_it)
+          (ap (λ (w : Worker). w.opened) is.as_known ∙ found) refl
+
+      kind_is : value_is.record_there.kind ≡ kind_of role
+      kind_is = kind_by role value_is.record_there.kind (x + 1) value_is.role
+
+      there_in_plain : value_in p.heap (s.ghost.identity j.serial) x ≡ Ok value_is.value
+      there_in_plain = value_there p.heap (s.ghost.identity j.serial) value_is.record_there x value_is.value value_is.is value_is.there
+
+      -- ---- the load
+
+      holds : HoldsValue (era c) s.ghost (word_held (role_of role) word) value_is.value
+      holds = subst (λ (w : ℕ). HoldsValue (era c) s.ghost (word_held (role_of role) w) value_is.value) (heap_word c (field_at f)) value_is.loaded
+
+      may : MayStore (era c) s.ghost.size s.ghost.writer (s.ghost.kind j.serial) x ((memory c).heap (field_at f))
+      may = words_are_loaded (era c) (memory c) (team c) s.ghost k j.serial x (ready c p s k y stage is) value_is.word value_is.opens
+
+      fits_role : (o : Role) → role ≡ o → FitsRole (role_of o) word
+      fits_role roles.Field same = tt
+      fits_role roles.Number same =
+          let raw : s.ghost.kind j.serial ≡ kind.Raw = sym value_is.kind ∙ (kind_is ∙ ap kind_of same) in
+          subst (λ (w : ℕ). w < NUMBERS) (heap_word c (field_at f)) (may.number (rw raw refl))
+
+    module _ (d : ℕ) (is : Is c k (at c p s k y (LoadsField f d))) (executes : ExecutesAction y.account y.registers y.task (Loads d j x)) where
+      loads_it : Goes c p s k None (at c p s k y (LoadsField f d)) (replies.Value word)
+      loads_it =
+          let v = value_is (LoadsField f d) is refl refl in
+          goes_loading c p s k y (LoadsField f d) is (Loads d j x) executes (replies.Value word) d (word_held (role_of role) word) v.value refl is.fits.stage.sound.stage.1
+          (value_word s.ghost.identity (word_held (role_of role) word) v.value (holds (LoadsField f d) is refl refl).denotes) (holds (LoadsField f d) is refl refl)
+          (ap (λ (o : Result Value End). o >>= (λ (v : Value). Ok (plain.loads p.heap (q c p s k y (LoadsField f d) is) d v))) (there_in_plain (LoadsField f d) is refl refl))
+          (fits_role (LoadsField f d) is refl refl role refl)
+
+    -- ---- the store
+
+    module _ (v : Value) (is : Is c k (at c p s k y (StoresField f (word_as role v)))) (executes : ExecutesAction y.account y.registers y.task (Stores j x v)) (holding : may_hold (kind_of role) v ≡ Ok v) where
+      abbrev stage : AccessStage
+      stage = StoresField f (word_as role v)
+
+      abbrev own_x : Held
+      own_x = at c p s k y stage
+
+      abbrev there : IsValueOf (era c) (memory c) s.ghost p (known_access f) x
+      there = value_is stage is refl refl
+
+      abbrev i : Identity
+      i = s.ghost.identity j.serial
+
+      abbrev new : Value
+      new = plain_value s.ghost.identity v
+
+      holds_both : Held_value c p s k y stage is (Reference j) × Held_value c p s k y stage is v
+      holds_both = names c p s k y stage is (Stores j x v) executes
+
+      small : IsSmall v
+      small = is_small c p s k y stage is v holds_both.1
+
+      may_store : MayStore (era c) s.ghost.size s.ghost.writer (s.ghost.kind j.serial) x (word_as role v) × StandsFor s.ghost (s.ghost.kind j.serial) x (word_as role v) new
+      may_store = there.stored (word_for v) (word_as role v) new holds_both.1 (stored_as role v small holding) (fits_as role v small holding)
+
+      abbrev entry : Entry
+      entry = WordIs (field_at f) (word_as role v)
+
+      abbrev after : After
+      after = record { heap = stored p.heap i there.record_there x new; mutator = went_on (q c p s k y stage is) }
+
+      acts : performed k p.heap (q c p s k y stage is) (Stores i x new) ≡ Ok after
+      acts =
+          ap (λ (o : Result Value End). o >>= (λ (old : Value). store_in p.heap i (record_of p.heap i) x new >>= (λ (heap : Heap). Ok (record { heap = heap; mutator = went_on (q c p s k y stage is) })))) (there_in_plain stage is refl refl)
+          ∙ rw (there.is, kind_is stage is refl refl, may_plain s.ghost.identity role v holding) refl
+
+      stores_it : Goes c p s k (Some entry) own_x replies.Done
+      stores_it =
+          goes_storing c p s k y stage is (Stores j x v) executes (Some entry) replies.Done after refl acts
+          (mutators_store (era c) (memory c) (team c) s.ghost p k (moved c p s k own_x is refl (no_end c p s k y stage is) y.registers) (went_on (q c p s k y stage is)) j.serial x (word_as role v) there.record_there new
+          (ready c p s k y stage is) (running c p s k y stage is) s.shown there.word there.opens may_store.0 there.is may_store.1
+          (moved_goes c p s k own_x is refl (no_end c p s k y stage is) (q c p s k y stage is) (its c p s k y stage is)) (moved_as c p s k own_x is refl (no_end c p s k y stage is) (q c p s k y stage is) (its c p s k y stage is))) tt
+
+  -- ---- the stages
+
+  module _ (f : FieldAccess) where
+    in_table : IsHeapAddress y.layout.pages (field_at f) → y.layout.pages ≡ c.pages → field_at f ≤ 128 * c.pages + 63
+    in_table inside n = omega (arith, inside, n)
+
+    loads_by : (into : ℕ) (act : Action) → ExecutesAction y.account y.registers y.task act → IsFieldOfAction act f (field_uses.Loads into) → Is c k (at c p s k y (LoadsField f into))
+        → Goes c p s k None (at c p s k y (LoadsField f into)) (replies.Value (word_in c.pages c.words (HeapWord (field_at f))))
+    loads_by into (Loads d j x) executes of is =
+        let same : into ≡ d = let e = of.1 in cc in
+        subst (λ (g : FieldAccess). Is c k (at c p s k y (LoadsField g into)) → Goes c p s k None (at c p s k y (LoadsField g into)) (replies.Value (word_in c.pages c.words (HeapWord (field_at g))))) (sym of.0)
+        (subst (λ (n : ℕ). Is c k (at c p s k y (LoadsField (field_of j.serial f.role x) n)) → Goes c p s k None (at c p s k y (LoadsField (field_of j.serial f.role x) n)) (replies.Value (word_in c.pages c.words (HeapWord (field_at (field_of j.serial f.role x)))))) (sym same)
+        (λ its. loads_it j f.role x d its executes)) is
+    loads_by into (Stores j x v) executes of is = absurd (let e = of.2 in cc)
+    loads_by into (Sets d v) executes of is = absurd of
+    loads_by into (Jumps target) executes of is = absurd of
+    loads_by into (Links d target) executes of is = absurd of
+    loads_by into (Prints n) executes of is = absurd of
+    loads_by into (Makes kind d n) executes of is = absurd of
+    loads_by into (Measures d j) executes of is = absurd of
+    loads_by into (Gets d x) executes of is = absurd of
+    loads_by into (Puts x v) executes of is = absurd of
+    loads_by into (Swaps d x v) executes of is = absurd of
+
+    pub loads_field : (into : ℕ) → Is c k (at c p s k y (LoadsField f into)) → StepsSo c p s k (at c p s k y (LoadsField f into))
+    loads_field into is =
+        wants c p s k (at c p s k y (LoadsField f into)) (Load (place_of c.pages (HeapWord (field_at f)))) (ap (λ n. Some (Load (place_of n (HeapWord (field_at f))))) is.fits.pages)
+        (loads c p s k (at c p s k y (LoadsField f into)) (HeapWord (field_at f)) (in_table is.fits.stage.sound.stage.0 is.fits.pages) (loads_by into is.fits.task.act is.fits.task.executes is.fits.task.is is))
+
+    stores_by : (new : ℕ) (act : Action) → ExecutesAction y.account y.registers y.task act → IsFieldOfAction act f (field_uses.Stores new) → Is c k (at c p s k y (StoresField f new))
+        → Goes c p s k (Some (WordIs (field_at f) new)) (at c p s k y (StoresField f new)) replies.Done
+    stores_by new (Stores j x v) executes of is =
+        let same : new ≡ word_as f.role v = let e = of.2 in cc in
+        subst (λ (g : FieldAccess). Is c k (at c p s k y (StoresField g new)) → Goes c p s k (Some (WordIs (field_at g) new)) (at c p s k y (StoresField g new)) replies.Done) (sym of.0)
+        (subst (λ (n : ℕ). Is c k (at c p s k y (StoresField (field_of j.serial f.role x) n)) → Goes c p s k (Some (WordIs (field_at (field_of j.serial f.role x)) n)) (at c p s k y (StoresField (field_of j.serial f.role x) n)) replies.Done) (sym same)
+        (λ its. stores_it j f.role x v its executes of.1)) is
+    stores_by new (Loads d j x) executes of is = absurd (let e = of.1 in cc)
+    stores_by new (Sets d v) executes of is = absurd of
+    stores_by new (Jumps target) executes of is = absurd of
+    stores_by new (Links d target) executes of is = absurd of
+    stores_by new (Prints n) executes of is = absurd of
+    stores_by new (Makes kind d n) executes of is = absurd of
+    stores_by new (Measures d j) executes of is = absurd of
+    stores_by new (Gets d x) executes of is = absurd of
+    stores_by new (Puts x v) executes of is = absurd of
+    stores_by new (Swaps d x v) executes of is = absurd of
+
+    pub stores_field : (new : ℕ) → Is c k (at c p s k y (StoresField f new)) → StepsSo c p s k (at c p s k y (StoresField f new))
+    stores_field new is =
+        wants c p s k (at c p s k y (StoresField f new)) (Store (place_of c.pages (HeapWord (field_at f))) new) (ap (λ n. Some (Store (place_of n (HeapWord (field_at f))) new)) is.fits.pages)
+        (stores c p s k (at c p s k y (StoresField f new)) (WordIs (field_at f) new) (in_table is.fits.stage.sound.stage is.fits.pages) (stores_by new is.fits.task.act is.fits.task.executes is.fits.task.is is))

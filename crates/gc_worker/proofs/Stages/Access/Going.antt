@@ -1,0 +1,123 @@
+-- A mutator that makes an access: what is so of it, and how it goes on to the next stage, or to a round for a page that isn't open.
+use Rattle.std.proofs.Common.{◌≡◌, ℕ, ◌<◌, ◌≤◌, true, false, slice_index, Option, Some, None, is_some, refl, sym, ap, subst, ◌∙◌}
+use Rattle.plain_state.specs.State.{Plain}
+use Rattle.atom_store.specs.declared.reply.Reply.{Reply}
+use Rattle.space_map.specs.declared.page_word.PageWord.TheVariants.{Open}
+use Rattle.space_map.specs.Spaces.{board_page}
+use Rattle.fault_duty.specs.declared.caller.Caller.TheVariants as callers
+use Rattle.fault_duty.specs.Duty as duty
+use Rattle.plain_state.specs.declared.end.End.{End}
+use Rattle.heap_state.specs.Configuration.{Configuration, Stands, table, era, memory, team}
+use Rattle.heap_state.specs.Inductive as inductive
+use Rattle.heap_state.specs.Parts.Knowledge as parts
+use Rattle.heap_state.specs.Worker.{Worker, is_running}
+use Rattle.heap_state.specs.Worker as workers
+use Rattle.heap_laws.specs.Fields.Held.{MayHold, MutatorGoesOn}
+use Rattle.heap_laws.specs.Steps.{Ready}
+use Rattle.heap_laws.proofs.Fields.GoingOn.{runs, timely}
+use Rattle.heap_laws.proofs.Fields.Laws.{goes_on_so, mutators_learn}
+use Rattle.heap_laws.proofs.Fields.Shown.{registers_are_held}
+use Rattle.gc_worker.specs.declared.access.Access.{Access}
+use Rattle.gc_worker.specs.declared.access_stage.AccessStage.{AccessStage}
+use Rattle.gc_worker.specs.declared.accessed.Accessed.TheVariants.{Faults}
+use Rattle.gc_worker.specs.declared.back.Back.TheVariants.{ToAccess}
+use Rattle.gc_worker.specs.declared.stage.Stage.TheVariants.{Accesses, Serves}
+use Rattle.gc_worker.specs.Access.{Answered, GoesTo, Comes, answered, turn_by, goes_by, FitsStage}
+use Rattle.gc_worker.specs.Access as access
+use Rattle.gc_worker.specs.Fits.{Fits, IsAccessing, IsFaulting}
+use Rattle.gc_worker.specs.Goes.{Is, Goes}
+use Rattle.gc_worker.specs.Held.{Held, at_stage}
+use Rattle.gc_worker.specs.Knows.{knows, access_at, opened_at}
+use Rattle.gc_worker.specs.Turned.{turned_access, told_access}
+use Rattle.gc_worker.proofs.Workers.Parts.{refit, page_count}
+use Rattle.gc_worker.proofs.Words.RowSteps.{Law, becomes, nothing, prepared}
+
+pub no_end_by : (o : Option End) → is_some o ≡ false → o ≡ None
+no_end_by None e = refl
+no_end_by (Some end) e = absurd (cc)
+
+module _ (c : Configuration) (p : Plain) (s : Stands c p) (k : ℕ) (y : Held) where
+  abbrev pub own : AccessStage → Access
+  own stage = record { spaces = y.layout; epoch = y.epoch; stage = stage }
+
+  abbrev pub at : AccessStage → Held
+  at stage = record y { stage = Accesses (own stage) }
+
+  module _ (stage : AccessStage) (is : Is c k (at stage)) where
+    abbrev pub x : Held
+    x = at stage
+
+    pub ready : Ready (era c) (memory c) (team c) s.ghost k
+    ready = prepared c p s k x is
+
+    me : inductive.Knows (era c) (memory c).gate (memory c).traced (memory c).front (memory c).low (memory c).old_front (memory c).old_low (memory c).old_owed s.ghost (memory c).page (memory c).cross (memory c).announced (memory c).heap k ((team c).worker k)
+    me = s.invariant.workers k is.below
+
+    pub running : is_running ((team c).worker k).post ≡ true
+    running = ap (λ (w : Worker). is_running w.post) is.as_known
+
+    pub present : y.epoch ≡ (era c).epoch
+    present = ap (λ (w : Worker). w.epoch) (sym is.as_known) ∙ me.timely.running running
+
+    pub no_end : y.account.end ≡ None
+    no_end = no_end_by y.account.end is.fits.end
+
+    pub held : (j : ℕ) → j < 8 → MayHold (era c) s.ghost.size s.ghost.writer (slice_index y.registers j)
+    held j small =
+        let w = (team c).worker k in
+        subst (λ (u : Worker). MayHold (era c) s.ghost.size s.ghost.writer (u.registers j)) is.as_known
+        (registers_are_held (era c) (memory c) (team c) s.ghost k j ready (runs w.post running).mutator (timely (era c) w running me.timely.running)
+        (ap (λ (u : Worker). u.account.end) is.as_known ∙ no_end) small)
+
+    -- what it knew is so
+    pub knew_access : (f : workers.Access) → access_at stage ≡ Some f → parts.Accesses (era c) s.ghost.size s.ghost.writer s.ghost.kind f
+    knew_access f e = me.access f (ap (λ (w : Worker). w.access) is.as_known ∙ e)
+
+    pub knew_opened : (page : ℕ) → opened_at y.layout stage ≡ Some page → (table c).page page ≡ Open (era c).epoch
+    knew_opened page e = (me.opened page (ap (λ (w : Worker). w.opened) is.as_known ∙ e)).1
+
+    -- ---- the next stage
+
+    pub learns : (next : AccessStage) → ((f : workers.Access) → access_at next ≡ Some f → parts.Accesses (era c) s.ghost.size s.ghost.writer s.ghost.kind f)
+        → ((page : ℕ) → opened_at y.layout next ≡ Some page → (table c).page page ≡ Open (era c).epoch) → Law c p s k x None (knows (at next)) s.ghost
+    learns next accesses opens =
+        let w = (team c).worker k in
+        let goes : MutatorGoesOn (era c) (memory c) s.ghost (knows x) (knows (at next)) =
+        subst (λ (u : Worker). MutatorGoesOn (era c) (memory c) s.ghost u (record u { account = y.account; registers = λ r. slice_index y.registers r; access = access_at next; opened = opened_at y.layout next; gate_step = None })) is.as_known
+        (goes_on_so (era c) (memory c) (team c) s.ghost k y.account (λ r. slice_index y.registers r) (access_at next) (opened_at y.layout next) ready
+        (ap (λ (u : Worker). u.account.serial) (sym is.as_known)) accesses opens (λ _ j small. held j small)) in
+        mutators_learn (era c) (memory c) (team c) s.ghost k (knows (at next)) ready running (rw is.as_known goes)
+        (ap (λ (u : Worker). u.account) (sym is.as_known)) (ap (λ (u : Worker). u.registers) (sym is.as_known))
+
+    pub next_fits : (next : AccessStage) → IsAccessing y.account y.registers y.task next → FitsStage y.layout.pages next → Fits c.pages c.mutators k (at next)
+    next_fits next task fits =
+        refit c.pages c.mutators k x is.fits (Accesses (own next)) is.fits.end is.fits.side task
+        (record { layout = refl; epoch = refl; sound = record { pages = page_count c.pages c.mutators k x is.fits; stage = fits } })
+
+    pub goes_to : (next : AccessStage) (reply : Reply) → answered (own stage) reply ≡ GoesTo next → Law c p s k x None (knows (at next)) s.ghost
+        → IsAccessing y.account y.registers y.task next → FitsStage y.layout.pages next → access.AccessTakes stage reply → Goes c p s k None x reply
+    goes_to next reply e law task fits takes =
+        becomes c p s k x None reply (at next) s.ghost (ap (λ (r : Answered). turned_access x (goes_by (own stage) r) (turn_by r)) e) is.below law
+        (ap (λ (r : Answered). told_access y.task (turn_by r)) e) refl takes (next_fits next task fits)
+
+    -- ---- a fault
+
+    abbrev faulted : ℕ → Held
+    faulted page = at_stage x (Serves (duty.begun y.layout (callers.Faulted page) y.epoch y.number) (ToAccess (own stage)))
+
+    pub goes_faulting : (page : ℕ) (reply : Reply) → answered (own stage) reply ≡ Comes (Faults page) → page ≤ board_page y.layout.pages → IsFaulting x page → access.AccessTakes stage reply
+        → Goes c p s k None x reply
+    goes_faulting page reply e within faulting takes =
+        becomes c p s k x None reply (faulted page) s.ghost (ap (λ (r : Answered). turned_access x (goes_by (own stage) r) (turn_by r)) e) is.below
+        (nothing c p s k x is (knows (faulted page)) refl) (ap (λ (r : Answered). told_access y.task (turn_by r)) e) refl takes
+        (refit c.pages c.mutators k x is.fits (Serves (duty.begun y.layout (callers.Faulted page) y.epoch y.number) (ToAccess (own stage))) is.fits.end is.fits.side is.fits.task (
+          record {
+            layout = refl;
+            worker = refl;
+            caller = faulting;
+            epoch = refl;
+            going = tt;
+            sound = record { pages = page_count c.pages c.mutators k x is.fits; caller = within; epoch = is.fits.epoch; worker = rw is.fits.number is.fits.few; stage = tt };
+          },
+          is.fits.stage,
+        ))

@@ -1,0 +1,77 @@
+-- The flip: the exchange of the gate, which is never lost.
+use Rattle.std.proofs.Common.{◌≡◌, ℕ, ◌+◌, ◌^◌, ◌<◌, true, Some, refl, ap, sym, subst, ◌∙◌, arith}
+use Rattle.plain_state.specs.State.{Plain}
+use Rattle.atom_store.specs.declared.step.Step.TheVariants.{Exchange}
+use Rattle.atom_store.specs.declared.reply.Reply.TheVariants.{Won}
+use Rattle.space_map.specs.GateWord.{encode_gate}
+use Rattle.space_map.specs.Table.{Gate, place_of}
+use Rattle.space_map.proofs.GateWords.{encode_gate-gate_in}
+use Rattle.gate_core.specs.declared.flip_stage.FlipStage.TheVariants.{Exchanges}
+use Rattle.gate_core.specs.declared.passage.Passage.TheVariants.{Resume}
+use Rattle.gate_core.specs.declared.reset.Reset as resets
+use Rattle.gate_core.specs.Flip.{gate_flipped}
+use Rattle.heap_state.specs.Configuration.{Configuration, Stands, era, memory, team}
+use Rattle.heap_state.specs.Entries.{GateIs}
+use Rattle.heap_state.specs.Worker.{Worker, Reset}
+use Rattle.heap_laws.specs.Flipping.Flip.{Flips, after_flip, flipped_gate, next_ghost}
+use Rattle.heap_laws.specs.Lifting.{Flipped}
+use Rattle.heap_laws.proofs.Flipping.Flipped.{flip_keeps}
+use Rattle.heap_laws.proofs.Lifting.Laws.{flips_are_lifted}
+use Rattle.gc_worker.specs.declared.after.After.TheVariants as afters
+use Rattle.gc_worker.specs.Goes.{Is, Goes, StepsSo}
+use Rattle.gc_worker.specs.Held.{Held, at_stage}
+use Rattle.gc_worker.specs.Knows.{knows}
+use Rattle.gc_worker.specs.Turned.{passes}
+use Rattle.gc_worker.proofs.Words.Eras.{old_span_is, span_is}
+use Rattle.gc_worker.proofs.Workers.Parts.{before_passage}
+use Rattle.gc_worker.proofs.Stages.Flip.Resetting.{at, now}
+use Rattle.gc_worker.proofs.Stages.Gate.Words.{wants, gate_now, gate_word}
+use Rattle.gc_worker.proofs.Words.RowSteps.{exchanges, prepared}
+
+module _ (c : Configuration) (p : Plain) (s : Stands c p) (k : ℕ) (y : Held) (asked : ℕ) (r : resets.Reset) where
+  abbrev x : Held
+  x = at c p s k y asked (Exchanges r)
+
+  abbrev q : Reset
+  q = record { read = r.gate; used = Some r.used; stored = true }
+
+  abbrev z : Held
+  z = at_stage x (passes x (Resume x.epoch) afters.Places)
+
+  module _ (is : Is c k x) where
+    flips : Flips (era c) (team c) k q
+    flips = record {
+      asked = asked;
+      post = ap (λ (w : Worker). w.post) is.as_known;
+      reset = ap (λ (w : Worker). w.reset) is.as_known;
+      stored = refl;
+      fits = subst (λ (n : ℕ). n + 1 < 2 ^ 32) (now c p s k y asked (Exchanges r) is) is.fits.stage.sound.epoch;
+      large = let a = span_is c in let b = old_span_is c in omega (arith, a, b);
+    }
+
+    flipped : Flipped c (gate_flipped r.gate) k (knows z) p (next_ghost (era c) s.ghost)
+    flipped = subst (λ (w : Worker). Flipped c (flipped_gate r.gate) k (after_flip w) p (next_ghost (era c) s.ghost)) is.as_known (flips_are_lifted c p s k q is.below flips)
+
+    goes : Goes c p s k (Some (GateIs (gate_flipped r.gate))) x Won
+    goes = record {
+      takes = record { pages = is.fits.stage.sound.pages; epoch = is.fits.stage.sound.epoch; stage = tt };
+      fits = before_passage c.pages c.mutators k x is.fits (Resume x.epoch) afters.Places is.fits.end is.fits.side is.fits.task.0 refl;
+      ghost_after = next_ghost (era c) s.ghost;
+      leads = flipped;
+      wins = tt;
+      answered = tt;
+      full = tt;
+      flip = (is.fits.task.1, sym (now c p s k y asked (Exchanges r) is));
+    }
+
+    -- while a flip is in progress the gate stands still
+    pub unmoved : gate_now c ≡ encode_gate r.gate
+    unmoved =
+        let won = (flip_keeps (era c) (memory c) (team c) s.ghost k q (prepared c p s k x is) flips).won in
+        sym (encode_gate-gate_in (gate_now c)) ∙ ap encode_gate (sym (gate_word c) ∙ won)
+
+    pub flips_gate : StepsSo c p s k x
+    flips_gate =
+        wants c p s k x (Exchange (place_of c.pages Gate) (encode_gate r.gate) (encode_gate (gate_flipped r.gate)))
+        (ap (λ n. Some (Exchange (place_of n Gate) (encode_gate r.gate) (encode_gate (gate_flipped r.gate)))) is.fits.pages)
+        (exchanges c p s k x (GateIs (gate_flipped r.gate)) (encode_gate r.gate) tt (λ same. goes) (λ other. absurd (other unmoved)))

@@ -1,0 +1,188 @@
+-- A new record's header is stored: the record stands, and the register that the instruction names leads to it.
+use Rattle.std.proofs.Common.{◌≡◌, ℕ, ◌+◌, ◌-◌, ◌<◌, ◌≤◌, length, Some, None, Result, Ok, refl, ap, sym, subst, ◌∙◌, arith, length-set}
+use Rattle.std.specs.Prelude.{slice_set, IsOk}
+use Rattle.std.specs.Result.{IfOk}
+use Rattle.heap_words.specs.Decoded.{PointerWord, HeaderWord, decode, encode}
+use Rattle.heap_words.specs.Word.{pointer_word}
+use Rattle.heap_words.proofs.Decoding.{decode-pointer_word, decode-header_word}
+use Rattle.plain_state.specs.declared.end.End.{End}
+use Rattle.plain_state.specs.State.{Mutator, Plain}
+use Rattle.plain_state.specs.Writing.{zeros}
+use Rattle.mutator_asm.specs.declared.instr.Instr.{Instr}
+use Rattle.plain_heap.specs.declared.action.Action.{Action}
+use Rattle.plain_heap.specs.declared.action.Action.TheVariants.{Makes}
+use Rattle.plain_heap.specs.Action.{◌>>=◌, action, next_of}
+use Rattle.plain_heap.specs.Call.{After, call, performed, went_on, allocated as plain_allocated}
+use Rattle.plain_heap.specs.Step.{settled}
+use Rattle.atom_store.specs.declared.step.Step.TheVariants.{Store}
+use Rattle.atom_store.specs.declared.reply.Reply.TheVariants as replies
+use Rattle.record_layout.specs.declared.header.Header.{Header}
+use Rattle.record_layout.specs.Layout.{header_says}
+use Rattle.space_map.specs.Table.{HeapWord, place_of}
+use Rattle.alloc_end.specs.declared.place_stage.PlaceStage.TheVariants.{StoresHeader}
+use Rattle.alloc_end.specs.declared.run.Run.{Run}
+use Rattle.alloc_end.specs.Place.{size_of, placed}
+use Rattle.alloc_end.specs.Soundness.{IsSoundPlacing}
+use Rattle.heap_state.specs.Configuration.{Configuration, Stands, era, memory, team}
+use Rattle.heap_state.specs.Entries.{Entry, WordIs}
+use Rattle.heap_state.specs.Ghost.{Ghost, header_kind}
+use Rattle.heap_state.specs.Values.{Shows, value_of}
+use Rattle.heap_state.specs.Worker.{Account, Stock, Worker}
+use Rattle.heap_laws.specs.Allocation.Records.{PlacesNext, allocated, next_identity}
+use Rattle.heap_laws.specs.Fields.Stores.{with_record}
+use Rattle.heap_laws.proofs.Allocation.Placed.{mutators_place}
+use Rattle.heap_laws.proofs.Allocation.Shown.{zeros_show}
+use Rattle.gc_worker.specs.declared.task.Task.TheVariants.{Calls}
+use Rattle.gc_worker.specs.Answer.{after_outcome}
+use Rattle.gc_worker.specs.Fits.{Fits, IsMaking}
+use Rattle.gc_worker.specs.Goes.{Is, Goes, StepsSo}
+use Rattle.gc_worker.specs.Held.{Held}
+use Rattle.gc_worker.specs.Knows.{knows, stock_of}
+use Rattle.gc_worker.specs.Seen.{Making, IsValueAs, seen}
+use Rattle.gc_worker.specs.declared.did.Did.TheVariants.{Done}
+use Rattle.gc_worker.specs.Turned.{Answers, turned, told, told_effect}
+use Rattle.gc_worker.specs.Turned as turning
+use Rattle.gc_worker.proofs.Plain.AnswerSteps.{LawTo, IsIts, answers, its_mutator, row_fits_to}
+use Rattle.gc_worker.proofs.Plain.Effects.{moved, moved_goes, moved_as}
+use Rattle.gc_worker.proofs.Stages.Gate.Resuming.{end_none}
+use Rattle.gc_worker.proofs.Stages.Gate.Words.{wants}
+use Rattle.gc_worker.proofs.Plain.NewRecords.{made, made_is, header_made}
+use Rattle.gc_worker.proofs.Stages.Place.Acts.{makes_alike}
+use Rattle.gc_worker.proofs.Stages.Place.Claiming.{placing, at}
+use Rattle.gc_worker.proofs.Workers.Answered.{registers_put, values_set, settled_as, settled_fits}
+use Rattle.gc_worker.proofs.Words.RowSteps.{stores, prepared}
+use Rattle.gc_worker.proofs.Plain.Targets.{WritesRegister, writes_register}
+
+-- a call is its action, performed
+called : (k : ℕ) (p : Plain) (q : Mutator) (i : Instr) (act : Action) → action q i ≡ Ok act → call k p.heap q i ≡ performed k p.heap q act
+unfolding call
+called k p q i act is = ap (λ (o : Result Action End). o >>= performed k p.heap q) is
+
+module _ (c : Configuration) (p : Plain) (s : Stands c p) (k : ℕ) (y : Held) (run : Run) (making : IsMaking y.account y.registers y.task) where
+  abbrev m : Making
+  m = made y making
+
+  abbrev header : Header
+  header = header_made y making
+
+  abbrev instr : Instr
+  instr = making.executes.instr
+
+  abbrev x : Held
+  x = at c p s k y run header StoresHeader
+
+  -- the worker after it
+  abbrev next_run : Run
+  next_run = record { at = run.at + size_of header; end = run.end }
+
+  abbrev next_counter : ℕ
+  next_counter = next_of (seen y.account y.registers)
+
+  abbrev account : Account
+  account = record y.account { counter = next_counter; executed = y.account.executed + 1 }
+
+  abbrev after : Held
+  after = settled_as x (record account { serial = y.account.serial + 1 }) (slice_set y.registers m.into (pointer_word run.at)) (Some next_run)
+
+  comes : turned x replies.Done ≡ after
+  comes = ap (turning.with_record x next_run run.at) (made_is y making)
+
+  answer : told x replies.Done ≡ Answers (Calls instr) Done
+  answer = ap told_effect making.executes.task_is
+
+  small : m.into < 8
+  small = subst (λ (o : Result Action End). IfOk o WritesRegister) making.executes.acts (writes_register (seen y.account y.registers) instr making.executes.call.valid)
+
+  module _ (is : Is c k x) where
+    room : run.at + size_of header ≤ run.end
+    room = is.fits.stage.sound.stage
+
+    -- the pointer to the record
+    points : decode (pointer_word run.at) ≡ PointerWord run.at
+    points = let inside = is.fits.stage.sound.run in let n = is.fits.stage.sound.pages in decode-pointer_word run.at (omega (arith, inside, n))
+
+    inside : m.into < length y.registers
+    inside = let n = is.fits.eight in omega (arith, n, small)
+
+    fits : Fits c.pages c.mutators k after
+    fits =
+        let eight = is.fits.eight in let n = is.fits.pages in let l = is.fits.stage.sound.run in
+        settled_fits c.pages c.mutators k x is.fits is.fits.side (record account { serial = y.account.serial + 1 }) (slice_set y.registers m.into (pointer_word run.at)) (Some next_run) is.fits.end
+        (length-set y.registers m.into (pointer_word run.at) ∙ eight)
+        (values_set y.registers m.into (pointer_word run.at) eight (subst IsValueAs (sym points) tt) is.fits.registers)
+        is.fits.few_printed (room, omega (arith, l, n))
+
+    takes : IsSoundPlacing (placed (placing c p s k y run header StoresHeader))
+    takes = record { pages = is.fits.stage.sound.pages; run = (room, is.fits.stage.sound.run.1); epoch = is.fits.stage.sound.epoch; stage = tt }
+
+    -- ---- the law
+
+    abbrev stock : Stock
+    stock = stock_of y.epoch run
+
+    abbrev word : ℕ
+    word = encode (header_says header)
+
+    abbrev entry : Entry
+    entry = WordIs run.at word
+
+    abbrev ghost_after : Ghost
+    ghost_after = allocated s.ghost run.at (m.len + 1) m.kind (next_identity (team c) k)
+
+    says : decode word ≡ HeaderWord (header_kind m.kind) (m.len + 1 - 1) (((team c).worker k).account.serial + 1) k
+    says =
+        let len : m.len ≡ m.len + 1 - 1 = omega arith in
+        let serial : y.account.serial ≡ ((team c).worker k).account.serial = sym (ap (λ (w : Worker). w.account.serial) is.as_known) in
+        decode-header_word header.kind header.len header.serial header.mutator header.short header.counted
+        ∙ (λ i. HeaderWord (header_kind m.kind) (len i) (serial i + 1) (is.fits.number i))
+
+    places : PlacesNext (team c) k stock m.kind (m.len + 1) word
+    places = record {
+      own = record { runs = rw is.as_known refl; has = rw is.as_known refl };
+      run = (refl, refl);
+      some = omega arith;
+      fits = room;
+      header = says;
+    }
+
+    shows : Shows (value_of s.ghost.identity) (memory c).heap run.at m.kind (m.len + 1) (zeros m.kind m.len)
+    shows =
+        let len : m.len + 1 - 1 ≡ m.len = omega arith in
+        subst (λ (n : ℕ). Shows (value_of s.ghost.identity) (memory c).heap run.at m.kind (m.len + 1) (zeros m.kind n)) len
+        (zeros_show (era c) (memory c) (team c) s.ghost k stock m.kind (m.len + 1) word (prepared c p s k x is) places)
+
+    unended : y.account.end ≡ None
+    unended = end_none y.account.end is.fits.end
+
+    -- what it knows when the record stands
+    abbrev next : Worker
+    next = moved c p s k x is refl unended y.registers
+
+    known : with_record next stock (m.len + 1) m.into (pointer_word run.at) ≡ knows after
+    known = let set = registers_put y.registers m.into (pointer_word run.at) inside in λ i. record (knows after) { registers = sym set i }
+
+    module _ (q : Mutator) (its : IsIts c p s k x q) (acts : action q instr ≡ Ok (Makes m.kind m.into m.len)) where
+      calls : call k p.heap q instr ≡ Ok (plain_allocated k p.heap q m.kind m.into m.len)
+      calls = called k p q instr (Makes m.kind m.into m.len) acts
+
+      law : LawTo c p s k x (Some entry) (knows after) ghost_after (after_outcome p k q (Calls instr) Done)
+      law =
+          let placed = mutators_place (era c) (memory c) (team c) s.ghost p k next (went_on q) stock m.kind (m.len + 1) word m.into (pointer_word run.at) (zeros m.kind m.len)
+          (prepared c p s k x is) s.shown places shows small points (moved_goes c p s k x is refl unended q its) (moved_as c p s k x is refl unended q its) in
+          subst (λ (o : Result After End). LawTo c p s k x (Some entry) (knows after) ghost_after (settled p k q o)) (sym calls)
+          (subst (λ (w : Worker). LawTo c p s k x (Some entry) w ghost_after (settled p k q (Ok (plain_allocated k p.heap q m.kind m.into m.len)))) known placed)
+
+      goes : Goes c p s k (Some entry) x replies.Done
+      goes =
+          answers c p s k x (Some entry) replies.Done after ghost_after q (Calls instr) Done comes answer refl is.below its.is its.no_end
+          (subst (λ (o : Result After End). IsOk o) (sym calls) refl) law tt takes fits
+
+      stores_for : StepsSo c p s k x
+      stores_for =
+          wants c p s k x (Store (place_of c.pages (HeapWord run.at)) word) (ap (λ n. Some (Store (place_of n (HeapWord run.at)) word)) is.fits.pages)
+          (stores c p s k x entry (row_fits_to c p s k x entry (knows after) ghost_after (after_outcome p k q (Calls instr) Done) is.below law) goes)
+
+    pub stores_header : StepsSo c p s k x
+    stores_header =
+        let its = its_mutator c p s k x is refl unended in
+        stores_for its.0 its.1 (makes_alike c p s k x is refl unended its.0 its.1 making)

@@ -1,0 +1,124 @@
+-- The pages that were claimed and cleared are opened.
+use Rattle.std.proofs.Common.{◌≡◌, ℕ, ◌+◌, ◌%◌, Bool, true, false, cond, Some, refl, ap, sym, subst, ◌∙◌, arith}
+use Rattle.std.specs.Prelude.{nat_lt}
+use Rattle.std.proofs.lemmas.Bool.{ltb-true, ltb-false}
+use Rattle.plain_state.specs.State.{Plain}
+use Rattle.atom_store.specs.declared.step.Step.TheVariants.{Store}
+use Rattle.atom_store.specs.declared.reply.Reply.TheVariants.{Done}
+use Rattle.record_layout.specs.declared.header.Header.{Header}
+use Rattle.space_map.specs.declared.page_word.PageWord.TheVariants.{Open}
+use Rattle.space_map.specs.PageWord.{encode_page}
+use Rattle.space_map.specs.Spaces.{page_of, first_word}
+use Rattle.space_map.specs.Table.{Page, place_of}
+use Rattle.alloc_end.specs.declared.new_pages.NewPages.{NewPages}
+use Rattle.alloc_end.specs.declared.place_stage.PlaceStage.{PlaceStage}
+use Rattle.alloc_end.specs.declared.place_stage.PlaceStage.TheVariants.{OpensPage, StoresHeader}
+use Rattle.alloc_end.specs.declared.run.Run.{Run}
+use Rattle.alloc_end.specs.Place.{Placing, size_of, pages_for, words_for, told}
+use Rattle.alloc_end.specs.Soundness.{IsSoundPlacing}
+use Rattle.heap_state.specs.Configuration.{Configuration, Stands, era, memory, team}
+use Rattle.heap_state.specs.Entries.{Entry, PageIs}
+use Rattle.heap_state.specs.Worker.{Worker, Stock}
+use Rattle.heap_laws.specs.Allocation.Stocks.{stocked, opened_further}
+use Rattle.heap_laws.proofs.Allocation.Laws.{opens_pages}
+use Rattle.gc_worker.specs.declared.stage.Stage.TheVariants.{Places}
+use Rattle.gc_worker.specs.Fits.{Fits}
+use Rattle.gc_worker.specs.Goes.{Is, Goes, StepsSo}
+use Rattle.gc_worker.specs.Held.{Held, at_stage}
+use Rattle.gc_worker.specs.Knows.{knows, opened_to}
+use Rattle.gc_worker.specs.Turned.{Silent, turned_place, told_place}
+use Rattle.gc_worker.proofs.Workers.Parts.{refit}
+use Rattle.gc_worker.proofs.Stages.Gate.Words.{wants}
+use Rattle.gc_worker.proofs.Stages.Place.Claiming.{placing, at, now}
+use Rattle.gc_worker.proofs.Words.RowSteps.{Law, becomes, stores, row_fits, prepared}
+
+module _ (c : Configuration) (p : Plain) (s : Stands c p) (k : ℕ) (y : Held) (run : Run) (header : Header) (new : NewPages) where
+  abbrev asked : ℕ
+  asked = pages_for (size_of header)
+
+  abbrev words : ℕ
+  words = words_for header
+
+  abbrev here : PlaceStage → Held
+  here stage = at c p s k y run header stage
+
+  -- ---- the pages
+
+  module _ (is : Is c k (here (OpensPage new))) where
+    abbrev x : Held
+    x = here (OpensPage new)
+
+    abbrev stock : Stock
+    stock = opened_to (placing c p s k y run header (OpensPage new)) new
+
+    abbrev entry : Entry
+    entry = PageIs new.next (Open y.epoch)
+
+    -- the pages begin at a page's first word
+    aligned : new.first % 64 ≡ 0
+    aligned =
+        let e = now c p s k y run header (OpensPage new) is in
+        let q = s.invariant.stocks.stocked k is.below stock (rw is.as_known refl) e in
+        omega (arith, q.aligned)
+
+    law : Law c p s k x (Some entry) (stocked (knows x) (opened_further stock)) s.ghost
+    law =
+        let f = is.fits.stage.sound.stage in
+        subst (λ (v : Worker). Law c p s k x (Some (PageIs new.next (Open v.epoch))) (stocked v (opened_further stock)) s.ghost) is.as_known
+        (opens_pages (era c) (memory c) (team c) s.ghost k new.next stock (prepared c p s k x is)
+        (record { own = record { runs = rw is.as_known refl; has = rw is.as_known refl }; blank = refl; at = refl; more = omega (arith, f) }))
+
+    abbrev all : Run
+    all = record { at = new.first; end = new.first + words }
+
+    abbrev pick : Bool → Placing
+    pick b = cond b (placing c p s k y run header (OpensPage (record { first = new.first; next = new.next + 1 }))) (placing c p s k y all header StoresHeader)
+
+    abbrev then : Bool → Held
+    then b = at_stage y (Places (pick b))
+
+    abbrev by : Placing → Held
+    by z = turned_place x z (told z)
+
+    comes : (b : Bool) → by (pick b) ≡ then b
+    comes true = refl
+    comes false = refl
+
+    silent : (b : Bool) → told_place x (told (pick b)) ≡ Silent
+    silent true = refl
+    silent false = refl
+
+    abbrev test_of : Bool
+    test_of = nat_lt (new.next + 1) (page_of new.first + asked)
+
+    sound : (b : Bool) → test_of ≡ b → IsSoundPlacing (pick b)
+    sound true test =
+        let l = ltb-true (new.next + 1) (page_of new.first + asked) test in let f = is.fits.stage.sound.stage in
+        record { pages = is.fits.stage.sound.pages; run = is.fits.stage.sound.run; epoch = is.fits.stage.sound.epoch; stage = (f.0, omega (arith, f), l) }
+    sound false test =
+        let f = is.fits.stage.sound.stage in
+        record { pages = is.fits.stage.sound.pages; run = (omega arith, f.0); epoch = is.fits.stage.sound.epoch; stage = omega arith }
+
+    fits : (b : Bool) → test_of ≡ b → Fits c.pages c.mutators k (then b)
+    fits true test = refit c.pages c.mutators k x is.fits (Places (pick true)) is.fits.end is.fits.side is.fits.task (record { layout = refl; epoch = refl; going = tt; sound = sound true test })
+    fits false test = refit c.pages c.mutators k x is.fits (Places (pick false)) is.fits.end is.fits.side is.fits.task (record { layout = refl; epoch = refl; going = tt; sound = sound false test })
+
+    stock_then : (b : Bool) → test_of ≡ b → stocked (knows x) (opened_further stock) ≡ knows (then b)
+    stock_then true test =
+        let e : first_word new.next + 64 ≡ first_word (new.next + 1) = omega arith in
+        λ i. record (knows (then true)) { stock = Some (record { epoch = y.epoch; at = new.first; end = new.first + words; zeroed = new.first + words; opened = e i }) }
+    stock_then false test =
+        let l = ltb-false (new.next + 1) (page_of new.first + asked) test in let f = is.fits.stage.sound.stage in
+        let e : first_word new.next + 64 ≡ new.first + words = omega (arith, l, f, aligned) in
+        λ i. record (knows (then false)) { stock = Some (record { epoch = y.epoch; at = new.first; end = new.first + words; zeroed = new.first + words; opened = e i }) }
+
+    goes : (b : Bool) → test_of ≡ b → Goes c p s k (Some entry) x Done
+    goes b test =
+        becomes c p s k x (Some entry) Done (then b) s.ghost (ap (λ (t : Bool). by (pick t)) test ∙ comes b) is.below
+        (subst (λ (v : Worker). Law c p s k x (Some entry) v s.ghost) (stock_then b test) law) (ap (λ (t : Bool). told_place x (told (pick t))) test ∙ silent b) refl
+        (subst (λ (t : Bool). IsSoundPlacing (pick t)) (sym test) (sound b test)) (fits b test)
+
+    pub opens_page : StepsSo c p s k x
+    opens_page =
+        wants c p s k x (Store (place_of c.pages (Page new.next)) (encode_page (Open y.epoch))) (ap (λ n. Some (Store (place_of n (Page new.next)) (encode_page (Open y.epoch)))) is.fits.pages)
+        (stores c p s k x entry (row_fits c p s k x entry (stocked (knows x) (opened_further stock)) s.ghost is.below law) (goes test_of refl))

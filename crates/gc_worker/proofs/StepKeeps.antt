@@ -1,0 +1,235 @@
+-- The law of a step, from the laws of the kinds.
+use Rattle.std.proofs.Common.{◌≡◌, ◌≢◌, ℕ, ◌+◌, ◌<◌, ◌≤◌, length, set, get_or, Option, Some, None, refl, sym, ap, subst, ◌∙◌, arith, ⊎_elim, get_or-set_same, get_or-set_other, length-set}
+use Rattle.std.proofs.lemmas.Bool.{cases_eq}
+use Rattle.std.proofs.lemmas.List.{map-set}
+use Rattle.plain_state.specs.State.{Plain}
+use Rattle.atom_store.specs.declared.reply.Reply.{Reply}
+use Rattle.atom_store.specs.declared.step.Step.{Step}
+use Rattle.atom_store.specs.Step.{words_after, reply_of}
+use Rattle.gate_core.specs.declared.flip_stage.FlipStage.{FlipStage}
+use Rattle.gate_core.specs.declared.flip_stage.FlipStage.TheVariants as flip_stage
+use Rattle.gate_core.specs.declared.gate_stage.GateStage.{GateStage}
+use Rattle.gate_core.specs.declared.gate_stage.GateStage.TheVariants as gate_stage
+use Rattle.gate_core.specs.Flip.{Flipping}
+use Rattle.gate_core.specs.Gate.{Passing}
+use Rattle.heap_state.specs.Configuration.{Configuration, Stands, table, era, memory, team}
+use Rattle.heap_state.specs.Cycle.{Cycle}
+use Rattle.heap_state.specs.Entries.{Entry, GateIs}
+use Rattle.space_map.specs.PageWord.{age_of}
+use Rattle.heap_state.specs.Ghost.{Ghost}
+use Rattle.heap_laws.specs.Lifting.{StandsWith, configuration_after, LeavesConfiguration, Flipped}
+use Rattle.gc_worker.specs.declared.after.After.{After}
+use Rattle.gc_worker.specs.declared.stage.Stage.{Stage}
+use Rattle.gc_worker.specs.declared.stage.Stage.TheVariants.{Looks, Passes, Flips, Forwards, Accesses, Places, Serves, Scans, Evacuates, Opens, Gone}
+use Rattle.gc_worker.specs.Answer.{after_told}
+use Rattle.gc_worker.specs.Fits.{Fits}
+use Rattle.gc_worker.specs.Goes.{Is, LeavesToPlain, StepsInTable, StepsSo, Wins, FlipIsOwn}
+use Rattle.gc_worker.specs.Held.{Held, at_stage}
+use Rattle.gc_worker.specs.Knows.{knows}
+use Rattle.gc_worker.specs.Law.{Heap, read, nobody, held_at, WorkersStand, moved, at_flip, epoch_of, age, WinsOne, FlipsOnce, FlipsWhereTold, StepKeeps, StepsKeep}
+use Rattle.gc_worker.specs.Turned.{Told, Silent, Answers, Marks, PageWon, epoch_in_gate, turned, told, won}
+use Rattle.gc_worker.specs.Wanted.{wanted}
+use Rattle.gc_worker.proofs.Stages.Gate.Exchanging.{exchanges_gate}
+use Rattle.gc_worker.proofs.Stages.Look.Looking.{looks}
+use Rattle.gc_worker.proofs.Stages.Access.Stages.{accesses}
+use Rattle.gc_worker.proofs.Stages.Gate.Words.{gate_says}
+use Rattle.gc_worker.proofs.Stages.Gate.Passing.{loads_gate}
+use Rattle.gc_worker.proofs.Stages.Flip.Resetting as resetting
+use Rattle.gc_worker.proofs.Stages.Flip.Flipping.{flips_gate}
+use Rattle.gc_worker.proofs.Workers.Members.{member}
+use Rattle.gc_worker.proofs.Stages.OpenedPage.{opens}
+use Rattle.gc_worker.proofs.Stages.Rounds.Whole.{serves}
+use Rattle.gc_worker.proofs.Stages.Rounds.Words.{page_age}
+use Rattle.gc_worker.proofs.Stages.Copies.Whole.{evacuates, forwards}
+use Rattle.gc_worker.proofs.Stages.Place.Stages.{places}
+use Rattle.gc_worker.proofs.Stages.Scan.Stages.{scans}
+use Rattle.page_scan.specs.Scanning.{Scanning}
+use Rattle.page_slots.specs.declared.open_stage.OpenStage.{OpenStage}
+use Rattle.page_slots.specs.declared.open_stage.OpenStage.TheVariants as open_stage
+use Rattle.page_slots.specs.Open.{Opening}
+use Rattle.gc_worker.specs.declared.back.Back.{Back}
+
+-- ---- each stage
+
+-- a worker that wants nothing owes nothing
+rests : (c : Configuration) (p : Plain) (s : Stands c p) (k : ℕ) (x : Held) → wanted x ≡ None → StepsSo c p s k x
+rests c p s k x none q asked = absurd (let e = sym none ∙ asked in cc)
+
+module _ (c : Configuration) (p : Plain) (s : Stands c p) (k : ℕ) (x : Held) where
+  -- the worker at this stage
+  abbrev Kind : Stage → Type 0
+  Kind stage = Is c k (at_stage x stage) → StepsSo c p s k (at_stage x stage)
+
+  passes : (g : Passing) (after : After) → (stage : GateStage) → g.stage ≡ stage → Kind (Passes (record g { stage = stage }) after)
+  passes g after gate_stage.Loads e is = loads_gate c p s k x g.layout after g.passage is
+  passes g after (gate_stage.Exchanges gate) e is = exchanges_gate c p s k x g.layout gate after g.passage is
+  passes g after (gate_stage.Ended result) e is = rests c p s k (at_stage x (Passes (record g { stage = gate_stage.Ended result }) after)) refl
+
+  flips_own : (asked : ℕ) (stage : FlipStage) → Kind (Flips (record { layout = x.layout; epoch = x.epoch; asked = asked; stage = stage }))
+  flips_own asked flip_stage.LoadsGate is = resetting.loads_gate c p s k x asked is
+  flips_own asked (flip_stage.LoadsArea gate) is = resetting.loads_area c p s k x asked gate is
+  flips_own asked (flip_stage.StoresArea r) is = resetting.stores_area c p s k x asked r is
+  flips_own asked (flip_stage.Exchanges r) is = flips_gate c p s k x asked r is
+  flips_own asked (flip_stage.Ended result) is =
+      rests c p s k (at_stage x (Flips (record { layout = x.layout; epoch = x.epoch; asked = asked; stage = flip_stage.Ended result }))) refl
+
+  flips : (f : Flipping) → Kind (Flips f)
+  flips f is =
+      let same : f ≡ record { layout = x.layout; epoch = x.epoch; asked = f.asked; stage = f.stage } =
+      (λ i. record { layout = is.fits.stage.layout i; epoch = is.fits.stage.epoch i; asked = f.asked; stage = f.stage }) in
+      subst (λ (g : Flipping). StepsSo c p s k (at_stage x (Flips g))) (sym same)
+      (flips_own f.asked f.stage (subst (λ (g : Flipping). Is c k (at_stage x (Flips g))) same is))
+
+  opens_page : (o : Opening) (z : Scanning) (back : Back) (stage : OpenStage) → Kind (Opens (record o { stage = stage }) z back)
+  opens_page o z back open_stage.StoresOpen is = opens c p s k x o z back is
+  opens_page o z back (open_stage.Ended result) is = rests c p s k (at_stage x (Opens (record o { stage = open_stage.Ended result }) z back)) refl
+
+  by_stage : (stage : Stage) → Kind stage
+  by_stage Looks is = looks c p s k x is
+  by_stage (Passes g after) is = passes g after g.stage refl is
+  by_stage (Flips f) is = flips f is
+  by_stage (Forwards w) is = forwards c p s k x w is
+  by_stage (Accesses a) is = accesses c p s k x a is
+  by_stage (Places z) is = places c p s k x z is
+  by_stage (Serves d back) is = serves c p s k x d back is
+  by_stage (Scans z back) is = scans c p s k x z back is
+  by_stage (Evacuates v z back) is = evacuates c p s k x v z back is
+  by_stage (Opens o z back) is = opens_page o z back o.stage is
+  by_stage Gone is = rests c p s k (at_stage x Gone) refl
+
+  pub kinds : Is c k x → StepsSo c p s k x
+  kinds is = by_stage x.stage is
+
+-- ---- the heap
+
+module _ (h : Heap) (p o : Plain) (k : ℕ) (x : Held) (q : Step) (st : WorkersStand h p o) (l : k < length h.workers) (holds : held_at h k ≡ x) where
+  abbrev r : Reply
+  r = reply_of q h.words
+
+  abbrev y : Held
+  y = turned x r
+
+  -- the others are as they were
+  all_fit : Fits h.pages h.mutators k y → (j : ℕ) → j < length (set h.workers k y) → Fits h.pages h.mutators j (get_or (set h.workers k y) j nobody)
+  all_fit fits j below = ⊎_elim
+      (λ (e : j ≡ k). subst (λ (z : Held). Fits h.pages h.mutators j z) (sym (ap (λ (i : ℕ). get_or (set h.workers k y) i nobody) e ∙ get_or-set_same h.workers k y nobody l))
+      (subst (λ (i : ℕ). Fits h.pages h.mutators i y) (sym e) fits))
+      (λ (d : j ≢ k). subst (λ (z : Held). Fits h.pages h.mutators j z) (sym (get_or-set_other h.workers k j y nobody d)) (st.fit j (let n = length-set h.workers k y in omega (arith, n, below))))
+      (cases_eq j k)
+
+  module _ (steps : StepsInTable (read h) p st.stands k x q) where
+    -- the configuration after the step, as the heap then is
+    after : configuration_after (read h) steps.entry k (knows y) ≡ read (moved h k x q)
+    after = let w = sym steps.writes in λ i. record { pages = h.pages; words = w i; mutators = h.mutators; workers = sym (map-set knows h.workers k y) i }
+
+    abbrev later : Configuration
+    later = configuration_after (read h) steps.entry k (knows y)
+
+    -- a configuration that stands, and its cycle, are the heap's
+    comes : (h' : Ghost) (p' o' : Plain) (w : StandsWith later p' h') → Cycle (era later) (memory later) (team later) h' o' → WorkersStand (moved h k x q) p' o'
+    comes h' p' o' w cycle =
+        let both : (d : Configuration) → later ≡ d → (s : Stands d p') × Cycle (era d) (memory d) (team d) s.ghost o' =
+        λ d e. subst (λ (d : Configuration). (s : Stands d p') × Cycle (era d) (memory d) (team d) s.ghost o') e
+        (w.stands, subst (λ (g : Ghost). Cycle (era later) (memory later) (team later) g o') (sym w.with_ghost) cycle) in
+        let now = both (read (moved h k x q)) after in
+        record { stands = now.0; cycle = now.1; fit = all_fit steps.goes.fits }
+
+    -- a step that is no flip leaves it so for this plain state
+    stays : (p' : Plain) (e : Option Entry) → steps.entry ≡ e → (g : Ghost) → LeavesConfiguration (read h) e k (knows y) p' st.stands.ghost g → WorkersStand (moved h k x q) p' o
+    stays p' e same g leads =
+        let ours : LeavesConfiguration (read h) steps.entry k (knows y) p' st.stands.ghost g = subst (λ (f : Option Entry). LeavesConfiguration (read h) f k (knows y) p' st.stands.ghost g) (sym same) leads in
+        comes g p' o ours.standing (ours.cycle o st.cycle)
+
+    -- by what it is to the plain machine
+    stands_by : (t : Told) (e : Option Entry) → steps.entry ≡ e → (g : Ghost) → LeavesToPlain (read h) p st.stands.ghost k e y g t
+        → WorkersStand (moved h k x q) (after_told p k t) (at_flip p o t)
+    stands_by Silent e same g leads = stays p e same g leads
+    stands_by (Answers task outcome) e same g leads = stays (after_told p k (Answers task outcome)) e same g leads
+    stands_by (Marks asked) (Some (GateIs gate)) same g leads =
+        let ours : Flipped (read h) gate k (knows y) p g = leads in
+        let cfg = ap (λ (f : Option Entry). configuration_after (read h) f k (knows y)) (sym same) in
+        comes g p p (subst (λ (d : Configuration). StandsWith d p g) cfg ours.standing) (subst (λ (d : Configuration). Cycle (era d) (memory d) (team d) g p) cfg ours.begins)
+    stands_by (Marks asked) _ same g leads = absurd leads
+
+    -- no page word's epoch falls
+    ages_by : (t : Told) (e : Option Entry) → steps.entry ≡ e → (g : Ghost) → LeavesToPlain (read h) p st.stands.ghost k e y g t
+        → (page : ℕ) → age_of ((table (read h)).page page) ≤ age_of ((table later).page page)
+    ages_by Silent e same g leads page =
+        (subst (λ (f : Option Entry). LeavesConfiguration (read h) f k (knows y) p st.stands.ghost g) (sym same) leads).ages page
+    ages_by (Marks asked) (Some (GateIs gate)) same g leads page =
+        let ours : Flipped (read h) gate k (knows y) p g = leads in
+        let kept : (table later).page ≡ (table (read h)).page = ap (λ (f : Option Entry). (table (configuration_after (read h) f k (knows y))).page) same ∙ ours.pages in
+        rw kept (omega arith)
+    ages_by (Marks asked) _ same g leads page = absurd leads
+    ages_by (Answers task outcome) e same g leads page =
+        (subst (λ (f : Option Entry). LeavesConfiguration (read h) f k (knows y) (after_told p k (Answers task outcome)) st.stands.ghost g) (sym same) leads).ages page
+
+    aged : (page : ℕ) → age_of ((table later).page page) ≡ age h.pages (words_after q h.words) page
+    aged page = ap (λ (d : Configuration). age_of ((table d).page page)) after ∙ page_age (read (moved h k x q)) page
+
+    ages : (page : ℕ) → age h.pages h.words page ≤ age h.pages (words_after q h.words) page
+    ages page =
+        let a = ages_by (told x r) steps.entry refl steps.goes.ghost_after steps.goes.leads page in
+        let b = page_age (read h) page in
+        let d = aged page in
+        omega (arith, a, b, d)
+
+    -- the gate's epoch, which a flip alone raises
+    abbrev now : ℕ
+    now = (table (read h)).gate.epoch
+
+    epoch_is : epoch_of h.pages h.words ≡ now
+    epoch_is = ap (epoch_in_gate 0) (gate_says (read h) p st.stands)
+
+    epoch_after : (p' o' : Plain) → WorkersStand (moved h k x q) p' o' → epoch_of h.pages (words_after q h.words) ≡ (table later).gate.epoch
+    epoch_after p' o' w = ap (epoch_in_gate 0) (gate_says (read (moved h k x q)) p' w.stands) ∙ ap (λ (d : Configuration). (table d).gate.epoch) (sym after)
+
+    same_epoch : (p' o' : Plain) → WorkersStand (moved h k x q) p' o' → (e : Option Entry) → steps.entry ≡ e → (g : Ghost) → LeavesConfiguration (read h) e k (knows y) p' st.stands.ghost g
+        → epoch_of h.pages (words_after q h.words) ≡ epoch_of h.pages h.words
+    same_epoch p' o' w e same g leads =
+        epoch_after p' o' w ∙ ((subst (λ (f : Option Entry). LeavesConfiguration (read h) f k (knows y) p' st.stands.ghost g) (sym same) leads).epoch ∙ sym epoch_is)
+
+    next_epoch : (asked : ℕ) (p' o' : Plain) → FlipIsOwn (read h) x (Marks asked) → WorkersStand (moved h k x q) p' o' → (e : Option Entry) → steps.entry ≡ e → (g : Ghost) → LeavesToPlain (read h) p st.stands.ghost k e y g (Marks asked)
+        → FlipsOnce h.pages h.words (words_after q h.words) x asked
+    next_epoch asked p' o' own w (Some (GateIs gate)) same g leads =
+        let ours : Flipped (read h) gate k (knows y) p g = leads in
+        let cfg = ap (λ (f : Option Entry). (table (configuration_after (read h) f k (knows y))).gate.epoch) same in
+        record {
+          asked_is = own.0;
+          epoch = epoch_is ∙ own.1;
+          next = epoch_after p' o' w ∙ (cfg ∙ (ours.epoch ∙ ap (λ (e : ℕ). e + 1) own.1));
+        }
+    next_epoch asked p' o' own w _ same g leads = absurd leads
+
+    flips_by : (t : Told) → FlipIsOwn (read h) x t → WorkersStand (moved h k x q) (after_told p k t) (at_flip p o t) → LeavesToPlain (read h) p st.stands.ghost k steps.entry y steps.goes.ghost_after t
+        → FlipsWhereTold h.pages h.words (words_after q h.words) x t
+    flips_by Silent own w leads = same_epoch p o w steps.entry refl steps.goes.ghost_after leads
+    flips_by (Answers task outcome) own w leads = same_epoch (after_told p k (Answers task outcome)) o w steps.entry refl steps.goes.ghost_after leads
+    flips_by (Marks asked) own w leads = next_epoch asked p p own w steps.entry refl steps.goes.ghost_after leads
+
+    wins_by : (w : Option PageWon) → Wins (read h) steps.entry k y w → WinsOne h.pages h.words (words_after q h.words) w
+    wins_by None wins = tt
+    wins_by (Some w) wins =
+        let b = page_age (read h) w.page in
+        let d = aged w.page in
+        ((λ out. omega (arith, out.epoch, wins.before, b)), record { page = wins.page; epoch = omega (arith, wins.after, d) })
+
+    standing : WorkersStand (moved h k x q) (after_told p k (told x r)) (at_flip p o (told x r))
+    standing = stands_by (told x r) steps.entry refl steps.goes.ghost_after steps.goes.leads
+
+    keeps : StepKeeps h p o k x q
+    keeps = record {
+      place = steps.place;
+      takes = steps.goes.takes;
+      fits = steps.goes.fits;
+      answered = steps.goes.answered;
+      stands = standing;
+      kept = λ w out. record { page = out.page; epoch = (let a = ages w.page in omega (arith, out.epoch, a)) };
+      wins = wins_by (won x r) steps.goes.wins;
+      full = steps.goes.full;
+      flips = flips_by (told x r) steps.goes.flip standing steps.goes.leads;
+    }
+
+pub steps_keep : StepsKeep
+steps_keep h p o k x q st l holds asked =
+    keeps h p o k x q st l holds (kinds (read h) p st.stands k x (member h p o k x st l holds) q asked)

@@ -1,0 +1,35 @@
+-- What an access of a lone mutator comes to, or where it goes on.
+use Rattle.std.proofs.Common.{ℕ, ◌<◌, false, Option, sym, subst, arith}
+use Rattle.plain_state.specs.declared.end.End.{End}
+use Rattle.plain_state.specs.State.{Plain}
+use Rattle.heap_state.specs.Configuration.{Configuration, Stands, table}
+use Rattle.heap_state.specs.Table.{Table}
+use Rattle.gc_worker.specs.declared.access_stage.AccessStage.{AccessStage}
+use Rattle.gc_worker.specs.declared.accessed.Accessed.TheVariants.{Brings, Stored, Fails}
+use Rattle.gc_worker.specs.declared.task.Task.{Task}
+use Rattle.gc_worker.specs.Access.{Answered, GoesTo, Comes, goes_by, left_at, turn_by}
+use Rattle.gc_worker.specs.Held.{Held}
+use Rattle.gc_worker.specs.Turned.{ended, loads, told_access, told_effect, told_end, turned_access, went_on}
+use Rattle.gc_worker.proofs.Stages.Access.Going.{own, at}
+use Rattle.lone_mutator.specs.Law.{IsAlone, LowersWhereTold}
+use Rattle.lone_mutator.specs.Lone.{AccessStands, NobodyElseAnnounces}
+
+module _ (c : Configuration) (p : Plain) (s : Stands c p) (y : Held) (stage : AccessStage) (a : IsAlone c (at c p s 0 y stage)) where
+  abbrev x : Held
+  x = at c p s 0 y stage
+
+  -- what the step then owes, where the table then is this
+  abbrev pub Owed : Table → Answered → Type 0
+  Owed after z = LowersWhereTold c.pages (table c) after x (turned_access x (goes_by (own c p s 0 y stage) z) (turn_by z)) (told_access y.task (turn_by z))
+
+  pub fails : (after : Table) (why : End) → Owed after (Comes (Fails why))
+  fails after why = subst (λ (task : Option Task). LowersWhereTold c.pages (table c) after x (ended x why) (told_end task why)) (sym a.is.fits.task.executes.task_is) tt
+
+  pub brings : (after : Table) (into word : ℕ) → NobodyElseAnnounces after.announced false → Owed after (Comes (Brings into word))
+  brings after into word quiet = subst (λ (task : Option Task). LowersWhereTold c.pages (table c) after x (loads x into word) (told_effect task)) (sym a.is.fits.task.executes.task_is) quiet
+
+  pub stored : (after : Table) → NobodyElseAnnounces after.announced false → Owed after (Comes Stored)
+  stored after quiet = subst (λ (task : Option Task). LowersWhereTold c.pages (table c) after x (went_on x) (told_effect task)) (sym a.is.fits.task.executes.task_is) quiet
+
+  pub goes : (next : AccessStage) → AccessStands (table c) y.layout next → left_at next < left_at stage → Owed (table c) (GoesTo next)
+  goes next stands fewer = record { remembers = record { began = a.remembers.began; quiet = a.remembers.quiet; stands = stands }; falls = omega (arith, fewer) }

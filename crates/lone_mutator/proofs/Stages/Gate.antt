@@ -1,0 +1,4 @@
+pub mod Counts
+pub mod Passages
+pub mod Flip
+pub mod Look

@@ -1,0 +1,185 @@
+-- An allocation by a lone mutator looks at the area: it claims pages, makes a round, requests a flip, or finds the heap full.
+use Rattle.std.proofs.Common.{◌≡◌, ◌≢◌, ℕ, ◌+◌, ◌-◌, ◌^◌, ◌≤◌, ◌==◌, ◌||◌, Bool, true, false, cond, Option, Some, nat_lt, refl, sym, ap, subst, ◌∙◌, arith, ⊎_elim}
+use Rattle.std.proofs.lemmas.Bool.{eq-eqb, cases_eq}
+use Rattle.plain_state.specs.State.{Plain}
+use Rattle.record_layout.specs.declared.header.Header.{Header}
+use Rattle.atom_store.specs.declared.step.Step.TheVariants.{Load, Exchange}
+use Rattle.space_map.specs.declared.area_word.AreaWord.{AreaWord}
+use Rattle.space_map.specs.declared.page_word.PageWord.{PageWord}
+use Rattle.space_map.specs.AreaWord.{AreaFits, encode_area}
+use Rattle.space_map.specs.Spaces.{to_space}
+use Rattle.space_map.specs.Table.{Traced, Area, place_of}
+use Rattle.alloc_end.specs.declared.allocated.Allocated.TheVariants.{Full}
+use Rattle.alloc_end.specs.declared.fitting.Fitting.{Fitting}
+use Rattle.alloc_end.specs.declared.place_stage.PlaceStage.{PlaceStage}
+use Rattle.alloc_end.specs.declared.place_stage.PlaceStage.TheVariants.{LoadsTraced, LoadsArea, ExchangesArea, Ended}
+use Rattle.alloc_end.specs.declared.run.Run.{Run}
+use Rattle.alloc_end.specs.declared.shortage.Shortage.{Shortage}
+use Rattle.alloc_end.specs.Place.{Placing, area_after, fits, kept_room, looked_at_area, pages_for, shortage, size_of, told_at, words_for}
+use Rattle.gate_core.specs.declared.passage.Passage.TheVariants.{Request}
+use Rattle.heap_state.specs.Configuration.{Configuration, Stands, table}
+use Rattle.heap_state.specs.Entries.{AreaIs}
+use Rattle.heap_state.specs.Functions.{put}
+use Rattle.heap_state.specs.Table.{Table}
+use Rattle.heap_state.proofs.Puts.{put_at}
+use Rattle.heap_state.proofs.Table.Spelled.{spelled}
+use Rattle.gc_worker.specs.declared.after.After.TheVariants as afters
+use Rattle.gc_worker.specs.declared.stage.Stage.TheVariants.{Places}
+use Rattle.gc_worker.specs.declared.task.Task.{Task}
+use Rattle.gc_worker.specs.Held.{Held, at_stage}
+use Rattle.gc_worker.specs.Turned.{Silent, end_by_shortage, ended, full_by, finds_full, passes, told_end, told_full, told_place, turned_place}
+use Rattle.gc_worker.proofs.Words.Areas.{area_says, is_space}
+use Rattle.gc_worker.proofs.Stages.Rounds.Words.{traced_now, traced_word}
+use Rattle.lone_mutator.specs.Bound.{flip_cost}
+use Rattle.lone_mutator.specs.Law.{IsAlone, Lowers, LowersWhereTold, StepsLower}
+use Rattle.lone_mutator.specs.Lone.{PlaceStands}
+use Rattle.lone_mutator.specs.Potential.{due_in, flip_left}
+use Rattle.lone_mutator.specs.Tracing.{tracing_due}
+use Rattle.lone_mutator.proofs.Stages.Gate.Counts.{present}
+use Rattle.lone_mutator.proofs.Steps.Owed.{exchanges, loads, wants}
+use Rattle.lone_mutator.proofs.Epochs.Cost.{due_traced, due_still, due_untraced}
+
+-- ---- plain
+
+-- a record needs 64 pages at most
+pub few_pages : (header : Header) → pages_for (size_of header) ≤ 64
+few_pages header = let short = header.short in omega (arith, short)
+
+-- where less is owed, no more is to be paid
+due-le_owed : (n e traced owed less : ℕ) (page : ℕ → PageWord) → less ≤ owed → tracing_due n e traced less page ≤ tracing_due n e traced owed page
+due-le_owed n e traced owed less page fewer = ⊎_elim
+    (λ (is : traced ≡ e + 1). let now = due_traced n e traced less page is in omega (arith, now))
+    (λ (other : traced ≢ e + 1). let now = due_still n e traced less page other in let before = due_still n e traced owed page other in omega (arith, now, before, fewer))
+    (cases_eq traced (e + 1))
+
+kept-le : (traced : Bool) (area : AreaWord) → kept_room traced area ≤ area.owed
+kept-le true area = omega arith
+kept-le false area = omega arith
+
+neither : (a b : Bool) → a || b ≡ false → a ≡ false
+neither true b e = e
+neither false b e = refl
+
+module _ (c : Configuration) (p : Plain) (s : Stands c p) (y : Held) (run : Run) (header : Header) where
+  abbrev pub placing : PlaceStage → Placing
+  placing stage = record { layout = y.layout; run = run; header = header; epoch = y.epoch; stage = stage }
+
+  abbrev pub at : PlaceStage → Held
+  at stage = at_stage y (Places (placing stage))
+
+  abbrev space : ℕ
+  space = to_space y.epoch
+
+  -- who allocates is of the gate's epoch
+  now : (stage : PlaceStage) → IsAlone c (at stage) → y.epoch ≡ (table c).gate.epoch
+  now stage a = present c p s (at stage) a refl
+
+  -- ---- TRACED
+
+  module _ (a : IsAlone c (at LoadsTraced)) where
+    stands_by : (b : Bool) → (traced_now c == y.epoch + 1) ≡ b → PlaceStands (table c) (placing (LoadsArea b)) (LoadsArea b)
+    stands_by true test = tt
+    stands_by false test = λ same. absurd (let is = eq-eqb (traced_now c) (y.epoch + 1) (sym (traced_word c) ∙ same) in let e = sym is ∙ test in cc)
+
+    falls_by : (b : Bool) → (traced_now c == y.epoch + 1) ≡ b → Lowers c.pages (table c) (table c) (at LoadsTraced) (at (LoadsArea b))
+    falls_by b test = record { remembers = record { began = a.remembers.began; quiet = a.remembers.quiet; stands = stands_by b test }; falls = omega arith }
+
+    pub loads_traced : StepsLower c (at LoadsTraced)
+    loads_traced =
+        wants c p s (at LoadsTraced) (Load (place_of c.pages Traced)) (ap (λ n. Some (Load (place_of n Traced))) a.is.fits.pages)
+        (loads c p s (at LoadsTraced) Traced tt (falls_by (traced_now c == y.epoch + 1) refl))
+
+  -- ---- the area
+
+  module _ (traced : Bool) (a : IsAlone c (at (LoadsArea traced))) where
+    abbrev x : Held
+    x = at (LoadsArea traced)
+
+    abbrev area : AreaWord
+    area = (table c).area space
+
+    abbrev f : Fitting
+    f = record { traced = traced; area = area }
+
+    abbrev short : Shortage
+    short = shortage traced header area
+
+    -- once its machine is at this stage
+    abbrev Comes : PlaceStage → Type 0
+    Comes stage = LowersWhereTold c.pages (table c) (table c) x (turned_place x (placing stage) (told_at stage)) (told_place x (told_at stage))
+
+    claims : Comes (ExchangesArea f)
+    claims =
+        let few = few_pages header in
+        record { remembers = record { began = a.remembers.began; quiet = a.remembers.quiet; stands = refl }; falls = omega (arith, few) }
+
+    -- it makes a round
+    serves : (table c).traced ≢ y.epoch + 1 → Lowers c.pages (table c) (table c) x (full_by x short false)
+    serves untraced =
+        let n = a.is.fits.pages in
+        let other : (table c).traced ≢ (table c).gate.epoch + 1 = (λ same. untraced (same ∙ ap (λ (e : ℕ). e + 1) (sym (now (LoadsArea traced) a)))) in
+        let due = due_untraced c.pages (table c).gate.epoch (table c).traced ((table c).area (to_space (table c).gate.epoch)).owed (table c).page other in
+        record {
+          remembers = record { began = λ past. a.remembers.began tt; quiet = a.remembers.quiet; stands = (record { untraced = other; found = λ wanted is. absurd (cc) }, tt) };
+          falls = omega (arith, n, due);
+        }
+
+    -- it requests a flip, unless none can help
+    request_by : (b : Bool) → finds_full x ≡ b → LowersWhereTold c.pages (table c) (table c) x (cond b (ended x (end_by_shortage short)) (at_stage x (passes x Request afters.Places))) (cond b (told_end x.task (end_by_shortage short)) Silent)
+    request_by true full =
+        subst (λ (task : Option Task). LowersWhereTold c.pages (table c) (table c) x (ended x (end_by_shortage short)) (told_end task (end_by_shortage short))) (sym a.is.fits.task.0.executes.task_is) tt
+    request_by false full =
+        let unseen : nat_lt y.begun y.epoch ≡ false = neither (nat_lt y.begun y.epoch) (y.epoch == 2 ^ 32 - 1) full in
+        let flip : flip_left c.pages x ≡ flip_cost c.pages = rw unseen refl in
+        record { remembers = record { began = λ past. a.remembers.began tt; quiet = a.remembers.quiet; stands = (tt, tt) }; falls = omega (arith, flip) }
+
+    full_so : (b : Bool) → PlaceStands (table c) (placing (LoadsArea b)) (LoadsArea b) → LowersWhereTold c.pages (table c) (table c) x (full_by x short b) (told_full x short b)
+    full_so true stands = request_by (finds_full x) refl
+    full_so false stands = serves stands
+
+    area_by : (b : Bool) → Comes (cond b (ExchangesArea f) (Ended (Full short)))
+    area_by true = claims
+    area_by false = full_so traced a.remembers.stands
+
+    pub loads_area : StepsLower c x
+    loads_area =
+        wants c p s x (Load (place_of c.pages (Area space))) (ap (λ n. Some (Load (place_of n (Area space)))) a.is.fits.pages)
+        (loads c p s x (Area space) (is_space y.epoch)
+        (subst (λ (o : Option AreaWord). Comes (looked_at_area (placing (LoadsArea traced)) traced o)) (sym (area_says c p s space (is_space y.epoch))) (area_by (fits traced (words_for header) area))))
+
+  -- ---- the claim
+
+  module _ (f : Fitting) (a : IsAlone c (at (ExchangesArea f))) where
+    abbrev z : Held
+    z = at (ExchangesArea f)
+
+    abbrev lower : AreaWord
+    lower = area_after (words_for header) f
+
+    abbrev claimed : Table
+    claimed = record (table c) { area = put (table c).area space lower }
+
+    area_fits : AreaFits f.area
+    area_fits = subst AreaFits a.remembers.stands ((spelled c.pages c.words s.formed).areas_fit space (is_space y.epoch))
+
+    lower_fits : AreaFits lower
+    lower_fits =
+        let kept = kept-le f.traced f.area in
+        let low = area_fits.low_fits in
+        let owed = area_fits.owed_fits in
+        record { front_fits = area_fits.front_fits; low_fits = omega (arith, low); owed_fits = omega (arith, kept, owed) }
+
+    due_after : due_in c.pages claimed ≤ due_in c.pages (table c)
+    due_after =
+        let own : to_space (table c).gate.epoch ≡ space = ap to_space (sym (now (ExchangesArea f) a)) in
+        let owed : ((put (table c).area space lower) (to_space (table c).gate.epoch)).owed ≡ kept_room f.traced f.area = ap (λ (w : AreaWord). w.owed) (put_at (table c).area space lower (to_space (table c).gate.epoch) own) in
+        let before : ((table c).area (to_space (table c).gate.epoch)).owed ≡ f.area.owed = ap (λ (w : AreaWord). w.owed) (ap (table c).area own ∙ a.remembers.stands) in
+        let kept = kept-le f.traced f.area in
+        due-le_owed c.pages (table c).gate.epoch (table c).traced ((table c).area (to_space (table c).gate.epoch)).owed ((put (table c).area space lower) (to_space (table c).gate.epoch)).owed (table c).page (omega (arith, owed, before, kept))
+
+    pub exchanges_area : StepsLower c z
+    exchanges_area =
+        let due = due_after in
+        wants c p s z (Exchange (place_of c.pages (Area space)) (encode_area f.area) (encode_area lower)) (ap (λ n. Some (Exchange (place_of n (Area space)) (encode_area f.area) (encode_area lower))) a.is.fits.pages)
+        (exchanges c p s z (AreaIs space lower) (encode_area f.area) (is_space y.epoch, lower_fits) ((spelled c.pages c.words s.formed).areas space ∙ ap encode_area a.remembers.stands)
+        (record { remembers = record { began = a.remembers.began; quiet = a.remembers.quiet; stands = tt }; falls = omega (arith, due) }))

@@ -1,0 +1,63 @@
+-- The scan of a lone mutator that goes on, asks for a copy, or ends, has less to pay.
+use Rattle.std.proofs.Common.{◌≡◌, ◌<◌, true, false, Some, arith}
+use Rattle.plain_state.specs.State.{Plain}
+use Rattle.atom_store.specs.declared.reply.Reply.{Reply}
+use Rattle.atom_store.specs.declared.step.Step.{Step}
+use Rattle.page_scan.specs.declared.scan_stage.ScanStage.{ScanStage}
+use Rattle.page_scan.specs.declared.scan_stage.ScanStage.TheVariants.{LoadsCross, LoadsFirst, LoadsWord, Asks, StoresCopy, LoadsFront, LoadsNext, Ended}
+use Rattle.page_scan.specs.Left.{left_at, advances}
+use Rattle.page_scan.specs.Scanning.{Scanning}
+use Rattle.page_scan.specs.Soundness.{FitsStage}
+use Rattle.page_scan.specs.Taken.{scan_end, stage_after}
+use Rattle.heap_state.specs.Configuration.{Configuration, Stands, table}
+use Rattle.heap_state.specs.Table.{Table}
+use Rattle.gc_worker.specs.declared.back.Back.{Back}
+use Rattle.gc_worker.specs.declared.stage.Stage.TheVariants.{Scans}
+use Rattle.gc_worker.specs.Held.{Held}
+use Rattle.gc_worker.specs.Wanted.{wanted}
+use Rattle.gc_worker.proofs.Stages.Scan.GoingOn.{scans_to}
+use Rattle.gc_worker.proofs.Stages.Scan.Stages.{scans}
+use Rattle.lone_mutator.specs.Law.{Lowers, IsAlone, StepsLower}
+use Rattle.lone_mutator.specs.Lone.{NobodyElseAnnounces}
+use Rattle.lone_mutator.specs.Potential.{left_in}
+use Rattle.lone_mutator.proofs.Stages.Scan.Lowering.{cost, lowers}
+use Rattle.lone_mutator.proofs.Steps.Rows.{HoldsBy}
+use Rattle.lone_mutator.proofs.Steps.Owed.{Owes}
+
+module _ (c : Configuration) (p : Plain) (s : Stands c p) (y : Held) (z : Scanning) (back : Back) (stage : ScanStage) where
+  abbrev pub at : Scanning
+  at = record z { stage = stage }
+
+  abbrev pub x : Held
+  x = record y { stage = Scans at back }
+
+  abbrev t : Table
+  t = table c
+
+  -- ---- where the table is as dear as before, and nobody announces a place
+
+  module _ (a : IsAlone c x) (after : Table) (same : left_in c.pages after ≡ left_in c.pages t) (quiet : NobodyElseAnnounces after.announced false) where
+    lower : (next : ScanStage) → cost (scan_end z.layout z.page) next < left_at (scan_end z.layout z.page) stage → Lowers c.pages t after x (scans_to x at back next)
+    lower LoadsCross fewer = record { remembers = record { began = a.remembers.began; quiet = quiet; stands = a.remembers.stands }; falls = omega (arith, same, fewer) }
+    lower (LoadsFirst first) fewer = record { remembers = record { began = a.remembers.began; quiet = quiet; stands = a.remembers.stands }; falls = omega (arith, same, fewer) }
+    lower (LoadsWord spot) fewer = record { remembers = record { began = a.remembers.began; quiet = quiet; stands = a.remembers.stands }; falls = omega (arith, same, fewer) }
+    lower (Asks asked) fewer = record { remembers = record { began = a.remembers.began; quiet = quiet; stands = (tt, a.remembers.stands) }; falls = omega (arith, same, fewer) }
+    lower (StoresCopy asked to) fewer = record { remembers = record { began = a.remembers.began; quiet = quiet; stands = a.remembers.stands }; falls = omega (arith, same, fewer) }
+    lower (LoadsFront r) fewer = record { remembers = record { began = a.remembers.began; quiet = quiet; stands = a.remembers.stands }; falls = omega (arith, same, fewer) }
+    lower (LoadsNext r) fewer = record { remembers = record { began = a.remembers.began; quiet = quiet; stands = a.remembers.stands }; falls = omega (arith, same, fewer) }
+    lower (Ended ending) fewer = record { remembers = record { began = a.remembers.began; quiet = quiet; stands = a.remembers.stands }; falls = omega (arith, same, fewer) }
+
+    -- the stage after the reply
+    abbrev next_at : Reply → ScanStage
+    next_at reply = stage_after z.layout z.page z.epoch z.in_place stage reply
+
+    pub goes_on : (reply : Reply) → advances stage reply ≡ true → FitsStage z.layout.pages z.page (next_at reply) → Owes c p s x after reply
+    goes_on reply on fits = lower (next_at reply) (lowers z.layout z.page z.epoch z.in_place stage reply a.is.fits.stage.0.sound.fits fits on)
+
+  -- what a reply owes where the scan stays sound
+  abbrev pub OwesSound : Table → Reply → Type 0
+  OwesSound after reply = FitsStage z.layout.pages z.page (stage_after z.layout z.page z.epoch z.in_place stage reply) → Owes c p s x after reply
+
+  -- which it does
+  pub sound_steps : IsAlone c x → ((q : Step) → wanted x ≡ Some q → HoldsBy c p s OwesSound q) → StepsLower c x
+  sound_steps a holds = λ q asked. holds q asked (scans c p s 0 y at back a.is q asked).goes.takes.fits

@@ -1,0 +1,164 @@
+-- An instruction that leaves the board alone does the same on any two heaps in which its mutator has
+-- the same records, and leads it to no record of another.
+use Rattle.std.proofs.Common.{◌≡◌, ℕ, ◌+◌, ◌-◌, true, List, [], ◌∷◌, ◌++◌, length, Option, Some, None, Result, Ok, Err, slice_set, refl, ap, sym, subst}
+use Rattle.std.specs.Bool.{⊤}
+use Rattle.std.specs.Result.{IfOk}
+use Rattle.std.proofs.lemmas.List.{set-get_or}
+use Rattle.plain_state.specs.declared.end.End.{End}
+use Rattle.plain_state.specs.declared.kind.Kind.{Kind}
+use Rattle.plain_state.specs.declared.value.Identity.{Identity}
+use Rattle.plain_state.specs.declared.value.Value.{Value}
+use Rattle.plain_state.specs.declared.value.Value.TheVariants.{Number, Reference}
+use Rattle.plain_state.specs.Operation.{applied}
+use Rattle.plain_state.specs.State.{Record, Heap, Mutator, made_by, record_of, serial_of}
+use Rattle.plain_state.specs.Writing.{with_value, with_records, stored}
+use Rattle.mutator_asm.specs.declared.instr.Instr.{Instr}
+use Rattle.mutator_asm.specs.declared.instr.Instr.TheVariants as instrs
+use Rattle.plain_heap.specs.declared.action.Action.{Action}
+use Rattle.plain_heap.specs.declared.action.Action.TheVariants.{Sets, Jumps, Links, Prints, Makes, Measures, Loads, Stores, Gets, Puts, Swaps}
+use Rattle.plain_heap.specs.Action.{◌>>=◌, next_of, action}
+use Rattle.plain_heap.specs.Call.{After, value_in, values_of, may_hold, store_in, zeros, jumped, went_on, set_register, loads, allocated, performed, call}
+use Rattle.plain_heap.specs.Alone.{leaves_board}
+use Rattle.plain_heap.proofs.Calls.Named.{Spells, Names, named}
+use Rattle.plain_heap.proofs.Alone.Owned.{LeadsToOwn, OwnsRecords, register-own, word-own, held-own, loads-own, jumps-own, stores-own, gains-own}
+
+-- two outcomes with the same end, or both with none
+abbrev pub Same : (After → After → Type 0) → Result After End → Result After End → Type 0
+Same R (Ok a) (Ok b) = R a b
+Same R (Ok a) (Err why) = ⊥
+Same R (Err why) (Ok b) = ⊥
+Same R (Err why) (Err other) = why ≡ other
+
+pub same-bind : {A : Type 0} (R : After → After → Type 0) (o : Result A End) (f g : A → Result After End) → ((a : A) → o ≡ Ok a → Same R (f a) (g a)) → Same R (o >>= f) (o >>= g)
+same-bind R (Ok a) f g next = next a refl
+same-bind R (Err why) f g next = refl
+
+-- both heaps take these records of mutator m, and both times it becomes the same
+pub record GoAlike (m : ℕ) (heap other : Heap) (a b : After) : Type 0 where
+  pub records : List Record
+  pub heap_is : a.heap ≡ with_records heap m records
+  pub other_is : b.heap ≡ with_records other m records
+  pub mutator_is : b.mutator ≡ a.mutator
+  pub own : OwnsRecords m records a.mutator
+
+unchanged : (heap : Heap) (m : ℕ) → heap ≡ with_records heap m (made_by heap m)
+unchanged heap m = ap (λ records. let h : Heap = record { records = records; board = heap.board } in h) (sym (set-get_or heap.records m []))
+
+module _ (m : ℕ) (heap other : Heap) (k : Mutator) (same : made_by other m ≡ made_by heap m) (own : OwnsRecords m (made_by heap m) k) where
+  abbrev IsAlike : Result After End → Result After End → Type 0
+  IsAlike = Same (GoAlike m heap other)
+
+  -- neither heap changes
+  stays : (k' : Mutator) → OwnsRecords m (made_by heap m) k' → GoAlike m heap other (record { heap = heap; mutator = k' }) (record { heap = other; mutator = k' })
+  stays k' own' = record {
+    records = made_by heap m;
+    heap_is = unchanged heap m;
+    other_is = subst (λ records. other ≡ with_records other m records) same (unchanged other m);
+    mutator_is = refl;
+    own = own';
+  }
+
+  loads-alike : (d : ℕ) (v : Value) → LeadsToOwn m v → GoAlike m heap other (loads heap k d v) (loads other k d v)
+  loads-alike d v is = stays (went_on (set_register k d v)) (loads-own m (made_by heap m) k d (next_of k) v own is)
+
+  allocated-alike : (kind : Kind) (d n : ℕ) → GoAlike m heap other (allocated m heap k kind d n) (allocated m other k kind d n)
+  allocated-alike kind d n = rw same (record {
+    records = made_by heap m ++ zeros kind n ∷ [];
+    heap_is = refl;
+    other_is = refl;
+    mutator_is = refl;
+    own = loads-own m _ k d (next_of k) (Reference (record { mutator = m; serial = serial_of heap m + 1 }))
+        (record { registers = own.registers; words = gains-own m (made_by heap m) kind n own.words }) refl;
+  })
+
+  abbrev own_record : ℕ → Identity
+  own_record n = record { mutator = m; serial = n }
+
+  word-same : (n x : ℕ) → value_in other (own_record n) x ≡ value_in heap (own_record n) x
+  word-same n x = rw same refl
+
+  -- a word of a record of the mutator
+  word-alike : (n x : ℕ) (f g : Value → Result After End) → ((v : Value) → LeadsToOwn m v → IsAlike (f v) (g v))
+      → IsAlike (value_in heap (own_record n) x >>= f) (value_in other (own_record n) x >>= g)
+  word-alike n x f g next =
+      subst (λ o. IsAlike (value_in heap (own_record n) x >>= f) (o >>= g)) (sym (word-same n x))
+      (same-bind (GoAlike m heap other) (value_in heap (own_record n) x) f g (λ v is. next v (word-own m heap n x v own.words is)))
+
+  stored-alike : (n : ℕ) (r : Record) (x : ℕ) (v : Value) → record_of heap (own_record n) ≡ Some r → LeadsToOwn m v
+      → GoAlike m heap other (record { heap = stored heap (own_record n) r x v; mutator = went_on k }) (record { heap = stored other (own_record n) r x v; mutator = went_on k })
+  stored-alike n r x v found is = rw same (record {
+    records = slice_set (made_by heap m) (n - 1) (with_value r x v);
+    heap_is = refl;
+    other_is = refl;
+    mutator_is = refl;
+    own = record { registers = own.registers; words = stores-own m (made_by heap m) n r x v own.words found is };
+  })
+
+  held-alike : (n : ℕ) (r : Record) (x : ℕ) (u : Value) (o : Result Value End) → record_of heap (own_record n) ≡ Some r → LeadsToOwn m u → may_hold r.kind u ≡ o
+      → IsAlike ((o >>= (λ v. Ok (stored heap (own_record n) r x v))) >>= (λ h. Ok (record { heap = h; mutator = went_on k })))
+      ((o >>= (λ v. Ok (stored other (own_record n) r x v))) >>= (λ h. Ok (record { heap = h; mutator = went_on k })))
+  held-alike n r x u (Ok v) found is held = stored-alike n r x v found (held-own m r.kind u v is held)
+  held-alike n r x u (Err why) found is held = refl
+
+  store_as : (n : ℕ) (o : Option Record) (x : ℕ) (u : Value) → record_of heap (own_record n) ≡ o → LeadsToOwn m u
+      → IsAlike (store_in heap (own_record n) o x u >>= (λ h. Ok (record { heap = h; mutator = went_on k }))) (store_in other (own_record n) o x u >>= (λ h. Ok (record { heap = h; mutator = went_on k })))
+  store_as n None x u found is = refl
+  store_as n (Some r) x u found is = held-alike n r x u (may_hold r.kind u) found is refl
+
+  record-same : (n : ℕ) → record_of other (own_record n) ≡ record_of heap (own_record n)
+  record-same n = rw same refl
+
+  store-alike : (n x : ℕ) (v : Value) → LeadsToOwn m v
+      → IsAlike (store_in heap (own_record n) (record_of heap (own_record n)) x v >>= (λ h. Ok (record { heap = h; mutator = went_on k })))
+      (store_in other (own_record n) (record_of other (own_record n)) x v >>= (λ h. Ok (record { heap = h; mutator = went_on k })))
+  store-alike n x v is =
+      subst (λ o. IsAlike (store_in heap (own_record n) (record_of heap (own_record n)) x v >>= (λ h. Ok (record { heap = h; mutator = went_on k })))
+      (store_in other (own_record n) o x v >>= (λ h. Ok (record { heap = h; mutator = went_on k }))))
+      (sym (record-same n)) (store_as n (record_of heap (own_record n)) x v refl is)
+
+  length-same : (n : ℕ) → length (values_of other (own_record n)) ≡ length (values_of heap (own_record n))
+  length-same n = rw same refl
+
+  measures-alike : (d n : ℕ) → IsAlike (performed m heap k (Measures d (own_record n))) (performed m other k (Measures d (own_record n)))
+  measures-alike d n =
+      let len = length (values_of heap (own_record n)) in
+      subst (λ t. GoAlike m heap other (loads heap k d (Number len)) (loads other k d (Number t))) (sym (length-same n)) (loads-alike d (Number len) tt)
+
+  -- a record that an action of the mutator names is its own
+  owned : (act : Identity → Action) (i : Identity) → i.mutator ≡ m → ((n : ℕ) → IsAlike (performed m heap k (act (own_record n))) (performed m other k (act (own_record n))))
+      → IsAlike (performed m heap k (act i)) (performed m other k (act i))
+  owned act i is next = subst (λ j. let of : Identity = record { mutator = j; serial = i.serial } in IsAlike (performed m heap k (act of)) (performed m other k (act of))) (sym is) (next i.serial)
+
+  performed-alike : (act : Action) → Names (LeadsToOwn m) ⊥ k act → IsAlike (performed m heap k act) (performed m other k act)
+  performed-alike (Sets d v) is = loads-alike d v is
+  performed-alike (Jumps target) is = stays (jumped k target) (jumps-own m (made_by heap m) k target own)
+  performed-alike (Links d target) is = stays (jumped (set_register k d (Number (next_of k))) target) (loads-own m (made_by heap m) k d target (Number (next_of k)) own tt)
+  performed-alike (Prints n) is = stays (went_on (record k { printed = k.printed ++ n ∷ [] })) (record { registers = own.registers; words = own.words })
+  performed-alike (Makes kind d n) is = allocated-alike kind d n
+  performed-alike (Measures d i) is = owned (Measures d) i is (λ n. measures-alike d n)
+  performed-alike (Loads d i x) is = owned (λ i. Loads d i x) i is (λ n. word-alike n x _ _ (λ v is_v. loads-alike d v is_v))
+  performed-alike (Stores i x v) is = owned (λ i. Stores i x v) i is.0 (λ n. word-alike n x _ _ (λ old is_old. store-alike n x v is.1))
+  performed-alike (Gets d x) is = absurd is.0
+  performed-alike (Puts x v) is = absurd is.0
+  performed-alike (Swaps d x v) is = absurd is.0
+
+  spells : (i : Instr) → leaves_board i ≡ true → Spells (LeadsToOwn m) ⊥ i
+  spells (instrs.Get d x) leaves = cc
+  spells (instrs.Put x a) leaves = cc
+  spells (instrs.Swap d x) leaves = cc
+  spells _ leaves = tt
+
+  computed : (o : Result ℕ End) → IfOk o (λ n. ⊤)
+  computed (Ok n) = tt
+  computed (Err why) = tt
+
+  action-own : (i : Instr) → leaves_board i ≡ true → IfOk (action k i) (Names (LeadsToOwn m) ⊥ k)
+  action-own i leaves = named (LeadsToOwn m) ⊥ k (λ r. register-own m k r own.registers) tt (λ b. tt) (λ operation a b is_a is_b. computed (applied operation a b)) i (spells i leaves)
+
+  acts_as : (o : Result Action End) → IfOk o (Names (LeadsToOwn m) ⊥ k) → IsAlike (o >>= performed m heap k) (o >>= performed m other k)
+  acts_as (Ok act) is = performed-alike act is
+  acts_as (Err why) is = refl
+
+  pub call-alike : (i : Instr) → leaves_board i ≡ true → IsAlike (call m heap k i) (call m other k i)
+  unfolding call
+  call-alike i leaves = acts_as (action k i) (action-own i leaves)

@@ -1,0 +1,4 @@
+pub mod Opening
+pub mod Steps
+pub mod Reached
+pub mod SameMutators
