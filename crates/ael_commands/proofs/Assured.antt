@@ -5,12 +5,12 @@ use Rattle.ael_commands.specs.declared.job.Job.{Job}
 use Rattle.ael_commands.specs.declared.job.Job.TheVariants.{Asm, Bench, Run, Sim}
 use Rattle.ael_commands.specs.declared.operands.BenchOperands.{BenchOperands}
 use Rattle.ael_commands.specs.declared.reading.TheConstants.{LONGEST_INPUT}
-use Rattle.ael_commands.specs.Call.{Call}
-use Rattle.ael_commands.specs.Ends.{IsFaultless}
-use Rattle.ael_commands.specs.Headline.{IsComplete, IsDone}
-use Rattle.ael_commands.specs.Jobs.{job_task}
-use Rattle.ael_commands.specs.Sure.{GoesAs}
-use Rattle.ael_commands.specs.Words.{job_of}
+use Rattle.ael_commands.specs.Calls.Call.{Call}
+use Rattle.ael_commands.specs.Streams.Ends.{IsFaultless}
+use Rattle.ael_commands.specs.Calls.Headline.{IsComplete, IsDone}
+use Rattle.ael_commands.specs.Arguments.Jobs.{job_task}
+use Rattle.ael_commands.specs.Streams.Sure.{GoesAs}
+use Rattle.ael_commands.specs.Arguments.Words.{job_of}
 
 module _ (call : Call) (input : List ℕ) (complete : IsComplete call) (left : call.source.left ≡ Some input) (few : length input ≤ LONGEST_INPUT)
     (read : IsFaultless call.source.before call.source.after) (printed : IsFaultless call.out.before call.out.after) (told : IsFaultless call.err.before call.err.after) where

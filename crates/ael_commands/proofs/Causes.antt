@@ -14,15 +14,15 @@ use Rattle.ael_commands.specs.declared.options.RunOptions.{RunOptions}
 use Rattle.ael_commands.specs.declared.options.SimOptions.{SimOptions}
 use Rattle.ael_commands.specs.declared.status.Status.{Status}
 use Rattle.ael_commands.specs.declared.status.Status.TheVariants.{Done, Text, Usage, Ended, StepsOut, ReadFault, WriteFault, NoMemory, TooLong}
-use Rattle.ael_commands.specs.Answer.{IsCaused, IsDrawnFor, Made, Refused, Unread, OutOfMemory}
-use Rattle.ael_commands.specs.Asm.{IsListed}
-use Rattle.ael_commands.specs.Bench.{bench_options}
-use Rattle.ael_commands.specs.Ends.{Drawn}
-use Rattle.ael_commands.specs.Jobs.{job_task}
-use Rattle.ael_commands.specs.ProgramTask.{IsMadeOf, IsTextIn, IsUnfit}
-use Rattle.ael_commands.specs.Runs.{IsRun, Scheduled, Threaded}
-use Rattle.ael_commands.specs.Status.{is_made}
-use Rattle.ael_commands.specs.Task.{Everything, IsDrawn}
+use Rattle.ael_commands.specs.Calls.Answer.{IsCaused, IsDrawnFor, Made, Refused, Unread, OutOfMemory}
+use Rattle.ael_commands.specs.Tasks.Asm.{IsListed}
+use Rattle.ael_commands.specs.Tasks.Bench.{bench_options}
+use Rattle.ael_commands.specs.Streams.Ends.{Drawn}
+use Rattle.ael_commands.specs.Arguments.Jobs.{job_task}
+use Rattle.ael_commands.specs.Tasks.ProgramTask.{IsMadeOf, IsTextIn, IsUnfit}
+use Rattle.ael_commands.specs.Runs.Run.{IsRun, Scheduled, Threaded}
+use Rattle.ael_commands.specs.Calls.Status.{is_made}
+use Rattle.ael_commands.specs.Tasks.Task.{Everything, IsDrawn}
 
 -- a failure that is told, or want of memory to tell it, passes over no failed read
 pub failed_counts : {P : Type 0} (status final : Status) → (final ≡ status) ⊎ ((final ≡ NoMemory) × (is_made status ≡ true)) → (status ≢ ReadFault → P) → final ≢ ReadFault → P

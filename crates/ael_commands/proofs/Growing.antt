@@ -4,8 +4,8 @@ use Rattle.std.specs.Prelude.{◌<◌, IfSome, Option, Some, None}
 use Rattle.std.proofs.lemmas.List.{take-append-drop, length-append, length-take}
 use Rattle.std.proofs.Math.Seq.{take-append_seam}
 use Rattle.ael_commands.specs.declared.reading.TheConstants.{LONGEST_INPUT}
-use Rattle.ael_commands.specs.Input.{IsPastLimit, IsReadToEnd}
-use Rattle.ael_commands.specs.Stream.{Gives, Grows, GrowsByPrefix, IsFront}
+use Rattle.ael_commands.specs.Streams.Input.{IsPastLimit, IsReadToEnd}
+use Rattle.ael_commands.specs.Streams.Stream.{Gives, Grows, GrowsByPrefix, IsFront}
 
 -- the front of the bytes was taken, and the rest was not
 pub record Wrote (old new : Option (List ℕ)) (bytes rest : List ℕ) : Type 0 where

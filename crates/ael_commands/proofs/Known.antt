@@ -4,7 +4,7 @@ use Rattle.std.specs.Prelude.{Option, Some, None, Result, Ok}
 use Rattle.std.specs.Io.KnownBytes.{Appends, Consumes, IsAtEnd, Keeps, ReadConsumes, WriteAppends}
 use Rattle.std.proofs.lemmas.Grind.{common_steps}
 use Rattle.std.proofs.lemmas.Result.{MatchResult-at_ok}
-use Rattle.ael_commands.specs.Stream.{ReadsKnown, WritesKnown}
+use Rattle.ael_commands.specs.Streams.Stream.{ReadsKnown, WritesKnown}
 use Rattle.ael_commands.specs.declared.sink.Put.TheVariants as put
 use Rattle.ael_commands.specs.declared.source.Got.TheVariants as got
 

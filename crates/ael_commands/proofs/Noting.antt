@@ -2,7 +2,7 @@
 use Rattle.std.proofs.Common.{◌≡◌, ℕ, ◌+◌, ◌<◌, ◌≤◌, List, ◌++◌, true, false}
 use Rattle.std.specs.Option.{option_to_list}
 use Rattle.plain_heap.specs.declared.mark.Mark.{Mark}
-use Rattle.gc_worker.specs.Marks.{mark_of}
+use Rattle.gc_worker.specs.Plain.Marks.{mark_of}
 use Rattle.gc_core.specs.Core.{CoreState}
 use Rattle.gc_core.specs.Event.{event_of, core_after}
 use Rattle.gc_core.specs.Run.{Ran, all_ended}

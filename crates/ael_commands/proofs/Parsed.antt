@@ -6,9 +6,9 @@ use Rattle.clap.specs.Walk.{Row, Text}
 use Rattle.simple_commands.specs.Exact.{is_exact}
 use Rattle.simple_commands.specs.Held.{IsSubcommandOf}
 use Rattle.simple_commands.proofs.Taking.{holds_operands, holds_options}
-use Rattle.ael_commands.specs.CommandLine.{ael_app}
-use Rattle.ael_commands.specs.Options.{bench_numbers, bench_wide, run_flags, run_numbers, run_wide, sim_flags, sim_numbers, sim_wide}
-use Rattle.ael_commands.specs.Words.{IsKnown}
+use Rattle.ael_commands.specs.Arguments.CommandLine.{ael_app}
+use Rattle.ael_commands.specs.Arguments.Options.{bench_numbers, bench_wide, run_flags, run_numbers, run_wide, sim_flags, sim_numbers, sim_wide}
+use Rattle.ael_commands.specs.Arguments.Words.{IsKnown}
 
 pub exact : (a : App) → a ≡ ael_app → IsTrue (is_exact a)
 exact a is = let holds : IsTrue (is_exact ael_app) = refl in subst (λ (x : App). IsTrue (is_exact x)) (sym is) holds

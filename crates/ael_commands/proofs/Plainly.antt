@@ -15,20 +15,20 @@ use Rattle.ael_commands.specs.declared.options.RunOptions.{RunOptions}
 use Rattle.ael_commands.specs.declared.options.SimOptions.{SimOptions}
 use Rattle.ael_commands.specs.declared.status.Status.{Status}
 use Rattle.ael_commands.specs.declared.status.Status.TheVariants.{Done, Text, Usage, Ended, StepsOut, ReadFault, WriteFault, NoMemory, TooLong}
-use Rattle.ael_commands.specs.Answer.{IsCaused, Made, Refused, Unread, OutOfMemory, IsAnswer}
-use Rattle.ael_commands.specs.Bench.{bench_options}
-use Rattle.ael_commands.specs.Call.{Call}
-use Rattle.ael_commands.specs.Emits.{Emits, AllWritten, OutFailed, BothFailed, ErrFailed}
-use Rattle.ael_commands.specs.Ends.{Drawn, Filled, IsFaultless}
-use Rattle.ael_commands.specs.Headline.{HeadlineHolds, IsAlwaysTheSame, CallIsAnswered, IsComplete, IsDone, PrintsListing, PrintsPlainly}
-use Rattle.ael_commands.specs.Jobs.{run_by, job_task, job_text}
-use Rattle.ael_commands.specs.ProgramTask.{HasFault, IsMadeOf, IsProgram}
-use Rattle.ael_commands.specs.Runs.{IsRun, Manner, Scheduled, Threaded, options_by}
-use Rattle.ael_commands.specs.Status.{status_code}
-use Rattle.ael_commands.specs.Stream.{Grows}
-use Rattle.ael_commands.specs.Success.{Succeeds}
-use Rattle.ael_commands.specs.Task.{NeededInput, Nothing, Everything, IsGiven, IsInput, IsUnread}
-use Rattle.ael_commands.specs.Words.{job_of}
+use Rattle.ael_commands.specs.Calls.Answer.{IsCaused, Made, Refused, Unread, OutOfMemory, IsAnswer}
+use Rattle.ael_commands.specs.Tasks.Bench.{bench_options}
+use Rattle.ael_commands.specs.Calls.Call.{Call}
+use Rattle.ael_commands.specs.Calls.Emits.{Emits, AllWritten, OutFailed, BothFailed, ErrFailed}
+use Rattle.ael_commands.specs.Streams.Ends.{Drawn, Filled, IsFaultless}
+use Rattle.ael_commands.specs.Calls.Headline.{HeadlineHolds, IsAlwaysTheSame, CallIsAnswered, IsComplete, IsDone, PrintsListing, PrintsPlainly}
+use Rattle.ael_commands.specs.Arguments.Jobs.{run_by, job_task, job_text}
+use Rattle.ael_commands.specs.Tasks.ProgramTask.{HasFault, IsMadeOf, IsProgram}
+use Rattle.ael_commands.specs.Runs.Run.{IsRun, Manner, Scheduled, Threaded, options_by}
+use Rattle.ael_commands.specs.Calls.Status.{status_code}
+use Rattle.ael_commands.specs.Streams.Stream.{Grows}
+use Rattle.ael_commands.specs.Calls.Success.{Succeeds}
+use Rattle.ael_commands.specs.Tasks.Task.{NeededInput, Nothing, Everything, IsGiven, IsInput, IsUnread}
+use Rattle.ael_commands.specs.Arguments.Words.{job_of}
 use Rattle.plain_heap.specs.Order.{plain}
 use Rattle.plain_heap.proofs.States.SameMutators.{plain_count}
 

@@ -10,8 +10,8 @@ use Rattle.std.proofs.Math.ListN.{drop_of_length-le}
 use Rattle.std.proofs.Math.Seq.{drop-cons}
 use Rattle.mutator_asm.specs.declared.item.Item.{Item}
 use Rattle.mutator_asm.specs.Program.{is_item}
-use Rattle.ael_commands.specs.Coming.{ListedRound, listed_from, then_repeated}
-use Rattle.ael_commands.specs.Schedule.{repeated, steps_listed}
+use Rattle.ael_commands.specs.Runs.Schedulers.{ListedRound, listed_from, then_repeated}
+use Rattle.ael_commands.specs.Runs.Schedule.{repeated, steps_listed}
 
 -- a list's own element, and past its end the other list from its start
 then_within : (xs steps : List ℕ) (at : ℕ) → at < length xs → then_repeated xs steps at ≡ slice_index_or xs at 0

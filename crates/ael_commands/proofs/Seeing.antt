@@ -6,7 +6,7 @@ use Rattle.std.proofs.lemmas.Option.{same_Some}
 use Rattle.plain_state.specs.declared.end.End.{End}
 use Rattle.plain_heap.specs.Print.{Seen, printed_lines, lines_seen}
 use Rattle.ael_commands.specs.declared.status.Status.TheVariants.{Done, Ended, StepsOut}
-use Rattle.ael_commands.specs.Seen.{is_halt, has_ended, has_halted, status_seen}
+use Rattle.ael_commands.specs.Runs.Verdict.{is_halt, has_ended, has_halted, status_seen}
 
 -- the element at m is the first of those from m on
 pub found-next : {A : Type 0} (xs : List A) (m : ℕ) (x : A) → slice_get xs m ≡ Some x → drop m xs ≡ x ∷ drop (m + 1) xs

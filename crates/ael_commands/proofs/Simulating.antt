@@ -10,10 +10,10 @@ use Rattle.gc_core.specs.Readers.{seen_of}
 use Rattle.gc_core.specs.Run.{Ran}
 use Rattle.ael_commands.specs.declared.options.SimOptions.{SimOptions}
 use Rattle.ael_commands.specs.declared.status.Status.{Status}
-use Rattle.ael_commands.specs.Runs.{IsRun, IsRunOf, Scheduled}
-use Rattle.ael_commands.specs.Seen.{status_seen}
-use Rattle.ael_commands.specs.Simulation.{simulated_run}
-use Rattle.ael_commands.specs.Told.{heap_lines, told_of}
+use Rattle.ael_commands.specs.Runs.Run.{IsRun, IsRunOf, Scheduled}
+use Rattle.ael_commands.specs.Runs.Verdict.{status_seen}
+use Rattle.ael_commands.specs.Runs.Simulation.{simulated_run}
+use Rattle.ael_commands.specs.Runs.Told.{heap_lines, told_of}
 
 -- the order is needed only where it is printed
 line_if : (b : Bool) (order marks : List Mark) → (b ≡ true → order ≡ marks) → cond b (order_line order) [] ≡ cond b (order_line marks) []

@@ -12,9 +12,9 @@ use Rattle.plain_heap.specs.Order.{plain, story}
 use Rattle.plain_heap.specs.Print.{Seen, lines_seen}
 use Rattle.heap_state.specs.Kept.{kept_by}
 use Rattle.heap_state.specs.Worker.{Worker}
-use Rattle.gc_worker.specs.Held.{Held}
-use Rattle.gc_worker.specs.Knows.{knows}
-use Rattle.gc_worker.specs.Law.{Heap, WorkersStand}
+use Rattle.gc_worker.specs.Workers.Held.{Held}
+use Rattle.gc_worker.specs.Workers.Knows.{knows}
+use Rattle.gc_worker.specs.Laws.Step.{Heap, WorkersStand}
 use Rattle.gc_core.specs.Readers.{mutators_in}
 use Rattle.gc_core.specs.Run.{Ran}
 use Rattle.gc_core.specs.Told.{IsToldOf, WhatStandsIsTold}
@@ -26,12 +26,12 @@ use Rattle.gc_worker.specs.History.Order.{order_of}
 use Rattle.ael_threads.specs.Rule.{heap_of}
 use Rattle.ael_commands.specs.declared.options.RunOptions.{RunOptions}
 use Rattle.ael_commands.specs.declared.status.Status.{Status}
-use Rattle.ael_commands.specs.ClosedHeap.{HasClosed, IsWholeHeap, told_by}
-use Rattle.ael_commands.specs.Runs.{IsRun, Threaded}
-use Rattle.ael_commands.specs.Seen.{has_ended, status_seen}
-use Rattle.ael_commands.specs.Simulation.{config}
-use Rattle.ael_commands.specs.Threads.{IsThreaded}
-use Rattle.ael_commands.specs.Told.{RunReport, heap_lines, told_of}
+use Rattle.ael_commands.specs.Runs.ClosedHeap.{HasClosed, IsWholeHeap, told_by}
+use Rattle.ael_commands.specs.Runs.Run.{IsRun, Threaded}
+use Rattle.ael_commands.specs.Runs.Verdict.{has_ended, status_seen}
+use Rattle.ael_commands.specs.Runs.Simulation.{config}
+use Rattle.ael_commands.specs.Runs.Threads.{IsThreaded}
+use Rattle.ael_commands.specs.Runs.Told.{RunReport, heap_lines, told_of}
 
 -- ---- what is read of it
 

@@ -2,7 +2,7 @@
 
 ghost use Rattle.std.specs.Prelude.{◌≡◌, ◌⊎◌, [], IfOk, OnErr, true};
 ghost use Rattle.std.specs.Cow.{cow_str_bytes};
-ghost use Rattle.ael_commands.specs.Status.{is_made, status_line};
+ghost use Rattle.ael_commands.specs.Calls.Status.{is_made, status_line};
 
 use crate::status::{NO_MEMORY, Status};
 use plain_heap::NoMemory;

@@ -1,7 +1,7 @@
 //! The command `asm`: the listing of a program.
 
 ghost use Rattle.std.specs.Prelude.{IfOk};
-ghost use Rattle.ael_commands.specs.Asm.{IsListed};
+ghost use Rattle.ael_commands.specs.Tasks.Asm.{IsListed};
 
 use crate::answer::Answer;
 use crate::status::Status;

@@ -2,10 +2,10 @@
 
 ghost use Rattle.std.specs.Prelude.{IfOk};
 ghost use Rattle.benchmark.specs.Text.{bench_text};
-ghost use Rattle.ael_commands.specs.Bench.{bench_options};
-ghost use Rattle.ael_commands.specs.Options.{IsDepth};
-ghost use Rattle.ael_commands.specs.ProgramTask.{IsMadeOf};
-ghost use Rattle.ael_commands.specs.Runs.{IsRun, Scheduled};
+ghost use Rattle.ael_commands.specs.Tasks.Bench.{bench_options};
+ghost use Rattle.ael_commands.specs.Arguments.Options.{IsDepth};
+ghost use Rattle.ael_commands.specs.Tasks.ProgramTask.{IsMadeOf};
+ghost use Rattle.ael_commands.specs.Runs.Run.{IsRun, Scheduled};
 ghost use Rattle.mutator_asm.specs.Text.{IsText};
 
 use crate::answer::Answer;

@@ -15,8 +15,8 @@ pub struct ClosedHeap {
 }
 
 impl Model for ClosedHeap {
-    ghost use Rattle.ael_commands.specs.ClosedHeap.{IsWholeHeap, told_by};
-    ghost use Rattle.ael_commands.specs.Told.{RunReport};
+    ghost use Rattle.ael_commands.specs.Runs.ClosedHeap.{IsWholeHeap, told_by};
+    ghost use Rattle.ael_commands.specs.Runs.Told.{RunReport};
 
     ghost Value = { RunReport };
 
@@ -27,7 +27,7 @@ impl Model for ClosedHeap {
 
 impl ClosedHeap {
     ghost use Rattle.std.specs.Prelude.{◌≡◌};
-    ghost use Rattle.ael_commands.specs.ClosedHeap.{IsWholeHeap, told_by};
+    ghost use Rattle.ael_commands.specs.Runs.ClosedHeap.{IsWholeHeap, told_by};
 
     pub fn new(spaces: Spaces, outputs: Outputs) -> ClosedHeap
         requires { IsWholeHeap spaces.pages outputs }

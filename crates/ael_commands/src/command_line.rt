@@ -3,7 +3,7 @@
 ghost use Rattle.std.specs.Prelude.{◌≡◌, [], ◌∷◌, IfOk, false};
 ghost use Rattle.clap.specs.Words.{App, app_of, with_subcommand};
 ghost use Rattle.clap.specs.declared.builder.Command.TheViews.{out-Command};
-ghost use Rattle.ael_commands.specs.CommandLine.{ael_app, ael_with, asm_app, bench_app, run_app, sim_app};
+ghost use Rattle.ael_commands.specs.Arguments.CommandLine.{ael_app, ael_with, asm_app, bench_app, run_app, sim_app};
 
 use crate::operands::{BENCH_NUMBERS, BENCH_WIDE};
 use crate::options::{RUN_FLAGS, RUN_NUMBERS, RUN_WIDE, SIM_FLAGS, SIM_NUMBERS, SIM_WIDE};

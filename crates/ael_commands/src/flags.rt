@@ -3,7 +3,7 @@
 ghost use Rattle.std.specs.Prelude.{◌≡◌, ◌++◌, [], OnOk, if◌then◌else◌, string_bytes};
 ghost use Rattle.plain_heap.specs.Print.{order_line};
 ghost use Rattle.dump_text.specs.Text.{dump_text};
-ghost use Rattle.ael_commands.specs.Told.{cycles_line, heap_lines, live_text};
+ghost use Rattle.ael_commands.specs.Runs.Told.{cycles_line, heap_lines, live_text};
 
 use crate::dump::push_dump;
 use crate::options::RunOptions;

@@ -18,7 +18,7 @@ pub enum Job {
 
 impl Job {
     ghost use Rattle.std.specs.Prelude.{◌≡◌};
-    ghost use Rattle.ael_commands.specs.Jobs.{job_task};
+    ghost use Rattle.ael_commands.specs.Arguments.Jobs.{job_task};
 
     /// Whether it waits for other threads.
     pub fn waits(self) -> bool

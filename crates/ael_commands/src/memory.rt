@@ -1,8 +1,8 @@
 //! Sources and sinks in memory, which fail where they are told to.
 
 ghost use Rattle.std.specs.Prelude.{◌≡◌, ◌≢◌, ◌<◌, ◌≤◌, ◌↔◌, [], Some, IfOk, IsTrue, length, min};
-ghost use Rattle.ael_commands.specs.Memory.{is_listed, is_to_fail, next_call, room_left};
-ghost use Rattle.ael_commands.specs.Stream.{Reads, Rose, Writes};
+ghost use Rattle.ael_commands.specs.Streams.Memory.{is_listed, is_to_fail, next_call, room_left};
+ghost use Rattle.ael_commands.specs.Streams.Stream.{Reads, Rose, Writes};
 ghost use Rattle.ael_commands.specs.declared.source.Got.TheVariants as got;
 ghost use Rattle.ael_commands.specs.declared.sink.Put.TheVariants as put;
 
@@ -23,7 +23,7 @@ pub struct MemSource {
 }
 
 impl Model for MemSource {
-    ghost use Rattle.ael_commands.specs.Memory.{Supply};
+    ghost use Rattle.ael_commands.specs.Streams.Memory.{Supply};
 
     ghost Value = { Supply };
 
@@ -80,7 +80,7 @@ pub struct MemSink {
 
 impl Model for MemSink {
     ghost use Rattle.std.specs.Prelude.{◌≤◌, length, vec_capacity};
-    ghost use Rattle.ael_commands.specs.Memory.{Store};
+    ghost use Rattle.ael_commands.specs.Streams.Memory.{Store};
 
     ghost Value = { Store };
 

@@ -3,7 +3,7 @@
 ghost use Rattle.std.specs.Prelude.{◌≡◌, ◌++◌, OnOk, string_bytes};
 ghost use Rattle.std.specs.List.{list_all};
 ghost use Rattle.plain_heap.specs.Print.{lines_seen};
-ghost use Rattle.ael_commands.specs.Seen.{is_halt, has_halted, status_seen};
+ghost use Rattle.ael_commands.specs.Runs.Verdict.{is_halt, has_halted, status_seen};
 
 use crate::report::Report;
 use crate::status::Status;

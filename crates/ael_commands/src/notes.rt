@@ -3,7 +3,7 @@
 ghost use Rattle.std.specs.Prelude.{◌≡◌, ◌++◌, List, OnOk};
 ghost use Rattle.std.specs.Option.{option_to_list};
 ghost use Rattle.plain_heap.specs.declared.mark.Mark.{Mark};
-ghost use Rattle.gc_worker.specs.Marks.{mark_of};
+ghost use Rattle.gc_worker.specs.Plain.Marks.{mark_of};
 
 use gc_core::{Stepped, mark};
 use plain_heap::Mark;

@@ -38,8 +38,8 @@ impl BenchOperands {
     ghost use Rattle.clap.specs.Matches.{found_of};
     ghost use Rattle.clap.specs.Walk.{rows_of};
     ghost use Rattle.simple_commands.specs.Options.{HoldOptions};
-    ghost use Rattle.ael_commands.specs.Bench.{bench_options};
-    ghost use Rattle.ael_commands.specs.Options.{AreInRange, IsDepth, bench_numbers, bench_wide, operands_of};
+    ghost use Rattle.ael_commands.specs.Tasks.Bench.{bench_options};
+    ghost use Rattle.ael_commands.specs.Arguments.Options.{AreInRange, IsDepth, bench_numbers, bench_wide, operands_of};
 
     /// The operands that were given.
     pub fn given(matches: &ArgMatches) -> BenchOperands

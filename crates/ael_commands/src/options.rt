@@ -92,8 +92,8 @@ impl RunOptions {
     ghost use Rattle.clap.specs.Matches.{found_of};
     ghost use Rattle.clap.specs.Walk.{rows_of};
     ghost use Rattle.simple_commands.specs.Options.{HoldOptions};
-    ghost use Rattle.ael_commands.specs.Options.{AreInRange, run_numbers, run_options_of, run_wide};
-    ghost use Rattle.ael_commands.specs.Simulation.{config};
+    ghost use Rattle.ael_commands.specs.Arguments.Options.{AreInRange, run_numbers, run_options_of, run_wide};
+    ghost use Rattle.ael_commands.specs.Runs.Simulation.{config};
 
     /// The options that were given, and the defaults of the others.
     pub fn given(matches: &ArgMatches) -> RunOptions
@@ -137,7 +137,7 @@ impl SimOptions {
     ghost use Rattle.clap.specs.Matches.{found_of};
     ghost use Rattle.clap.specs.Walk.{rows_of};
     ghost use Rattle.simple_commands.specs.Options.{HoldOptions};
-    ghost use Rattle.ael_commands.specs.Options.{AreInRange, sim_numbers, sim_options_of, sim_wide};
+    ghost use Rattle.ael_commands.specs.Arguments.Options.{AreInRange, sim_numbers, sim_options_of, sim_wide};
 
     /// The options that were given, and the defaults of the others.
     pub fn given(matches: &ArgMatches) -> SimOptions

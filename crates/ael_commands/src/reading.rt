@@ -1,9 +1,9 @@
 //! Reading a source to its end.
 
 ghost use Rattle.std.specs.Prelude.{◌≡◌, ◌≢◌, ◌<◌, ◌≤◌, IfOk, Err, length};
-ghost use Rattle.ael_commands.specs.Stream.{Rose};
+ghost use Rattle.ael_commands.specs.Streams.Stream.{Rose};
 ghost use Rattle.ael_commands.specs.declared.reading.ReadError.TheVariants.{Fault, TooLong, NoMemory};
-ghost use Rattle.ael_commands.specs.Input.{IsWholeInput, IsPastLimit, IsBounded};
+ghost use Rattle.ael_commands.specs.Streams.Input.{IsWholeInput, IsPastLimit, IsBounded};
 
 use crate::source::{Got, Source};
 use std::alloc::{AllocError, Global};

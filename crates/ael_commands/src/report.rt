@@ -2,8 +2,8 @@
 
 ghost use Rattle.std.specs.Prelude.{◌≡◌, ◌<◌, Some, length, option_map, slice_get};
 ghost use Rattle.std.specs.List.{list_all};
-ghost use Rattle.ael_commands.specs.Seen.{has_ended};
-ghost use Rattle.ael_commands.specs.Told.{RunReport};
+ghost use Rattle.ael_commands.specs.Runs.Verdict.{has_ended};
+ghost use Rattle.ael_commands.specs.Runs.Told.{RunReport};
 
 use gc_core::Core;
 use plain_heap::End;
@@ -70,7 +70,7 @@ pub trait Report {
 }
 
 impl<'p> Report for Core<'p> {
-    ghost use Rattle.ael_commands.specs.Told.{told_of};
+    ghost use Rattle.ael_commands.specs.Runs.Told.{told_of};
 
     ghost told = { told_of };
 

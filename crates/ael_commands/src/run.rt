@@ -1,9 +1,9 @@
 //! The command `run`: a program run on threads.
 
 ghost use Rattle.std.specs.Prelude.{IfOk};
-ghost use Rattle.ael_commands.specs.ClosedHeap.{HasClosed};
-ghost use Rattle.ael_commands.specs.Options.{AreInRange};
-ghost use Rattle.ael_commands.specs.Runs.{IsRun, Threaded};
+ghost use Rattle.ael_commands.specs.Runs.ClosedHeap.{HasClosed};
+ghost use Rattle.ael_commands.specs.Arguments.Options.{AreInRange};
+ghost use Rattle.ael_commands.specs.Runs.Run.{IsRun, Threaded};
 
 use crate::answer::Answer;
 use crate::closed_heap::ClosedHeap;

@@ -7,7 +7,7 @@ ghost use Rattle.mutator_asm.specs.Program.{is_item};
 ghost use Rattle.gc_core.specs.Core.{workers_of};
 ghost use Rattle.gc_core.specs.Event.{event_of, core_after};
 ghost use Rattle.gc_core.specs.Run.{all_ended, run_from};
-ghost use Rattle.ael_commands.specs.Schedule.{scheduled_by};
+ghost use Rattle.ael_commands.specs.Runs.Schedule.{scheduled_by};
 
 use crate::notes::{Notes, Unnoted};
 use crate::options::SimOptions;

@@ -4,11 +4,11 @@ ghost use Rattle.std.specs.Prelude.{◌≡◌, ◌<◌, ◌++◌, [], IfOk, if�
 ghost use Rattle.plain_heap.specs.Print.{lines_seen, order_line};
 ghost use Rattle.gc_core.specs.Core.{opening_core, workers_of};
 ghost use Rattle.gc_core.specs.Readers.{seen_of};
-ghost use Rattle.ael_commands.specs.Options.{AreInRange};
-ghost use Rattle.ael_commands.specs.Simulation.{config};
-ghost use Rattle.ael_commands.specs.Runs.{IsRun, Scheduled};
-ghost use Rattle.ael_commands.specs.Seen.{status_seen};
-ghost use Rattle.ael_commands.specs.Told.{heap_lines, told_of};
+ghost use Rattle.ael_commands.specs.Arguments.Options.{AreInRange};
+ghost use Rattle.ael_commands.specs.Runs.Simulation.{config};
+ghost use Rattle.ael_commands.specs.Runs.Run.{IsRun, Scheduled};
+ghost use Rattle.ael_commands.specs.Runs.Verdict.{status_seen};
+ghost use Rattle.ael_commands.specs.Runs.Told.{heap_lines, told_of};
 
 use crate::answer::Answer;
 use crate::flags::{push_heap, push_order_if};

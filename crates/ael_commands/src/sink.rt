@@ -1,7 +1,7 @@
 //! Where bytes go.
 
 ghost use Rattle.std.specs.Prelude.{◌≡◌, ◌≢◌, ◌<◌, ◌≤◌, ℕ, List, Option, length};
-ghost use Rattle.ael_commands.specs.Stream.{Writes, Rose};
+ghost use Rattle.ael_commands.specs.Streams.Stream.{Writes, Rose};
 ghost use Rattle.ael_commands.specs.declared.sink.Put.TheVariants.{Failed};
 
 /// What became of a piece that was written.

@@ -1,7 +1,7 @@
 //! Where bytes come from.
 
 ghost use Rattle.std.specs.Prelude.{◌≡◌, ◌≢◌, ◌<◌, ◌≤◌, ℕ, List, Option, length};
-ghost use Rattle.ael_commands.specs.Stream.{Reads, Rose};
+ghost use Rattle.ael_commands.specs.Streams.Stream.{Reads, Rose};
 ghost use Rattle.ael_commands.specs.declared.source.Got.TheVariants.{Failed};
 
 /// What a read gives.

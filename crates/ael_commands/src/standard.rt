@@ -4,7 +4,7 @@
 //! what a reader has left or what a writer holds, a clause says what became of it.
 
 ghost use Rattle.std.specs.Prelude.{◌≡◌, ◌≢◌, ◌<◌, ◌≤◌, None, length};
-ghost use Rattle.ael_commands.specs.Stream.{Reads, ReadsKnown, Rose, Writes, WritesKnown};
+ghost use Rattle.ael_commands.specs.Streams.Stream.{Reads, ReadsKnown, Rose, Writes, WritesKnown};
 ghost use Rattle.ael_commands.specs.declared.source.Got.TheVariants as got;
 ghost use Rattle.ael_commands.specs.declared.sink.Put.TheVariants as put;
 
@@ -21,7 +21,7 @@ pub struct StdSource<R> {
 }
 
 impl<R> Model for StdSource<R> {
-    ghost use Rattle.ael_commands.specs.Standard.{Reading};
+    ghost use Rattle.ael_commands.specs.Streams.Standard.{Reading};
 
     ghost Value = { Reading R };
 
@@ -81,7 +81,7 @@ pub struct StdSink<W> {
 }
 
 impl<W> Model for StdSink<W> {
-    ghost use Rattle.ael_commands.specs.Standard.{Writing};
+    ghost use Rattle.ael_commands.specs.Streams.Standard.{Writing};
 
     ghost Value = { Writing W };
 

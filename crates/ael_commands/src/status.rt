@@ -41,7 +41,7 @@ pub enum Status {
 impl Status {
     ghost use Rattle.std.specs.Prelude.{◌≡◌, IfOk, OnErr, true};
     ghost use Rattle.std.specs.Cow.{cow_str_bytes};
-    ghost use Rattle.ael_commands.specs.Status.{status_code, is_made, status_line};
+    ghost use Rattle.ael_commands.specs.Calls.Status.{status_code, is_made, status_line};
 
     /// The program's exit status.
     pub fn code(self) -> u8
@@ -85,7 +85,7 @@ impl Status {
 
 impl From<ReadError> for Status {
     ghost use Rattle.std.specs.Prelude.{◌≡◌};
-    ghost use Rattle.ael_commands.specs.Status.{read_status};
+    ghost use Rattle.ael_commands.specs.Calls.Status.{read_status};
 
     ghost from_gives = { λ e status. status ≡ read_status e };
 
@@ -100,7 +100,7 @@ impl From<ReadError> for Status {
 
 impl From<AsmError> for Status {
     ghost use Rattle.std.specs.Prelude.{◌≡◌};
-    ghost use Rattle.ael_commands.specs.Status.{text_status};
+    ghost use Rattle.ael_commands.specs.Calls.Status.{text_status};
 
     ghost from_gives = { λ e status. status ≡ text_status e };
 

@@ -4,9 +4,9 @@ ghost use Rattle.std.specs.Prelude.{◌≡◌, ◌<◌, ◌≤◌, ◌⊎◌, No
 ghost use Rattle.ael_commands.specs.declared.job.Job.{Job};
 ghost use Rattle.ael_commands.specs.declared.reading.TheConstants.{LONGEST_INPUT};
 ghost use Rattle.ael_commands.specs.declared.sink.Put.TheVariants as put;
-ghost use Rattle.ael_commands.specs.Jobs.{job_task};
-ghost use Rattle.ael_commands.specs.Sure.{GoesAs};
-ghost use Rattle.ael_commands.specs.Words.{job_of};
+ghost use Rattle.ael_commands.specs.Arguments.Jobs.{job_task};
+ghost use Rattle.ael_commands.specs.Streams.Sure.{GoesAs};
+ghost use Rattle.ael_commands.specs.Arguments.Words.{job_of};
 
 use crate::sink::{Put, Sink};
 use crate::source::{Got, Source};

@@ -1,13 +1,13 @@
 //! The top call, which `main` calls with the real ends.
 
 ghost use Rattle.std.specs.Prelude.{◌≡◌, IfSome, List, None, ℕ, map, string_bytes, true};
-ghost use Rattle.ael_commands.specs.Answer.{IsAnswerTo};
-ghost use Rattle.ael_commands.specs.Call.{call_of, call_with};
-ghost use Rattle.ael_commands.specs.Emits.{IsEmitted};
-ghost use Rattle.ael_commands.specs.Ends.{Drawn, filled};
-ghost use Rattle.ael_commands.specs.Headline.{HeadlineHolds, IsAlwaysTheSame, CallIsAnswered, IsComplete, IsOutOfMemory, PrintsListing, PrintsPlainly};
-ghost use Rattle.ael_commands.specs.Jobs.{is_waiting};
-ghost use Rattle.ael_commands.specs.Words.{job_of};
+ghost use Rattle.ael_commands.specs.Calls.Answer.{IsAnswerTo};
+ghost use Rattle.ael_commands.specs.Calls.Call.{call_of, call_with};
+ghost use Rattle.ael_commands.specs.Calls.Emits.{IsEmitted};
+ghost use Rattle.ael_commands.specs.Streams.Ends.{Drawn, filled};
+ghost use Rattle.ael_commands.specs.Calls.Headline.{HeadlineHolds, IsAlwaysTheSame, CallIsAnswered, IsComplete, IsOutOfMemory, PrintsListing, PrintsPlainly};
+ghost use Rattle.ael_commands.specs.Arguments.Jobs.{is_waiting};
+ghost use Rattle.ael_commands.specs.Arguments.Words.{job_of};
 
 use crate::answer::Answer;
 use crate::answering::{answer, answer_still};

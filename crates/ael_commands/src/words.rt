@@ -6,9 +6,9 @@ ghost use Rattle.clap.specs.Simple.{subcommand_of, subcommand_rows_of};
 ghost use Rattle.clap.specs.Takes.{takes};
 ghost use Rattle.clap.specs.Walk.{rows_of};
 ghost use Rattle.simple_commands.specs.declared.parsing.WordsError.TheVariants.{Refused};
-ghost use Rattle.ael_commands.specs.CommandLine.{ael_app};
-ghost use Rattle.ael_commands.specs.Words.{job_from, job_of, NumbersAreInRange, IsKnown};
-ghost use Rattle.ael_commands.specs.Answer.{IsAsked};
+ghost use Rattle.ael_commands.specs.Arguments.CommandLine.{ael_app};
+ghost use Rattle.ael_commands.specs.Arguments.Words.{job_from, job_of, NumbersAreInRange, IsKnown};
+ghost use Rattle.ael_commands.specs.Calls.Answer.{IsAsked};
 
 use crate::command_line::command;
 use crate::job::Job;

@@ -1,8 +1,8 @@
 //! Writing an answer.
 
 ghost use Rattle.std.specs.Prelude.{◌≡◌, ◌≤◌, OnOk, OnErr};
-ghost use Rattle.ael_commands.specs.Emits.{Emits};
-ghost use Rattle.ael_commands.specs.Ends.{filled, IsWritten, IsCutOff};
+ghost use Rattle.ael_commands.specs.Calls.Emits.{Emits};
+ghost use Rattle.ael_commands.specs.Streams.Ends.{filled, IsWritten, IsCutOff};
 
 use crate::answer::Answer;
 use crate::sink::{Put, Sink};

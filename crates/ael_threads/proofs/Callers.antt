@@ -9,7 +9,7 @@ use Rattle.plain_state.specs.State.{Plain}
 use Rattle.gc_worker.specs.declared.entry.Entry.{Entry}
 use Rattle.gc_worker.specs.declared.entry.Entry.TheVariants.{Exchanged, Made}
 use Rattle.gc_worker.specs.History.Legal.{IsLegal, after_call}
-use Rattle.gc_worker.specs.Turned.{Answers}
+use Rattle.gc_worker.specs.Steps.Turned.{Answers}
 use Rattle.gc_worker.proofs.Between.Others.{answers_leave_the_others}
 use Rattle.ael_threads.specs.Histories.{AreBy, Each, IsOnce}
 

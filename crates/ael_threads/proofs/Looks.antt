@@ -19,18 +19,18 @@ use Rattle.gc_worker.specs.declared.entry.Entry.TheVariants.{Exchanged}
 use Rattle.gc_worker.specs.declared.stage.Stage.{Stage}
 use Rattle.gc_worker.specs.declared.stage.Stage.TheVariants.{Accesses, Evacuates, Flips, Forwards, Gone, Looks, Opens, Passes, Places, Scans, Serves}
 use Rattle.gc_worker.specs.declared.task.Task.{Task}
-use Rattle.gc_worker.specs.Begun.{IsPastLook}
-use Rattle.gc_worker.specs.Between.{KeepsToTask, IsNoAnswer}
-use Rattle.gc_worker.specs.Cycles.{IsInCall, IsInPassage}
-use Rattle.gc_worker.specs.Fits.{Fits, FitsEnd, IsEndBefore}
-use Rattle.gc_worker.specs.Full.{FindsNoRoom, FullWhereTold}
-use Rattle.gc_worker.specs.Held.{Held}
+use Rattle.gc_worker.specs.Workers.Begun.{IsPastLook}
+use Rattle.gc_worker.specs.Laws.Between.{KeepsToTask, IsNoAnswer}
+use Rattle.gc_worker.specs.Laws.Cycles.{IsInCall, IsInPassage}
+use Rattle.gc_worker.specs.Workers.Fits.{Fits, FitsEnd, IsEndBefore}
+use Rattle.gc_worker.specs.Plain.Full.{FindsNoRoom, FullWhereTold}
+use Rattle.gc_worker.specs.Workers.Held.{Held}
 use Rattle.gc_worker.specs.History.Legal.{after_all, calls_of, extra, last_flip}
 use Rattle.gc_worker.specs.History.Tally.{IsTallied}
-use Rattle.gc_worker.specs.Knows.{post_in}
-use Rattle.gc_worker.specs.Law.{Heap, WorkersStand, epoch_of, held_at, nobody}
-use Rattle.gc_worker.specs.Turned.{Answers, Marks, Silent, Told, epoch_in_gate, told, turned}
-use Rattle.gc_worker.specs.Wanted.{wanted}
+use Rattle.gc_worker.specs.Workers.Knows.{post_in}
+use Rattle.gc_worker.specs.Laws.Step.{Heap, WorkersStand, epoch_of, held_at, nobody}
+use Rattle.gc_worker.specs.Steps.Turned.{Answers, Marks, Silent, Told, epoch_in_gate, told, turned}
+use Rattle.gc_worker.specs.Steps.Wanted.{wanted}
 use Rattle.gc_worker.proofs.Between.Begun.{beginnings_are_kept, full_is_found_later}
 use Rattle.gc_worker.proofs.Between.GoingOn.{workers_go_on}
 use Rattle.gc_worker.proofs.History.Extensions.{calls_append}

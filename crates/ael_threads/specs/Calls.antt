@@ -10,11 +10,11 @@ use Rattle.mutator_asm.specs.declared.instr.Instr.TheVariants.{Halt}
 use Rattle.gc_worker.specs.declared.stepped.Stepped.{Stepped}
 use Rattle.gc_worker.specs.declared.task.Task.{Task}
 use Rattle.gc_worker.specs.declared.task.Task.TheVariants.{Calls}
-use Rattle.gc_worker.specs.Answer.{ComesTo}
-use Rattle.gc_worker.specs.Between.{AreAlike, RegistersLand}
-use Rattle.gc_worker.specs.Cycles.{IsInCall}
-use Rattle.gc_worker.specs.Full.{FullByOutcome}
-use Rattle.gc_worker.specs.Turned.{Answers, told}
+use Rattle.gc_worker.specs.Plain.Answer.{ComesTo}
+use Rattle.gc_worker.specs.Laws.Between.{AreAlike, RegistersLand}
+use Rattle.gc_worker.specs.Laws.Cycles.{IsInCall}
+use Rattle.gc_worker.specs.Plain.Full.{FullByOutcome}
+use Rattle.gc_worker.specs.Steps.Turned.{Answers, told}
 use Rattle.gc_worker.specs.declared.call.Call.{Call}
 use Rattle.gc_worker.specs.declared.entry.Entry.{Entry}
 use Rattle.ael_threads.specs.declared.view.WonClaim.{WonClaim}

@@ -6,8 +6,8 @@ use Rattle.heap_laws.specs.Opening.{opening_plain}
 use Rattle.gc_worker.specs.declared.call.Call.{Call}
 use Rattle.gc_worker.specs.declared.entry.Entry.{Entry}
 use Rattle.gc_worker.specs.declared.entry.Entry.TheVariants.{Exchanged, Made}
-use Rattle.gc_worker.specs.Between.{fresh_worker}
-use Rattle.gc_worker.specs.Held.{Held}
+use Rattle.gc_worker.specs.Laws.Between.{fresh_worker}
+use Rattle.gc_worker.specs.Workers.Held.{Held}
 use Rattle.gc_worker.specs.History.Legal.{calls_of}
 use Rattle.gc_worker.specs.History.Tally.{Tally, first_tally}
 use Rattle.ael_threads.specs.declared.view.Hand.{Hand}

@@ -4,10 +4,10 @@ use mathlib.Core.Option.{some}
 use mathlib.Core.List.{IsPrefix}
 use lib.ListN.{get_elem?}
 use Rattle.atomic_table.specs.Table as table
-use Rattle.gc_worker.specs.Held.{Held}
-use Rattle.gc_worker.specs.Cycles.{IsInCall}
-use Rattle.gc_worker.specs.Law.{IsOut, WorkersStand}
-use Rattle.gc_worker.specs.Turned.{PageWon}
+use Rattle.gc_worker.specs.Workers.Held.{Held}
+use Rattle.gc_worker.specs.Laws.Cycles.{IsInCall}
+use Rattle.gc_worker.specs.Laws.Step.{IsOut, WorkersStand}
+use Rattle.gc_worker.specs.Steps.Turned.{PageWon}
 use Rattle.ael_threads.specs.declared.view.WonClaim.{WonClaim}
 use Rattle.gc_worker.specs.declared.entry.Entry.{Entry}
 use Rattle.ael_threads.specs.declared.view.Hand.{Hand}

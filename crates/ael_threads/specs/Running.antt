@@ -5,12 +5,12 @@ use Rattle.atomic_table.specs.Seated.{TableId}
 use Rattle.plain_state.specs.declared.end.End.{End}
 use Rattle.plain_state.specs.declared.end.End.TheVariants.{HeapFull}
 use Rattle.mutator_asm.specs.declared.instr.Instr.{Instr}
-use Rattle.heap_state.specs.Reachable.{IsLive}
+use Rattle.heap_state.specs.Meaning.Reachable.{IsLive}
 use Rattle.gc_worker.specs.declared.stage.Stage.TheVariants.{Gone}
-use Rattle.gc_worker.specs.Full.{FindsNoRoom}
-use Rattle.gc_worker.specs.Held.{Held}
-use Rattle.gc_worker.specs.Law.{WorkersStand}
-use Rattle.gc_worker.specs.Stepped.{uncounted}
+use Rattle.gc_worker.specs.Plain.Full.{FindsNoRoom}
+use Rattle.gc_worker.specs.Workers.Held.{Held}
+use Rattle.gc_worker.specs.Laws.Step.{WorkersStand}
+use Rattle.gc_worker.specs.Steps.Stepped.{uncounted}
 use Rattle.gc_worker.specs.declared.did.Did.TheVariants.{Trap}
 use Rattle.gc_worker.specs.declared.task.Task.{Task}
 use Rattle.gc_worker.specs.declared.call.Call.{Call}

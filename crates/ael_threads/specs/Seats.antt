@@ -15,23 +15,23 @@ use Rattle.plain_state.specs.State as plain
 use Rattle.gc_worker.specs.declared.stage.Stage.TheVariants.{Gone}
 use Rattle.gc_worker.specs.declared.stepped.Stepped.{Stepped}
 use Rattle.gc_worker.specs.declared.stepped.Stepped.TheVariants.{Idle}
-use Rattle.gc_worker.specs.Between.{Begins, AreAlike, KeepsToTask, RegistersLand, Readies, ShowsRegisters}
-use Rattle.gc_worker.specs.Counted.{counted}
-use Rattle.gc_worker.specs.Fits.{Fits, Takes}
-use Rattle.gc_worker.specs.Full.{FullWhereTold}
-use Rattle.gc_worker.specs.Held.{Held}
-use Rattle.gc_worker.specs.Knows.{post_in}
+use Rattle.gc_worker.specs.Laws.Between.{Begins, AreAlike, KeepsToTask, RegistersLand, Readies, ShowsRegisters}
+use Rattle.gc_worker.specs.Workers.Counted.{counted}
+use Rattle.gc_worker.specs.Workers.Fits.{Fits, Takes}
+use Rattle.gc_worker.specs.Plain.Full.{FullWhereTold}
+use Rattle.gc_worker.specs.Workers.Held.{Held}
+use Rattle.gc_worker.specs.Workers.Knows.{post_in}
 use Rattle.plain_state.specs.declared.end.End.{End}
 use Rattle.plain_state.specs.declared.end.End.TheVariants.{HeapFull}
-use Rattle.heap_state.specs.Reachable as reachable
+use Rattle.heap_state.specs.Meaning.Reachable as reachable
 use Rattle.heap_state.specs.Worker.{is_running}
-use Rattle.gc_worker.specs.Copied.{IsTraced}
-use Rattle.gc_worker.specs.Law.{FlipsWhereTold, WorkersStand, read, epoch_of}
-use Rattle.heap_state.specs.Copies.{CopiedIsLive}
-use Rattle.gc_worker.specs.Stepped.{stepped_by, uncounted}
+use Rattle.gc_worker.specs.Laws.Copied.{IsTraced}
+use Rattle.gc_worker.specs.Laws.Step.{FlipsWhereTold, WorkersStand, read, epoch_of}
+use Rattle.heap_state.specs.Cycles.Copies.{CopiedIsLive}
+use Rattle.gc_worker.specs.Steps.Stepped.{stepped_by, uncounted}
 use Rattle.gc_worker.specs.declared.did.Did.TheVariants.{Done, Trap}
-use Rattle.gc_worker.specs.Turned.{PageWon, Told, Silent, Answers, Marks, told, turned, won}
-use Rattle.gc_worker.specs.Wanted.{wanted}
+use Rattle.gc_worker.specs.Steps.Turned.{PageWon, Told, Silent, Answers, Marks, told, turned, won}
+use Rattle.gc_worker.specs.Steps.Wanted.{wanted}
 use Rattle.gc_worker.specs.declared.call.Call.{Call}
 use Rattle.ael_threads.specs.declared.view.WonClaim.{WonClaim}
 use Rattle.gc_worker.specs.declared.entry.Entry.{Entry}

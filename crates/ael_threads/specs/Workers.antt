@@ -2,9 +2,9 @@
 use Rattle.std.specs.Prelude.{◌≡◌, ℕ, ◌+◌, List}
 use mathlib.Core.Option.{some}
 use lib.ListN.{get_elem?}
-use Rattle.gc_worker.specs.Held.{Held}
-use Rattle.gc_worker.specs.Law.{Heap}
-use Rattle.gc_worker.specs.Stepped.{uncounted}
+use Rattle.gc_worker.specs.Workers.Held.{Held}
+use Rattle.gc_worker.specs.Laws.Step.{Heap}
+use Rattle.gc_worker.specs.Steps.Stepped.{uncounted}
 use Rattle.ael_threads.specs.declared.view.Plan.{Plan}
 
 -- the number of workers

@@ -2,11 +2,11 @@
 
 ghost use Rattle.std.specs.Prelude.{◌≡◌, ◌<◌, [], Some, None};
 ghost use Rattle.gc_worker.specs.declared.task.Task.TheVariants.{Calls, Stops};
-ghost use Rattle.gc_worker.specs.Between.{IsIdle, with_task};
-ghost use Rattle.gc_worker.specs.Cycles.{IsInCall};
-ghost use Rattle.gc_worker.specs.Fits.{MayBegin, MayStop};
-ghost use Rattle.gc_worker.specs.Held.{Held};
-ghost use Rattle.gc_worker.specs.Wanted.{wanted};
+ghost use Rattle.gc_worker.specs.Laws.Between.{IsIdle, with_task};
+ghost use Rattle.gc_worker.specs.Laws.Cycles.{IsInCall};
+ghost use Rattle.gc_worker.specs.Workers.Fits.{MayBegin, MayStop};
+ghost use Rattle.gc_worker.specs.Workers.Held.{Held};
+ghost use Rattle.gc_worker.specs.Steps.Wanted.{wanted};
 ghost use Rattle.ael_threads.specs.Seats.{Absorbs, Acts, Heads, IsSeatOf, IsMine, Moves, Seated, ShowsSeen, first_number};
 
 use crate::shared::{Both, Learn, Shared};

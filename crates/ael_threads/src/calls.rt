@@ -5,7 +5,7 @@ ghost use Rattle.plain_state.specs.declared.end.End.{End};
 ghost use Rattle.gc_worker.specs.declared.stage.Stage.TheVariants.{Gone};
 ghost use Rattle.gc_worker.specs.declared.task.Task.{Task};
 ghost use Rattle.gc_worker.specs.declared.task.Task.TheVariants.{Calls};
-ghost use Rattle.gc_worker.specs.Fits.{MayBegin};
+ghost use Rattle.gc_worker.specs.Workers.Fits.{MayBegin};
 ghost use Rattle.ael_threads.specs.Calls.{Called, Halts, StaysSilent, IsUnderWay, Tries};
 ghost use Rattle.ael_threads.specs.Seats.{Seated};
 

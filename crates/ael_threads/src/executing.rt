@@ -3,7 +3,7 @@
 ghost use Rattle.std.specs.Prelude.{◌≡◌, ◌<◌, ℕ, None};
 ghost use Rattle.space_map.specs.declared.spaces.TheConstants.{MOST_MUTATORS};
 ghost use Rattle.gc_worker.specs.declared.task.Task.TheVariants.{Stops};
-ghost use Rattle.gc_worker.specs.Fits.{MayStop};
+ghost use Rattle.gc_worker.specs.Workers.Fits.{MayStop};
 ghost use Rattle.ael_threads.specs.Calls.{Called};
 ghost use Rattle.ael_threads.specs.Running.{Executed, Executing, HasRun, HasSeenAllLeave, RunsAsScanner};
 

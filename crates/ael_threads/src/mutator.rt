@@ -5,10 +5,10 @@ ghost use Rattle.plain_state.specs.declared.end.End.{End};
 ghost use Rattle.plain_state.specs.declared.sizes.TheConstants.{REGISTERS};
 ghost use Rattle.gc_worker.specs.declared.stage.Stage.TheVariants.{Gone};
 ghost use Rattle.gc_worker.specs.declared.task.Task.TheVariants.{Calls, Stops};
-ghost use Rattle.gc_worker.specs.Between.{with_task};
-ghost use Rattle.gc_worker.specs.Cycles.{IsInCall};
-ghost use Rattle.gc_worker.specs.Fits.{MayBegin, MayStop};
-ghost use Rattle.gc_worker.specs.Stepped.{header_kept, place_kept};
+ghost use Rattle.gc_worker.specs.Laws.Between.{with_task};
+ghost use Rattle.gc_worker.specs.Laws.Cycles.{IsInCall};
+ghost use Rattle.gc_worker.specs.Workers.Fits.{MayBegin, MayStop};
+ghost use Rattle.gc_worker.specs.Steps.Stepped.{header_kept, place_kept};
 ghost use Rattle.ael_threads.specs.Readers.{IsReg, IsThere};
 ghost use Rattle.ael_threads.specs.Seats.{Absorbs, Acts, ShowsSeen};
 

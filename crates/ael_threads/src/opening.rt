@@ -2,7 +2,7 @@
 
 ghost use Rattle.std.specs.Prelude.{◌≡◌, ◌+◌, ◌-◌, ◌≤◌, ◌<◌, ◌↔◌, [], IfOk, IsErrOf, IsTrue, not};
 ghost use Rattle.heap_laws.specs.Opening.{opening_entries};
-ghost use Rattle.heap_state.specs.Entries.{written};
+ghost use Rattle.heap_state.specs.Memory.Entries.{written};
 ghost use Rattle.space_map.specs.declared.spaces.TheConstants.{MOST_SCANNERS};
 ghost use Rattle.space_map.specs.Spaces.{is_size};
 ghost use Rattle.space_map.specs.Table.{table_length};

@@ -1,7 +1,7 @@
 //! A scanner of the heap.
 
 ghost use Rattle.std.specs.Prelude.{◌≡◌, ◌+◌, ◌^◌, ◌<◌, ◌-◌, min};
-ghost use Rattle.gc_worker.specs.Stepped.{header_kept, place_kept};
+ghost use Rattle.gc_worker.specs.Steps.Stepped.{header_kept, place_kept};
 ghost use Rattle.ael_threads.specs.Readers.{steps_after};
 ghost use Rattle.ael_threads.specs.Seats.{Acts};
 

@@ -2,12 +2,12 @@
 
 ghost use Rattle.std.specs.Prelude.{◌≡◌, ◌<◌, ◌≤◌, ◌+◌, ℕ, [], Some, IfOk, IsOk, vec_len};
 ghost use Rattle.heap_laws.specs.Opening.{opening_entries};
-ghost use Rattle.heap_state.specs.Entries.{written};
+ghost use Rattle.heap_state.specs.Memory.Entries.{written};
 ghost use Rattle.space_map.specs.Table.{table_length};
-ghost use Rattle.gc_worker.specs.Between.{fresh_mutator};
-ghost use Rattle.gc_worker.specs.Held.{Held};
-ghost use Rattle.gc_worker.specs.Law.{nobody};
-ghost use Rattle.gc_worker.specs.Wanted.{wanted};
+ghost use Rattle.gc_worker.specs.Laws.Between.{fresh_mutator};
+ghost use Rattle.gc_worker.specs.Workers.Held.{Held};
+ghost use Rattle.gc_worker.specs.Laws.Step.{nobody};
+ghost use Rattle.gc_worker.specs.Steps.Wanted.{wanted};
 ghost use Rattle.ael_threads.specs.Rule.{RuleHolds, first_view, spent_view};
 ghost use Rattle.ael_threads.specs.Seats.{Heads, IsSeatOf, IsMine, Learns, Moves, Plays, ShowsSeen, both_of, first_number, first_of, others_of};
 

@@ -8,7 +8,7 @@ use Rattle.record_layout.specs.declared.forward.Forward.{Forward}
 use Rattle.record_layout.specs.Layout.{header_in, forward_in, busy_in, header_says, forward_says, busy_says}
 use Rattle.record_layout.proofs.Rereading.{header_in-said, forward_in-said, busy_in-said}
 use Rattle.heap_state.specs.Kept.{size_said}
-use Rattle.heap_state.specs.Walk.{met_word}
+use Rattle.heap_state.specs.Memory.Walk.{met_word}
 use Rattle.crossing_map.specs.FirstWord.{size_met}
 
 pub decode-header : (w : ℕ) (h : Header) → w ≡ encode (header_says h) → decode w ≡ header_says h

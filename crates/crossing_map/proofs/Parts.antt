@@ -5,7 +5,7 @@ use Rattle.std.proofs.lemmas.Bool.{cases_lt, lt-ltb, le-ltb, le-leb, lt-leb}
 use Rattle.std.proofs.lemmas.Bool.Decides.{nat_tests}
 use Rattle.heap_words.specs.Decoded.{Decoded, NumberWord, PointerWord, HeaderWord, ForwardWord, BusyWord, Malformed, decode}
 use Rattle.space_map.specs.Spaces.{page_of, first_word}
-use Rattle.heap_state.specs.Walk.{Met, AtEnd, Nothing, Reserved, Record, Broken, IsRead, ReadsAll, Walked, meets, met_word, next_place, walk, walked_at}
+use Rattle.heap_state.specs.Memory.Walk.{Met, AtEnd, Nothing, Reserved, Record, Broken, IsRead, ReadsAll, Walked, meets, met_word, next_place, walk, walked_at}
 use Rattle.heap_state.proofs.Walks.Walking.{walk_end, reads_end}
 use Rattle.crossing_map.specs.declared.walked.Walked.TheVariants as next
 use Rattle.crossing_map.specs.Theorems.{BreaksIn}

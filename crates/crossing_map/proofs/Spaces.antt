@@ -1,8 +1,8 @@
 -- What a walk over both parts of a space comes to next.
 use Rattle.std.proofs.Common.{◌≡◌, ℕ, ◌+◌, ◌-◌, ◌≤◌, inl, inr, ◌↔◌, List, [], ◌∷◌, ◌++◌, refl, sym, ap, ◌∙◌, arith, max}
 use Rattle.heap_state.specs.Kept.{Kept, reserved_in}
-use Rattle.heap_state.specs.Table.{Table}
-use Rattle.heap_state.specs.Walk.{Walked, walk}
+use Rattle.heap_state.specs.Memory.Table.{Table}
+use Rattle.heap_state.specs.Memory.Walk.{Walked, walk}
 use Rattle.heap_state.proofs.Walks.Walking.{walk_end}
 use Rattle.crossing_map.specs.declared.area.Area.{Area}
 use Rattle.crossing_map.specs.declared.walked.Walked.{Walked as Next}

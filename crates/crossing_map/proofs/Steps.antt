@@ -3,8 +3,8 @@ use Rattle.std.proofs.Common.{◌≡◌, ◌≢◌, ℕ, ◌+◌, ◌-◌, ◌*�
 use Rattle.std.proofs.lemmas.Bool.{lt-ltb, ne_eqb, cases_Bool}
 use Rattle.heap_words.specs.Decoded.{Decoded, NumberWord, PointerWord, HeaderWord, ForwardWord, BusyWord, Malformed, decode}
 use Rattle.space_map.specs.Table.{HeapWord, Page, Cross, place_of}
-use Rattle.heap_state.specs.Table.{page_in, table_of}
-use Rattle.heap_state.specs.Walk.{Met, Nothing, Reserved, meets, met_word, next_place}
+use Rattle.heap_state.specs.Memory.Table.{page_in, table_of}
+use Rattle.heap_state.specs.Memory.Walk.{Met, Nothing, Reserved, meets, met_word, next_place}
 use Rattle.heap_state.proofs.Table.Places.{word_in-row}
 use Rattle.crossing_map.specs.declared.walked.Walked.{Walked as Next}
 use Rattle.crossing_map.specs.declared.walked.Walked.TheVariants as next

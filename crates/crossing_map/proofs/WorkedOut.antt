@@ -4,7 +4,7 @@ use Rattle.heap_words.specs.Decoded.{decode}
 use Rattle.heap_words.specs.Word.{tag_of}
 use Rattle.space_map.specs.PageWord.{decode_page}
 use Rattle.space_map.specs.Table.{place_of}
-use Rattle.heap_state.specs.Table.{table_of, word_in}
+use Rattle.heap_state.specs.Memory.Table.{table_of, word_in}
 use Rattle.crossing_map.specs.Walking.{next_in}
 use Rattle.crossing_map.specs.Worked.{IsWorkedOut, worked}
 

@@ -2,9 +2,9 @@
 use Rattle.std.specs.Prelude.{◌≡◌, ℕ, ◌<◌, ◌≤◌, Contains, List, map}
 use Rattle.space_map.specs.Spaces.{HoldsFirstWord, first_word}
 use Rattle.heap_state.specs.Kept.{Kept, IsReservedIn}
-use Rattle.heap_state.specs.Era.{era_of, memory_of}
-use Rattle.heap_state.specs.Table.{Table}
-use Rattle.heap_state.specs.Walk.{Walked, walk_in}
+use Rattle.heap_state.specs.Memory.Era.{era_of, memory_of}
+use Rattle.heap_state.specs.Memory.Table.{Table}
+use Rattle.heap_state.specs.Memory.Walk.{Walked, walk_in}
 
 -- what each worker keeps, where pairs say it: the header, and the place and one more
 abbrev pub pairs_kept : List (ℕ × ℕ) → List Kept

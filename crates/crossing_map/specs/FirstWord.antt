@@ -1,7 +1,7 @@
 -- The size that a record's first word says.
 use Rattle.std.specs.Prelude.{ℕ, Option, Some, None}
 use Rattle.heap_words.specs.Decoded.{decode}
-use Rattle.heap_state.specs.Walk.{Met, AtEnd, Nothing, Reserved, Record, Broken, met_word}
+use Rattle.heap_state.specs.Memory.Walk.{Met, AtEnd, Nothing, Reserved, Record, Broken, met_word}
 use Rattle.crossing_map.specs.declared.walked.Walked.{Walked as Next}
 use Rattle.crossing_map.specs.declared.walked.Walked.TheVariants as next
 use Rattle.crossing_map.specs.Walking.{next_at}

@@ -1,8 +1,8 @@
 -- What is proved of the next item of a walk.
 use Rattle.std.specs.Prelude.{◌≡◌, ℕ, ◌+◌, ◌<◌, ◌≤◌, ◌↔◌, ◌⊎◌, Bool, List, [], ◌∷◌}
 use Rattle.heap_state.specs.Kept.{Kept, reserved_in}
-use Rattle.heap_state.specs.Table.{Table}
-use Rattle.heap_state.specs.Walk.{Broken, Record, meets, walk_space}
+use Rattle.heap_state.specs.Memory.Table.{Table}
+use Rattle.heap_state.specs.Memory.Walk.{Broken, Record, meets, walk_space}
 use Rattle.crossing_map.specs.declared.area.Area.{Area}
 use Rattle.crossing_map.specs.declared.walked.Walked.TheVariants as next
 use Rattle.crossing_map.specs.Walking.{ReadsFrom, next_walked, nothing_reserved, passes_closed, passes_none, walk_from}

@@ -1,8 +1,8 @@
 -- The next item of a walk.
 use Rattle.std.specs.Prelude.{ℕ, zero, suc, ◌+◌, ◌-◌, Bool, false, List, ◌++◌, max, nat_le, if◌then◌else◌}
 use Rattle.heap_state.specs.Kept.{Kept, reserved_in}
-use Rattle.heap_state.specs.Table.{Table}
-use Rattle.heap_state.specs.Walk.{Met, AtEnd, Nothing, Reserved, Record, Broken, Walked, meets, next_place, walk, is_protected, ReadsAll}
+use Rattle.heap_state.specs.Memory.Table.{Table}
+use Rattle.heap_state.specs.Memory.Walk.{Met, AtEnd, Nothing, Reserved, Record, Broken, Walked, meets, next_place, walk, is_protected, ReadsAll}
 use Rattle.crossing_map.specs.declared.area.Area.{Area}
 use Rattle.crossing_map.specs.declared.walked.Walked.{Walked as Next}
 use Rattle.crossing_map.specs.declared.walked.Walked.TheVariants as next

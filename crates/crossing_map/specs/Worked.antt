@@ -1,7 +1,7 @@
 -- A heap of four pages a space, worked out by hand, and what a walk over each space comes to.
 use Rattle.std.specs.Prelude.{◌≡◌, ℕ, ◌+◌, List, [], ◌∷◌, replicate}
 use Rattle.atom_store.specs.Runs.{with_words}
-use Rattle.heap_state.specs.Table.{Table, table_of}
+use Rattle.heap_state.specs.Memory.Table.{Table, table_of}
 use Rattle.crossing_map.specs.declared.area.Area.{Area}
 use Rattle.crossing_map.specs.declared.walked.Walked.{Walked}
 use Rattle.crossing_map.specs.declared.walked.Walked.TheVariants as next

@@ -1,8 +1,8 @@
 ghost use Rattle.std.specs.Prelude.{◌<◌, ◌≤◌, length};
 ghost use Rattle.space_map.specs.Spaces.{board_page};
 ghost use Rattle.space_map.specs.Table.{table_length};
-ghost use Rattle.heap_state.specs.Table.{table_of};
-ghost use Rattle.heap_state.specs.Walk.{CrossingsHold};
+ghost use Rattle.heap_state.specs.Memory.Table.{table_of};
+ghost use Rattle.heap_state.specs.Memory.Walk.{CrossingsHold};
 ghost use Rattle.crossing_map.specs.Crossing.{IsCovered, IsCrossed, pairs_kept};
 
 use space_map::Spaces;

@@ -1,7 +1,7 @@
 ghost use Rattle.std.specs.Prelude.{◌≡◌, ◌≤◌, IfSome};
 ghost use Rattle.heap_words.specs.Decoded.{decode};
 ghost use Rattle.crossing_map.specs.FirstWord.{size_met};
-ghost use Rattle.heap_state.specs.Walk.{met_word};
+ghost use Rattle.heap_state.specs.Memory.Walk.{met_word};
 
 use record_layout::{read, read_busy, read_forward};
 

@@ -2,8 +2,8 @@ ghost use Rattle.std.specs.Prelude.{◌≡◌, ◌+◌, ◌-◌, ◌*◌, ◌/�
 ghost use Rattle.space_map.specs.Table.{table_length};
 ghost use Rattle.space_map.specs.Spaces.{IsPageCount};
 ghost use Rattle.heap_state.specs.Kept.{reserved_in};
-ghost use Rattle.heap_state.specs.Table.{page_in, table_of};
-ghost use Rattle.heap_state.specs.Walk.{is_protected};
+ghost use Rattle.heap_state.specs.Memory.Table.{page_in, table_of};
+ghost use Rattle.heap_state.specs.Memory.Walk.{is_protected};
 ghost use Rattle.crossing_map.specs.Crossing.{pairs_kept};
 ghost use Rattle.crossing_map.specs.FirstWord.{item_by};
 ghost use Rattle.crossing_map.specs.Walking.{next_in, next_walked, nothing_reserved, passes_closed, passes_none};

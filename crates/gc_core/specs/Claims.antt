@@ -5,11 +5,11 @@ use Rattle.plain_heap.specs.Order.{Story}
 use Rattle.atom_store.specs.declared.step.Step.{Step}
 use Rattle.atom_store.specs.Step.{reply_of}
 use Rattle.space_map.specs.Spaces.{board_page}
-use Rattle.gc_worker.specs.Claims.{CopiedPagesAreOpen, IsCopiedPage, IsOfEpoch, epoch_of_heap}
-use Rattle.gc_worker.specs.Copied.{IsTraced}
-use Rattle.gc_worker.specs.Law.{Heap, WorkersStand}
-use Rattle.gc_worker.specs.Turned.{PageWon, won}
-use Rattle.gc_worker.specs.Wanted.{wanted}
+use Rattle.gc_worker.specs.Laws.Claims.{CopiedPagesAreOpen, IsCopiedPage, IsOfEpoch, epoch_of_heap}
+use Rattle.gc_worker.specs.Laws.Copied.{IsTraced}
+use Rattle.gc_worker.specs.Laws.Step.{Heap, WorkersStand}
+use Rattle.gc_worker.specs.Steps.Turned.{PageWon, won}
+use Rattle.gc_worker.specs.Steps.Wanted.{wanted}
 use Rattle.gc_core.specs.Core.{CoreState}
 use Rattle.gc_core.specs.Event.{ready, core_after}
 use Rattle.gc_core.specs.Law.{IsSteady}

@@ -2,8 +2,8 @@
 use Rattle.std.specs.Prelude.{ℕ, List, length}
 pub use Rattle.space_map.specs.Spaces.{is_size}
 use Rattle.mutator_asm.specs.declared.instr.Instr.{Instr}
-use Rattle.gc_worker.specs.Between.{opening_heap}
-use Rattle.gc_worker.specs.Law.{Heap}
+use Rattle.gc_worker.specs.Laws.Between.{opening_heap}
+use Rattle.gc_worker.specs.Laws.Step.{Heap}
 use Rattle.gc_worker.specs.declared.config.Config.{Config}
 
 -- what a core steps: the code, how many instructions a mutator may execute, and the heap with its workers

@@ -7,12 +7,12 @@ use Rattle.mutator_asm.specs.declared.instr.Instr.{Instr}
 use Rattle.plain_heap.specs.Order.{Story, story}
 use Rattle.atom_store.specs.declared.step.Step.{Step}
 use Rattle.atom_store.specs.Step.{reply_of}
-use Rattle.heap_state.specs.Copies.{CopiedIsLive}
-use Rattle.heap_state.specs.Reachable.{IsLive}
-use Rattle.gc_worker.specs.Copied.{IsTraced}
-use Rattle.gc_worker.specs.Cycles.{words_claimed}
-use Rattle.gc_worker.specs.Law.{read}
-use Rattle.gc_worker.specs.Wanted.{wanted}
+use Rattle.heap_state.specs.Cycles.Copies.{CopiedIsLive}
+use Rattle.heap_state.specs.Meaning.Reachable.{IsLive}
+use Rattle.gc_worker.specs.Laws.Copied.{IsTraced}
+use Rattle.gc_worker.specs.Laws.Cycles.{words_claimed}
+use Rattle.gc_worker.specs.Laws.Step.{read}
+use Rattle.gc_worker.specs.Steps.Wanted.{wanted}
 use Rattle.gc_worker.specs.declared.config.Config.{Config}
 use Rattle.gc_worker.specs.declared.stepped.Stepped.{Stepped}
 use Rattle.gc_worker.specs.declared.stepped.Stepped.TheVariants.{Idle, Moved, Effect, Flipped, Ended}

@@ -1,8 +1,8 @@
 -- What a dump tells of a core, and what it says of the heap.
 use Rattle.std.specs.Prelude.{ℕ, List, [], length, slice_index, slice_index_or}
 use Rattle.dump_text.specs.Text.{Dumped}
-use Rattle.heap_state.specs.Dump.{Dump}
-use Rattle.heap_state.specs.Table.{table_of}
+use Rattle.heap_state.specs.Meaning.Dump.{Dump}
+use Rattle.heap_state.specs.Memory.Table.{table_of}
 use Rattle.gc_core.specs.Core.{CoreState}
 use Rattle.gc_core.specs.Readers.{registers_in, kept_in}
 

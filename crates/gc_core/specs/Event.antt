@@ -7,14 +7,14 @@ use Rattle.atom_store.specs.Step.{reply_of}
 use Rattle.gc_worker.specs.declared.stage.Stage.{Stage}
 use Rattle.gc_worker.specs.declared.stage.Stage.TheVariants.{Looks}
 use Rattle.gc_worker.specs.declared.task.Task.{Task}
-use Rattle.gc_worker.specs.Between.{with_task}
-use Rattle.gc_worker.specs.Held.{Held}
-use Rattle.gc_worker.specs.Law.{Heap, held_at, moved}
-use Rattle.gc_worker.specs.Marks.{task_of}
-use Rattle.gc_worker.specs.Seen.{seen}
-use Rattle.gc_worker.specs.Stepped.{stepped_by}
-use Rattle.gc_worker.specs.Turned.{told}
-use Rattle.gc_worker.specs.Wanted.{wanted}
+use Rattle.gc_worker.specs.Laws.Between.{with_task}
+use Rattle.gc_worker.specs.Workers.Held.{Held}
+use Rattle.gc_worker.specs.Laws.Step.{Heap, held_at, moved}
+use Rattle.gc_worker.specs.Plain.Marks.{task_of}
+use Rattle.gc_worker.specs.Plain.Seen.{seen}
+use Rattle.gc_worker.specs.Steps.Stepped.{stepped_by}
+use Rattle.gc_worker.specs.Steps.Turned.{told}
+use Rattle.gc_worker.specs.Steps.Wanted.{wanted}
 use Rattle.gc_core.specs.Core.{CoreState}
 use Rattle.gc_worker.specs.declared.stepped.Stepped.{Stepped}
 use Rattle.gc_worker.specs.declared.stepped.Stepped.TheVariants.{Idle}

@@ -8,18 +8,18 @@ use Rattle.plain_state.specs.State.{Plain}
 use Rattle.mutator_asm.specs.Program.{is_valid}
 use Rattle.plain_heap.specs.Step.{asked_by}
 use Rattle.plain_heap.specs.Order.{Story, state_after, story_after, end_of}
-use Rattle.heap_state.specs.Represents.{Represents}
+use Rattle.heap_state.specs.Meaning.Represents.{Represents}
 use Rattle.gc_worker.specs.declared.config.TheConstants.{MOST_TURNS}
 use Rattle.gc_worker.specs.declared.stage.Stage.TheVariants.{Gone}
 use Rattle.gc_worker.specs.declared.task.Task.{Task}
-use Rattle.gc_worker.specs.Full.{FindsNoRoom}
-use Rattle.gc_worker.specs.Held as held
-use Rattle.gc_worker.specs.Claims.{epoch_of_heap}
-use Rattle.gc_worker.specs.Gone.{ScannersAreLast}
-use Rattle.gc_worker.specs.Law.{Heap, WorkersStand, held_at, read}
+use Rattle.gc_worker.specs.Plain.Full.{FindsNoRoom}
+use Rattle.gc_worker.specs.Workers.Held as held
+use Rattle.gc_worker.specs.Laws.Claims.{epoch_of_heap}
+use Rattle.gc_worker.specs.Laws.Gone.{ScannersAreLast}
+use Rattle.gc_worker.specs.Laws.Step.{Heap, WorkersStand, held_at, read}
 use Rattle.gc_worker.specs.declared.stepped.Stepped.{Stepped}
 use Rattle.gc_worker.specs.declared.stepped.Stepped.TheVariants.{Idle, Moved, Effect, Flipped, Ended}
-use Rattle.gc_worker.specs.Marks.{mark_of}
+use Rattle.gc_worker.specs.Plain.Marks.{mark_of}
 use Rattle.gc_core.specs.Core.{CoreState}
 use Rattle.gc_core.specs.Event.{Event, fetched_task, ready, event_of, core_after}
 

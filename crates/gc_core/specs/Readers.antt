@@ -2,7 +2,7 @@
 use Rattle.std.specs.Prelude.{ℕ, List, Option}
 use Rattle.plain_heap.specs.Print.{Seen}
 use Rattle.heap_state.specs.Kept.{Kept}
-use Rattle.gc_worker.specs.Held.{Held}
+use Rattle.gc_worker.specs.Workers.Held.{Held}
 use Rattle.gc_worker.specs.Readers as heap
 use Rattle.gc_core.specs.Core.{CoreState}
 

@@ -9,7 +9,7 @@ use Rattle.space_map.specs.declared.spaces.TheConstants.{MOST_SCANNERS}
 use Rattle.plain_heap.specs.declared.mark.Mark.{Mark}
 use Rattle.gc_worker.specs.declared.config.Config.{Config}
 use Rattle.gc_worker.specs.declared.config.TheConstants.{MOST_TURNS}
-use Rattle.gc_worker.specs.Marks.{mark_of}
+use Rattle.gc_worker.specs.Plain.Marks.{mark_of}
 use Rattle.gc_core.specs.Core.{CoreState, is_size, opening_core}
 use Rattle.gc_core.specs.Event.{event_of, core_after}
 use Rattle.gc_core.specs.Readers.{seen_of}

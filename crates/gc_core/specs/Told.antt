@@ -2,8 +2,8 @@
 use Rattle.std.specs.Prelude.{◌≡◌, ◌≤◌}
 use Rattle.plain_state.specs.State.{Plain}
 use Rattle.plain_heap.specs.Print.{plain_seen}
-use Rattle.heap_state.specs.Represents.{DumpRepresents}
-use Rattle.gc_worker.specs.Law.{WorkersStand}
+use Rattle.heap_state.specs.Meaning.Represents.{DumpRepresents}
+use Rattle.gc_worker.specs.Laws.Step.{WorkersStand}
 use Rattle.gc_core.specs.Core.{CoreState, workers_of}
 use Rattle.gc_core.specs.Cycles.{KeepsWhatIsLive}
 use Rattle.gc_core.specs.Dumped.{dump_said, dumped}

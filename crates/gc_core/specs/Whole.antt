@@ -5,18 +5,18 @@ use Rattle.plain_state.specs.declared.end.End.TheVariants as ends
 use Rattle.plain_state.specs.State.{Plain}
 use Rattle.plain_heap.specs.Order.{opening, state_after}
 use Rattle.plain_heap.specs.Print.{plain_seen}
-use Rattle.heap_state.specs.Represents.{DumpRepresents, Represents}
-use Rattle.gc_worker.specs.Copied.{IsTraced}
-use Rattle.gc_worker.specs.Full.{FindsNoRoom}
-use Rattle.gc_worker.specs.Law.{read}
-use Rattle.gc_worker.specs.Marks.{EachActs}
+use Rattle.heap_state.specs.Meaning.Represents.{DumpRepresents, Represents}
+use Rattle.gc_worker.specs.Laws.Copied.{IsTraced}
+use Rattle.gc_worker.specs.Plain.Full.{FindsNoRoom}
+use Rattle.gc_worker.specs.Laws.Step.{read}
+use Rattle.gc_worker.specs.Plain.Marks.{EachActs}
 use Rattle.gc_worker.specs.declared.stepped.Stepped.TheVariants.{Idle, Flipped, Ended}
 use Rattle.gc_core.specs.Core.{CoreState, opening_core, workers_of}
 use Rattle.gc_core.specs.Dumped.{dump_said, dumped}
 use Rattle.gc_core.specs.Event.{core_after, event_of, ready}
 use Rattle.gc_core.specs.Claims.{AreApart, PagesAreWon, wins_from}
 use Rattle.gc_worker.specs.History.Needs.{EachMayCome}
-use Rattle.gc_worker.specs.Claims.{epoch_of_heap}
+use Rattle.gc_worker.specs.Laws.Claims.{epoch_of_heap}
 use Rattle.gc_core.specs.Law.{IsLawful}
 use Rattle.gc_core.specs.Readers.{seen_of}
 use Rattle.gc_core.specs.Run.{InEveryRun, run_from, run_of, EachEvent}

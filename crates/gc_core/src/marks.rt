@@ -1,7 +1,7 @@
 //! What an order has of a step.
 
 ghost use Rattle.std.specs.Prelude.{◌≡◌};
-ghost use Rattle.gc_worker.specs.Marks.{mark_of};
+ghost use Rattle.gc_worker.specs.Plain.Marks.{mark_of};
 
 use gc_worker::Stepped;
 use plain_heap::{End, Mark};

@@ -1,9 +1,9 @@
 //! How a core is opened.
 
 ghost use Rattle.std.specs.Prelude.{◌≡◌, ◌+◌, ◌≤◌, ◌<◌, ◌↔◌, length, IfOk, IsErrOf, IsTrue, not};
-ghost use Rattle.heap_state.specs.Entries.{written};
+ghost use Rattle.heap_state.specs.Memory.Entries.{written};
 ghost use Rattle.heap_laws.specs.Opening.{opening_entries};
-ghost use Rattle.gc_worker.specs.Between.{fresh_worker, fresh_workers};
+ghost use Rattle.gc_worker.specs.Laws.Between.{fresh_worker, fresh_workers};
 ghost use Rattle.space_map.specs.declared.spaces.TheConstants.{LAST_WORKER, MOST_SCANNERS};
 ghost use Rattle.gc_worker.specs.declared.config.TheConstants.{MOST_TURNS};
 ghost use Rattle.gc_core.specs.Core.{opening_core, workers_of, is_size};

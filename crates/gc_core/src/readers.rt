@@ -3,8 +3,8 @@
 ghost use Rattle.std.specs.Prelude.{◌≡◌, ◌<◌, ◌≤◌, length, Some, option_map, slice_get};
 ghost use Rattle.std.specs.List.{list_all};
 ghost use Rattle.std.specs.Option.{is_some};
-ghost use Rattle.gc_worker.specs.Stepped.{header_kept, place_kept};
-ghost use Rattle.gc_worker.specs.Wanted.{wanted};
+ghost use Rattle.gc_worker.specs.Steps.Stepped.{header_kept, place_kept};
+ghost use Rattle.gc_worker.specs.Steps.Wanted.{wanted};
 ghost use Rattle.gc_core.specs.Core.{workers_of};
 ghost use Rattle.gc_core.specs.Event.{ready};
 ghost use Rattle.gc_core.specs.Readers.{seen_of, registers_in, kept_in, cycles_of, live_of};

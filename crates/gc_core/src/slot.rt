@@ -4,11 +4,11 @@ ghost use Rattle.std.specs.Prelude.{◌≡◌, ◌-◌, ◌≤◌, ◌<◌, ◌^
 ghost use Rattle.std.specs.List.{list_all};
 ghost use Rattle.mutator_asm.specs.Program.{is_valid};
 ghost use Rattle.gc_worker.specs.declared.config.TheConstants.{MOST_TURNS};
-ghost use Rattle.gc_worker.specs.Counted.{counted};
-ghost use Rattle.gc_worker.specs.Made.{MayMake, step_made};
-ghost use Rattle.gc_worker.specs.Stepped.{IsSound, awaits};
+ghost use Rattle.gc_worker.specs.Workers.Counted.{counted};
+ghost use Rattle.gc_worker.specs.Steps.Made.{MayMake, step_made};
+ghost use Rattle.gc_worker.specs.Steps.Stepped.{IsSound, awaits};
 ghost use Rattle.gc_worker.specs.declared.stepped.Stepped.TheVariants.{Effect};
-ghost use Rattle.gc_worker.specs.Wanted.{wanted};
+ghost use Rattle.gc_worker.specs.Steps.Wanted.{wanted};
 ghost use Rattle.gc_core.specs.Event.{readied};
 
 use atom_store::{PlainAtoms, Step};
@@ -24,8 +24,8 @@ pub(crate) struct Slot {
 }
 
 impl Model for Slot {
-    ghost use Rattle.gc_worker.specs.Counted.{counted};
-    ghost use Rattle.gc_worker.specs.Held.{Held};
+    ghost use Rattle.gc_worker.specs.Workers.Counted.{counted};
+    ghost use Rattle.gc_worker.specs.Workers.Held.{Held};
 
     ghost Value = { Held };
 

@@ -13,22 +13,22 @@ use Rattle.gate_core.specs.declared.gate_stage.GateStage.TheVariants as gate_sta
 use Rattle.gate_core.specs.Flip.{Flipping}
 use Rattle.gate_core.specs.Gate.{Passing}
 use Rattle.heap_state.specs.Configuration.{Configuration, Stands, table, era, memory, team}
-use Rattle.heap_state.specs.Cycle.{Cycle}
-use Rattle.heap_state.specs.Entries.{Entry, GateIs}
+use Rattle.heap_state.specs.Cycles.Cycle.{Cycle}
+use Rattle.heap_state.specs.Memory.Entries.{Entry, GateIs}
 use Rattle.space_map.specs.PageWord.{age_of}
-use Rattle.heap_state.specs.Ghost.{Ghost}
+use Rattle.heap_state.specs.Invariant.Ghost.{Ghost}
 use Rattle.heap_laws.specs.Lifting.{StandsWith, configuration_after, LeavesConfiguration, Flipped}
 use Rattle.gc_worker.specs.declared.after.After.{After}
 use Rattle.gc_worker.specs.declared.stage.Stage.{Stage}
 use Rattle.gc_worker.specs.declared.stage.Stage.TheVariants.{Looks, Passes, Flips, Forwards, Accesses, Places, Serves, Scans, Evacuates, Opens, Gone}
-use Rattle.gc_worker.specs.Answer.{after_told}
-use Rattle.gc_worker.specs.Fits.{Fits}
-use Rattle.gc_worker.specs.Goes.{Is, LeavesToPlain, StepsInTable, StepsSo, Wins, FlipIsOwn}
-use Rattle.gc_worker.specs.Held.{Held, at_stage}
-use Rattle.gc_worker.specs.Knows.{knows}
-use Rattle.gc_worker.specs.Law.{Heap, read, nobody, held_at, WorkersStand, moved, at_flip, epoch_of, age, WinsOne, FlipsOnce, FlipsWhereTold, StepKeeps, StepsKeep}
-use Rattle.gc_worker.specs.Turned.{Told, Silent, Answers, Marks, PageWon, epoch_in_gate, turned, told, won}
-use Rattle.gc_worker.specs.Wanted.{wanted}
+use Rattle.gc_worker.specs.Plain.Answer.{after_told}
+use Rattle.gc_worker.specs.Workers.Fits.{Fits}
+use Rattle.gc_worker.specs.Steps.Goes.{Is, LeavesToPlain, StepsInTable, StepsSo, Wins, FlipIsOwn}
+use Rattle.gc_worker.specs.Workers.Held.{Held, at_stage}
+use Rattle.gc_worker.specs.Workers.Knows.{knows}
+use Rattle.gc_worker.specs.Laws.Step.{Heap, read, nobody, held_at, WorkersStand, moved, at_flip, epoch_of, age, WinsOne, FlipsOnce, FlipsWhereTold, StepKeeps, StepsKeep}
+use Rattle.gc_worker.specs.Steps.Turned.{Told, Silent, Answers, Marks, PageWon, epoch_in_gate, turned, told, won}
+use Rattle.gc_worker.specs.Steps.Wanted.{wanted}
 use Rattle.gc_worker.proofs.Stages.Gate.Exchanging.{exchanges_gate}
 use Rattle.gc_worker.proofs.Stages.Look.Looking.{looks}
 use Rattle.gc_worker.proofs.Stages.Access.Stages.{accesses}

@@ -6,9 +6,9 @@ use Rattle.space_map.specs.AreaWord.{decode_area}
 use Rattle.space_map.specs.Spaces.{to_space}
 use Rattle.space_map.specs.Table.{Traced, Area}
 use Rattle.heap_state.specs.Kept.{Kept, kept_of}
-use Rattle.heap_state.specs.Table.{word_in}
-use Rattle.gc_worker.specs.Held.{Held}
-use Rattle.gc_worker.specs.Law.{Heap, read, epoch_of}
+use Rattle.heap_state.specs.Memory.Table.{word_in}
+use Rattle.gc_worker.specs.Workers.Held.{Held}
+use Rattle.gc_worker.specs.Laws.Step.{Heap, read, epoch_of}
 
 -- ---- the words
 

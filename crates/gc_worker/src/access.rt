@@ -5,8 +5,8 @@ ghost use Rattle.mmu_model.specs.Access.{access_of};
 ghost use Rattle.space_map.specs.PageWord.{decode_page};
 ghost use Rattle.space_map.specs.Table.{table_length};
 ghost use Rattle.plain_heap.specs.Action.{in_record};
-ghost use Rattle.gc_worker.specs.Access.{FitsRecordUse, IsHeapAddress, IsSoundAccess, AccessTakes, advances_at, at_stage, board_at, field_at, goes_by, goes_to_field, left, let_through, loading, looked, may_store, read_header, role_in, storing, taken, told, turn_by, used_by, uses_board, uses_field, wanted};
-ghost use Rattle.gc_worker.specs.Seen.{IsValueWord};
+ghost use Rattle.gc_worker.specs.Steps.Access.{FitsRecordUse, IsHeapAddress, IsSoundAccess, AccessTakes, advances_at, at_stage, board_at, field_at, goes_by, goes_to_field, left, let_through, loading, looked, may_store, read_header, role_in, storing, taken, told, turn_by, used_by, uses_board, uses_field, wanted};
+ghost use Rattle.gc_worker.specs.Plain.Seen.{IsValueWord};
 
 use crate::access_stage::AccessStage;
 use crate::access_words::{field, held, on_board, role_of, stored, using_board, using_field};

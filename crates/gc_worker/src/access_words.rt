@@ -5,8 +5,8 @@ ghost use Rattle.std.specs.Result.{result_map_both};
 ghost use Rattle.plain_state.specs.declared.sizes.TheConstants.{BOARD_WORDS};
 ghost use Rattle.plain_heap.specs.Call.{may_hold};
 ghost use Rattle.heap_laws.specs.Fields.Effects.{FitsRole, word_held};
-ghost use Rattle.gc_worker.specs.Access as access;
-ghost use Rattle.gc_worker.specs.Seen.{IsValueWord, value_seen};
+ghost use Rattle.gc_worker.specs.Steps.Access as access;
+ghost use Rattle.gc_worker.specs.Plain.Seen.{IsValueWord, value_seen};
 
 use crate::access_stage::AccessStage;
 use crate::board_access::{BoardSwap, BoardUse};

@@ -3,8 +3,8 @@
 ghost use Rattle.std.specs.Prelude.{◌≡◌, ◌<◌, Some, length, true, nat_lt};
 ghost use Rattle.plain_state.specs.declared.sizes.TheConstants.{MOST_PRINTED};
 ghost use Rattle.heap_words.specs.Word.{number_word};
-ghost use Rattle.gc_worker.specs.Stepped.{uncounted};
-ghost use Rattle.gc_worker.specs.Turned.{accesses, ended, jumped, loads, next_of, prints, went_on, with_register_word};
+ghost use Rattle.gc_worker.specs.Steps.Stepped.{uncounted};
+ghost use Rattle.gc_worker.specs.Steps.Turned.{accesses, ended, jumped, loads, next_of, prints, went_on, with_register_word};
 
 use crate::access::Access;
 use crate::access_stage::AccessStage;

@@ -3,13 +3,13 @@
 ghost use Rattle.std.specs.Prelude.{◌≡◌, ◌+◌, ◌^◌, ◌<◌};
 ghost use Rattle.heap_words.specs.Decoded.{HeaderWord};
 ghost use Rattle.record_layout.specs.Layout.{header_in};
-ghost use Rattle.heap_state.specs.Ghost.{header_kind};
+ghost use Rattle.heap_state.specs.Invariant.Ghost.{header_kind};
 ghost use Rattle.plain_heap.specs.Action.{action, allocates};
-ghost use Rattle.gc_worker.specs.Fits.{FitsStage, IsMaking, Takes};
-ghost use Rattle.gc_worker.specs.Held.{pages_needed, at_stage, header_for, making_for};
-ghost use Rattle.gc_worker.specs.Seen.{making_in};
-ghost use Rattle.gc_worker.specs.Stepped.{IsPlacing, IsSound, seen_by, stepped_by, uncounted};
-ghost use Rattle.gc_worker.specs.Turned.{full_by, places, told, told_effect, told_full, turned, with_record};
+ghost use Rattle.gc_worker.specs.Workers.Fits.{FitsStage, IsMaking, Takes};
+ghost use Rattle.gc_worker.specs.Workers.Held.{pages_needed, at_stage, header_for, making_for};
+ghost use Rattle.gc_worker.specs.Plain.Seen.{making_in};
+ghost use Rattle.gc_worker.specs.Steps.Stepped.{IsPlacing, IsSound, seen_by, stepped_by, uncounted};
+ghost use Rattle.gc_worker.specs.Steps.Turned.{full_by, places, told, told_effect, told_full, turned, with_record};
 
 use crate::after::After;
 use crate::back::Back;

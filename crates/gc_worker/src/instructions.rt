@@ -11,9 +11,9 @@ ghost use Rattle.plain_state.specs.declared.kind.Kind.{Kind};
 ghost use Rattle.plain_state.specs.declared.sizes.TheConstants.{BOARD_WORDS};
 ghost use Rattle.plain_heap.specs.Action.{action, allocates, computes};
 ghost use Rattle.gc_worker.specs.declared.task.Task.{Task};
-ghost use Rattle.gc_worker.specs.Fits.{FitsStage};
-ghost use Rattle.gc_worker.specs.Stepped.{seen_by, stepped_by, uncounted};
-ghost use Rattle.gc_worker.specs.Turned.{acted, told_acted};
+ghost use Rattle.gc_worker.specs.Workers.Fits.{FitsStage};
+ghost use Rattle.gc_worker.specs.Steps.Stepped.{seen_by, stepped_by, uncounted};
+ghost use Rattle.gc_worker.specs.Steps.Turned.{acted, told_acted};
 
 use crate::access_stage::AccessStage;
 use crate::board_access::{BoardAccess, BoardUse};

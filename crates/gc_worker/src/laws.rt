@@ -1,19 +1,19 @@
 //! What holds of a worker's steps. Each function here does nothing: its contract is what is proved.
 
-ghost use Rattle.gc_worker.specs.Law.{StepsKeep, FlipsAreWon, PlacesFit, RegistersLeadBack};
-ghost use Rattle.gc_worker.specs.HeldUp.{AccessesGoOn, LostSwapsLoadAgain};
-ghost use Rattle.gc_worker.specs.AccessRows.{LostSwapIsTriedAgain, NextPageIsLookedAt, SamePageIsNotLookedAt, ClosedPageIsAFault, NoSuchValueFails};
-ghost use Rattle.gc_worker.specs.Between.{HeapsOpen, ReadyingStands, TasksMayBegin, WorkersGoOn, WorkersWant, WhatStandsIsSo, AnswersLeaveTheOthers};
-ghost use Rattle.gc_worker.specs.Gone.{ScannersBeginLast, ScannersStayLast, WhoIsGoneSawWhy};
+ghost use Rattle.gc_worker.specs.Laws.Step.{StepsKeep, FlipsAreWon, PlacesFit, RegistersLeadBack};
+ghost use Rattle.gc_worker.specs.Steps.HeldUp.{AccessesGoOn, LostSwapsLoadAgain};
+ghost use Rattle.gc_worker.specs.Steps.AccessRows.{LostSwapIsTriedAgain, NextPageIsLookedAt, SamePageIsNotLookedAt, ClosedPageIsAFault, NoSuchValueFails};
+ghost use Rattle.gc_worker.specs.Laws.Between.{HeapsOpen, ReadyingStands, TasksMayBegin, WorkersGoOn, WorkersWant, WhatStandsIsSo, AnswersLeaveTheOthers};
+ghost use Rattle.gc_worker.specs.Laws.Gone.{ScannersBeginLast, ScannersStayLast, WhoIsGoneSawWhy};
 ghost use Rattle.gc_worker.specs.Progress.{MachinesGoOn};
-ghost use Rattle.gc_worker.specs.Begun.{BeginningsAreKept, FullIsFoundLater};
-ghost use Rattle.gc_worker.specs.Claims.{TracedPagesAreOpen, FlipsAreOfTraced, PagesAreOpenedByClaims, LowRisesAtFlips, CopiedPagesAreBelowLow};
-ghost use Rattle.gc_worker.specs.Copied.{CopiedWasLive, FullTellsLive};
-ghost use Rattle.gc_worker.specs.Cycles.{LowFallsByClaims, ClaimsAreSetAside, SetAsideIsForRecords, FlipsAreFirst, FlipsStayFirst, CallsGoOn};
-ghost use Rattle.gc_worker.specs.FullTold.{FullIsTold};
-ghost use Rattle.gc_worker.specs.Past.{PastClaimsAreLost, PastMarksAreLost, PagesAreWonNow};
-ghost use Rattle.gc_worker.specs.Counted.{CountedFit, CountsAreApart};
-ghost use Rattle.gc_worker.specs.Represented.{RepresentedWorkersStand};
+ghost use Rattle.gc_worker.specs.Workers.Begun.{BeginningsAreKept, FullIsFoundLater};
+ghost use Rattle.gc_worker.specs.Laws.Claims.{TracedPagesAreOpen, FlipsAreOfTraced, PagesAreOpenedByClaims, LowRisesAtFlips, CopiedPagesAreBelowLow};
+ghost use Rattle.gc_worker.specs.Laws.Copied.{CopiedWasLive, FullTellsLive};
+ghost use Rattle.gc_worker.specs.Laws.Cycles.{LowFallsByClaims, ClaimsAreSetAside, SetAsideIsForRecords, FlipsAreFirst, FlipsStayFirst, CallsGoOn};
+ghost use Rattle.gc_worker.specs.Laws.FullTold.{FullIsTold};
+ghost use Rattle.gc_worker.specs.Laws.PastEpochs.{PastClaimsAreLost, PastMarksAreLost, PagesAreWonNow};
+ghost use Rattle.gc_worker.specs.Workers.Counted.{CountedFit, CountsAreApart};
+ghost use Rattle.gc_worker.specs.Laws.Represented.{RepresentedWorkersStand};
 
 /// A step of a worker is of a word of the table, and the worker may take the reply. What stood for a plain state before stands for it
 /// after, with what a cycle keeps; no page that was won in an epoch is won again in it.

@@ -2,9 +2,9 @@
 
 ghost use Rattle.std.specs.Prelude.{◌≡◌, true, nat_lt};
 ghost use Rattle.space_map.specs.GateWord.{decode_gate};
-ghost use Rattle.gc_worker.specs.Fits.{FitsStage, MayBegin};
-ghost use Rattle.gc_worker.specs.Stepped.{IsSound, stepped_by, uncounted};
-ghost use Rattle.gc_worker.specs.Turned.{looked_by, started, told, told_gate, told_start, turned};
+ghost use Rattle.gc_worker.specs.Workers.Fits.{FitsStage, MayBegin};
+ghost use Rattle.gc_worker.specs.Steps.Stepped.{IsSound, stepped_by, uncounted};
+ghost use Rattle.gc_worker.specs.Steps.Turned.{looked_by, started, told, told_gate, told_start, turned};
 
 use crate::after::After;
 use crate::due::Due;

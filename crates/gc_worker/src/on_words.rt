@@ -2,8 +2,8 @@
 //! scans and copies are put into the loop that steps the workers; with all the others the compiler would put none there.
 
 ghost use Rattle.std.specs.Prelude.{◌≡◌};
-ghost use Rattle.gc_worker.specs.Made.{MayMake, step_made};
-ghost use Rattle.gc_worker.specs.Stepped.{IsAtAccess, IsAtGate, IsEvacuating, IsFlipping, IsForwarding, IsOpening, IsPlacing, IsAtScan, IsServing, IsSound, uncounted};
+ghost use Rattle.gc_worker.specs.Steps.Made.{MayMake, step_made};
+ghost use Rattle.gc_worker.specs.Steps.Stepped.{IsAtAccess, IsAtGate, IsEvacuating, IsFlipping, IsForwarding, IsOpening, IsPlacing, IsAtScan, IsServing, IsSound, uncounted};
 
 use crate::stage::Stage;
 use crate::state::State;

@@ -2,10 +2,10 @@
 
 ghost use Rattle.std.specs.Prelude.{◌≡◌, ◌+◌, ◌-◌, ◌^◌, ◌<◌, ◌≤◌};
 ghost use Rattle.std.specs.Option.{option_map};
-ghost use Rattle.gc_worker.specs.Held.{at_stage};
-ghost use Rattle.gc_worker.specs.Fits.{FitsStage, Takes};
-ghost use Rattle.gc_worker.specs.Stepped.{IsAtGate, IsFlipping, IsForwarding, IsSound, pointed, stepped_by, uncounted};
-ghost use Rattle.gc_worker.specs.Turned.{epoch_said, first_pointer, forwards_from, goes_on, in_epoch, passed_by, passes, stopped, told, turned};
+ghost use Rattle.gc_worker.specs.Workers.Held.{at_stage};
+ghost use Rattle.gc_worker.specs.Workers.Fits.{FitsStage, Takes};
+ghost use Rattle.gc_worker.specs.Steps.Stepped.{IsAtGate, IsFlipping, IsForwarding, IsSound, pointed, stepped_by, uncounted};
+ghost use Rattle.gc_worker.specs.Steps.Turned.{epoch_said, first_pointer, forwards_from, goes_on, in_epoch, passed_by, passes, stopped, told, turned};
 
 use crate::after::After;
 use crate::forwarding_register::ForwardingRegister;

@@ -2,7 +2,7 @@
 
 ghost use Rattle.std.specs.Prelude.{◌≡◌};
 ghost use Rattle.gc_worker.specs.Readers.{live_said};
-ghost use Rattle.gc_worker.specs.Turned.{epoch_said};
+ghost use Rattle.gc_worker.specs.Steps.Turned.{epoch_said};
 
 use space_map::{AreaWord, GateWord};
 

@@ -4,8 +4,8 @@ ghost use Rattle.std.specs.Prelude.{◌≡◌, ◌^◌, ◌<◌, IfOk, if◌then
 ghost use Rattle.plain_state.specs.declared.value.Value.TheVariants.{Number};
 ghost use Rattle.plain_state.specs.Operation.{one_if};
 ghost use Rattle.plain_heap.specs.Action.{are_same, board_place, is_reference, is_zero, next_of, as_number, operand, reference_in, register};
-ghost use Rattle.gc_worker.specs.Seen.{length_named};
-ghost use Rattle.gc_worker.specs.Stepped.{FitsValue, seen_by};
+ghost use Rattle.gc_worker.specs.Plain.Seen.{length_named};
+ghost use Rattle.gc_worker.specs.Steps.Stepped.{FitsValue, seen_by};
 
 use crate::seen_value::value_in;
 use crate::state::State;

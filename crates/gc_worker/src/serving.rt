@@ -4,9 +4,9 @@ ghost use Rattle.std.specs.Prelude.{◌≡◌, ◌≤◌};
 ghost use Rattle.space_map.specs.declared.spaces.TheConstants.{LAST_WORKER};
 ghost use Rattle.space_map.specs.Spaces.{board_page};
 ghost use Rattle.gc_worker.specs.declared.access_stage.AccessStage.{AccessStage};
-ghost use Rattle.gc_worker.specs.Fits.{FitsStage, IsAccessing, Takes};
-ghost use Rattle.gc_worker.specs.Stepped.{IsAtAccess, IsEvacuating, IsOpening, IsAtScan, IsServing, IsSound, back_at, served_in, stepped_by, uncounted};
-ghost use Rattle.gc_worker.specs.Turned.{accessed_by, back_from, goes_back, scans, told, told_access, turned};
+ghost use Rattle.gc_worker.specs.Workers.Fits.{FitsStage, IsAccessing, Takes};
+ghost use Rattle.gc_worker.specs.Steps.Stepped.{IsAtAccess, IsEvacuating, IsOpening, IsAtScan, IsServing, IsSound, back_at, served_in, stepped_by, uncounted};
+ghost use Rattle.gc_worker.specs.Steps.Turned.{accessed_by, back_from, goes_back, scans, told, told_access, turned};
 
 use crate::access::Access;
 use crate::accessed::Accessed;

@@ -1,5 +1,5 @@
 ghost use Rattle.std.specs.Prelude.{◌≡◌};
-ghost use Rattle.gc_worker.specs.Stepped.{uncounted};
+ghost use Rattle.gc_worker.specs.Steps.Stepped.{uncounted};
 
 use crate::due::Due;
 use crate::stage::Stage;
@@ -44,8 +44,8 @@ impl State {
 
 impl Model for State {
     ghost use Rattle.std.specs.Prelude.{vec_capacity};
-    ghost use Rattle.gc_worker.specs.Held.{Held};
-    ghost use Rattle.gc_worker.specs.Stepped.{task_due, HasRoomToPrint};
+    ghost use Rattle.gc_worker.specs.Workers.Held.{Held};
+    ghost use Rattle.gc_worker.specs.Steps.Stepped.{task_due, HasRoomToPrint};
 
     ghost Value = { Held };
 

@@ -5,12 +5,12 @@ ghost use Rattle.atom_store.specs.Step.{place_in};
 ghost use Rattle.space_map.specs.declared.spaces.TheConstants.{LAST_WORKER};
 ghost use Rattle.space_map.specs.Table.{table_length};
 ghost use Rattle.gc_worker.specs.declared.task.Task.TheVariants.{Calls, Stops};
-ghost use Rattle.gc_worker.specs.Between.{fresh, fresh_mutator, fresh_scanner, with_task};
-ghost use Rattle.gc_worker.specs.Fits.{Takes};
-ghost use Rattle.gc_worker.specs.Held.{at_stage};
-ghost use Rattle.gc_worker.specs.Stepped.{HasRoomToPrint, IsSound, stepped_by, uncounted};
-ghost use Rattle.gc_worker.specs.Turned.{told, turned};
-ghost use Rattle.gc_worker.specs.Wanted.{wanted};
+ghost use Rattle.gc_worker.specs.Laws.Between.{fresh, fresh_mutator, fresh_scanner, with_task};
+ghost use Rattle.gc_worker.specs.Workers.Fits.{Takes};
+ghost use Rattle.gc_worker.specs.Workers.Held.{at_stage};
+ghost use Rattle.gc_worker.specs.Steps.Stepped.{HasRoomToPrint, IsSound, stepped_by, uncounted};
+ghost use Rattle.gc_worker.specs.Steps.Turned.{told, turned};
+ghost use Rattle.gc_worker.specs.Steps.Wanted.{wanted};
 
 use crate::after::After;
 use crate::back::Back;

@@ -3,12 +3,12 @@ ghost use Rattle.atom_store.specs.Step.{place_in};
 ghost use Rattle.space_map.specs.declared.spaces.TheConstants.{LAST_WORKER};
 ghost use Rattle.space_map.specs.Table.{table_length};
 ghost use Rattle.gc_worker.specs.declared.task.Task.TheVariants.{Calls, Stops};
-ghost use Rattle.gc_worker.specs.Between.{IsIdle, fresh_mutator, fresh_scanner, with_task};
-ghost use Rattle.gc_worker.specs.Fits.{MayBegin, MayStop, Takes};
-ghost use Rattle.gc_worker.specs.Made.{MayMake, step_made};
-ghost use Rattle.gc_worker.specs.Stepped.{IsSound, awaits, header_kept, place_kept, stepped_by, uncounted};
-ghost use Rattle.gc_worker.specs.Turned.{told, turned};
-ghost use Rattle.gc_worker.specs.Wanted.{wanted};
+ghost use Rattle.gc_worker.specs.Laws.Between.{IsIdle, fresh_mutator, fresh_scanner, with_task};
+ghost use Rattle.gc_worker.specs.Workers.Fits.{MayBegin, MayStop, Takes};
+ghost use Rattle.gc_worker.specs.Steps.Made.{MayMake, step_made};
+ghost use Rattle.gc_worker.specs.Steps.Stepped.{IsSound, awaits, header_kept, place_kept, stepped_by, uncounted};
+ghost use Rattle.gc_worker.specs.Steps.Turned.{told, turned};
+ghost use Rattle.gc_worker.specs.Steps.Wanted.{wanted};
 
 use crate::due::Due;
 use crate::stage::Stage;
@@ -29,8 +29,8 @@ pub struct Worker {
 }
 
 impl Model for Worker {
-    ghost use Rattle.gc_worker.specs.Held.{Held};
-    ghost use Rattle.gc_worker.specs.Stepped.{IsSound};
+    ghost use Rattle.gc_worker.specs.Workers.Held.{Held};
+    ghost use Rattle.gc_worker.specs.Steps.Stepped.{IsSound};
 
     ghost Value = { Held };
 

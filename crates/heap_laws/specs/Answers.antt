@@ -9,9 +9,9 @@ use Rattle.space_map.specs.AreaWord.{AreaFits}
 use Rattle.space_map.specs.GateWord.{GateFits}
 use Rattle.space_map.specs.Spaces.{to_space, space_start, page_of, first_word}
 use Rattle.heap_state.specs.Configuration.{Configuration, Stands, table, era, memory, team}
-use Rattle.heap_state.specs.Era.{Era, Memory}
-use Rattle.heap_state.specs.Ghost.{Ghost, Lands}
-use Rattle.heap_state.specs.Parts.Knowledge.{Passes}
+use Rattle.heap_state.specs.Memory.Era.{Era, Memory}
+use Rattle.heap_state.specs.Invariant.Ghost.{Ghost, Lands}
+use Rattle.heap_state.specs.Invariant.Parts.Knowledge.{Passes}
 use Rattle.heap_state.specs.Worker.{Team, Passage, Enter, Park, Request, Forwarded, Resume, Leave, Quest, Copy, Scan, SeenRecord}
 use Rattle.heap_laws.specs.Gate.{gate_after}
 use Rattle.heap_laws.specs.Scanning.Words.{AtField, IsScanning}

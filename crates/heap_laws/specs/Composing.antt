@@ -1,9 +1,9 @@
 -- Steps one after another: what is one atomic step may be several changes of what a worker knows. And a worker may forget.
 use Rattle.std.specs.Prelude.{◌≡◌, ℕ, true, false, Option, Some, None, is_some, ◌⊎◌}
 use Rattle.plain_state.specs.State.{Plain}
-use Rattle.heap_state.specs.Entries.{Entry}
-use Rattle.heap_state.specs.Era.{Era, Memory}
-use Rattle.heap_state.specs.Ghost.{Ghost}
+use Rattle.heap_state.specs.Memory.Entries.{Entry}
+use Rattle.heap_state.specs.Memory.Era.{Era, Memory}
+use Rattle.heap_state.specs.Invariant.Ghost.{Ghost}
 use Rattle.heap_state.specs.Worker.{Worker, Team, Scan, Round, is_flipper}
 use Rattle.heap_laws.specs.Steps.{Ready, Steps, StepsTo, with_worker}
 

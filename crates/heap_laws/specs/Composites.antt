@@ -3,10 +3,10 @@ use Rattle.std.specs.Prelude.{◌≡◌, ℕ, ◌+◌, ◌<◌, ◌≤◌, ◌�
 use Rattle.heap_words.specs.Decoded.{PointerWord, ForwardWord, decode}
 use Rattle.space_map.specs.declared.page_word.PageWord.{PageWord}
 use Rattle.space_map.specs.declared.page_word.PageWord.TheVariants.{Open}
-use Rattle.heap_state.specs.Entries.{AnnounceIs}
-use Rattle.heap_state.specs.Era.{Era, Memory}
+use Rattle.heap_state.specs.Memory.Entries.{AnnounceIs}
+use Rattle.heap_state.specs.Memory.Era.{Era, Memory}
 use Rattle.heap_state.specs.Functions.{put}
-use Rattle.heap_state.specs.Ghost.{Ghost, Leads}
+use Rattle.heap_state.specs.Invariant.Ghost.{Ghost, Leads}
 use Rattle.heap_state.specs.Worker.{Worker, Team, Register, Quest, Look, is_late}
 use Rattle.heap_laws.specs.Composing.{ends_round}
 use Rattle.heap_laws.specs.Flipping.Registers.{HasFoundCopy}

@@ -5,11 +5,11 @@ use Rattle.heap_words.specs.declared.kind.Kind.{Kind}
 use Rattle.heap_words.specs.Decoded.{HeaderWord, BusyWord, ForwardWord, decode}
 use Rattle.space_map.specs.declared.area_word.AreaWord.{AreaWord}
 use Rattle.space_map.specs.Spaces.{to_space, page_of, first_word}
-use Rattle.heap_state.specs.Era.{Era, Memory}
+use Rattle.heap_state.specs.Memory.Era.{Era, Memory}
 use Rattle.heap_state.specs.Functions.{put}
-use Rattle.heap_state.specs.Ghost.{Ghost}
+use Rattle.heap_state.specs.Invariant.Ghost.{Ghost}
 use Rattle.heap_state.specs.Worker.{Worker, Team, Quest, Copy}
-use Rattle.heap_state.specs.Entries.{WordIs, AreaIs, CrossIs, AnnounceIs}
+use Rattle.heap_state.specs.Memory.Entries.{WordIs, AreaIs, CrossIs, AnnounceIs}
 use Rattle.heap_laws.specs.Steps.{Ready, Steps, IsAreaNow}
 
 -- the worker with this copy in progress

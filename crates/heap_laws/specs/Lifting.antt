@@ -6,10 +6,10 @@ use Rattle.space_map.specs.PageWord.{age_of}
 use Rattle.space_map.specs.declared.gate_word.GateWord.{GateWord}
 use Rattle.space_map.specs.GateWord.{GateFits}
 use Rattle.heap_state.specs.Configuration.{Configuration, Stands, table, era, memory, team}
-use Rattle.heap_state.specs.Cycle.{Cycle}
-use Rattle.heap_state.specs.Entries.{Entry, row_of, word_of, EntryFits, with_entry, GateIs}
-use Rattle.heap_state.specs.Ghost.{Ghost}
-use Rattle.heap_state.specs.Table.{Table}
+use Rattle.heap_state.specs.Cycles.Cycle.{Cycle}
+use Rattle.heap_state.specs.Memory.Entries.{Entry, row_of, word_of, EntryFits, with_entry, GateIs}
+use Rattle.heap_state.specs.Invariant.Ghost.{Ghost}
+use Rattle.heap_state.specs.Memory.Table.{Table}
 use Rattle.heap_state.specs.Worker.{Worker, Reset}
 use Rattle.heap_laws.specs.Steps.{Ready, Steps, StepsTo}
 use Rattle.heap_laws.specs.Flipping.Flip.{Flips, flipped_gate, after_flip, next_ghost}

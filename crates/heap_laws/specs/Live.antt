@@ -2,7 +2,7 @@
 use Rattle.std.specs.Prelude.{◌≡◌, ◌+◌}
 use Rattle.plain_state.specs.State.{Plain}
 use Rattle.heap_state.specs.Configuration.{Configuration, era, memory}
-use Rattle.heap_state.specs.Copies.{CopiedIsLive}
+use Rattle.heap_state.specs.Cycles.Copies.{CopiedIsLive}
 use Rattle.heap_state.specs.Theorems.Standing.{StandsInCycle}
 
 abbrev pub TracedIsLive : Type 0

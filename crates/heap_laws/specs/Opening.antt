@@ -5,8 +5,8 @@ use Rattle.plain_state.specs.State as plain
 use Rattle.space_map.specs.Spaces.{IsPageCount, board_page}
 use Rattle.space_map.specs.declared.page_word.PageWord.TheVariants.{Open}
 use Rattle.heap_state.specs.Configuration.{Configuration, Stands, era, memory, team}
-use Rattle.heap_state.specs.Cycle.{Cycle}
-use Rattle.heap_state.specs.Entries.{Entry, TracedIs, AreaIs, PageIs, written}
+use Rattle.heap_state.specs.Cycles.Cycle.{Cycle}
+use Rattle.heap_state.specs.Memory.Entries.{Entry, TracedIs, AreaIs, PageIs, written}
 use Rattle.heap_state.specs.Worker.{Worker, Outside, Scanner, fresh}
 use Rattle.heap_laws.specs.Flipping.Reset.{whole_area}
 use Rattle.space_map.specs.declared.spaces.TheConstants.{PAGE_WORDS}

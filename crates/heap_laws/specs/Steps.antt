@@ -8,13 +8,13 @@ use Rattle.space_map.specs.AreaWord.{AreaFits}
 use Rattle.space_map.specs.GateWord.{GateFits}
 use Rattle.space_map.specs.PageWord.{PageFits, age_of}
 use Rattle.space_map.specs.Spaces.{to_space, page_of}
-use Rattle.heap_state.specs.Cycle.{Cycle}
-use Rattle.heap_state.specs.Entries.{Entry, GateIs, TracedIs, AreaIs, PageIs, CrossIs, WordIs, AnnounceIs}
-use Rattle.heap_state.specs.Era.{Era, Memory, IsLaidOut, from_space}
+use Rattle.heap_state.specs.Cycles.Cycle.{Cycle}
+use Rattle.heap_state.specs.Memory.Entries.{Entry, GateIs, TracedIs, AreaIs, PageIs, CrossIs, WordIs, AnnounceIs}
+use Rattle.heap_state.specs.Memory.Era.{Era, Memory, IsLaidOut, from_space}
 use Rattle.heap_state.specs.Functions.{put}
-use Rattle.heap_state.specs.Ghost.{Ghost}
-use Rattle.heap_state.specs.Inductive.{Invariant, Knows}
-use Rattle.heap_state.specs.Values.{Shown}
+use Rattle.heap_state.specs.Invariant.Ghost.{Ghost}
+use Rattle.heap_state.specs.Invariant.Inductive.{Invariant, Knows}
+use Rattle.heap_state.specs.Meaning.Values.{Shown}
 use Rattle.heap_state.specs.Worker.{Worker, Team}
 use Rattle.space_map.specs.declared.spaces.TheConstants.{PAGE_WORDS}
 

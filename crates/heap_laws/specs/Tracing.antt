@@ -5,13 +5,13 @@ use Rattle.plain_state.specs.State.{Plain}
 use Rattle.space_map.specs.declared.page_word.PageWord.{PageWord}
 use Rattle.space_map.specs.declared.page_word.PageWord.TheVariants.{Open}
 use Rattle.space_map.specs.PageWord.{age_of}
-use Rattle.heap_state.specs.Cycle.{Cycle, IsCopied}
-use Rattle.heap_state.specs.Era.{Era, Memory, IsLaidOut}
-use Rattle.heap_state.specs.Ghost.{Ghost, Here, Leads}
-use Rattle.heap_state.specs.Inductive.{Invariant}
-use Rattle.heap_state.specs.Reachable.{Reachable}
+use Rattle.heap_state.specs.Cycles.Cycle.{Cycle, IsCopied}
+use Rattle.heap_state.specs.Memory.Era.{Era, Memory, IsLaidOut}
+use Rattle.heap_state.specs.Invariant.Ghost.{Ghost, Here, Leads}
+use Rattle.heap_state.specs.Invariant.Inductive.{Invariant}
+use Rattle.heap_state.specs.Meaning.Reachable.{Reachable}
 use Rattle.heap_state.specs.Worker.{Worker, Team, Copy, Scan, Round, Claim, Look, LastLook, is_mutator}
-use Rattle.heap_state.specs.Entries.{TracedIs}
+use Rattle.heap_state.specs.Memory.Entries.{TracedIs}
 use Rattle.heap_laws.specs.Steps.{Ready, Steps}
 use Rattle.space_map.specs.Spaces.{page_of, first_word}
 use Rattle.space_map.specs.declared.spaces.TheConstants.{PAGE_WORDS}

@@ -2,11 +2,11 @@
 use Rattle.std.specs.Prelude.{ℕ, List, length, slice_index_or}
 use Rattle.plain_state.specs.State.{Plain}
 use Rattle.space_map.specs.Spaces.{IsPageCount}
-use Rattle.heap_state.specs.Era.{Era, era_of, Memory, memory_of}
-use Rattle.heap_state.specs.Ghost.{Ghost}
-use Rattle.heap_state.specs.Inductive.{Invariant}
-use Rattle.heap_state.specs.Table.{Table, table_of, IsFormed}
-use Rattle.heap_state.specs.Values.{Shown}
+use Rattle.heap_state.specs.Memory.Era.{Era, era_of, Memory, memory_of}
+use Rattle.heap_state.specs.Invariant.Ghost.{Ghost}
+use Rattle.heap_state.specs.Invariant.Inductive.{Invariant}
+use Rattle.heap_state.specs.Memory.Table.{Table, table_of, IsFormed}
+use Rattle.heap_state.specs.Meaning.Values.{Shown}
 use Rattle.heap_state.specs.Worker.{Worker, Team, Scanner, fresh}
 
 -- the pages of a space, the words of the table, the number of mutators, and all workers: the mutators first, then the

@@ -3,7 +3,7 @@ use Rattle.std.specs.Prelude.{ℕ, ◌+◌, ◌==◌, List, [], ◌∷◌, Bool,
 use Rattle.heap_words.specs.Decoded.{Decoded, HeaderWord, BusyWord, decode}
 use Rattle.heap_state.specs.Configuration.{Configuration, table}
 use Rattle.heap_state.specs.Kept.{Kept, kept_of, kept_at}
-use Rattle.heap_state.specs.Walk.{Walked}
+use Rattle.heap_state.specs.Memory.Walk.{Walked}
 
 -- the sum of the sizes of those that are counted
 abbrev pub sum_of_sizes : (Walked → Bool) → List Walked → ℕ

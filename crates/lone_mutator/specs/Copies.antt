@@ -5,7 +5,7 @@ use Rattle.forwarding.specs.declared.evac_stage.EvacStage.{EvacStage}
 use Rattle.forwarding.specs.declared.evac_stage.EvacStage.TheVariants.{LoadsHeader, TakesHeader, LoadsArea, Announces, Reserves}
 use Rattle.forwarding.specs.Evacuation.{Evacuation}
 use Rattle.forwarding.specs.Left as evac
-use Rattle.heap_state.specs.Table.{Table}
+use Rattle.heap_state.specs.Memory.Table.{Table}
 
 -- the header and the area are as they were read
 abbrev pub CopyStands : Table → Evacuation → EvacStage → Type 0

@@ -5,16 +5,16 @@ use Rattle.atom_store.specs.declared.step.Step.{Step}
 use Rattle.atom_store.specs.Step.{words_after, reply_of}
 use Rattle.space_map.specs.Spaces.{IsPageCount}
 use Rattle.heap_state.specs.Configuration.{Configuration, table}
-use Rattle.heap_state.specs.Table.{Table, table_of}
+use Rattle.heap_state.specs.Memory.Table.{Table, table_of}
 use Rattle.gc_worker.specs.declared.task.Task.{Task}
-use Rattle.gc_worker.specs.Between.{opening_heap, with_task, with_worker}
-use Rattle.gc_worker.specs.Goes.{Is}
-use Rattle.gc_worker.specs.Held.{Held}
-use Rattle.gc_worker.specs.Law.{Heap, WorkersStand, held_at, moved}
-use Rattle.gc_worker.specs.Stepped.{awaits}
+use Rattle.gc_worker.specs.Laws.Between.{opening_heap, with_task, with_worker}
+use Rattle.gc_worker.specs.Steps.Goes.{Is}
+use Rattle.gc_worker.specs.Workers.Held.{Held}
+use Rattle.gc_worker.specs.Laws.Step.{Heap, WorkersStand, held_at, moved}
+use Rattle.gc_worker.specs.Steps.Stepped.{awaits}
 use Rattle.gc_worker.specs.declared.did.Did.TheVariants.{Done, Trap}
-use Rattle.gc_worker.specs.Turned.{Told, Silent, Answers, Marks, turned, told}
-use Rattle.gc_worker.specs.Wanted.{wanted}
+use Rattle.gc_worker.specs.Steps.Turned.{Told, Silent, Answers, Marks, turned, told}
+use Rattle.gc_worker.specs.Steps.Wanted.{wanted}
 use Rattle.lone_mutator.specs.Bound.{most_steps}
 use Rattle.lone_mutator.specs.Lone.{IsLone, Remembers, NobodyElseAnnounces, potential}
 use Rattle.lone_mutator.specs.Potential.{potential_in}

@@ -12,8 +12,8 @@ use Rattle.gate_core.specs.declared.passage.Passage.TheVariants.{Look, Attach, P
 use Rattle.gate_core.specs.declared.gate_stage.GateStage.{GateStage}
 use Rattle.gate_core.specs.declared.gate_stage.GateStage.TheVariants.{Loads, Exchanges, Ended}
 use Rattle.heap_state.specs.Configuration.{table}
-use Rattle.heap_state.specs.Era.{era_of, memory_of}
-use Rattle.heap_state.specs.Table.{Table}
+use Rattle.heap_state.specs.Memory.Era.{era_of, memory_of}
+use Rattle.heap_state.specs.Memory.Table.{Table}
 use Rattle.gc_worker.specs.declared.access_stage.AccessStage.{AccessStage}
 use Rattle.gc_worker.specs.declared.access_stage.AccessStage.TheVariants.{LooksAtRecord, LooksAtField, LooksAtBoard, SwapsBoard}
 use Rattle.gc_worker.specs.declared.after.After.{After}
@@ -22,10 +22,10 @@ use Rattle.gc_worker.specs.declared.back.Back.{Back}
 use Rattle.gc_worker.specs.declared.back.Back.TheVariants.{ToAccess, ToPlace, ToScanner}
 use Rattle.gc_worker.specs.declared.stage.Stage.{Stage}
 use Rattle.gc_worker.specs.declared.stage.Stage.TheVariants.{Looks, Passes, Flips, Forwards, Accesses, Places, Serves, Scans, Evacuates, Opens, Gone}
-use Rattle.gc_worker.specs.Access.{board_at}
-use Rattle.gc_worker.specs.Begun.{IsPastLook}
-use Rattle.gc_worker.specs.Held.{Held}
-use Rattle.gc_worker.specs.Law.{Heap, read, held_at}
+use Rattle.gc_worker.specs.Steps.Access.{board_at}
+use Rattle.gc_worker.specs.Workers.Begun.{IsPastLook}
+use Rattle.gc_worker.specs.Workers.Held.{Held}
+use Rattle.gc_worker.specs.Laws.Step.{Heap, read, held_at}
 use Rattle.lone_mutator.specs.Copies.{CopyStands}
 use Rattle.lone_mutator.specs.Potential.{potential_in}
 use Rattle.lone_mutator.specs.Rounds.{RoundStands}

@@ -12,13 +12,13 @@ use Rattle.gate_core.specs.Flip as flip
 use Rattle.gate_core.specs.Gate as gate
 use Rattle.page_scan.specs.Left as scan
 use Rattle.page_slots.specs.Open as open_page
-use Rattle.heap_state.specs.Table.{Table}
+use Rattle.heap_state.specs.Memory.Table.{Table}
 use Rattle.gc_worker.specs.declared.back.Back.{Back}
 use Rattle.gc_worker.specs.declared.back.Back.TheVariants.{ToAccess, ToPlace, ToScanner}
 use Rattle.gc_worker.specs.declared.stage.Stage.{Stage}
 use Rattle.gc_worker.specs.declared.stage.Stage.TheVariants.{Looks, Passes, Flips, Forwards, Accesses, Places, Serves, Scans, Evacuates, Opens, Gone}
-use Rattle.gc_worker.specs.Access as access
-use Rattle.gc_worker.specs.Held.{Held}
+use Rattle.gc_worker.specs.Steps.Access as access
+use Rattle.gc_worker.specs.Workers.Held.{Held}
 use Rattle.lone_mutator.specs.Bound.{round_cost, longest_tracing, flip_cost, most_pages, longest_placing, whole_cost}
 use Rattle.lone_mutator.specs.Copies.{copy_left}
 use Rattle.lone_mutator.specs.Tracing.{tracing_left, tracing_due}

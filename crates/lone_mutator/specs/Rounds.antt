@@ -14,8 +14,8 @@ use Rattle.fault_duty.specs.declared.end_look.EndLook.{EndLook}
 use Rattle.fault_duty.specs.declared.duty_stage.DutyStage.{DutyStage}
 use Rattle.fault_duty.specs.declared.duty_stage.DutyStage.TheVariants.{LoadsGate, LoadsTraced, LoadsWanted, LoadsFrontFor, LoadsFront, LoadsPage, Claims, EndGate, EndArea, EndPage, EndFilling, EndAreaAgain, Traces, Ended}
 use Rattle.fault_duty.specs.Duty.{Round}
-use Rattle.heap_state.specs.Era.{Era, Memory}
-use Rattle.heap_state.specs.Parts.Pages.{Quiet}
+use Rattle.heap_state.specs.Memory.Era.{Era, Memory}
+use Rattle.heap_state.specs.Invariant.Parts.Pages.{Quiet}
 
 -- the page that was faulted on, if it is for one, has no word of the epoch
 abbrev pub IsForClosed : (E : Era) (page : ℕ → PageWord) → Caller → Type 0

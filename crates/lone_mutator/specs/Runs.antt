@@ -5,7 +5,7 @@ use Rattle.mutator_asm.specs.declared.item.Item.{Item}
 use Rattle.mutator_asm.specs.Program.{IsWellFormed}
 use Rattle.gc_worker.specs.declared.config.Config.{Config}
 use Rattle.gc_worker.specs.declared.config.TheConstants.{MOST_TURNS}
-use Rattle.gc_worker.specs.Law.{held_at}
+use Rattle.gc_worker.specs.Laws.Step.{held_at}
 use Rattle.gc_core.specs.Core.{CoreState, opening_core, is_size}
 use Rattle.gc_core.specs.Run.{run_from}
 use Rattle.lone_mutator.specs.Bound.{most_steps}

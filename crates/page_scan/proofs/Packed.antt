@@ -4,8 +4,8 @@ use Rattle.std.proofs.lemmas.Bool.{cases_lt}
 use Rattle.heap_words.specs.declared.kind.Kind.{Kind}
 use Rattle.heap_words.specs.declared.kind.Kind.TheVariants.{Fields, Raw}
 use Rattle.heap_words.specs.Decoded.{Decoded, NumberWord, PointerWord, HeaderWord, ForwardWord, BusyWord, Malformed, decode}
-use Rattle.heap_state.specs.FieldSpan.{first_field, fields_end}
-use Rattle.heap_state.specs.Ghost.{said_kind}
+use Rattle.heap_state.specs.Memory.FieldSpan.{first_field, fields_end}
+use Rattle.heap_state.specs.Invariant.Ghost.{said_kind}
 use Rattle.heap_state.specs.Kept.{size_said}
 use Rattle.page_scan.specs.Fields.{IsFieldBelow, record_begins, fields_said}
 

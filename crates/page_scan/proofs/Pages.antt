@@ -6,8 +6,8 @@ use Rattle.std.proofs.lemmas.Bool.Decides.{nat_tests}
 use Rattle.atom_store.specs.Runs.{Working, alone}
 use Rattle.heap_words.specs.declared.kind.Kind.{Kind}
 use Rattle.heap_words.specs.Decoded.{Decoded, NumberWord, PointerWord, HeaderWord, ForwardWord, BusyWord, Malformed, decode}
-use Rattle.heap_state.specs.FieldSpan.{first_field}
-use Rattle.heap_state.specs.Ghost.{said_kind}
+use Rattle.heap_state.specs.Memory.FieldSpan.{first_field}
+use Rattle.heap_state.specs.Invariant.Ghost.{said_kind}
 use Rattle.heap_state.specs.Kept.{size_said}
 use Rattle.heap_words.specs.FirstWords.{is_header}
 use Rattle.heap_words.specs.Word.{pointer_word}

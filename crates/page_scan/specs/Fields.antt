@@ -2,8 +2,8 @@
 use Rattle.std.specs.Prelude.{ℕ, zero, suc, ◌+◌, ◌<◌, ◌≤◌}
 use Rattle.heap_words.specs.Decoded.{Decoded, HeaderWord, decode}
 use Rattle.space_map.specs.Spaces.{first_word}
-use Rattle.heap_state.specs.FieldSpan.{fields_end}
-use Rattle.heap_state.specs.Ghost.{said_kind}
+use Rattle.heap_state.specs.Memory.FieldSpan.{fields_end}
+use Rattle.heap_state.specs.Invariant.Ghost.{said_kind}
 use Rattle.heap_state.specs.Kept.{size_said}
 use Rattle.page_scan.specs.Taken.{board_words}
 

@@ -6,8 +6,8 @@ use Rattle.atom_store.specs.declared.turn.Turn.{Turn}
 use Rattle.atom_store.specs.declared.turn.Turn.TheVariants.{More, Finished}
 use Rattle.atom_store.specs.Machine.{Machine}
 use Rattle.heap_words.specs.declared.kind.Kind.{Kind}
-use Rattle.heap_state.specs.FieldSpan.{first_field, fields_end}
-use Rattle.heap_state.specs.Ghost.{said_kind}
+use Rattle.heap_state.specs.Memory.FieldSpan.{first_field, fields_end}
+use Rattle.heap_state.specs.Invariant.Ghost.{said_kind}
 use Rattle.heap_words.specs.Decoded.{Decoded, NumberWord, PointerWord, HeaderWord, ForwardWord, BusyWord, Malformed, decode}
 use Rattle.space_map.specs.declared.area_word.AreaWord.{AreaWord}
 use Rattle.space_map.specs.AreaWord.{decode_area}

@@ -1,7 +1,7 @@
 ghost use Rattle.std.specs.Prelude.{◌≡◌, ◌+◌, ◌^◌, ◌<◌, ◌≤◌, Some, IsTrue, ◌≢◌, ℕ};
 ghost use Rattle.atom_store.specs.Step.{place_in};
-ghost use Rattle.heap_state.specs.FieldSpan.{first_field};
-ghost use Rattle.heap_state.specs.Ghost.{said_kind};
+ghost use Rattle.heap_state.specs.Memory.FieldSpan.{first_field};
+ghost use Rattle.heap_state.specs.Invariant.Ghost.{said_kind};
 ghost use Rattle.heap_words.specs.Decoded.{PointerWord, decode};
 ghost use Rattle.space_map.specs.AreaWord.{decode_area};
 ghost use Rattle.space_map.specs.Spaces.{board_page, to_space};

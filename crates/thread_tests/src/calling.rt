@@ -2,7 +2,7 @@
 
 ghost use Rattle.std.specs.Prelude.{◌≡◌, ◌≤◌, [], None, IfOk, IsTrue, vec_capacity};
 ghost use Rattle.gc_worker.specs.declared.task.Task.TheVariants.{Calls};
-ghost use Rattle.gc_worker.specs.Between.{with_task};
+ghost use Rattle.gc_worker.specs.Laws.Between.{with_task};
 ghost use Rattle.mutator_asm.specs.Program.{is_valid};
 
 use crate::asserting::assert_same;

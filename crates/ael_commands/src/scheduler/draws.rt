@@ -17,7 +17,7 @@ pub struct Draws {
 
 impl Model for Draws {
     ghost use Rattle.std.specs.Prelude.{◌<◌};
-    ghost use Rattle.ael_commands.specs.Coming.{Draw};
+    ghost use Rattle.ael_commands.specs.Runs.Schedulers.{Draw};
 
     ghost Value = { Draw };
 
@@ -39,7 +39,7 @@ impl Draws {
 }
 
 impl Scheduler for Draws {
-    ghost use Rattle.ael_commands.specs.Coming.{drawn_from};
+    ghost use Rattle.ael_commands.specs.Runs.Schedulers.{drawn_from};
 
     ghost to_come = { drawn_from };
 

@@ -3,8 +3,8 @@
 ghost use Rattle.std.specs.Prelude.{◌≡◌, ◌<◌, ℕ, length, IsTrue};
 ghost use Rattle.std.specs.List.{list_all};
 ghost use Rattle.mutator_asm.specs.Program.{is_item};
-ghost use Rattle.ael_commands.specs.Schedule.{repeated, steps_listed};
-ghost use Rattle.ael_commands.specs.Coming.{listed_from};
+ghost use Rattle.ael_commands.specs.Runs.Schedule.{repeated, steps_listed};
+ghost use Rattle.ael_commands.specs.Runs.Schedulers.{listed_from};
 
 use crate::scheduler::Scheduler;
 use mutator_asm::Item;
@@ -24,8 +24,8 @@ impl<'p> Model for Listing<'p> {
     ghost use Rattle.std.specs.Prelude.{◌<◌, ◌++◌, drop, length, replicate, IsTrue};
     ghost use Rattle.std.specs.List.{list_all};
     ghost use Rattle.mutator_asm.specs.Program.{is_item};
-    ghost use Rattle.ael_commands.specs.Coming.{ListedRound};
-    ghost use Rattle.ael_commands.specs.Schedule.{steps_listed};
+    ghost use Rattle.ael_commands.specs.Runs.Schedulers.{ListedRound};
+    ghost use Rattle.ael_commands.specs.Runs.Schedule.{steps_listed};
 
     ghost Value = { ListedRound };
 
@@ -49,7 +49,7 @@ impl<'p> Listing<'p> {
 }
 
 impl<'p> Scheduler for Listing<'p> {
-    ghost use Rattle.ael_commands.specs.Coming.{listed_from};
+    ghost use Rattle.ael_commands.specs.Runs.Schedulers.{listed_from};
 
     ghost to_come = { listed_from };
 

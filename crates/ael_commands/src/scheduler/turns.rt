@@ -14,7 +14,7 @@ pub struct Turns {
 
 impl Model for Turns {
     ghost use Rattle.std.specs.Prelude.{◌<◌};
-    ghost use Rattle.ael_commands.specs.Coming.{Turn};
+    ghost use Rattle.ael_commands.specs.Runs.Schedulers.{Turn};
 
     ghost Value = { Turn };
 
@@ -33,7 +33,7 @@ impl Turns {
 }
 
 impl Scheduler for Turns {
-    ghost use Rattle.ael_commands.specs.Coming.{in_turn_from};
+    ghost use Rattle.ael_commands.specs.Runs.Schedulers.{in_turn_from};
 
     ghost to_come = { in_turn_from };
 

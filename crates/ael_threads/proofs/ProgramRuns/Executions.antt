@@ -5,14 +5,14 @@ use Rattle.plain_state.specs.declared.end.End.{End}
 use Rattle.plain_state.specs.declared.end.End.TheVariants.{Halt, NotPointer, NotNumber, OutOfRange, IntoRaw, ZeroDivisor, JumpOut, TurnsOut, OutputFull, HeapFull}
 use Rattle.plain_state.specs.State.{Mutator, Plain}
 use Rattle.plain_heap.specs.Step.{fetch}
-use Rattle.heap_state.specs.Reachable.{IsLive}
+use Rattle.heap_state.specs.Meaning.Reachable.{IsLive}
 use Rattle.mutator_asm.specs.declared.instr.Instr.{Instr}
 use Rattle.mutator_asm.specs.Program.{instr_at}
-use Rattle.gc_worker.specs.Answer.{ComesTo, MayCome}
-use Rattle.gc_worker.specs.Full.{FindsNoRoom}
-use Rattle.gc_worker.specs.Law.{WorkersStand}
-use Rattle.gc_worker.specs.Marks.{task_of}
-use Rattle.gc_worker.specs.Stepped.{uncounted}
+use Rattle.gc_worker.specs.Plain.Answer.{ComesTo, MayCome}
+use Rattle.gc_worker.specs.Plain.Full.{FindsNoRoom}
+use Rattle.gc_worker.specs.Laws.Step.{WorkersStand}
+use Rattle.gc_worker.specs.Plain.Marks.{task_of}
+use Rattle.gc_worker.specs.Steps.Stepped.{uncounted}
 use Rattle.gc_worker.specs.declared.stage.Stage.TheVariants.{Gone}
 use Rattle.gc_worker.specs.declared.stepped.Stepped.{Stepped}
 use Rattle.gc_worker.specs.declared.task.Task.{Task}

@@ -13,9 +13,9 @@ use Rattle.plain_state.specs.declared.end.End.{End}
 use Rattle.plain_state.specs.State.{Mutator, Plain}
 use Rattle.mutator_asm.specs.declared.instr.Instr.{Instr}
 use Rattle.plain_heap.specs.Order.{opening}
-use Rattle.heap_state.specs.Copies.{CopiedIsLive}
+use Rattle.heap_state.specs.Cycles.Copies.{CopiedIsLive}
 use Rattle.heap_state.specs.Kept as kept
-use Rattle.heap_state.specs.Table.{word_in}
+use Rattle.heap_state.specs.Memory.Table.{word_in}
 use Rattle.heap_state.specs.Worker.{Worker}
 use Rattle.heap_state.proofs.Table.Places.{word_in-row}
 use Rattle.std.proofs.lemmas.List.{length-replicate}
@@ -25,13 +25,13 @@ use Rattle.space_map.specs.Table.{Area, IsRow, Row, Traced, place_of, table_leng
 use Rattle.gc_worker.specs.declared.config.Config.{Config}
 use Rattle.gc_worker.specs.declared.stage.Stage.{Stage}
 use Rattle.gc_worker.specs.declared.stage.Stage.TheVariants.{Gone}
-use Rattle.gc_worker.specs.Between.{IsSo}
-use Rattle.gc_worker.specs.Copied.{IsTraced}
-use Rattle.gc_worker.specs.Held.{Held}
-use Rattle.gc_worker.specs.Knows.{copy_in, knows}
-use Rattle.gc_worker.specs.Law.{Heap, WorkersStand, held_at, nobody, read}
+use Rattle.gc_worker.specs.Laws.Between.{IsSo}
+use Rattle.gc_worker.specs.Laws.Copied.{IsTraced}
+use Rattle.gc_worker.specs.Workers.Held.{Held}
+use Rattle.gc_worker.specs.Workers.Knows.{copy_in, knows}
+use Rattle.gc_worker.specs.Laws.Step.{Heap, WorkersStand, held_at, nobody, read}
 use Rattle.gc_worker.specs.Readers.{kept_in, live_said, mutators_in, registers_in, seen_in}
-use Rattle.gc_worker.specs.Stepped.{header_kept, place_kept, uncounted}
+use Rattle.gc_worker.specs.Steps.Stepped.{header_kept, place_kept, uncounted}
 use Rattle.gc_worker.proofs.Between.Standing.{what_stands_is_so}
 use Rattle.gc_worker.proofs.Plain.Outcomes.{opens_so}
 use Rattle.ael_threads.specs.declared.outputs.Outputs.{Outputs}

@@ -10,10 +10,10 @@ use Rattle.mutator_asm.specs.Program.{is_valid}
 use Rattle.plain_heap.specs.Step.{fetch}
 use Rattle.gc_worker.specs.declared.task.Task.{Task}
 use Rattle.gc_worker.specs.declared.task.Task.TheVariants.{Calls}
-use Rattle.gc_worker.specs.Fits.{MayBegin}
-use Rattle.gc_worker.specs.Full.{FullByOutcome}
-use Rattle.gc_worker.specs.Held.{Held}
-use Rattle.gc_worker.specs.Marks.{task_of}
+use Rattle.gc_worker.specs.Workers.Fits.{MayBegin}
+use Rattle.gc_worker.specs.Plain.Full.{FullByOutcome}
+use Rattle.gc_worker.specs.Workers.Held.{Held}
+use Rattle.gc_worker.specs.Plain.Marks.{task_of}
 use Rattle.gc_worker.specs.declared.call.Call.{Call}
 use Rattle.gc_worker.specs.declared.did.Did.{Did}
 use Rattle.gc_worker.specs.declared.did.Did.TheVariants.{Done, Trap}

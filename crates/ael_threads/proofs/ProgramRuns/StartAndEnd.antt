@@ -4,7 +4,7 @@ use Rattle.std.specs.Prelude.{IfOk, IsSome, Result, Ok, Err, drop, if◌then◌e
 use Rattle.std.proofs.lemmas.List.{append-nil, drop_all, length-append, take_all}
 use Rattle.atomic_table.specs.Seated.{TableId}
 use Rattle.mutator_asm.specs.declared.instr.Instr.{Instr}
-use Rattle.gc_worker.specs.Between.{fresh_mutator, fresh_scanner}
+use Rattle.gc_worker.specs.Laws.Between.{fresh_mutator, fresh_scanner}
 use Rattle.ael_threads.specs.declared.view.Plan.{Plan}
 use Rattle.ael_threads.specs.Histories.{Each}
 use Rattle.ael_threads.specs.Opened.{new_scanner, new_scanners}

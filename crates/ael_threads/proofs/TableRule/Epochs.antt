@@ -10,13 +10,13 @@ use Rattle.gc_worker.specs.declared.entry.Entry.TheVariants.{Exchanged, Made}
 use Rattle.gc_worker.specs.declared.stage.Stage.{Stage}
 use Rattle.gc_worker.specs.declared.stage.Stage.TheVariants.{Accesses, Evacuates, Flips, Forwards, Gone, Looks, Opens, Passes, Places, Scans, Serves}
 use Rattle.gc_worker.specs.declared.task.Task.{Task}
-use Rattle.gc_worker.specs.Between.{IsSo}
-use Rattle.gc_worker.specs.Fits.{Fits, FitsTask}
-use Rattle.gc_worker.specs.Held.{Held}
+use Rattle.gc_worker.specs.Laws.Between.{IsSo}
+use Rattle.gc_worker.specs.Workers.Fits.{Fits, FitsTask}
+use Rattle.gc_worker.specs.Workers.Held.{Held}
 use Rattle.gc_worker.specs.History.Tally.{Tally, after_entry, tally}
-use Rattle.gc_worker.specs.Knows.{epoch_in, post_in}
-use Rattle.gc_worker.specs.Law.{Heap, WorkersStand, epoch_of, held_at, read}
-use Rattle.gc_worker.specs.Turned.{epoch_in_gate}
+use Rattle.gc_worker.specs.Workers.Knows.{epoch_in, post_in}
+use Rattle.gc_worker.specs.Laws.Step.{Heap, WorkersStand, epoch_of, held_at, read}
+use Rattle.gc_worker.specs.Steps.Turned.{epoch_in_gate}
 use Rattle.gc_worker.proofs.Between.Standing.{what_stands_is_so}
 use Rattle.gc_worker.proofs.Stages.Gate.Words.{gate_says}
 use Rattle.gc_worker.proofs.History.Tallies.{tally_append}

@@ -28,15 +28,15 @@ use Rattle.gc_worker.specs.declared.stage.Stage.{Stage}
 use Rattle.gc_worker.specs.declared.stage.Stage.TheVariants.{Looks, Passes, Flips, Forwards, Accesses, Places, Serves, Scans, Evacuates, Opens, Gone}
 use Rattle.gc_worker.specs.declared.task.Task.{Task}
 use Rattle.gc_worker.specs.declared.task.Task.TheVariants.{Calls, Stops}
-use Rattle.gc_worker.specs.Access as access
-use Rattle.gc_worker.specs.Counted.{counted}
-use Rattle.gc_worker.specs.Fits.{Fits, FitsTask}
-use Rattle.gc_worker.specs.Held.{Held, pages_needed, at_stage, making_for}
-use Rattle.gc_worker.specs.Law.{FlipsWhereTold}
+use Rattle.gc_worker.specs.Steps.Access as access
+use Rattle.gc_worker.specs.Workers.Counted.{counted}
+use Rattle.gc_worker.specs.Workers.Fits.{Fits, FitsTask}
+use Rattle.gc_worker.specs.Workers.Held.{Held, pages_needed, at_stage, making_for}
+use Rattle.gc_worker.specs.Laws.Step.{FlipsWhereTold}
 use Rattle.gc_worker.specs.declared.allocating.Making.{Making}
-use Rattle.gc_worker.specs.Seen.{seen}
+use Rattle.gc_worker.specs.Plain.Seen.{seen}
 use Rattle.gc_worker.specs.declared.did.Did.{Did}
-use Rattle.gc_worker.specs.Turned.{Told, Silent, Answers, Marks, acted, acts, begins, end_by_shortage, ended, full_by, finds_full, looked_by, passes, started, told, told_access, told_acted, told_action, told_at, told_effect, told_end, told_flip, told_full, told_gate, told_look, told_place, told_start, turned, turned_access, turned_at, turned_flip, turned_look, turned_place, with_record}
+use Rattle.gc_worker.specs.Steps.Turned.{Told, Silent, Answers, Marks, acted, acts, begins, end_by_shortage, ended, full_by, finds_full, looked_by, passes, started, told, told_access, told_acted, told_action, told_at, told_effect, told_end, told_flip, told_full, told_gate, told_look, told_place, told_start, turned, turned_access, turned_at, turned_flip, turned_look, turned_place, with_record}
 use Rattle.gc_worker.proofs.Between.Pages.Claims.{flips_at}
 use Rattle.gc_worker.proofs.Workers.ApartFromCount.{counted_fit}
 

@@ -4,12 +4,12 @@ use mathlib.Core.Option.{some, some-injective, some-ne-none}
 use lib.ListN.{get_elem?}
 use Rattle.atomic_table.specs.Table as table
 use Rattle.heap_laws.specs.Opening.{opening_entries}
-use Rattle.heap_state.specs.Entries.{written}
+use Rattle.heap_state.specs.Memory.Entries.{written}
 use Rattle.space_map.specs.Spaces.{IsPageCount}
-use Rattle.gc_worker.specs.Between.{fresh_mutator, fresh_scanner, fresh_worker, fresh_workers}
-use Rattle.gc_worker.specs.Cycles.{IsInCall}
-use Rattle.gc_worker.specs.Held.{Held}
-use Rattle.gc_worker.specs.Stepped.{uncounted}
+use Rattle.gc_worker.specs.Laws.Between.{fresh_mutator, fresh_scanner, fresh_worker, fresh_workers}
+use Rattle.gc_worker.specs.Laws.Cycles.{IsInCall}
+use Rattle.gc_worker.specs.Workers.Held.{Held}
+use Rattle.gc_worker.specs.Steps.Stepped.{uncounted}
 use Rattle.gc_worker.proofs.Between.Opening.{heaps_open}
 use Rattle.std.specs.Prelude.{if◌then◌else◌}
 use Rattle.ael_threads.specs.declared.view.Hand.{Hand}

@@ -1,8 +1,8 @@
 -- Pages won: whose they are after a step.
 use Rattle.std.proofs.Common.{◌≡◌, ◌≢◌, ℕ, Bool, true, false, cond, ◌==◌, ◌&&◌, Option, Some, None, List, refl, ◌∙◌, ap, subst, ⊎_elim, ne_eqb, eq-eqb}
 use Rattle.std.proofs.lemmas.Bool.{cases_eq}
-use Rattle.gc_worker.specs.Law.{IsOut, WinsOne}
-use Rattle.gc_worker.specs.Turned.{PageWon}
+use Rattle.gc_worker.specs.Laws.Step.{IsOut, WinsOne}
+use Rattle.gc_worker.specs.Steps.Turned.{PageWon}
 use Rattle.ael_threads.specs.declared.view.WonClaim.{WonClaim}
 use Rattle.ael_threads.specs.Histories.{Each, IsOnce}
 use Rattle.ael_threads.specs.Rule.{Won, won_page}

@@ -13,12 +13,12 @@ use Rattle.gc_worker.specs.declared.stage.Stage.{Stage}
 use Rattle.gc_worker.specs.declared.stage.Stage.TheVariants.{Accesses, Evacuates, Flips, Forwards, Gone, Looks, Opens, Passes, Places, Scans, Serves}
 use Rattle.gc_worker.specs.declared.stepped.Stepped.{Stepped}
 use Rattle.gc_worker.specs.declared.stepped.Stepped.TheVariants as stepped
-use Rattle.gc_worker.specs.Fits.{Fits, FitsEnd, FitsTask, FitsTaskBefore, IsEndBefore}
-use Rattle.gc_worker.specs.Held.{Held}
-use Rattle.gc_worker.specs.Stepped.{stepped_by, uncounted}
+use Rattle.gc_worker.specs.Workers.Fits.{Fits, FitsEnd, FitsTask, FitsTaskBefore, IsEndBefore}
+use Rattle.gc_worker.specs.Workers.Held.{Held}
+use Rattle.gc_worker.specs.Steps.Stepped.{stepped_by, uncounted}
 use Rattle.gc_worker.specs.declared.did.Did.TheVariants.{Done, Trap}
-use Rattle.gc_worker.specs.Turned.{Told, Silent, Answers, Marks, told, turned}
-use Rattle.gc_worker.specs.Wanted.{wanted}
+use Rattle.gc_worker.specs.Steps.Turned.{Told, Silent, Answers, Marks, told, turned}
+use Rattle.gc_worker.specs.Steps.Wanted.{wanted}
 use Rattle.gc_worker.proofs.Between.GoingOn.{workers_go_on}
 use Rattle.ael_threads.specs.declared.view.Hand.{Hand}
 use Rattle.ael_threads.specs.declared.view.Plan.{Plan}

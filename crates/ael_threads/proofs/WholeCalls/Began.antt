@@ -16,12 +16,12 @@ use Rattle.gc_worker.specs.declared.did.Did.{Did}
 use Rattle.gc_worker.specs.declared.stage.Stage.{Stage}
 use Rattle.gc_worker.specs.declared.stage.Stage.TheVariants.{Accesses, Evacuates, Flips, Forwards, Gone, Looks, Opens, Passes, Places, Scans, Serves}
 use Rattle.gc_worker.specs.declared.task.Task.{Task}
-use Rattle.gc_worker.specs.Begun.{IsPastAfter, IsPastBack, IsPastLook}
-use Rattle.gc_worker.specs.Cycles.{IsInCall, IsInPassage}
-use Rattle.gc_worker.specs.Fits.{Fits, FitsTask, FitsTaskAfter, FitsTaskBack, FitsTaskBefore}
-use Rattle.gc_worker.specs.Held.{Held}
-use Rattle.gc_worker.specs.Turned.{Answers, passed_by, told_at, turned, turned_at, turned_gate}
-use Rattle.gc_worker.specs.Between.{with_task}
+use Rattle.gc_worker.specs.Workers.Begun.{IsPastAfter, IsPastBack, IsPastLook}
+use Rattle.gc_worker.specs.Laws.Cycles.{IsInCall, IsInPassage}
+use Rattle.gc_worker.specs.Workers.Fits.{Fits, FitsTask, FitsTaskAfter, FitsTaskBack, FitsTaskBefore}
+use Rattle.gc_worker.specs.Workers.Held.{Held}
+use Rattle.gc_worker.specs.Steps.Turned.{Answers, passed_by, told_at, turned, turned_at, turned_gate}
+use Rattle.gc_worker.specs.Laws.Between.{with_task}
 
 -- ---- who has no task is in no call
 

@@ -8,13 +8,13 @@ use Rattle.plain_state.specs.State.{Mutator}
 use Rattle.space_map.specs.Spaces.{IsPageCount}
 use Rattle.space_map.specs.Table.{table_length}
 use Rattle.gc_worker.specs.declared.task.Task.{Task}
-use Rattle.gc_worker.specs.Between.{Begins, IsAsPlain, IsIdle, fresh_mutator, fresh_scanner, opening_heap, with_task}
-use Rattle.gc_worker.specs.Counted.{counted}
-use Rattle.gc_worker.specs.Fits.{Fits, MayBegin}
-use Rattle.gc_worker.specs.Held.{Held}
-use Rattle.gc_worker.specs.Law.{Heap, held_at, nobody}
-use Rattle.gc_worker.specs.Stepped.{IsSound, uncounted}
-use Rattle.gc_worker.specs.Turned.{turned}
+use Rattle.gc_worker.specs.Laws.Between.{Begins, IsAsPlain, IsIdle, fresh_mutator, fresh_scanner, opening_heap, with_task}
+use Rattle.gc_worker.specs.Workers.Counted.{counted}
+use Rattle.gc_worker.specs.Workers.Fits.{Fits, MayBegin}
+use Rattle.gc_worker.specs.Workers.Held.{Held}
+use Rattle.gc_worker.specs.Laws.Step.{Heap, held_at, nobody}
+use Rattle.gc_worker.specs.Steps.Stepped.{IsSound, uncounted}
+use Rattle.gc_worker.specs.Steps.Turned.{turned}
 use Rattle.gc_worker.proofs.Between.Beginning.{tasks_may_begin}
 use Rattle.gc_worker.proofs.Between.Opening.{heaps_open, mutator_fits, scanner_fits}
 use Rattle.gc_worker.proofs.Between.Standing.{what_stands_is_so}

@@ -3,7 +3,7 @@ use Rattle.std.proofs.Common.{◌≡◌, ℕ, inl, inr, Bool, true, false, not, 
 use Rattle.std.proofs.lemmas.List.{append_cancel_right}
 use Rattle.std.proofs.lemmas.Option.{same_Some}
 use mathlib.Core.List.{IsPrefix}
-use Rattle.gc_worker.specs.Cycles.{IsInCall}
+use Rattle.gc_worker.specs.Laws.Cycles.{IsInCall}
 use Rattle.ael_threads.proofs.Lists.Elements.{prefix_self, prefix_trans}
 use Rattle.ael_threads.proofs.WholeCalls.Underway.{begun_by, flipped_by, heard_more, heard_past}
 use Rattle.atom_store.specs.declared.reply.Reply.{Reply}
@@ -20,14 +20,14 @@ use Rattle.gc_worker.specs.declared.stepped.Stepped.{Stepped}
 use Rattle.gc_worker.specs.declared.stepped.Stepped.TheVariants as stepped
 use Rattle.gc_worker.specs.declared.task.Task.{Task}
 use Rattle.gc_worker.specs.declared.task.Task.TheVariants.{Calls}
-use Rattle.gc_worker.specs.Fits.{FitsCall, Fits, FitsEnd}
+use Rattle.gc_worker.specs.Workers.Fits.{FitsCall, Fits, FitsEnd}
 use Rattle.plain_heap.specs.Action as plain_action
-use Rattle.gc_worker.specs.Answer.{ComesTo}
-use Rattle.gc_worker.specs.Between.{AreAlike, IsNoAnswer, RegistersLand, with_task, RestsAfter, ShowsRegisters}
-use Rattle.gc_worker.specs.Full.{FullWhereTold}
-use Rattle.gc_worker.specs.Held.{Held}
-use Rattle.gc_worker.specs.Stepped.{stepped_by, uncounted}
-use Rattle.gc_worker.specs.Turned.{Told, Silent, Answers, Marks, told, turned, PageWon, won}
+use Rattle.gc_worker.specs.Plain.Answer.{ComesTo}
+use Rattle.gc_worker.specs.Laws.Between.{AreAlike, IsNoAnswer, RegistersLand, with_task, RestsAfter, ShowsRegisters}
+use Rattle.gc_worker.specs.Plain.Full.{FullWhereTold}
+use Rattle.gc_worker.specs.Workers.Held.{Held}
+use Rattle.gc_worker.specs.Steps.Stepped.{stepped_by, uncounted}
+use Rattle.gc_worker.specs.Steps.Turned.{Told, Silent, Answers, Marks, told, turned, PageWon, won}
 use Rattle.gc_worker.specs.declared.call.Call.{Call}
 use Rattle.ael_threads.specs.declared.view.WonClaim.{WonClaim}
 use Rattle.gc_worker.specs.declared.did.Did.{Did}

@@ -23,9 +23,9 @@ use Rattle.plain_heap.proofs.Calls.Outcomes.{if_ok-bind, if_ok-then}
 use Rattle.heap_laws.specs.Opening.{opening_mutator, opening_plain}
 use Rattle.gc_worker.specs.declared.task.Task.{Task}
 use Rattle.gc_worker.specs.declared.task.Task.TheVariants.{Calls, Stops}
-use Rattle.gc_worker.specs.Answer.{ComesTo, MayCome, after_answer, after_outcome}
-use Rattle.gc_worker.specs.Held.{Held}
-use Rattle.gc_worker.specs.Marks.{task_of}
+use Rattle.gc_worker.specs.Plain.Answer.{ComesTo, MayCome, after_answer, after_outcome}
+use Rattle.gc_worker.specs.Workers.Held.{Held}
+use Rattle.gc_worker.specs.Plain.Marks.{task_of}
 use Rattle.gc_worker.proofs.Plain.Outcomes.{call-counted}
 use Rattle.gc_worker.specs.declared.call.Call.{Call}
 use Rattle.gc_worker.specs.declared.did.Did.{Did}

@@ -13,17 +13,17 @@ use Rattle.gc_worker.specs.declared.stage.Stage.{Stage}
 use Rattle.gc_worker.specs.declared.stage.Stage.TheVariants.{Looks}
 use Rattle.gc_worker.specs.declared.stepped.Stepped.{Stepped}
 use Rattle.gc_worker.specs.declared.task.Task.{Task}
-use Rattle.gc_worker.specs.Begun.{IsPastLook}
-use Rattle.gc_worker.specs.Counted.{counted}
-use Rattle.gc_worker.specs.Cycles.{IsInCall}
-use Rattle.gc_worker.specs.Fits.{Fits}
-use Rattle.gc_worker.specs.Full.{FindsNoRoom, FullWhereTold}
-use Rattle.gc_worker.specs.Held.{Held}
+use Rattle.gc_worker.specs.Workers.Begun.{IsPastLook}
+use Rattle.gc_worker.specs.Workers.Counted.{counted}
+use Rattle.gc_worker.specs.Laws.Cycles.{IsInCall}
+use Rattle.gc_worker.specs.Workers.Fits.{Fits}
+use Rattle.gc_worker.specs.Plain.Full.{FindsNoRoom, FullWhereTold}
+use Rattle.gc_worker.specs.Workers.Held.{Held}
 use Rattle.gc_worker.specs.History.Legal.{after_all, calls_of, extra, last_flip}
-use Rattle.gc_worker.specs.Knows.{post_in}
-use Rattle.gc_worker.specs.Law.{Heap, WorkersStand, epoch_of, held_at, nobody}
-use Rattle.gc_worker.specs.Stepped.{uncounted}
-use Rattle.gc_worker.specs.Turned.{Answers, epoch_in_gate, told, turned}
+use Rattle.gc_worker.specs.Workers.Knows.{post_in}
+use Rattle.gc_worker.specs.Laws.Step.{Heap, WorkersStand, epoch_of, held_at, nobody}
+use Rattle.gc_worker.specs.Steps.Stepped.{uncounted}
+use Rattle.gc_worker.specs.Steps.Turned.{Answers, epoch_in_gate, told, turned}
 use Rattle.gc_worker.proofs.Between.Begun.{beginnings_are_kept, full_is_found_later}
 use Rattle.gc_worker.proofs.Workers.ApartFromCount.{counted_fit}
 use Rattle.gc_worker.proofs.History.FullHeaps.{past_look}

@@ -6,8 +6,8 @@ use Rattle.atomic_table.specs.Seated.{TableId}
 use Rattle.std.proofs.lemmas.List.{length-map, length-replicate}
 use Rattle.heap_laws.specs.Opening.{opening_mutator}
 use Rattle.gc_worker.specs.declared.entry.Entry.{Entry}
-use Rattle.gc_worker.specs.Held.{Held}
-use Rattle.gc_worker.specs.Law.{WorkersStand, epoch_of}
+use Rattle.gc_worker.specs.Workers.Held.{Held}
+use Rattle.gc_worker.specs.Laws.Step.{WorkersStand, epoch_of}
 use Rattle.gc_worker.proofs.Between.Pages.Copied.{copied_was_live}
 use Rattle.ael_threads.specs.declared.view.WonClaim.{WonClaim}
 use Rattle.ael_threads.specs.declared.view.Hand.{Hand}

@@ -3,7 +3,7 @@ use Rattle.std.proofs.Common.{◌≡◌, ◌≢◌, ℕ, suc, ◌+◌, ◌-◌, 
 use mathlib.Core.Option.{some}
 use lib.ListN.{get_elem?}
 use Rattle.atomic_table.specs.Table as table
-use Rattle.gc_worker.specs.Held.{Held}
+use Rattle.gc_worker.specs.Workers.Held.{Held}
 use Rattle.ael_threads.specs.declared.view.WonClaim.{WonClaim}
 use Rattle.gc_worker.specs.declared.entry.Entry.{Entry}
 use Rattle.ael_threads.specs.declared.view.Hand.{Hand}

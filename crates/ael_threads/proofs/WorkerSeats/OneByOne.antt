@@ -2,8 +2,8 @@
 use Rattle.std.proofs.Common.{◌≡◌, ℕ, ◌+◌, ◌-◌, ◌<◌, ◌≤◌, List, [], ◌∷◌, ◌++◌, sym, ◌∙◌, ap, subst, arith, add-one, lt-ltb}
 use Rattle.std.proofs.lemmas.Bool.{le-ltb}
 use Rattle.atomic_table.specs.Seated.{TableId}
-use Rattle.gc_worker.specs.Between.{fresh_mutator, fresh_scanner}
-use Rattle.gc_worker.specs.Held.{Held}
+use Rattle.gc_worker.specs.Laws.Between.{fresh_mutator, fresh_scanner}
+use Rattle.gc_worker.specs.Workers.Held.{Held}
 use Rattle.ael_threads.specs.declared.view.Plan.{Plan}
 use Rattle.ael_threads.specs.Histories.{first_held, new_hands}
 use Rattle.ael_threads.specs.Opened.{new_scanners}

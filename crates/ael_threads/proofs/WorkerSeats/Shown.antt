@@ -13,18 +13,18 @@ use Rattle.gc_worker.specs.declared.back.Back.TheVariants.{ToAccess, ToPlace, To
 use Rattle.gc_worker.specs.declared.stage.Stage.TheVariants.{Accesses, Evacuates, Flips, Forwards, Gone, Looks, Opens, Passes, Places, Scans, Serves}
 use Rattle.gc_worker.specs.declared.task.Task.{Task}
 use Rattle.gc_worker.specs.declared.task.Task.TheVariants.{Calls, Stops}
-use Rattle.gc_worker.specs.Answer.{after_answer, after_told}
-use Rattle.gc_worker.specs.Between.{AreAlike, IsAsPlain, RegistersLand, ShowsRegisters}
-use Rattle.gc_worker.specs.Counted.{counted}
-use Rattle.gc_worker.specs.Fits.{Fits, FitsEnd, IsOnSide, IsOnSideBack}
-use Rattle.gc_worker.specs.Full.{FullByEnd, FullWhereTold}
-use Rattle.gc_worker.specs.Held.{Held}
-use Rattle.gc_worker.specs.Knows.{post_back, post_gone, post_in}
-use Rattle.gc_worker.specs.Law.{Heap, WorkersStand}
+use Rattle.gc_worker.specs.Plain.Answer.{after_answer, after_told}
+use Rattle.gc_worker.specs.Laws.Between.{AreAlike, IsAsPlain, RegistersLand, ShowsRegisters}
+use Rattle.gc_worker.specs.Workers.Counted.{counted}
+use Rattle.gc_worker.specs.Workers.Fits.{Fits, FitsEnd, IsOnSide, IsOnSideBack}
+use Rattle.gc_worker.specs.Plain.Full.{FullByEnd, FullWhereTold}
+use Rattle.gc_worker.specs.Workers.Held.{Held}
+use Rattle.gc_worker.specs.Workers.Knows.{post_back, post_gone, post_in}
+use Rattle.gc_worker.specs.Laws.Step.{Heap, WorkersStand}
 use Rattle.gc_worker.proofs.Between.Pages.Copied.{full_tells_live}
-use Rattle.gc_worker.specs.Stepped.{uncounted}
+use Rattle.gc_worker.specs.Steps.Stepped.{uncounted}
 use Rattle.gc_worker.specs.declared.did.Did.TheVariants.{Done, Trap}
-use Rattle.gc_worker.specs.Turned.{Told, Silent, Answers, Marks}
+use Rattle.gc_worker.specs.Steps.Turned.{Told, Silent, Answers, Marks}
 use Rattle.ael_threads.specs.Seats.{IsRunning, IsShown, LiveByEnd, LiveWhereTold}
 
 pub shown_by : (h : Heap) (p : Plain) (m count : ℕ) (z : Held) (q : Mutator) → IsAsPlain h p m (counted count z) q → ShowsRegisters z.registers q → IsShown p.heap m (uncounted z) q

@@ -9,14 +9,14 @@ use Rattle.atom_store.specs.Step.{words_after, reply_of}
 use Rattle.space_map.specs.Spaces.{to_space}
 use Rattle.gc_worker.specs.declared.did.Did.TheVariants.{Done, Trap}
 use Rattle.gc_worker.specs.declared.entry.Entry.{Entry}
-use Rattle.gc_worker.specs.Cycles.{LowGoes, words_claimed, low_of, low_at, low_said}
-use Rattle.gc_worker.specs.Full.{FindsNoRoom}
-use Rattle.gc_worker.specs.Held.{Held}
+use Rattle.gc_worker.specs.Laws.Cycles.{LowGoes, words_claimed, low_of, low_at, low_said}
+use Rattle.gc_worker.specs.Plain.Full.{FindsNoRoom}
+use Rattle.gc_worker.specs.Workers.Held.{Held}
 use Rattle.gc_worker.specs.History.Tally.{tally}
-use Rattle.gc_worker.specs.Law.{WorkersStand, epoch_of, nobody}
-use Rattle.gc_worker.specs.Stepped.{stepped_by}
-use Rattle.gc_worker.specs.Turned.{Told, Silent, Answers, Marks, epoch_in_gate, told}
-use Rattle.gc_worker.specs.Wanted.{wanted}
+use Rattle.gc_worker.specs.Laws.Step.{WorkersStand, epoch_of, nobody}
+use Rattle.gc_worker.specs.Steps.Stepped.{stepped_by}
+use Rattle.gc_worker.specs.Steps.Turned.{Told, Silent, Answers, Marks, epoch_in_gate, told}
+use Rattle.gc_worker.specs.Steps.Wanted.{wanted}
 use Rattle.gc_worker.proofs.Between.Pages.Copied.{full_tells_live}
 use Rattle.gc_worker.proofs.Cycles.Lows.{low_falls_by_claims}
 use Rattle.gc_core.specs.Core.{CoreState}

@@ -8,10 +8,10 @@ use Rattle.gc_worker.specs.declared.entry.Entry.{Entry}
 use Rattle.gc_worker.specs.declared.entry.Entry.TheVariants.{Exchanged}
 use Rattle.gc_worker.specs.History.Legal.{extra}
 use Rattle.gc_worker.specs.History.Tally.{EachEntry, EntryIs, Tally, Tasks, tally, tasks_held}
-use Rattle.gc_worker.specs.Law.{Heap}
-use Rattle.gc_worker.specs.Stepped.{stepped_by}
-use Rattle.gc_worker.specs.Turned.{Told, Silent, Answers, Marks, told}
-use Rattle.gc_worker.specs.Wanted.{wanted}
+use Rattle.gc_worker.specs.Laws.Step.{Heap}
+use Rattle.gc_worker.specs.Steps.Stepped.{stepped_by}
+use Rattle.gc_worker.specs.Steps.Turned.{Told, Silent, Answers, Marks, told}
+use Rattle.gc_worker.specs.Steps.Wanted.{wanted}
 use Rattle.gc_worker.proofs.History.Tallies.{entry_at, tally_append}
 use Rattle.gc_core.specs.Core.{CoreState}
 use Rattle.gc_core.specs.Cycles.{flips_after, flips_next}

@@ -8,13 +8,13 @@ use Rattle.space_map.specs.AreaWord.{decode_area}
 use Rattle.space_map.specs.Spaces.{to_space}
 use Rattle.space_map.specs.Table.{Traced}
 use Rattle.heap_state.specs.Configuration.{Configuration, table, era}
-use Rattle.heap_state.specs.Copies.{CopiedIsLive, words_copied}
-use Rattle.heap_state.specs.Reachable.{IsLive}
-use Rattle.heap_state.specs.Table.{word_in}
+use Rattle.heap_state.specs.Cycles.Copies.{CopiedIsLive, words_copied}
+use Rattle.heap_state.specs.Meaning.Reachable.{IsLive}
+use Rattle.heap_state.specs.Memory.Table.{word_in}
 use Rattle.heap_laws.proofs.Steps.Answers.{areas_are_read}
-use Rattle.gc_worker.specs.Copied.{CopiedWasLive, IsTraced}
-use Rattle.gc_worker.specs.Law.{read, WorkersStand}
-use Rattle.gc_worker.specs.Turned.{epoch_in_gate}
+use Rattle.gc_worker.specs.Laws.Copied.{CopiedWasLive, IsTraced}
+use Rattle.gc_worker.specs.Laws.Step.{read, WorkersStand}
+use Rattle.gc_worker.specs.Steps.Turned.{epoch_in_gate}
 use Rattle.gc_worker.proofs.Words.Areas.{area_now, area_says, is_space}
 use Rattle.gc_worker.proofs.Stages.Gate.Words.{gate_says}
 use Rattle.gc_core.specs.Core.{CoreState}

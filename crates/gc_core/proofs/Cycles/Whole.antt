@@ -18,8 +18,8 @@ use Rattle.gc_worker.specs.declared.stepped.Stepped.TheVariants.{Idle, Moved, Ef
 use Rattle.gc_worker.specs.History.Needs.{EachFullIs, EachMayCome, IsFullAt, being_made, made_since, first_story}
 use Rattle.gc_worker.specs.History.Order.{entry_mark, order_of}
 use Rattle.gc_worker.specs.History.Tally.{aside_in, tally}
-use Rattle.gc_worker.specs.Law.{WorkersStand}
-use Rattle.gc_worker.specs.Marks.{EachActs, mark_of}
+use Rattle.gc_worker.specs.Laws.Step.{WorkersStand}
+use Rattle.gc_worker.specs.Plain.Marks.{EachActs, mark_of}
 use Rattle.gc_worker.proofs.Between.Pages.Copied.{copied_was_live}
 use Rattle.gc_worker.proofs.Between.Opening.{heaps_open}
 use Rattle.gc_worker.proofs.History.Lone.{flip_before, lone_is_never_full}

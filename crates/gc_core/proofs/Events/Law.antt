@@ -10,31 +10,31 @@ use Rattle.plain_state.specs.State.{Plain, Mutator}
 use Rattle.plain_heap.specs.Order.{Story, fresh, end_of}
 use Rattle.plain_heap.specs.Step.{fetch, asked_by}
 use Rattle.plain_heap.proofs.Orders.Stories.{story_after-now}
-use Rattle.heap_state.specs.Represents.{Represents}
-use Rattle.heap_state.specs.Values.{Accounts}
+use Rattle.heap_state.specs.Meaning.Represents.{Represents}
+use Rattle.heap_state.specs.Meaning.Values.{Accounts}
 use Rattle.heap_state.proofs.Puts.{none≢some}
 use Rattle.atom_store.specs.declared.step.Step.{Step}
 use Rattle.atom_store.specs.Step.{words_after, reply_of}
 use Rattle.gc_worker.specs.declared.stage.Stage.TheVariants.{Gone}
 use Rattle.gc_worker.specs.declared.task.Task.{Task}
-use Rattle.gc_worker.specs.Answer.{ComesTo, MayCome, IsAnswered, after_outcome, after_told}
-use Rattle.gc_worker.specs.Between.{ReadyingStands, TasksMayBegin, WorkersGoOn, WorkersWant, WhatStandsIsSo, KeepsToTask, IsSo, IsNoAnswer}
-use Rattle.gc_worker.specs.Fits.{Fits, IsOnSide}
-use Rattle.gc_worker.specs.Full.{FullByEnd, FullWhereTold}
-use Rattle.gc_worker.specs.Gone.{ScannersAreLast}
-use Rattle.gc_worker.specs.Held.{Held}
-use Rattle.gc_worker.specs.Law.{Heap, nobody, held_at, read, moved, WorkersStand, StepKeeps, StepsKeep, FlipsWhereTold, epoch_of, at_flip}
+use Rattle.gc_worker.specs.Plain.Answer.{ComesTo, MayCome, IsAnswered, after_outcome, after_told}
+use Rattle.gc_worker.specs.Laws.Between.{ReadyingStands, TasksMayBegin, WorkersGoOn, WorkersWant, WhatStandsIsSo, KeepsToTask, IsSo, IsNoAnswer}
+use Rattle.gc_worker.specs.Workers.Fits.{Fits, IsOnSide}
+use Rattle.gc_worker.specs.Plain.Full.{FullByEnd, FullWhereTold}
+use Rattle.gc_worker.specs.Laws.Gone.{ScannersAreLast}
+use Rattle.gc_worker.specs.Workers.Held.{Held}
+use Rattle.gc_worker.specs.Laws.Step.{Heap, nobody, held_at, read, moved, WorkersStand, StepKeeps, StepsKeep, FlipsWhereTold, epoch_of, at_flip}
 use Rattle.gc_worker.specs.declared.did.Did.{Did}
 use Rattle.gc_worker.specs.declared.did.Did.TheVariants.{Done, Trap}
-use Rattle.gc_worker.specs.Turned.{Told, Silent, Answers, Marks, turned, told}
-use Rattle.gc_worker.specs.Wanted.{wanted}
+use Rattle.gc_worker.specs.Steps.Turned.{Told, Silent, Answers, Marks, turned, told}
+use Rattle.gc_worker.specs.Steps.Wanted.{wanted}
 use Rattle.gc_worker.specs.declared.stepped.Stepped.{Stepped}
 use Rattle.gc_worker.specs.declared.stepped.Stepped.TheVariants as tells
-use Rattle.gc_worker.specs.Marks.{mark_of, task_of}
+use Rattle.gc_worker.specs.Plain.Marks.{mark_of, task_of}
 use Rattle.gc_core.specs.Core.{CoreState}
 use Rattle.gc_core.specs.Event.{event_of, ready}
-use Rattle.gc_worker.specs.Stepped.{stepped_by}
-use Rattle.gc_worker.specs.Claims.{epoch_of_heap}
+use Rattle.gc_worker.specs.Steps.Stepped.{stepped_by}
+use Rattle.gc_worker.specs.Laws.Claims.{epoch_of_heap}
 use Rattle.gc_core.specs.Law.{AllHaveLeft, IsOnTask, IsScanner, IsSteady, IsForWant, IsTold, KeepsStory, EventsKeep, EventsMeet, plain_after, story_by}
 use Rattle.gc_core.specs.Whole.{MissingWorkersAreIdle}
 use Rattle.gc_worker.proofs.Between.Last.{scanners_last_with, scanners_stay_last}

@@ -8,11 +8,11 @@ use Rattle.plain_heap.specs.Order.{Story}
 use Rattle.atom_store.specs.declared.step.Step.{Step}
 use Rattle.atom_store.specs.Step.{place_in, reply_of}
 use Rattle.gc_worker.specs.declared.stage.Stage.TheVariants.{Looks}
-use Rattle.gc_worker.specs.Between.{IsIdle}
-use Rattle.gc_worker.specs.Fits.{Fits, Takes, MayBegin}
-use Rattle.gc_worker.specs.Law.{held_at, moved}
-use Rattle.gc_worker.specs.Turned.{turned, told}
-use Rattle.gc_worker.specs.Wanted.{wanted}
+use Rattle.gc_worker.specs.Laws.Between.{IsIdle}
+use Rattle.gc_worker.specs.Workers.Fits.{Fits, Takes, MayBegin}
+use Rattle.gc_worker.specs.Laws.Step.{held_at, moved}
+use Rattle.gc_worker.specs.Steps.Turned.{turned, told}
+use Rattle.gc_worker.specs.Steps.Wanted.{wanted}
 use Rattle.gc_worker.proofs.Between.Beginning.{tasks_may_begin}
 use Rattle.gc_worker.proofs.Between.Opening.{heaps_open}
 use Rattle.gc_worker.proofs.Between.Readying.{readying_stands}
@@ -20,7 +20,7 @@ use Rattle.gc_worker.proofs.StepKeeps.{steps_keep}
 use Rattle.gc_worker.specs.declared.config.Config.{Config}
 use Rattle.gc_core.specs.Core.{CoreState, opening_core, workers_of, is_size}
 use Rattle.gc_core.specs.Event.{Event, event_of, event_by, core_after, ready, fetched_task}
-use Rattle.gc_worker.specs.Stepped.{stepped_by}
+use Rattle.gc_worker.specs.Steps.Stepped.{stepped_by}
 use Rattle.gc_core.specs.Law.{IsLawful, story_by}
 use Rattle.gc_core.proofs.Events.Opening.{opening_lawful}
 use Rattle.gc_core.proofs.Events.Readied.{readied_stands, looks_idle, may_begin}

@@ -10,21 +10,21 @@ use Rattle.plain_heap.specs.Order as order
 use Rattle.heap_state.proofs.Puts.{none≢some}
 use Rattle.space_map.specs.Spaces.{IsPageCount}
 use Rattle.heap_state.specs.Configuration.{table}
-use Rattle.heap_state.specs.Table.{Table}
+use Rattle.heap_state.specs.Memory.Table.{Table}
 use Rattle.heap_state.proofs.Table.Writing.{writes_tables}
 use Rattle.heap_laws.specs.Opening.{opening_entries}
 use Rattle.heap_laws.proofs.Opening.Heap.{entries_fit}
-use Rattle.gc_worker.specs.Between.{HeapsOpen, fresh_worker, fresh_workers, fresh_mutator, fresh_scanner}
-use Rattle.gc_worker.specs.Held.{Held}
-use Rattle.gc_worker.specs.Law.{WorkersStand, held_at, read}
-use Rattle.gc_worker.specs.Turned.{epoch_in_gate}
+use Rattle.gc_worker.specs.Laws.Between.{HeapsOpen, fresh_worker, fresh_workers, fresh_mutator, fresh_scanner}
+use Rattle.gc_worker.specs.Workers.Held.{Held}
+use Rattle.gc_worker.specs.Laws.Step.{WorkersStand, held_at, read}
+use Rattle.gc_worker.specs.Steps.Turned.{epoch_in_gate}
 use Rattle.gc_worker.proofs.Stages.Gate.Words.{gate_says}
 use Rattle.gc_worker.proofs.Between.Last.{scanners_begin_last}
 use Rattle.gc_worker.proofs.Between.Opening.{is_there}
 use Rattle.gc_worker.specs.declared.config.Config.{Config}
 use Rattle.gc_worker.proofs.Plain.Outcomes.{opens_so}
 use Rattle.gc_core.specs.Core.{opening_core, is_size}
-use Rattle.gc_worker.specs.Claims.{epoch_of_heap}
+use Rattle.gc_worker.specs.Laws.Claims.{epoch_of_heap}
 use Rattle.gc_core.specs.Law.{IsLawful, IsSteady}
 
 pub size_fits : (pages : ℕ) → IsTrue (is_size pages) → IsPageCount pages

@@ -17,15 +17,15 @@ use Rattle.heap_state.specs.Worker.{Account}
 use Rattle.gc_worker.specs.declared.stage.Stage.{Stage}
 use Rattle.gc_worker.specs.declared.stage.Stage.TheVariants.{Looks, Passes, Flips, Forwards, Accesses, Places, Serves, Scans, Evacuates, Opens, Gone}
 use Rattle.gc_worker.specs.declared.task.Task.{Task}
-use Rattle.gc_worker.specs.Between.{ReadyingStands, TasksMayBegin, IsIdle, with_task, with_worker}
-use Rattle.gc_worker.specs.Between as between
-use Rattle.gc_worker.specs.Fits.{Fits, MayBegin, FitsEnd, IsOnSide}
-use Rattle.gc_worker.specs.Held.{Held}
-use Rattle.gc_worker.specs.Law.{Heap, nobody, held_at, moved, WorkersStand}
-use Rattle.gc_worker.specs.Seen.{seen}
-use Rattle.gc_worker.specs.Stepped.{awaits, awaits_at}
-use Rattle.gc_worker.specs.Turned.{turned}
-use Rattle.gc_worker.specs.Marks.{task_of}
+use Rattle.gc_worker.specs.Laws.Between.{ReadyingStands, TasksMayBegin, IsIdle, with_task, with_worker}
+use Rattle.gc_worker.specs.Laws.Between as between
+use Rattle.gc_worker.specs.Workers.Fits.{Fits, MayBegin, FitsEnd, IsOnSide}
+use Rattle.gc_worker.specs.Workers.Held.{Held}
+use Rattle.gc_worker.specs.Laws.Step.{Heap, nobody, held_at, moved, WorkersStand}
+use Rattle.gc_worker.specs.Plain.Seen.{seen}
+use Rattle.gc_worker.specs.Steps.Stepped.{awaits, awaits_at}
+use Rattle.gc_worker.specs.Steps.Turned.{turned}
+use Rattle.gc_worker.specs.Plain.Marks.{task_of}
 use Rattle.gc_core.specs.Core.{CoreState}
 use Rattle.gc_core.specs.Event.{fetched_task, readied, ready}
 use Rattle.gc_core.specs.Law.{IsSteady}

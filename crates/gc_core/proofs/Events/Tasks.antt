@@ -9,19 +9,19 @@ use Rattle.heap_state.specs.Worker.{Account}
 use Rattle.gc_worker.specs.declared.stage.Stage.{Stage}
 use Rattle.gc_worker.specs.declared.stage.Stage.TheVariants.{Looks, Passes, Flips, Forwards, Accesses, Places, Serves, Scans, Evacuates, Opens, Gone}
 use Rattle.gc_worker.specs.declared.task.Task.{Task}
-use Rattle.gc_worker.specs.Between.{IsIdle}
-use Rattle.gc_worker.specs.Fits.{FitsCall, FitsEnd, IsOnSide}
-use Rattle.gc_worker.specs.Held.{Held}
-use Rattle.gc_worker.specs.Counted.{CountsApart, counted, count_after}
-use Rattle.gc_worker.specs.Stepped.{IsSound, awaits, awaits_at, stepped_by, uncounted}
+use Rattle.gc_worker.specs.Laws.Between.{IsIdle}
+use Rattle.gc_worker.specs.Workers.Fits.{FitsCall, FitsEnd, IsOnSide}
+use Rattle.gc_worker.specs.Workers.Held.{Held}
+use Rattle.gc_worker.specs.Workers.Counted.{CountsApart, counted, count_after}
+use Rattle.gc_worker.specs.Steps.Stepped.{IsSound, awaits, awaits_at, stepped_by, uncounted}
 use Rattle.gc_worker.specs.declared.stepped.Stepped.TheVariants as steps
 use Rattle.gc_worker.specs.declared.did.Did.TheVariants.{Done, Trap}
-use Rattle.gc_worker.specs.Turned.{Told, Silent, Answers, Marks, told, turned}
+use Rattle.gc_worker.specs.Steps.Turned.{Told, Silent, Answers, Marks, told, turned}
 use Rattle.atom_store.specs.declared.reply.Reply.{Reply}
 use Rattle.atom_store.specs.declared.step.Step.{Step}
 use Rattle.atom_store.specs.Step.{reply_of}
-use Rattle.gc_worker.specs.Made.{AllowsStep, MayMake, step_made, step_made_by}
-use Rattle.gc_worker.specs.Wanted.{wanted}
+use Rattle.gc_worker.specs.Steps.Made.{AllowsStep, MayMake, step_made, step_made_by}
+use Rattle.gc_worker.specs.Steps.Wanted.{wanted}
 use Rattle.gc_worker.proofs.Workers.ApartFromCount.{counted_fit, counts_are_apart}
 
 pub at_look : (stage : Stage) (task : Option Task) → awaits_at stage task ≡ true → (stage ≡ Looks) × (task ≡ None)

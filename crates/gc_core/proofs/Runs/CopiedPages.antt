@@ -13,16 +13,16 @@ use Rattle.space_map.specs.declared.page_word.PageWord.{PageWord}
 use Rattle.space_map.specs.declared.page_word.PageWord.TheVariants.{Unset}
 use Rattle.space_map.specs.PageWord.{age_of}
 use Rattle.space_map.specs.Spaces.{board_page}
-use Rattle.gc_worker.specs.Between.{ReadyingStands, TasksMayBegin}
-use Rattle.gc_worker.specs.Claims.{CopiedPagesAreBelowLow, FlipsAreOfTraced, IsCopiedPage, IsOfEpoch, PagesAreOpenedByClaims, TracedPagesAreOpen, epoch_of_heap}
-use Rattle.gc_worker.specs.Copied.{IsTraced}
-use Rattle.gc_worker.specs.Held.{Held}
-use Rattle.gc_worker.specs.Law.{Heap, WorkersStand, nobody}
+use Rattle.gc_worker.specs.Laws.Between.{ReadyingStands, TasksMayBegin}
+use Rattle.gc_worker.specs.Laws.Claims.{CopiedPagesAreBelowLow, FlipsAreOfTraced, IsCopiedPage, IsOfEpoch, PagesAreOpenedByClaims, TracedPagesAreOpen, epoch_of_heap}
+use Rattle.gc_worker.specs.Laws.Copied.{IsTraced}
+use Rattle.gc_worker.specs.Workers.Held.{Held}
+use Rattle.gc_worker.specs.Laws.Step.{Heap, WorkersStand, nobody}
 use Rattle.gc_worker.specs.declared.did.Did.TheVariants.{Done, Trap}
-use Rattle.gc_worker.specs.Turned.{PageWon, Told, Silent, Answers, Marks, told}
-use Rattle.gc_worker.specs.Wanted.{wanted}
+use Rattle.gc_worker.specs.Steps.Turned.{PageWon, Told, Silent, Answers, Marks, told}
+use Rattle.gc_worker.specs.Steps.Wanted.{wanted}
 use Rattle.gc_worker.specs.declared.stepped.Stepped.TheVariants as tells
-use Rattle.gc_worker.specs.Marks.{mark_of}
+use Rattle.gc_worker.specs.Plain.Marks.{mark_of}
 use Rattle.gc_core.specs.Claims.{AreApart, IsWonOnce, PagesAreWon, won_of, wins_from}
 use Rattle.gc_core.specs.Core.{CoreState}
 use Rattle.gc_core.specs.Event.{core_after, event_of, event_by, readied, ready}

@@ -13,19 +13,19 @@ use Rattle.atom_store.specs.declared.step.Step.{Step}
 use Rattle.atom_store.specs.Step.{reply_of}
 use Rattle.gc_worker.specs.declared.did.Did.TheVariants.{Done, Trap}
 use Rattle.gc_worker.specs.declared.entry.Entry.{Entry}
-use Rattle.gc_worker.specs.Answer.{IsAnswered}
-use Rattle.gc_worker.specs.Held.{Held}
+use Rattle.gc_worker.specs.Plain.Answer.{IsAnswered}
+use Rattle.gc_worker.specs.Workers.Held.{Held}
 use Rattle.gc_worker.specs.History.Legal.{IsLegal, after_all, extra}
-use Rattle.gc_worker.specs.Between.{IsSo}
+use Rattle.gc_worker.specs.Laws.Between.{IsSo}
 use Rattle.gc_worker.specs.History.Needs.{EachFullIs, EachMayCome, made_since, first_story}
 use Rattle.gc_worker.specs.History.Order.{AreFetched, entry_mark, order_of}
 use Rattle.gc_worker.specs.History.Tally.{IsTallied, Tally, first_tally, tally, tasks_held}
-use Rattle.gc_worker.specs.Law.{Heap, StepKeeps, WorkersStand, held_at, moved, nobody}
-use Rattle.gc_worker.specs.Marks.{mark_of, task_of}
-use Rattle.gc_worker.specs.Seen.{seen}
-use Rattle.gc_worker.specs.Stepped.{stepped_by}
-use Rattle.gc_worker.specs.Turned.{Told, Silent, Answers, Marks, told}
-use Rattle.gc_worker.specs.Wanted.{wanted}
+use Rattle.gc_worker.specs.Laws.Step.{Heap, StepKeeps, WorkersStand, held_at, moved, nobody}
+use Rattle.gc_worker.specs.Plain.Marks.{mark_of, task_of}
+use Rattle.gc_worker.specs.Plain.Seen.{seen}
+use Rattle.gc_worker.specs.Steps.Stepped.{stepped_by}
+use Rattle.gc_worker.specs.Steps.Turned.{Told, Silent, Answers, Marks, told}
+use Rattle.gc_worker.specs.Steps.Wanted.{wanted}
 use Rattle.gc_worker.proofs.Between.Beginning.{tasks_may_begin}
 use Rattle.gc_worker.proofs.Between.GoingOn.{workers_go_on}
 use Rattle.gc_worker.proofs.Between.Readying.{readying_stands}

@@ -5,11 +5,11 @@ use Rattle.std.proofs.lemmas.Bool.{cases_lt}
 use Rattle.std.proofs.lemmas.List.{get_or_past}
 use Rattle.plain_heap.specs.Order.{Story}
 use Rattle.atom_store.specs.declared.step.Step.{Step}
-use Rattle.gc_worker.specs.Between.{ReadyingStands, TasksMayBegin}
-use Rattle.gc_worker.specs.Held.{Held}
-use Rattle.gc_worker.specs.Law.{Heap, StepsKeep, WorkersStand, IsOut, WinsOne, nobody}
-use Rattle.gc_worker.specs.Turned.{PageWon}
-use Rattle.gc_worker.specs.Wanted.{wanted}
+use Rattle.gc_worker.specs.Laws.Between.{ReadyingStands, TasksMayBegin}
+use Rattle.gc_worker.specs.Workers.Held.{Held}
+use Rattle.gc_worker.specs.Laws.Step.{Heap, StepsKeep, WorkersStand, IsOut, WinsOne, nobody}
+use Rattle.gc_worker.specs.Steps.Turned.{PageWon}
+use Rattle.gc_worker.specs.Steps.Wanted.{wanted}
 use Rattle.gc_core.specs.Claims.{AreApart, won_of, wins_from, PagesAreWonOnce}
 use Rattle.gc_core.specs.Core.{CoreState}
 use Rattle.gc_core.specs.Event.{core_after, event_of, readied, ready}

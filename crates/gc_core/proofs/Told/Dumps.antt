@@ -4,13 +4,13 @@ use Rattle.std.proofs.lemmas.List.{get_or-map, get_or-take, length-map, length-t
 use Rattle.std.proofs.lemmas.Option.{slice_get_within}
 use Rattle.plain_state.specs.State as plain
 use Rattle.plain_state.specs.declared.kind.Kind.{Kind}
-use Rattle.heap_state.specs.Dump.{Dump, dump_of}
-use Rattle.heap_state.specs.Represents.{DumpRepresents, RegisterShows, RecordShows, IsOwn, HasOwn, LeadsToRecord, denoted_in_dump}
-use Rattle.heap_state.specs.Walk.{Walked}
+use Rattle.heap_state.specs.Meaning.Dump.{Dump, dump_of}
+use Rattle.heap_state.specs.Meaning.Represents.{DumpRepresents, RegisterShows, RecordShows, IsOwn, HasOwn, LeadsToRecord, denoted_in_dump}
+use Rattle.heap_state.specs.Memory.Walk.{Walked}
 use Rattle.heap_state.specs.Worker.{Scanner, Worker, fresh}
-use Rattle.gc_worker.specs.Held.{Held}
-use Rattle.gc_worker.specs.Knows.{knows}
-use Rattle.gc_worker.specs.Law.{held_at, nobody, read}
+use Rattle.gc_worker.specs.Workers.Held.{Held}
+use Rattle.gc_worker.specs.Workers.Knows.{knows}
+use Rattle.gc_worker.specs.Laws.Step.{held_at, nobody, read}
 use Rattle.gc_core.specs.Core.{CoreState, workers_of}
 use Rattle.gc_core.specs.Dumped.{dumped, dump_said, register_told}
 use Rattle.gc_core.specs.Readers.{mutators_in, registers_in}

@@ -7,7 +7,7 @@ use Rattle.std.proofs.lemmas.Option.{slice_get-map, slice_get-get_or}
 use Rattle.plain_heap.specs.Print.{Seen}
 use Rattle.heap_state.specs.Kept.{Kept, kept_by}
 use Rattle.heap_state.specs.Worker.{Worker}
-use Rattle.gc_worker.specs.Held.{Held}
+use Rattle.gc_worker.specs.Workers.Held.{Held}
 use Rattle.forwarding.specs.declared.evac_stage.EvacStage.{EvacStage}
 use Rattle.forwarding.specs.declared.evac_stage.EvacStage.TheVariants as evac_stage
 use Rattle.forwarding.specs.Keeping as keeping
@@ -15,9 +15,9 @@ use Rattle.forwarding.specs.Keeping.{kept_word, reserved_word}
 use Rattle.space_map.specs.Spaces.{Layout}
 use Rattle.gc_worker.specs.declared.stage.Stage.{Stage}
 use Rattle.gc_worker.specs.declared.stage.Stage.TheVariants.{Looks, Passes, Flips, Forwards, Accesses, Places, Serves, Scans, Evacuates, Opens, Gone}
-use Rattle.gc_worker.specs.Knows.{knows, copy_at, copy_in}
-use Rattle.gc_worker.specs.Stepped.{header_kept, place_kept}
-use Rattle.gc_worker.specs.Law.{nobody, held_at}
+use Rattle.gc_worker.specs.Workers.Knows.{knows, copy_at, copy_in}
+use Rattle.gc_worker.specs.Steps.Stepped.{header_kept, place_kept}
+use Rattle.gc_worker.specs.Laws.Step.{nobody, held_at}
 use Rattle.gc_core.specs.Core.{CoreState, workers_of}
 use Rattle.gc_core.specs.Readers.{mutators_in, seen_of, kept_in}
 

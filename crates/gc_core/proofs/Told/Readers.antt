@@ -7,9 +7,9 @@ use Rattle.std.proofs.lemmas.List.{get_or_default}
 use Rattle.std.proofs.lemmas.List.Folds.{list_all-map}
 use Rattle.plain_state.specs.declared.end.End.{End}
 use Rattle.plain_heap.specs.Print.{Seen}
-use Rattle.gc_worker.specs.Held.{Held}
-use Rattle.gc_worker.specs.Law.{held_at, nobody}
-use Rattle.gc_worker.specs.Stepped.{header_kept, place_kept}
+use Rattle.gc_worker.specs.Workers.Held.{Held}
+use Rattle.gc_worker.specs.Laws.Step.{held_at, nobody}
+use Rattle.gc_worker.specs.Steps.Stepped.{header_kept, place_kept}
 use Rattle.gc_core.specs.Core.{CoreState, workers_of}
 use Rattle.gc_core.specs.Readers.{seen_of, kept_in}
 use Rattle.gc_core.specs.Run.{all_ended}

@@ -14,10 +14,10 @@ use Rattle.gc_worker.specs.declared.forwarding_register.ForwardingRegister.{Forw
 use Rattle.gc_worker.specs.declared.stage.Stage.{Stage}
 use Rattle.gc_worker.specs.declared.stage.Stage.TheVariants.{Looks, Passes, Flips, Forwards, Accesses, Places, Serves, Scans, Evacuates, Opens, Gone}
 use Rattle.gc_worker.specs.declared.task.Task.{Task}
-use Rattle.gc_worker.specs.Between.{IsIdle, TasksMayBegin, with_task}
-use Rattle.gc_worker.specs.Fits.{Fits, FitsEnd, FitsRegister, FitsStage, FitsTask, FitsTaskAfter, FitsTaskBack, FitsTaskBefore, IsAccessing, IsEndBefore, IsMaking, IsOnSide, IsOnSideBack, MayBegin}
-use Rattle.gc_worker.specs.Held.{Held, pages_needed}
-use Rattle.gc_worker.specs.Knows.{known_at, passage_in, step_from, gate_step_at}
+use Rattle.gc_worker.specs.Laws.Between.{IsIdle, TasksMayBegin, with_task}
+use Rattle.gc_worker.specs.Workers.Fits.{Fits, FitsEnd, FitsRegister, FitsStage, FitsTask, FitsTaskAfter, FitsTaskBack, FitsTaskBefore, IsAccessing, IsEndBefore, IsMaking, IsOnSide, IsOnSideBack, MayBegin}
+use Rattle.gc_worker.specs.Workers.Held.{Held, pages_needed}
+use Rattle.gc_worker.specs.Workers.Knows.{known_at, passage_in, step_from, gate_step_at}
 
 -- ---- where it stands
 

@@ -49,13 +49,13 @@ use Rattle.gc_worker.specs.declared.stage.Stage.{Stage}
 use Rattle.gc_worker.specs.declared.stage.Stage.TheVariants.{Looks, Passes, Flips, Forwards, Accesses, Places, Serves, Scans, Evacuates, Opens, Gone}
 use Rattle.gc_worker.specs.declared.task.Task.{Task}
 use Rattle.gc_worker.specs.declared.task.Task.TheVariants.{Calls, Stops}
-use Rattle.gc_worker.specs.Access as access
-use Rattle.gc_worker.specs.Begun.{IsPastAfter, IsPastBack, IsPastLook, BeginningsAreKept, FullIsFoundLater}
-use Rattle.gc_worker.specs.Fits.{FitsTask, FitsTaskBefore, MayBegin, MayStop}
-use Rattle.gc_worker.specs.Held.{Held, at_stage, making_for}
-use Rattle.gc_worker.specs.Seen.{Making, seen}
+use Rattle.gc_worker.specs.Steps.Access as access
+use Rattle.gc_worker.specs.Workers.Begun.{IsPastAfter, IsPastBack, IsPastLook, BeginningsAreKept, FullIsFoundLater}
+use Rattle.gc_worker.specs.Workers.Fits.{FitsTask, FitsTaskBefore, MayBegin, MayStop}
+use Rattle.gc_worker.specs.Workers.Held.{Held, at_stage, making_for}
+use Rattle.gc_worker.specs.Plain.Seen.{Making, seen}
 use Rattle.gc_worker.specs.declared.did.Did.TheVariants.{Done, Trap}
-use Rattle.gc_worker.specs.Turned.{Pointed, epoch_said, first_pointer, forwards_from, forwards_it, goes_back, goes_on, with_copy, Told, Silent, Answers, Marks, acted, acts, begins, end_by_shortage, ended, full_by, finds_full, looked_by, passed_by, passes, served_by, started, told_acted, told_action, told_at, told_gate, told_look, told_start, turned_access, turned_at, turned_copy, turned_flip, turned_gate, turned_look, turned_opening, turned_place, turned_register, turned_round, turned_scan, with_evac, with_record}
+use Rattle.gc_worker.specs.Steps.Turned.{Pointed, epoch_said, first_pointer, forwards_from, forwards_it, goes_back, goes_on, with_copy, Told, Silent, Answers, Marks, acted, acts, begins, end_by_shortage, ended, full_by, finds_full, looked_by, passed_by, passes, served_by, started, told_acted, told_action, told_at, told_gate, told_look, told_start, turned_access, turned_at, turned_copy, turned_flip, turned_gate, turned_look, turned_opening, turned_place, turned_register, turned_round, turned_scan, with_evac, with_record}
 use Rattle.gc_worker.proofs.Stages.Look.Ends.{Stops as StopsRight, action_stops}
 
 -- ---- past the look

@@ -46,13 +46,13 @@ use Rattle.gc_worker.specs.declared.stage.Stage.{Stage}
 use Rattle.gc_worker.specs.declared.stage.Stage.TheVariants.{Looks, Passes, Flips, Forwards, Accesses, Places, Serves, Scans, Evacuates, Opens, Gone}
 use Rattle.gc_worker.specs.declared.task.Task.{Task}
 use Rattle.gc_worker.specs.declared.task.Task.TheVariants.{Calls, Stops}
-use Rattle.gc_worker.specs.Access as access
-use Rattle.gc_worker.specs.Between.{IsAnswerOf, IsNoAnswer, WorkersGoOn}
-use Rattle.gc_worker.specs.Fits.{FitsEnd, FitsTask, IsEndBefore, IsMaking}
-use Rattle.gc_worker.specs.Held.{Held, at_stage, making_for}
-use Rattle.gc_worker.specs.Seen.{Making, seen}
+use Rattle.gc_worker.specs.Steps.Access as access
+use Rattle.gc_worker.specs.Laws.Between.{IsAnswerOf, IsNoAnswer, WorkersGoOn}
+use Rattle.gc_worker.specs.Workers.Fits.{FitsEnd, FitsTask, IsEndBefore, IsMaking}
+use Rattle.gc_worker.specs.Workers.Held.{Held, at_stage, making_for}
+use Rattle.gc_worker.specs.Plain.Seen.{Making, seen}
 use Rattle.gc_worker.specs.declared.did.Did.TheVariants.{Done, Trap}
-use Rattle.gc_worker.specs.Turned.{Told, Silent, Answers, Marks, acted, acts, begins, end_by_shortage, ended, full_by, finds_full, looked_by, passed_by, passes, served_by, started, told, told_acted, told_action, told_at, told_access, told_effect, told_end, told_flip, told_full, told_gate, told_look, told_place, told_start, turned, turned_access, turned_at, turned_copy, turned_flip, turned_gate, turned_look, turned_opening, turned_place, turned_register, turned_round, turned_scan, with_evac, with_record}
+use Rattle.gc_worker.specs.Steps.Turned.{Told, Silent, Answers, Marks, acted, acts, begins, end_by_shortage, ended, full_by, finds_full, looked_by, passed_by, passes, served_by, started, told, told_acted, told_action, told_at, told_access, told_effect, told_end, told_flip, told_full, told_gate, told_look, told_place, told_start, turned, turned_access, turned_at, turned_copy, turned_flip, turned_gate, turned_look, turned_opening, turned_place, turned_register, turned_round, turned_scan, with_evac, with_record}
 use Rattle.gc_worker.proofs.Plain.NewRecords.{made_is}
 
 -- ---- what becomes of the task

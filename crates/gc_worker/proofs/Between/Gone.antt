@@ -66,13 +66,13 @@ use Rattle.gc_worker.specs.declared.stage.Stage.{Stage}
 use Rattle.gc_worker.specs.declared.stage.Stage.TheVariants.{Looks, Passes, Flips, Forwards, Accesses, Places, Serves, Scans, Evacuates, Opens, Gone}
 use Rattle.gc_worker.specs.declared.task.Task.{Task}
 use Rattle.gc_worker.specs.declared.task.Task.TheVariants.{Calls, Stops}
-use Rattle.gc_worker.specs.Access as access
-use Rattle.gc_worker.specs.Fits.{FitsStage, IsCallerOf, IsOnSide, IsOnSideBack}
-use Rattle.gc_worker.specs.Gone.{HasLeft, SawAllLeave, WhoIsGoneSawWhy}
-use Rattle.gc_worker.specs.Held.{Held, at_stage, header_for, making_for}
-use Rattle.gc_worker.specs.Seen.{Making, seen}
-use Rattle.gc_worker.specs.Turned.{Pointed, acted, acts, begins, end_by_shortage, ended, epoch_said, first_pointer, forwards_from, forwards_it, full_by, goes_back, goes_on, finds_full, looked_by, passed_by, passes, places, served_by, started, turned_access, turned_at, turned_copy, turned_flip, turned_gate, turned_look, turned_opening, turned_place, turned_register, turned_round, turned_scan, with_copy, with_evac, with_record}
-use Rattle.gc_worker.specs.Wanted.{wanted_at}
+use Rattle.gc_worker.specs.Steps.Access as access
+use Rattle.gc_worker.specs.Workers.Fits.{FitsStage, IsCallerOf, IsOnSide, IsOnSideBack}
+use Rattle.gc_worker.specs.Laws.Gone.{HasLeft, SawAllLeave, WhoIsGoneSawWhy}
+use Rattle.gc_worker.specs.Workers.Held.{Held, at_stage, header_for, making_for}
+use Rattle.gc_worker.specs.Plain.Seen.{Making, seen}
+use Rattle.gc_worker.specs.Steps.Turned.{Pointed, acted, acts, begins, end_by_shortage, ended, epoch_said, first_pointer, forwards_from, forwards_it, full_by, goes_back, goes_on, finds_full, looked_by, passed_by, passes, places, served_by, started, turned_access, turned_at, turned_copy, turned_flip, turned_gate, turned_look, turned_opening, turned_place, turned_register, turned_round, turned_scan, with_copy, with_evac, with_record}
+use Rattle.gc_worker.specs.Steps.Wanted.{wanted_at}
 
 -- any stage but the last
 abbrev IsHere : Stage → Type 0

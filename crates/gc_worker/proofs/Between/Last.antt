@@ -14,7 +14,7 @@ use Rattle.gate_core.specs.declared.passage.Passage.{Passage}
 use Rattle.gate_core.specs.declared.passage.Passage.TheVariants.{Look, Attach, Park, Request, Resume, Forwarded, Leave}
 use Rattle.heap_state.specs.Configuration.{Configuration, table, team}
 use Rattle.heap_state.specs.Functions.{sum_below, count_one}
-use Rattle.heap_state.specs.Table.{word_in}
+use Rattle.heap_state.specs.Memory.Table.{word_in}
 use Rattle.heap_state.specs.Worker.{Worker, Post, is_gone, is_mutator}
 use Rattle.heap_state.specs.Worker as workers
 use Rattle.heap_state.proofs.Table.Places.{word_in-row}
@@ -23,15 +23,15 @@ use Rattle.gc_worker.specs.declared.back.Back.{Back}
 use Rattle.gc_worker.specs.declared.back.Back.TheVariants.{ToAccess, ToPlace, ToScanner}
 use Rattle.gc_worker.specs.declared.stage.Stage.{Stage}
 use Rattle.gc_worker.specs.declared.stage.Stage.TheVariants.{Looks, Passes, Flips, Forwards, Accesses, Places, Serves, Scans, Evacuates, Opens, Gone}
-use Rattle.gc_worker.specs.Between.{fresh_mutator, fresh_scanner, opening_heap, with_worker}
-use Rattle.gc_worker.specs.Fits.{Fits}
-use Rattle.gc_worker.specs.Gone.{HasLeft, SawAllLeave, ScannersAreLast, ScannersBeginLast, ScannersStayLast}
-use Rattle.gc_worker.specs.Goes.{Is}
-use Rattle.gc_worker.specs.Held.{Held}
-use Rattle.gc_worker.specs.Knows.{knows, post_before, post_back, post_in}
-use Rattle.gc_worker.specs.Law.{Heap, WorkersStand, held_at, moved, nobody, read}
-use Rattle.gc_worker.specs.Turned.{turned}
-use Rattle.gc_worker.specs.Wanted.{wanted, wanted_at}
+use Rattle.gc_worker.specs.Laws.Between.{fresh_mutator, fresh_scanner, opening_heap, with_worker}
+use Rattle.gc_worker.specs.Workers.Fits.{Fits}
+use Rattle.gc_worker.specs.Laws.Gone.{HasLeft, SawAllLeave, ScannersAreLast, ScannersBeginLast, ScannersStayLast}
+use Rattle.gc_worker.specs.Steps.Goes.{Is}
+use Rattle.gc_worker.specs.Workers.Held.{Held}
+use Rattle.gc_worker.specs.Workers.Knows.{knows, post_before, post_back, post_in}
+use Rattle.gc_worker.specs.Laws.Step.{Heap, WorkersStand, held_at, moved, nobody, read}
+use Rattle.gc_worker.specs.Steps.Turned.{turned}
+use Rattle.gc_worker.specs.Steps.Wanted.{wanted, wanted_at}
 use Rattle.gc_worker.proofs.Between.Gone.{who_is_gone_saw_why}
 use Rattle.gc_worker.proofs.Between.Opening.{is_there, many}
 use Rattle.gc_worker.proofs.Stages.Gate.Words.{gate_says}

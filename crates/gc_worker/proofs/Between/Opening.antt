@@ -6,19 +6,19 @@ use Rattle.heap_words.specs.Decoded.{decode}
 use Rattle.plain_state.specs.declared.sizes.TheConstants.{REGISTERS}
 use Rattle.space_map.specs.Spaces.{IsPageCount}
 use Rattle.heap_state.specs.Configuration.{Configuration, Stands, era, memory, team}
-use Rattle.heap_state.specs.Cycle.{Cycle}
+use Rattle.heap_state.specs.Cycles.Cycle.{Cycle}
 use Rattle.heap_state.specs.Worker.{Worker, Outside, Scanner}
 use Rattle.heap_state.specs.Worker as workers
 use Rattle.heap_laws.specs.Opening.{opening_plain}
 use Rattle.heap_laws.specs.Opening as laws
 use Rattle.heap_laws.proofs.Frames.Values.{zero_word}
 use Rattle.heap_laws.proofs.Opening.Heap.{opening_stands}
-use Rattle.gc_worker.specs.Between.{HeapsOpen, fresh_mutator, fresh_scanner, fresh_worker, fresh_workers, opening_heap}
-use Rattle.gc_worker.specs.Fits.{Fits}
-use Rattle.gc_worker.specs.Held.{Held}
-use Rattle.gc_worker.specs.Knows.{knows}
-use Rattle.gc_worker.specs.Law.{read, nobody}
-use Rattle.gc_worker.specs.Seen.{IsValueAs, IsValueWord}
+use Rattle.gc_worker.specs.Laws.Between.{HeapsOpen, fresh_mutator, fresh_scanner, fresh_worker, fresh_workers, opening_heap}
+use Rattle.gc_worker.specs.Workers.Fits.{Fits}
+use Rattle.gc_worker.specs.Workers.Held.{Held}
+use Rattle.gc_worker.specs.Workers.Knows.{knows}
+use Rattle.gc_worker.specs.Laws.Step.{read, nobody}
+use Rattle.gc_worker.specs.Plain.Seen.{IsValueAs, IsValueWord}
 use Rattle.gc_worker.proofs.Workers.Parts.{new_worker}
 
 -- ---- one worker

@@ -11,11 +11,11 @@ use Rattle.plain_heap.specs.Step.{ended, new_record, settled}
 use Rattle.plain_heap.proofs.Calls.Rest.{call-others, call-count, call-makes, call-none, new_record-made}
 use Rattle.gc_worker.specs.declared.task.Task.{Task}
 use Rattle.gc_worker.specs.declared.task.Task.TheVariants.{Calls, Stops}
-use Rattle.gc_worker.specs.Answer.{after_answer, after_outcome}
-use Rattle.gc_worker.specs.Between.{AnswersLeaveTheOthers, LeavesTheOthers}
+use Rattle.gc_worker.specs.Plain.Answer.{after_answer, after_outcome}
+use Rattle.gc_worker.specs.Laws.Between.{AnswersLeaveTheOthers, LeavesTheOthers}
 use Rattle.gc_worker.specs.declared.did.Did.{Did}
 use Rattle.gc_worker.specs.declared.did.Did.TheVariants.{Done, Trap}
-use Rattle.gc_worker.specs.Turned.{Silent, Answers, Marks}
+use Rattle.gc_worker.specs.Steps.Turned.{Silent, Answers, Marks}
 
 module _ (p : Plain) (k : ℕ) where
   as_it_was : LeavesTheOthers p p k

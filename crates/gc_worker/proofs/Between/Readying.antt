@@ -4,13 +4,13 @@ use Rattle.std.proofs.lemmas.Bool.{cases_eq}
 use Rattle.std.proofs.lemmas.List.{map-set, get_or-map, set-get_or}
 use Rattle.plain_state.specs.State.{Plain}
 use Rattle.heap_state.specs.Configuration.{Configuration, Stands, era, memory, team}
-use Rattle.heap_state.specs.Cycle.{Cycle}
+use Rattle.heap_state.specs.Cycles.Cycle.{Cycle}
 use Rattle.heap_state.specs.Worker.{Worker, Scanner, fresh}
-use Rattle.gc_worker.specs.Between.{Readies, ReadyingStands, with_worker}
-use Rattle.gc_worker.specs.Fits.{Fits}
-use Rattle.gc_worker.specs.Held.{Held}
-use Rattle.gc_worker.specs.Knows.{knows}
-use Rattle.gc_worker.specs.Law.{Heap, nobody, held_at, WorkersStand}
+use Rattle.gc_worker.specs.Laws.Between.{Readies, ReadyingStands, with_worker}
+use Rattle.gc_worker.specs.Workers.Fits.{Fits}
+use Rattle.gc_worker.specs.Workers.Held.{Held}
+use Rattle.gc_worker.specs.Workers.Knows.{knows}
+use Rattle.gc_worker.specs.Laws.Step.{Heap, nobody, held_at, WorkersStand}
 
 -- where one worker becomes another that is sound, all are
 pub all_fit : (n mutators : ℕ) (workers : List Held) (k : ℕ) (y : Held) → k < length workers → ((j : ℕ) → j < length workers → Fits n mutators j (get_or workers j nobody)) → Fits n mutators k y

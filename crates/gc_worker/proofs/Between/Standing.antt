@@ -12,8 +12,8 @@ use Rattle.fault_duty.specs.declared.duty_stage.DutyStage.{DutyStage}
 use Rattle.fault_duty.specs.declared.duty_stage.DutyStage.TheVariants as duty_stage
 use Rattle.fault_duty.specs.Duty.{Round}
 use Rattle.heap_state.specs.Configuration.{Configuration, era, memory, team}
-use Rattle.heap_state.specs.Ghost.{Ghost, header_kind}
-use Rattle.heap_state.specs.Values.{Accounts, value_of}
+use Rattle.heap_state.specs.Invariant.Ghost.{Ghost, header_kind}
+use Rattle.heap_state.specs.Meaning.Values.{Accounts, value_of}
 use Rattle.heap_state.specs.Worker.{Worker, Account, is_mutator, is_running, is_late}
 use Rattle.heap_state.proofs.Holds.Keeping.{holds}
 use Rattle.heap_state.proofs.Represents.Representing.{represents}
@@ -29,13 +29,13 @@ use Rattle.heap_laws.proofs.Lifting.Configurations.{ready}
 use Rattle.gc_worker.specs.declared.back.Back.TheVariants.{ToAccess, ToPlace, ToScanner}
 use Rattle.gc_worker.specs.declared.stage.Stage.{Stage}
 use Rattle.gc_worker.specs.declared.stage.Stage.TheVariants.{Looks, Passes, Flips, Forwards, Accesses, Places, Serves, Scans, Evacuates, Opens, Gone}
-use Rattle.gc_worker.specs.Between.{ShowsRegisters, RegistersLand, AreAlike, IsAsPlain, WhatStandsIsSo}
-use Rattle.gc_worker.specs.Fits.{FitsStage}
-use Rattle.gc_worker.specs.Goes.{Is}
-use Rattle.gc_worker.specs.Held.{Held}
-use Rattle.gc_worker.specs.Knows.{knows, post_in, epoch_at, epoch_in}
-use Rattle.gc_worker.specs.Law.{Heap, read, held_at, WorkersStand, epoch_of}
-use Rattle.gc_worker.specs.Turned.{epoch_in_gate}
+use Rattle.gc_worker.specs.Laws.Between.{ShowsRegisters, RegistersLand, AreAlike, IsAsPlain, WhatStandsIsSo}
+use Rattle.gc_worker.specs.Workers.Fits.{FitsStage}
+use Rattle.gc_worker.specs.Steps.Goes.{Is}
+use Rattle.gc_worker.specs.Workers.Held.{Held}
+use Rattle.gc_worker.specs.Workers.Knows.{knows, post_in, epoch_at, epoch_in}
+use Rattle.gc_worker.specs.Laws.Step.{Heap, read, held_at, WorkersStand, epoch_of}
+use Rattle.gc_worker.specs.Steps.Turned.{epoch_in_gate}
 use Rattle.gc_worker.proofs.Stages.Copies.Words.{heap_word}
 use Rattle.gc_worker.proofs.Words.Eras.{start_is, span_is}
 use Rattle.gc_worker.proofs.Stages.Gate.Words.{gate_says}

@@ -1,8 +1,8 @@
 -- A worker wants a step exactly where it isn't gone.
 use Rattle.std.proofs.Common.{◌≡◌, sym, ap, ◌∙◌, ⊎_elim}
 use Rattle.gc_worker.specs.declared.stage.Stage.TheVariants.{Gone}
-use Rattle.gc_worker.specs.Between.{WorkersWant}
-use Rattle.gc_worker.specs.Wanted.{wanted, wanted_at}
+use Rattle.gc_worker.specs.Laws.Between.{WorkersWant}
+use Rattle.gc_worker.specs.Steps.Wanted.{wanted, wanted_at}
 use Rattle.gc_worker.proofs.Words.Rows.{IsOnRow, rows_fit}
 
 pub workers_want : WorkersWant

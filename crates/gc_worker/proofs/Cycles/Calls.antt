@@ -29,9 +29,9 @@ use Rattle.page_scan.specs.Scanning as scan
 use Rattle.page_scan.specs.Taken as scan_taken
 use Rattle.page_slots.specs.declared.opened.Opened.{Opened}
 use Rattle.page_slots.specs.Open as open_page
-use Rattle.gc_worker.specs.Begun.{IsPastAfter, IsPastBack}
-use Rattle.gc_worker.specs.Between.{IsNoAnswer}
-use Rattle.gc_worker.specs.Cycles.{CallsGoOn, IsInCall, IsInPassage}
+use Rattle.gc_worker.specs.Workers.Begun.{IsPastAfter, IsPastBack}
+use Rattle.gc_worker.specs.Laws.Between.{IsNoAnswer}
+use Rattle.gc_worker.specs.Laws.Cycles.{CallsGoOn, IsInCall, IsInPassage}
 use Rattle.gc_worker.specs.declared.access.Access.{Access}
 use Rattle.gc_worker.specs.declared.accessed.Accessed.{Accessed}
 use Rattle.gc_worker.specs.declared.accessed.Accessed.TheVariants.{Faults, Brings, Stored, Fails}
@@ -44,10 +44,10 @@ use Rattle.gc_worker.specs.declared.stage.Stage.{Stage}
 use Rattle.gc_worker.specs.declared.stage.Stage.TheVariants.{Looks, Passes, Flips, Forwards, Accesses, Places, Serves, Scans, Evacuates, Opens, Gone}
 use Rattle.gc_worker.specs.declared.task.Task.{Task}
 use Rattle.gc_worker.specs.declared.task.Task.TheVariants.{Calls}
-use Rattle.gc_worker.specs.Access as access
-use Rattle.gc_worker.specs.Fits.{Fits, FitsEnd, FitsTask, FitsTaskAfter, FitsTaskBack, FitsTaskBefore, IsGoneBy, IsMaking, IsOnSide, IsOnSideBack}
-use Rattle.gc_worker.specs.Held.{Held, at_stage, header_for}
-use Rattle.gc_worker.specs.Turned.{Pointed, Silent, end_by_shortage, ended, epoch_said, first_pointer, forwards_from, forwards_it, full_by, goes_back, goes_on, finds_full, passed_by, passes, places, served_by, told_access, told_at, told_effect, told_end, told_full, told_place, turned_access, turned_at, turned_copy, turned_flip, turned_gate, turned_opening, turned_place, turned_register, turned_round, turned_scan, with_copy, with_evac}
+use Rattle.gc_worker.specs.Steps.Access as access
+use Rattle.gc_worker.specs.Workers.Fits.{Fits, FitsEnd, FitsTask, FitsTaskAfter, FitsTaskBack, FitsTaskBefore, IsGoneBy, IsMaking, IsOnSide, IsOnSideBack}
+use Rattle.gc_worker.specs.Workers.Held.{Held, at_stage, header_for}
+use Rattle.gc_worker.specs.Steps.Turned.{Pointed, Silent, end_by_shortage, ended, epoch_said, first_pointer, forwards_from, forwards_it, full_by, goes_back, goes_on, finds_full, passed_by, passes, places, served_by, told_access, told_at, told_effect, told_end, told_full, told_place, turned_access, turned_at, turned_copy, turned_flip, turned_gate, turned_opening, turned_place, turned_register, turned_round, turned_scan, with_copy, with_evac}
 use Rattle.gc_worker.proofs.Plain.NewRecords.{header_is}
 
 -- ---- where it goes on

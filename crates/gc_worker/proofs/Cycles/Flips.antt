@@ -37,7 +37,7 @@ use Rattle.page_slots.specs.Open as open_page
 use Rattle.plain_heap.specs.declared.action.Action.{Action}
 use Rattle.plain_heap.specs.declared.action.Action.TheVariants.{Sets, Jumps, Links, Prints, Makes}
 use Rattle.plain_heap.specs.Action.{action}
-use Rattle.gc_worker.specs.Cycles.{IsFirst, IsFirstAt, FlipsStayFirst, FlipsAreFirst}
+use Rattle.gc_worker.specs.Laws.Cycles.{IsFirst, IsFirstAt, FlipsStayFirst, FlipsAreFirst}
 use Rattle.gc_worker.specs.declared.access.Access.{Access}
 use Rattle.gc_worker.specs.declared.access_stage.AccessStage.{AccessStage}
 use Rattle.gc_worker.specs.declared.accessed.Accessed.{Accessed}
@@ -51,10 +51,10 @@ use Rattle.gc_worker.specs.declared.stage.Stage.{Stage}
 use Rattle.gc_worker.specs.declared.stage.Stage.TheVariants.{Looks, Passes, Flips, Forwards, Accesses, Places, Serves, Scans, Evacuates, Opens, Gone}
 use Rattle.gc_worker.specs.declared.task.Task.{Task}
 use Rattle.gc_worker.specs.declared.task.Task.TheVariants.{Calls, Stops}
-use Rattle.gc_worker.specs.Access as access
-use Rattle.gc_worker.specs.Held.{Held, at_stage, header_for, making_for}
-use Rattle.gc_worker.specs.Seen.{Making, seen}
-use Rattle.gc_worker.specs.Turned.{Pointed, acted, accesses, acts, begins, end_by_shortage, ended, epoch_said, first_pointer, forwards_from, forwards_it, full_by, goes_back, goes_on, finds_full, looked_by, passed_by, passes, places, served_by, started, turned_access, turned_at, turned_copy, turned_flip, turned_gate, turned_look, turned_opening, turned_place, turned_register, turned_round, turned_scan, with_copy, with_evac, with_record}
+use Rattle.gc_worker.specs.Steps.Access as access
+use Rattle.gc_worker.specs.Workers.Held.{Held, at_stage, header_for, making_for}
+use Rattle.gc_worker.specs.Plain.Seen.{Making, seen}
+use Rattle.gc_worker.specs.Steps.Turned.{Pointed, acted, accesses, acts, begins, end_by_shortage, ended, epoch_said, first_pointer, forwards_from, forwards_it, full_by, goes_back, goes_on, finds_full, looked_by, passed_by, passes, places, served_by, started, turned_access, turned_at, turned_copy, turned_flip, turned_gate, turned_look, turned_opening, turned_place, turned_register, turned_round, turned_scan, with_copy, with_evac, with_record}
 use Rattle.gc_worker.proofs.Between.Pages.Claims.{flips_at}
 
 -- ---- stages at which nobody asks for a flip

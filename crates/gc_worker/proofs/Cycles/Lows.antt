@@ -45,19 +45,19 @@ use Rattle.page_scan.proofs.RowsFit as scan_rows
 use Rattle.page_slots.specs.Open as open_page
 use Rattle.page_slots.proofs.RowsFit.{opening_writes}
 use Rattle.heap_state.specs.Configuration.{Configuration, table, era}
-use Rattle.heap_state.specs.Era.{from_space}
-use Rattle.heap_state.specs.Table.{word_in}
+use Rattle.heap_state.specs.Memory.Era.{from_space}
+use Rattle.heap_state.specs.Memory.Table.{word_in}
 use Rattle.heap_state.specs.Worker.{Worker}
 use Rattle.heap_state.proofs.Table.Places.{word_in-row, word_in-same, word_in-other}
-use Rattle.gc_worker.specs.Cycles.{words_claimed, claimed_at, claimed_by_placing, low_said, low_at, low_of, LowGoes, LowFallsByClaims}
-use Rattle.gc_worker.specs.Access as access
+use Rattle.gc_worker.specs.Laws.Cycles.{words_claimed, claimed_at, claimed_by_placing, low_said, low_at, low_of, LowGoes, LowFallsByClaims}
+use Rattle.gc_worker.specs.Steps.Access as access
 use Rattle.gc_worker.specs.declared.stage.Stage.{Stage}
 use Rattle.gc_worker.specs.declared.stage.Stage.TheVariants.{Looks, Passes, Flips, Forwards, Accesses, Places, Serves, Scans, Evacuates, Opens, Gone}
-use Rattle.gc_worker.specs.Goes.{Is}
-use Rattle.gc_worker.specs.Held.{Held, at_stage}
-use Rattle.gc_worker.specs.Law.{Heap, FlipsWhereTold, WorkersStand, read, held_at, epoch_of}
-use Rattle.gc_worker.specs.Turned.{Told, Silent, Answers, Marks, epoch_in_gate, told, told_at, told_flip}
-use Rattle.gc_worker.specs.Wanted.{wanted, wanted_at}
+use Rattle.gc_worker.specs.Steps.Goes.{Is}
+use Rattle.gc_worker.specs.Workers.Held.{Held, at_stage}
+use Rattle.gc_worker.specs.Laws.Step.{Heap, FlipsWhereTold, WorkersStand, read, held_at, epoch_of}
+use Rattle.gc_worker.specs.Steps.Turned.{Told, Silent, Answers, Marks, epoch_in_gate, told, told_at, told_flip}
+use Rattle.gc_worker.specs.Steps.Wanted.{wanted, wanted_at}
 use Rattle.gc_worker.proofs.Stages.Access.RowsFit as access_rows
 use Rattle.gc_worker.proofs.Words.Areas.{area_says, is_space}
 use Rattle.gc_worker.proofs.Between.Pages.Claims.{NoMark, flips_at}

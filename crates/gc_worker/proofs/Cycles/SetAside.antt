@@ -16,16 +16,16 @@ use Rattle.alloc_end.specs.declared.place_stage.PlaceStage.TheVariants.{LoadsTra
 use Rattle.alloc_end.specs.Place.{Placing, pages_for, size_of, words_for}
 use Rattle.alloc_end.specs.Place as place
 use Rattle.alloc_end.specs.Soundness.{IsPlacingGoing}
-use Rattle.gc_worker.specs.Cycles.{MakesRecord, IsForRecord, SetAsideIsForRecords, ClaimsAreSetAside, SetsAside, words_claimed, claimed_at, set_aside, set_aside_at, set_aside_by}
+use Rattle.gc_worker.specs.Laws.Cycles.{MakesRecord, IsForRecord, SetAsideIsForRecords, ClaimsAreSetAside, SetsAside, words_claimed, claimed_at, set_aside, set_aside_at, set_aside_by}
 use Rattle.gc_worker.specs.declared.stage.Stage.{Stage}
 use Rattle.gc_worker.specs.declared.stage.Stage.TheVariants.{Places}
 use Rattle.gc_worker.specs.declared.task.Task.{Task}
-use Rattle.gc_worker.specs.Fits.{Fits, FitsStage, FitsTask, IsMaking}
-use Rattle.gc_worker.specs.Goes.{Is}
-use Rattle.gc_worker.specs.Held.{Held, at_stage, pages_needed, header_for, pages_asked}
-use Rattle.gc_worker.specs.Law.{Heap, WorkersStand, read}
+use Rattle.gc_worker.specs.Workers.Fits.{Fits, FitsStage, FitsTask, IsMaking}
+use Rattle.gc_worker.specs.Steps.Goes.{Is}
+use Rattle.gc_worker.specs.Workers.Held.{Held, at_stage, pages_needed, header_for, pages_asked}
+use Rattle.gc_worker.specs.Laws.Step.{Heap, WorkersStand, read}
 use Rattle.gc_worker.specs.declared.did.Did.TheVariants.{Done, Trap}
-use Rattle.gc_worker.specs.Turned.{Told, Silent, Answers, Marks, told, told_effect, told_place, turned, turned_place}
+use Rattle.gc_worker.specs.Steps.Turned.{Told, Silent, Answers, Marks, told, told_effect, told_place, turned, turned_place}
 use Rattle.gc_worker.proofs.Plain.AnswerSteps.{its_mutator}
 use Rattle.gc_worker.proofs.Stages.Gate.Resuming.{end_none}
 use Rattle.gc_worker.proofs.Plain.NewRecords.{asked_is, plain_pages}

@@ -11,15 +11,15 @@ use Rattle.alloc_end.specs.declared.place_stage.PlaceStage.{PlaceStage}
 use Rattle.alloc_end.specs.declared.place_stage.PlaceStage.TheVariants.{LoadsArea, ExchangesArea, Ended}
 use Rattle.alloc_end.specs.Place as place
 use Rattle.alloc_end.specs.Place.{Placing, pages_for, size_of, words_for, fits, shortage, looked_at_area}
-use Rattle.heap_state.specs.Table.{word_in}
+use Rattle.heap_state.specs.Memory.Table.{word_in}
 use Rattle.gc_worker.specs.declared.task.Task.{Task}
 use Rattle.gc_worker.specs.declared.task.Task.TheVariants.{Calls}
-use Rattle.gc_worker.specs.Fits.{Fits}
-use Rattle.gc_worker.specs.Full.{FindsNoRoom}
-use Rattle.gc_worker.specs.FullTold.{FullIsTold, TellsFull, found_traced}
-use Rattle.gc_worker.specs.Held.{Held, at_stage, pages_needed, pages_asked}
+use Rattle.gc_worker.specs.Workers.Fits.{Fits}
+use Rattle.gc_worker.specs.Plain.Full.{FindsNoRoom}
+use Rattle.gc_worker.specs.Laws.FullTold.{FullIsTold, TellsFull, found_traced}
+use Rattle.gc_worker.specs.Workers.Held.{Held, at_stage, pages_needed, pages_asked}
 use Rattle.gc_worker.specs.declared.did.Did.TheVariants.{Trap}
-use Rattle.gc_worker.specs.Turned.{Silent, Answers, finds_full, end_by_shortage, told_end, told_place}
+use Rattle.gc_worker.specs.Steps.Turned.{Silent, Answers, finds_full, end_by_shortage, told_end, told_place}
 
 module _ (n mutators k : ℕ) (words : List ℕ) (x : Held) (z : Placing) (room live : ℕ) (f : Fits n mutators k (at_stage x (found_traced z))) (finds : FindsNoRoom n words x (pages_needed x) room live) where
   abbrev word : ℕ

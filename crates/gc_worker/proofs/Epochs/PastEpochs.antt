@@ -22,21 +22,21 @@ use Rattle.fault_duty.specs.declared.duty_stage.DutyStage.TheVariants.{Claims}
 use Rattle.fault_duty.specs.Duty.{Round}
 use Rattle.fault_duty.specs.Soundness.{IsOwnClaim}
 use Rattle.heap_state.specs.Configuration.{Configuration, team}
-use Rattle.heap_state.specs.Table.{page_in, word_in}
+use Rattle.heap_state.specs.Memory.Table.{page_in, word_in}
 use Rattle.heap_state.specs.Worker.{Worker}
 use Rattle.heap_state.proofs.Puts.{none≢some}
 use Rattle.heap_state.proofs.Table.Places.{word_in-row}
 use Rattle.gc_worker.specs.declared.back.Back.{Back}
 use Rattle.gc_worker.specs.declared.stage.Stage.{Stage}
 use Rattle.gc_worker.specs.declared.stage.Stage.TheVariants.{Serves}
-use Rattle.gc_worker.specs.Claims.{epoch_of_heap}
-use Rattle.gc_worker.specs.Goes.{Is}
-use Rattle.gc_worker.specs.Held.{Held, at_stage}
-use Rattle.gc_worker.specs.Knows.{claim_with, looked_all}
-use Rattle.gc_worker.specs.Law.{Heap, IsOut, read, WorkersStand, age, held_at}
-use Rattle.gc_worker.specs.Past.{LosesPage, LosesTraced, PastClaimsAreLost, PastMarksAreLost, PagesAreWonNow, exchanges_next, traces_next}
-use Rattle.gc_worker.specs.Turned.{PageWon, won, won_at, won_by, won_in}
-use Rattle.gc_worker.specs.Wanted.{wanted}
+use Rattle.gc_worker.specs.Laws.Claims.{epoch_of_heap}
+use Rattle.gc_worker.specs.Steps.Goes.{Is}
+use Rattle.gc_worker.specs.Workers.Held.{Held, at_stage}
+use Rattle.gc_worker.specs.Workers.Knows.{claim_with, looked_all}
+use Rattle.gc_worker.specs.Laws.Step.{Heap, IsOut, read, WorkersStand, age, held_at}
+use Rattle.gc_worker.specs.Laws.PastEpochs.{LosesPage, LosesTraced, PastClaimsAreLost, PastMarksAreLost, PagesAreWonNow, exchanges_next, traces_next}
+use Rattle.gc_worker.specs.Steps.Turned.{PageWon, won, won_at, won_by, won_in}
+use Rattle.gc_worker.specs.Steps.Wanted.{wanted}
 use Rattle.gc_worker.proofs.Between.Pages.Claims.{of_now}
 use Rattle.gc_worker.proofs.Workers.Members.{member}
 use Rattle.gc_worker.proofs.Stages.Rounds.Words.{page_age, traced_word}

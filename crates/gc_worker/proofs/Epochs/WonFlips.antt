@@ -14,10 +14,10 @@ use Rattle.gate_core.specs.declared.reset.Reset.{Reset}
 use Rattle.gate_core.specs.Flip.{Flipping, gate_flipped}
 use Rattle.heap_state.proofs.Table.Places.{word_in-row}
 use Rattle.gc_worker.specs.declared.stage.Stage.TheVariants.{Flips}
-use Rattle.gc_worker.specs.Goes.{Is}
-use Rattle.gc_worker.specs.Held.{Held, at_stage}
-use Rattle.gc_worker.specs.Law.{Heap, read, WorkersStand, FlipsAreWon}
-use Rattle.gc_worker.specs.Wanted.{wanted}
+use Rattle.gc_worker.specs.Steps.Goes.{Is}
+use Rattle.gc_worker.specs.Workers.Held.{Held, at_stage}
+use Rattle.gc_worker.specs.Laws.Step.{Heap, read, WorkersStand, FlipsAreWon}
+use Rattle.gc_worker.specs.Steps.Wanted.{wanted}
 use Rattle.gc_worker.proofs.Stages.Flip.Flipping.{unmoved}
 use Rattle.gc_worker.proofs.Workers.Members.{member}
 

@@ -8,11 +8,11 @@ use Rattle.atom_store.specs.declared.step.Step.{Step}
 use Rattle.atom_store.specs.Step.{reply_of}
 use Rattle.heap_state.specs.Functions.{sum_below}
 use Rattle.heap_state.proofs.Puts.{sum_below-change}
-use Rattle.gc_worker.specs.Between.{IsSo}
-use Rattle.gc_worker.specs.Cycles.{IsForRecord, MakesRecord, set_aside}
-use Rattle.gc_worker.specs.Held.{Held}
-use Rattle.gc_worker.specs.Law.{Heap, WorkersStand, held_at, moved, nobody}
-use Rattle.gc_worker.specs.Turned.{turned}
+use Rattle.gc_worker.specs.Laws.Between.{IsSo}
+use Rattle.gc_worker.specs.Laws.Cycles.{IsForRecord, MakesRecord, set_aside}
+use Rattle.gc_worker.specs.Workers.Held.{Held}
+use Rattle.gc_worker.specs.Laws.Step.{Heap, WorkersStand, held_at, moved, nobody}
+use Rattle.gc_worker.specs.Steps.Turned.{turned}
 use Rattle.gc_worker.proofs.Between.Standing.{what_stands_is_so}
 use Rattle.gc_worker.proofs.Cycles.SetAside.{set_aside_is_for_records}
 use Rattle.gc_worker.specs.History.Tally.{Tasks, aside_in, asked_by_task, made_next, pages_by_task, tasks_held}

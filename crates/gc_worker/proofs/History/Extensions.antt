@@ -4,11 +4,11 @@ use Rattle.std.proofs.lemmas.List.{append_cancel_left}
 use Rattle.std.proofs.lemmas.Option.{slice_get_within}
 use mathlib.Core.List.{IsPrefix}
 use Rattle.plain_state.specs.State.{Plain, serial_of}
-use Rattle.gc_worker.specs.Answer.{ComesTo, IsAnswered, after_told}
-use Rattle.gc_worker.specs.Law.{at_flip}
+use Rattle.gc_worker.specs.Plain.Answer.{ComesTo, IsAnswered, after_told}
+use Rattle.gc_worker.specs.Laws.Step.{at_flip}
 use Rattle.gc_worker.specs.declared.did.Did.TheVariants.{Done, Trap}
-use Rattle.gc_worker.specs.Turned.{Told, Silent, Answers, Marks}
-use Rattle.gc_worker.specs.Between.{LeavesTheOthers}
+use Rattle.gc_worker.specs.Steps.Turned.{Told, Silent, Answers, Marks}
+use Rattle.gc_worker.specs.Laws.Between.{LeavesTheOthers}
 use Rattle.gc_worker.proofs.Between.Others.{answers_leave_the_others}
 use Rattle.gc_worker.specs.declared.call.Call.{Call}
 use Rattle.gc_worker.specs.declared.entry.Entry.{Entry}

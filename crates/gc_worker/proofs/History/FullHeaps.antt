@@ -12,13 +12,13 @@ use Rattle.gc_worker.specs.declared.stage.Stage.{Stage}
 use Rattle.gc_worker.specs.declared.stage.Stage.TheVariants.{Looks, Passes, Flips, Forwards, Accesses, Places, Serves, Scans, Evacuates, Opens, Gone}
 use Rattle.gc_worker.specs.declared.task.Task.{Task}
 use Rattle.gc_worker.specs.declared.task.Task.TheVariants.{Calls, Stops}
-use Rattle.gc_worker.specs.Answer.{ComesTo}
-use Rattle.gc_worker.specs.Begun.{IsPastAfter, IsPastLook}
-use Rattle.gc_worker.specs.Cycles.{IsInCall, IsInPassage}
-use Rattle.gc_worker.specs.Fits.{Fits, FitsTask}
-use Rattle.gc_worker.specs.Held.{Held}
+use Rattle.gc_worker.specs.Plain.Answer.{ComesTo}
+use Rattle.gc_worker.specs.Workers.Begun.{IsPastAfter, IsPastLook}
+use Rattle.gc_worker.specs.Laws.Cycles.{IsInCall, IsInPassage}
+use Rattle.gc_worker.specs.Workers.Fits.{Fits, FitsTask}
+use Rattle.gc_worker.specs.Workers.Held.{Held}
 use Rattle.gc_worker.specs.declared.did.Did.TheVariants.{Trap}
-use Rattle.gc_worker.specs.Turned.{Answers, told, told_at}
+use Rattle.gc_worker.specs.Steps.Turned.{Answers, told, told_at}
 use Rattle.gc_worker.proofs.Between.Begun.{full_is_found_later}
 use Rattle.gc_worker.proofs.Between.GoingOn.{workers_go_on}
 use Rattle.gc_worker.specs.History.Tally.{asked_by_task}

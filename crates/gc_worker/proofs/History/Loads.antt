@@ -18,7 +18,7 @@ use Rattle.plain_heap.specs.Records.{RecordShape, record_word, shape_of, word_af
 use Rattle.plain_heap.specs.Step.{settled}
 use Rattle.plain_heap.proofs.Calls.Records.{loads_take_the_word, only_stores_change_words, shapes_stay}
 use Rattle.heap_laws.specs.Opening.{opening_plain}
-use Rattle.gc_worker.specs.Answer.{ComesTo, MayCome, after_answer, after_outcome}
+use Rattle.gc_worker.specs.Plain.Answer.{ComesTo, MayCome, after_answer, after_outcome}
 use Rattle.gc_worker.specs.declared.call.Call.{Call}
 use Rattle.gc_worker.specs.declared.did.Did.{Did}
 use Rattle.gc_worker.specs.declared.did.Did.TheVariants.{Done, Trap}

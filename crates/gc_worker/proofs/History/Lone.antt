@@ -14,9 +14,9 @@ use Rattle.plain_heap.specs.Step.{asked_by, asked_if}
 use Rattle.plain_heap.proofs.States.SameMutators.{plain_count}
 use Rattle.plain_heap.proofs.Orders.Stories.{story-now, story_after-append}
 use Rattle.heap_state.specs.Functions.{sum_below}
-use Rattle.heap_state.specs.Reachable.{IsLive}
+use Rattle.heap_state.specs.Meaning.Reachable.{IsLive}
 use Rattle.gc_worker.specs.History.Needs.{EachFullIs, EachMayCome, EndsWithFlip, HasNoFull, IsEnoughForOne, being_made, flips_by, flips_in, made_after, made_by_mark, made_since, first_story, since_by, since_in}
-use Rattle.gc_worker.specs.Marks.{EachActs}
+use Rattle.gc_worker.specs.Plain.Marks.{EachActs}
 use Rattle.gc_worker.proofs.History.Needs.{at_full, may_come_at}
 
 -- ---- the last mark before

@@ -4,17 +4,17 @@ use Rattle.plain_state.specs.declared.sizes.TheConstants.{PAGE_WORDS}
 use Rattle.plain_state.specs.State.{Plain}
 use Rattle.space_map.specs.Spaces.{IsPageCount, to_space}
 use Rattle.heap_state.specs.Configuration.{table}
-use Rattle.heap_state.specs.Entries.{table_with}
+use Rattle.heap_state.specs.Memory.Entries.{table_with}
 use Rattle.heap_state.specs.Functions.{put}
-use Rattle.heap_state.specs.Table.{Table}
+use Rattle.heap_state.specs.Memory.Table.{Table}
 use Rattle.heap_state.proofs.Table.Writing.{writes_tables}
 use Rattle.heap_laws.specs.Opening.{opening_entries, opening_plain}
 use Rattle.heap_laws.proofs.Opening.Heap.{entries_fit}
-use Rattle.gc_worker.specs.Between.{fresh_mutator, fresh_scanner, fresh_worker, opening_heap}
-use Rattle.gc_worker.specs.Cycles.{IsFirst, low_at, low_of, low_said}
-use Rattle.gc_worker.specs.Held.{Held}
-use Rattle.gc_worker.specs.Law.{Heap, WorkersStand, epoch_of, held_at, read}
-use Rattle.gc_worker.specs.Turned.{epoch_in_gate}
+use Rattle.gc_worker.specs.Laws.Between.{fresh_mutator, fresh_scanner, fresh_worker, opening_heap}
+use Rattle.gc_worker.specs.Laws.Cycles.{IsFirst, low_at, low_of, low_said}
+use Rattle.gc_worker.specs.Workers.Held.{Held}
+use Rattle.gc_worker.specs.Laws.Step.{Heap, WorkersStand, epoch_of, held_at, read}
+use Rattle.gc_worker.specs.Steps.Turned.{epoch_in_gate}
 use Rattle.gc_worker.proofs.Words.Areas.{area_says, is_space}
 use Rattle.gc_worker.proofs.Between.Opening.{heaps_open, is_there, many}
 use Rattle.gc_worker.proofs.Stages.Gate.Words.{gate_says}

@@ -10,8 +10,8 @@ use Rattle.plain_heap.specs.Order.{Story, marked, opening, plain, state_after, s
 use Rattle.plain_heap.specs.Step.{fetch}
 use Rattle.heap_laws.specs.Opening.{opening_mutator, opening_plain}
 use Rattle.gc_worker.specs.declared.task.Task.{Task}
-use Rattle.gc_worker.specs.Answer.{ComesTo, MayCome}
-use Rattle.gc_worker.specs.Marks.{MarkActs, EachActs, task_of}
+use Rattle.gc_worker.specs.Plain.Answer.{ComesTo, MayCome}
+use Rattle.gc_worker.specs.Plain.Marks.{MarkActs, EachActs, task_of}
 use Rattle.gc_worker.proofs.Plain.Outcomes.{Sort, IsFull, IsStep, sort, comes, asks_then, opens_so, was_running}
 use Rattle.gc_worker.specs.declared.call.Call.{Call}
 use Rattle.gc_worker.specs.declared.did.Did.{Did}

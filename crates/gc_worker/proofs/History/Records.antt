@@ -25,10 +25,10 @@ use Rattle.plain_heap.specs.declared.action.Action.{Action}
 use Rattle.plain_heap.specs.declared.action.Action.TheVariants.{Makes, Prints}
 use Rattle.plain_heap.specs.Action.{◌>>=◌, action, allocates, board_place, computes, length_of, as_number, operand, reference_in, register}
 use Rattle.plain_heap.proofs.Calls.Outcomes.{if_ok-bind, if_ok-is}
-use Rattle.gc_worker.specs.Between.{ShowsRegisters}
-use Rattle.gc_worker.specs.Fits.{IsMaking}
-use Rattle.gc_worker.specs.Held.{Held}
-use Rattle.gc_worker.specs.Seen.{IsValueAs, IsValueWord, seen, seen_as, value_seen}
+use Rattle.gc_worker.specs.Laws.Between.{ShowsRegisters}
+use Rattle.gc_worker.specs.Workers.Fits.{IsMaking}
+use Rattle.gc_worker.specs.Workers.Held.{Held}
+use Rattle.gc_worker.specs.Plain.Seen.{IsValueAs, IsValueWord, seen, seen_as, value_seen}
 
 -- a record that is made is made there too
 abbrev IsSameRecord : Result Action End → Action → Type 0

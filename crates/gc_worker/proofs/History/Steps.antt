@@ -16,18 +16,18 @@ use Rattle.heap_state.specs.Worker.{Account, is_running}
 use Rattle.gc_worker.specs.declared.stage.Stage.{Stage}
 use Rattle.gc_worker.specs.declared.stage.Stage.TheVariants.{Looks, Flips}
 use Rattle.gc_worker.specs.declared.task.Task.{Task}
-use Rattle.gc_worker.specs.Answer.{ComesTo, IsAnswered}
-use Rattle.gc_worker.specs.Begun.{IsPastLook}
-use Rattle.gc_worker.specs.Between.{KeepsToTask, IsAsPlain, IsNoAnswer, IsSo}
-use Rattle.gc_worker.specs.Cycles.{IsFirst, IsInCall, LowGoes, SetsAside, words_claimed, low_at, low_of, low_said, set_aside}
-use Rattle.gc_worker.specs.Fits.{Fits, FitsEnd, FitsTask, IsMaking, IsOnSide}
-use Rattle.gc_worker.specs.Full.{FindsNoRoom, FullWhereTold}
-use Rattle.gc_worker.specs.Held.{Held}
-use Rattle.gc_worker.specs.Knows.{post_in}
-use Rattle.gc_worker.specs.Law.{FlipsOnce, FlipsWhereTold, Heap, StepKeeps, WorkersStand, epoch_of, held_at, moved, nobody}
+use Rattle.gc_worker.specs.Plain.Answer.{ComesTo, IsAnswered}
+use Rattle.gc_worker.specs.Workers.Begun.{IsPastLook}
+use Rattle.gc_worker.specs.Laws.Between.{KeepsToTask, IsAsPlain, IsNoAnswer, IsSo}
+use Rattle.gc_worker.specs.Laws.Cycles.{IsFirst, IsInCall, LowGoes, SetsAside, words_claimed, low_at, low_of, low_said, set_aside}
+use Rattle.gc_worker.specs.Workers.Fits.{Fits, FitsEnd, FitsTask, IsMaking, IsOnSide}
+use Rattle.gc_worker.specs.Plain.Full.{FindsNoRoom, FullWhereTold}
+use Rattle.gc_worker.specs.Workers.Held.{Held}
+use Rattle.gc_worker.specs.Workers.Knows.{post_in}
+use Rattle.gc_worker.specs.Laws.Step.{FlipsOnce, FlipsWhereTold, Heap, StepKeeps, WorkersStand, epoch_of, held_at, moved, nobody}
 use Rattle.gc_worker.specs.declared.did.Did.TheVariants.{Done, Trap}
-use Rattle.gc_worker.specs.Turned.{Told, Silent, Answers, Marks, epoch_in_gate, told, turned}
-use Rattle.gc_worker.specs.Wanted.{wanted}
+use Rattle.gc_worker.specs.Steps.Turned.{Told, Silent, Answers, Marks, epoch_in_gate, told, turned}
+use Rattle.gc_worker.specs.Steps.Wanted.{wanted}
 use Rattle.gc_worker.proofs.Between.Begun.{beginnings_are_kept, full_is_found_later}
 use Rattle.gc_worker.proofs.Between.Pages.Claims.{flips_at}
 use Rattle.gc_worker.proofs.Between.Pages.Copied.{full_tells_live}

@@ -14,10 +14,10 @@ use Rattle.gc_worker.specs.declared.entry.Entry.{Entry}
 use Rattle.gc_worker.specs.declared.entry.Entry.TheVariants.{Made, Exchanged}
 use Rattle.gc_worker.proofs.History.Sums.{sum_below-most}
 use Rattle.gc_worker.specs.History.Tally.{EachEntry, EntryIs, IsFilled, IsFilledBy, IsFilledByEnd, Tally, Tasks, after_entry, asked_by_task, asked_unless_ended, made_next, next_task, pages_by_task, tally}
-use Rattle.gc_worker.specs.Answer.{after_told}
+use Rattle.gc_worker.specs.Plain.Answer.{after_told}
 use Rattle.gc_worker.specs.History.Legal.{after_all, extra, flip_from}
-use Rattle.gc_worker.specs.Law.{at_flip}
-use Rattle.gc_worker.specs.Turned.{Told, Silent, Answers, Marks}
+use Rattle.gc_worker.specs.Laws.Step.{at_flip}
+use Rattle.gc_worker.specs.Steps.Turned.{Told, Silent, Answers, Marks}
 
 -- ---- two histories, one after the other
 

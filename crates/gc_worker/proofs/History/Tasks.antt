@@ -8,11 +8,11 @@ use Rattle.gate_core.specs.declared.passage.Passage.TheVariants.{Look, Attach, P
 use Rattle.gc_worker.specs.declared.stage.Stage.{Stage}
 use Rattle.gc_worker.specs.declared.stage.Stage.TheVariants.{Looks, Passes, Flips, Forwards, Accesses, Places, Serves, Scans, Evacuates, Opens, Gone}
 use Rattle.gc_worker.specs.declared.task.Task.{Task}
-use Rattle.gc_worker.specs.Begun.{IsPastLook}
-use Rattle.gc_worker.specs.Between.{Begins, with_task, with_worker}
-use Rattle.gc_worker.specs.Cycles.{IsFirst, IsFirstAt, IsFirstBy, IsInCall, set_aside, set_aside_at}
-use Rattle.gc_worker.specs.Held.{Held}
-use Rattle.gc_worker.specs.Law.{Heap, held_at, nobody}
+use Rattle.gc_worker.specs.Workers.Begun.{IsPastLook}
+use Rattle.gc_worker.specs.Laws.Between.{Begins, with_task, with_worker}
+use Rattle.gc_worker.specs.Laws.Cycles.{IsFirst, IsFirstAt, IsFirstBy, IsInCall, set_aside, set_aside_at}
+use Rattle.gc_worker.specs.Workers.Held.{Held}
+use Rattle.gc_worker.specs.Laws.Step.{Heap, held_at, nobody}
 use Rattle.heap_state.specs.Worker.{Account}
 use Rattle.gc_worker.specs.declared.entry.Entry.{Entry}
 use Rattle.gc_worker.specs.History.Tally.{EachEntry, EntryIs, IsTallied, Tally, aside_in, tally, tasks_held}

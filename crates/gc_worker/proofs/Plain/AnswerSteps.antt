@@ -5,8 +5,8 @@ use Rattle.plain_state.specs.State.{Mutator, Plain}
 use Rattle.atom_store.specs.declared.reply.Reply.{Reply}
 use Rattle.space_map.specs.Table.{IsRow}
 use Rattle.heap_state.specs.Configuration.{Configuration, Stands, era, memory, team}
-use Rattle.heap_state.specs.Entries.{Entry, row_of}
-use Rattle.heap_state.specs.Ghost.{Ghost}
+use Rattle.heap_state.specs.Memory.Entries.{Entry, row_of}
+use Rattle.heap_state.specs.Invariant.Ghost.{Ghost}
 use Rattle.heap_state.specs.Worker.{Account, Worker, is_running}
 use Rattle.heap_laws.specs.Fields.Effects.{IsLikePlain, RegisterHolds}
 use Rattle.heap_laws.specs.Fields.Held.{MutatorGoesOn, MayHold, going_on}
@@ -17,14 +17,14 @@ use Rattle.heap_laws.proofs.Fields.GoingOn.{runs, timely}
 use Rattle.heap_laws.proofs.Fields.Laws.{goes_on_so}
 use Rattle.heap_laws.proofs.Lifting.Laws.{plain_steps_are_lifted}
 use Rattle.gc_worker.specs.declared.task.Task.{Task}
-use Rattle.gc_worker.specs.Answer.{MayCome, after_outcome, after_answer, after_told}
-use Rattle.gc_worker.specs.Fits.{Fits, Takes}
-use Rattle.gc_worker.specs.Full.{FullByOutcome}
-use Rattle.gc_worker.specs.Goes.{Is, Goes, Wins}
-use Rattle.gc_worker.specs.Held.{Held}
-use Rattle.gc_worker.specs.Knows.{knows, post_in}
+use Rattle.gc_worker.specs.Plain.Answer.{MayCome, after_outcome, after_answer, after_told}
+use Rattle.gc_worker.specs.Workers.Fits.{Fits, Takes}
+use Rattle.gc_worker.specs.Plain.Full.{FullByOutcome}
+use Rattle.gc_worker.specs.Steps.Goes.{Is, Goes, Wins}
+use Rattle.gc_worker.specs.Workers.Held.{Held}
+use Rattle.gc_worker.specs.Workers.Knows.{knows, post_in}
 use Rattle.gc_worker.specs.declared.did.Did.{Did}
-use Rattle.gc_worker.specs.Turned.{Answers, PageWon, turned, told, won}
+use Rattle.gc_worker.specs.Steps.Turned.{Answers, PageWon, turned, told, won}
 use Rattle.gc_worker.proofs.Words.RowSteps.{prepared}
 use Rattle.heap_state.proofs.Table.Stores.{entry_has_row}
 

@@ -14,23 +14,23 @@ use Rattle.plain_heap.specs.Call.{call}
 use Rattle.plain_heap.specs.Step.{settled}
 use Rattle.atom_store.specs.declared.reply.Reply.{Reply}
 use Rattle.heap_state.specs.Configuration.{Configuration, Stands, era, memory, team}
-use Rattle.heap_state.specs.Entries.{Entry}
-use Rattle.heap_state.specs.Values.{value_of}
+use Rattle.heap_state.specs.Memory.Entries.{Entry}
+use Rattle.heap_state.specs.Meaning.Values.{value_of}
 use Rattle.heap_state.specs.Worker.{Account, Worker, is_running}
 use Rattle.heap_laws.specs.Fields.Held.{MutatorGoesOn, MayHold, HoldsValue, going_on, with_mutator}
 use Rattle.heap_laws.specs.Fields.Stores.{IsAs}
 use Rattle.heap_laws.specs.Fields.Stores as stores
 use Rattle.heap_laws.proofs.Fields.Laws.{mutators_end}
 use Rattle.gc_worker.specs.declared.task.Task.TheVariants.{Calls}
-use Rattle.gc_worker.specs.Answer.{MayEnd}
-use Rattle.gc_worker.specs.Fits.{Fits, Takes}
-use Rattle.gc_worker.specs.Full.{FullByEnd}
-use Rattle.gc_worker.specs.Goes.{Is, Goes}
-use Rattle.gc_worker.specs.Held.{Held}
-use Rattle.gc_worker.specs.Knows.{knows, post_in}
-use Rattle.gc_worker.specs.Seen.{IsValueWord}
+use Rattle.gc_worker.specs.Plain.Answer.{MayEnd}
+use Rattle.gc_worker.specs.Workers.Fits.{Fits, Takes}
+use Rattle.gc_worker.specs.Plain.Full.{FullByEnd}
+use Rattle.gc_worker.specs.Steps.Goes.{Is, Goes}
+use Rattle.gc_worker.specs.Workers.Held.{Held}
+use Rattle.gc_worker.specs.Workers.Knows.{knows, post_in}
+use Rattle.gc_worker.specs.Plain.Seen.{IsValueWord}
 use Rattle.gc_worker.specs.declared.did.Did.TheVariants.{Done, Trap}
-use Rattle.gc_worker.specs.Turned.{turned, told, won, told_effect, told_end, next_of, loads, went_on, ended}
+use Rattle.gc_worker.specs.Steps.Turned.{turned, told, won, told_effect, told_end, next_of, loads, went_on, ended}
 use Rattle.gc_worker.proofs.Plain.AnswerSteps.{LawTo, IsIts, answers, may_hold, going, next_as}
 use Rattle.gc_worker.proofs.Workers.Answered.{values_set, settled_fits}
 use Rattle.gc_worker.proofs.Words.RowSteps.{prepared}

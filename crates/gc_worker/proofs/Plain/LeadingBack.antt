@@ -4,14 +4,14 @@ use Rattle.std.proofs.lemmas.Bool.{eqb-true}
 use Rattle.plain_state.specs.State.{Plain}
 use Rattle.space_map.specs.Spaces.{IsInSpace, to_space, space_start}
 use Rattle.heap_state.specs.Configuration.{era, team}
-use Rattle.heap_state.specs.Era.{from_space}
+use Rattle.heap_state.specs.Memory.Era.{from_space}
 use Rattle.heap_state.specs.Worker.{Worker, Register, is_late}
 use Rattle.gc_worker.specs.declared.forwarding_register.ForwardingRegister.{ForwardingRegister}
 use Rattle.gc_worker.specs.declared.stage.Stage.TheVariants.{Forwards}
-use Rattle.gc_worker.specs.Goes.{Is}
-use Rattle.gc_worker.specs.Held.{Held, at_stage}
-use Rattle.gc_worker.specs.Knows.{quest_for}
-use Rattle.gc_worker.specs.Law.{Heap, read, WorkersStand, RegistersLeadBack}
+use Rattle.gc_worker.specs.Steps.Goes.{Is}
+use Rattle.gc_worker.specs.Workers.Held.{Held, at_stage}
+use Rattle.gc_worker.specs.Workers.Knows.{quest_for}
+use Rattle.gc_worker.specs.Laws.Step.{Heap, read, WorkersStand, RegistersLeadBack}
 use Rattle.gc_worker.proofs.Words.Eras.{old_start_is, old_span_is}
 use Rattle.gc_worker.proofs.Workers.Members.{member}
 

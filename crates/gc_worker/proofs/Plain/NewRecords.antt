@@ -19,10 +19,10 @@ use Rattle.plain_heap.proofs.Calls.Named.{Spells, Names, named}
 use Rattle.record_layout.specs.declared.header.Header.{Header}
 use Rattle.record_layout.proofs.Rereading.{header_in-header_says}
 use Rattle.alloc_end.specs.Place.{size_of, pages_for}
-use Rattle.heap_state.specs.Ghost.{header_kind}
-use Rattle.gc_worker.specs.Fits.{Fits, IsMaking}
-use Rattle.gc_worker.specs.Held.{Held, making_for, header_of, header_for, pages_asked, pages_needed}
-use Rattle.gc_worker.specs.Seen.{Making, making_in, seen}
+use Rattle.heap_state.specs.Invariant.Ghost.{header_kind}
+use Rattle.gc_worker.specs.Workers.Fits.{Fits, IsMaking}
+use Rattle.gc_worker.specs.Workers.Held.{Held, making_for, header_of, header_for, pages_asked, pages_needed}
+use Rattle.gc_worker.specs.Plain.Seen.{Making, making_in, seen}
 
 -- ---- no record is too long
 

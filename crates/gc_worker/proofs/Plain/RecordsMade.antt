@@ -17,10 +17,10 @@ use Rattle.gc_worker.specs.declared.due.Due.{Due}
 use Rattle.gc_worker.specs.declared.due.Due.TheVariants as dues
 use Rattle.gc_worker.specs.declared.task.Task.{Task}
 use Rattle.gc_worker.specs.declared.task.Task.TheVariants.{Calls}
-use Rattle.gc_worker.specs.Fits.{IsMaking}
-use Rattle.gc_worker.specs.Seen.{Making, making_in, seen}
-use Rattle.gc_worker.specs.Stepped.{task_due}
-use Rattle.gc_worker.specs.Held.{Held, making_for}
+use Rattle.gc_worker.specs.Workers.Fits.{IsMaking}
+use Rattle.gc_worker.specs.Plain.Seen.{Making, making_in, seen}
+use Rattle.gc_worker.specs.Steps.Stepped.{task_due}
+use Rattle.gc_worker.specs.Workers.Held.{Held, making_for}
 use Rattle.gc_worker.proofs.Plain.NewRecords.{made_is}
 
 no_record_then : {A : Type 0} (o : Result A End) (f : A → Result Action End) → ((a : A) → making_in (f a) ≡ None) → making_in (o >>= f) ≡ None

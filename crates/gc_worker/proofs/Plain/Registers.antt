@@ -27,17 +27,17 @@ use Rattle.plain_heap.specs.declared.action.Action.{Action}
 use Rattle.plain_heap.specs.Action.{register, are_same, action}
 use Rattle.plain_heap.proofs.Calls.Named.{Spells, Names, named}
 use Rattle.heap_state.specs.Configuration.{Configuration, Stands, era, memory, team}
-use Rattle.heap_state.specs.Values.{value_of, value_said}
+use Rattle.heap_state.specs.Meaning.Values.{value_of, value_said}
 use Rattle.heap_state.specs.Worker.{is_running}
 use Rattle.heap_state.proofs.Puts.{none≢some}
 use Rattle.heap_laws.specs.Fields.Effects.{RegisterHolds}
 use Rattle.heap_laws.specs.Fields.Held.{HoldsValue}
 use Rattle.heap_laws.proofs.Fields.SameWords.{same_words}
 use Rattle.heap_laws.proofs.Fields.Shown.{numbers_are_held}
-use Rattle.gc_worker.specs.Goes.{Is}
-use Rattle.gc_worker.specs.Held.{Held}
-use Rattle.gc_worker.specs.Knows.{post_in}
-use Rattle.gc_worker.specs.Seen.{IsValueWord, IsValueAs, seen, seen_as, value_seen, word_for}
+use Rattle.gc_worker.specs.Steps.Goes.{Is}
+use Rattle.gc_worker.specs.Workers.Held.{Held}
+use Rattle.gc_worker.specs.Workers.Knows.{post_in}
+use Rattle.gc_worker.specs.Plain.Seen.{IsValueWord, IsValueAs, seen, seen_as, value_seen, word_for}
 use Rattle.gc_worker.proofs.Plain.Actions.{plain_value, plain_outcome, AreAlikeBy, acts_alike}
 use Rattle.gc_worker.proofs.Plain.AnswerSteps.{IsIts, holds}
 use Rattle.gc_worker.proofs.Words.Read.{word_of_value_seen}

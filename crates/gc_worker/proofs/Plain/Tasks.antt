@@ -23,8 +23,8 @@ use Rattle.gc_worker.specs.declared.after.After.{After}
 use Rattle.gc_worker.specs.declared.after.After.TheVariants as afters
 use Rattle.gc_worker.specs.declared.task.Task.{Task}
 use Rattle.gc_worker.specs.declared.task.Task.TheVariants.{Calls, Stops}
-use Rattle.gc_worker.specs.Fits.{FitsCall, MayBegin, IsMaking}
-use Rattle.gc_worker.specs.Seen.{Making, making_in, seen, seen_as, value_seen}
+use Rattle.gc_worker.specs.Workers.Fits.{FitsCall, MayBegin, IsMaking}
+use Rattle.gc_worker.specs.Plain.Seen.{Making, making_in, seen, seen_as, value_seen}
 
 abbrev TaskAfter : Account → List ℕ → Option Task → After → Type 0
 TaskAfter account registers task afters.Looks = MayBegin account registers task

@@ -24,7 +24,7 @@ use Rattle.gc_worker.specs.declared.field_access.Role.{Role}
 use Rattle.gc_worker.specs.declared.record_access.RecordAccess.{RecordAccess}
 use Rattle.gc_worker.specs.declared.record_access.RecordUse.{RecordUse}
 use Rattle.gc_worker.specs.declared.record_access.RecordUse.TheVariants as record_uses
-use Rattle.gc_worker.specs.Access.{Answered, advances_at, at_stage, field_at, field_of, goes_by, goes_to_field, is_header, left, left_at, let_through, loading, looked, may_store, read_header, role_in, storing, taken, told, turn_by, used_by, uses_board, uses_field, word_as}
+use Rattle.gc_worker.specs.Steps.Access.{Answered, advances_at, at_stage, field_at, field_of, goes_by, goes_to_field, is_header, left, left_at, let_through, loading, looked, may_store, read_header, role_in, storing, taken, told, turn_by, used_by, uses_board, uses_field, word_as}
 
 by_use : (f : FieldAccess) (usage : FieldUse) → left_at (uses_field f usage) < 2
 by_use f (field_uses.Loads into) = omega arith

@@ -40,11 +40,11 @@ use Rattle.gc_worker.specs.declared.back.Back.{Back}
 use Rattle.gc_worker.specs.declared.back.Back.TheVariants.{ToAccess, ToPlace, ToScanner}
 use Rattle.gc_worker.specs.declared.forwarding_register.ForwardingRegister.{ForwardingRegister}
 use Rattle.gc_worker.specs.declared.stage.Stage.TheVariants.{Passes, Flips, Forwards, Accesses, Places, Serves, Scans, Opens}
-use Rattle.gc_worker.specs.Fits.{IsMaking}
-use Rattle.gc_worker.specs.Held.{Held, at_stage, header_for, making_for}
+use Rattle.gc_worker.specs.Workers.Fits.{IsMaking}
+use Rattle.gc_worker.specs.Workers.Held.{Held, at_stage, header_for, making_for}
 use Rattle.gc_worker.specs.Progress.{IsSameMachine, MayWait}
-use Rattle.gc_worker.specs.Seen.{Making}
-use Rattle.gc_worker.specs.Turned.{Pointed, accessed_by, end_by_shortage, ended, first_pointer, flipped_by, forwarded_to, forwards_it, full_by, goes_back, goes_on, finds_full, passed_by, passes, places, scanned_by, served_by, with_copy, with_record, allocated_by}
+use Rattle.gc_worker.specs.Plain.Seen.{Making}
+use Rattle.gc_worker.specs.Steps.Turned.{Pointed, accessed_by, end_by_shortage, ended, first_pointer, flipped_by, forwarded_to, forwards_it, full_by, goes_back, goes_on, finds_full, passed_by, passes, places, scanned_by, served_by, with_copy, with_record, allocated_by}
 use Rattle.gc_worker.proofs.Plain.NewRecords.{made_is}
 use Rattle.gc_worker.proofs.Words.Pointers.{FirstPointer, There, Nowhere, found}
 

@@ -46,7 +46,7 @@ use Rattle.page_slots.specs.declared.open_stage.OpenStage.TheVariants as open_st
 use Rattle.page_slots.specs.Claim as claim
 use Rattle.page_slots.specs.Open as open_page
 use Rattle.heap_state.specs.Configuration.{Configuration, Stands, era, memory}
-use Rattle.heap_state.specs.Table.{word_in}
+use Rattle.heap_state.specs.Memory.Table.{word_in}
 use Rattle.heap_state.proofs.Table.Places.{word_in-row}
 use Rattle.heap_laws.specs.Answers.{OldHeader, InPlace, KeptBy, Forwards}
 use Rattle.page_scan.specs.declared.scanned_record.ScannedRecord.{ScannedRecord}
@@ -55,7 +55,7 @@ use Rattle.gc_worker.specs.declared.access_stage.AccessStage.{AccessStage}
 use Rattle.gc_worker.specs.declared.access_stage.AccessStage.TheVariants.{LooksAtRecord, LoadsHeader, LooksAtField, LoadsField, StoresField, LooksAtBoard, LoadsBoard, StoresBoard, LoadsForSwap, SwapsBoard}
 use Rattle.gc_worker.specs.declared.board_access.BoardSwap.{BoardSwap}
 use Rattle.gc_worker.specs.declared.record_access.RecordAccess.{RecordAccess}
-use Rattle.gc_worker.specs.Access as access
+use Rattle.gc_worker.specs.Steps.Access as access
 use Rattle.gc_worker.proofs.Words.Areas.{area_says, is_space}
 use Rattle.gc_worker.proofs.Stages.Copies.Words.{heap_word}
 use Rattle.gc_worker.proofs.Stages.Gate.Words.{gate_says}

@@ -9,8 +9,8 @@ use Rattle.heap_words.specs.FirstWords.{is_header}
 use Rattle.space_map.specs.declared.area_word.AreaWord.{AreaWord}
 use Rattle.space_map.specs.AreaWord.{decode_area}
 use Rattle.space_map.specs.Spaces.{Layout, board_page, first_word, space_start, to_space}
-use Rattle.heap_state.specs.FieldSpan.{first_field}
-use Rattle.heap_state.specs.Ghost.{said_kind}
+use Rattle.heap_state.specs.Memory.FieldSpan.{first_field}
+use Rattle.heap_state.specs.Invariant.Ghost.{said_kind}
 use Rattle.page_scan.specs.declared.scan_stage.ScanStage.{ScanStage}
 use Rattle.page_scan.specs.declared.scan_stage.ScanStage.TheVariants.{LoadsCross, LoadsFirst, LoadsWord, StoresCopy, LoadsFront, LoadsNext, Ended}
 use Rattle.page_scan.specs.declared.scanned_record.ScannedRecord.{ScannedRecord}

@@ -48,14 +48,14 @@ use Rattle.gc_worker.specs.declared.forwarding_register.ForwardingRegister.{Forw
 use Rattle.gc_worker.specs.declared.record_access.RecordAccess.{RecordAccess}
 use Rattle.gc_worker.specs.declared.stage.Stage.{Stage}
 use Rattle.gc_worker.specs.declared.stage.Stage.TheVariants.{Looks, Passes, Flips, Forwards, Accesses, Places, Serves, Scans, Evacuates, Opens, Gone}
-use Rattle.gc_worker.specs.Access as access
-use Rattle.gc_worker.specs.Fits.{IsOwnPassage}
-use Rattle.gc_worker.specs.Goes.{Is}
-use Rattle.gc_worker.specs.Held.{Held, at_stage}
-use Rattle.gc_worker.specs.Law.{read}
+use Rattle.gc_worker.specs.Steps.Access as access
+use Rattle.gc_worker.specs.Workers.Fits.{IsOwnPassage}
+use Rattle.gc_worker.specs.Steps.Goes.{Is}
+use Rattle.gc_worker.specs.Workers.Held.{Held, at_stage}
+use Rattle.gc_worker.specs.Laws.Step.{read}
 use Rattle.gc_worker.specs.Progress.{Progress, LessIsLeft, ExchangeWasLost, AnotherCopies, OthersGoFirst, IsSameMachine, IsWaiting, MachinesGoOn, left_at}
-use Rattle.gc_worker.specs.Turned.{turned_access, turned_at, turned_copy, turned_flip, turned_gate, turned_opening, turned_place, turned_register, turned_round, turned_scan, with_evac}
-use Rattle.gc_worker.specs.Wanted.{wanted_at}
+use Rattle.gc_worker.specs.Steps.Turned.{turned_access, turned_at, turned_copy, turned_flip, turned_gate, turned_opening, turned_place, turned_register, turned_round, turned_scan, with_evac}
+use Rattle.gc_worker.specs.Steps.Wanted.{wanted_at}
 use Rattle.gc_worker.proofs.Stages.Access.Going as accessing_going
 use Rattle.gc_worker.proofs.Stages.Access.Stages.{header_there}
 use Rattle.gc_worker.proofs.Stages.Copies.Finding.{answers}

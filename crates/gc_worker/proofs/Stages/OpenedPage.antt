@@ -12,18 +12,18 @@ use Rattle.page_scan.specs.Scanning.{Scanning}
 use Rattle.page_scan.specs.declared.scan_stage.ScanStage.{ScanStage}
 use Rattle.page_scan.specs.declared.scan_stage.ScanStage.TheVariants as scan_stage
 use Rattle.heap_state.specs.Configuration.{Configuration, Stands, era, memory, team}
-use Rattle.heap_state.specs.Entries.{Entry, PageIs}
+use Rattle.heap_state.specs.Memory.Entries.{Entry, PageIs}
 use Rattle.heap_state.specs.Worker.{Worker}
 use Rattle.heap_laws.specs.Scanning.Claims.{ends_scan}
 use Rattle.heap_laws.proofs.Scanning.Opened as opened
 use Rattle.gc_worker.specs.declared.back.Back.{Back}
 use Rattle.gc_worker.specs.declared.back.Back.TheVariants.{ToAccess, ToPlace, ToScanner}
 use Rattle.gc_worker.specs.declared.stage.Stage.TheVariants.{Opens}
-use Rattle.gc_worker.specs.Fits.{HasEnded}
-use Rattle.gc_worker.specs.Goes.{Is, Goes, StepsSo}
-use Rattle.gc_worker.specs.Held.{Held, header_for}
-use Rattle.gc_worker.specs.Knows.{knows, scan_of}
-use Rattle.gc_worker.specs.Turned.{back_from}
+use Rattle.gc_worker.specs.Workers.Fits.{HasEnded}
+use Rattle.gc_worker.specs.Steps.Goes.{Is, Goes, StepsSo}
+use Rattle.gc_worker.specs.Workers.Held.{Held, header_for}
+use Rattle.gc_worker.specs.Workers.Knows.{knows, scan_of}
+use Rattle.gc_worker.specs.Steps.Turned.{back_from}
 use Rattle.gc_worker.proofs.Workers.GoingOn.{places_known}
 use Rattle.gc_worker.proofs.Workers.GoingBack.{back_fits}
 use Rattle.gc_worker.proofs.Stages.Gate.Words.{wants}

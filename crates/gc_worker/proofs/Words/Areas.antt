@@ -7,7 +7,7 @@ use Rattle.space_map.specs.Spaces.{to_space}
 use Rattle.space_map.specs.Table.{Area}
 use Rattle.space_map.proofs.AreaWords.{decode_area-short, area_in-encode_area}
 use Rattle.heap_state.specs.Configuration.{Configuration, Stands, table}
-use Rattle.heap_state.specs.Table.{table_of, word_in}
+use Rattle.heap_state.specs.Memory.Table.{table_of, word_in}
 
 abbrev pub area_now : Configuration → ℕ → ℕ
 area_now c space = word_in c.pages c.words (Area space)

@@ -2,8 +2,8 @@
 use Rattle.std.proofs.Common.{◌≡◌, ◌*◌}
 use Rattle.space_map.specs.Spaces.{to_space, space_start}
 use Rattle.heap_state.specs.Configuration.{Configuration, era}
-use Rattle.heap_state.specs.Era.{from_space}
-use Rattle.heap_state.specs.Table.{table_of}
+use Rattle.heap_state.specs.Memory.Era.{from_space}
+use Rattle.heap_state.specs.Memory.Table.{table_of}
 
 pub board_is : (c : Configuration) → (era c).board ≡ 64 * (2 * c.pages)
 unfolding table_of

@@ -2,9 +2,9 @@
 use Rattle.std.proofs.Common.{◌≡◌, ℕ, zero, suc, ◌+◌, ◌<◌, ◌≤◌, List, slice_index, Option, Some, None, refl, sym, ap, ◌∙◌, arith, ⊎_elim}
 use Rattle.std.proofs.lemmas.Bool.{cases_eq}
 use Rattle.heap_words.specs.Decoded.{Decoded, NumberWord, PointerWord, HeaderWord, ForwardWord, BusyWord, Malformed, decode, pointer_in}
-use Rattle.heap_state.specs.Era.{Era}
-use Rattle.heap_state.specs.Ghost.{Leads}
-use Rattle.gc_worker.specs.Turned.{Pointed, first_pointer, pointer_at}
+use Rattle.heap_state.specs.Memory.Era.{Era}
+use Rattle.heap_state.specs.Invariant.Ghost.{Leads}
+use Rattle.gc_worker.specs.Steps.Turned.{Pointed, first_pointer, pointer_at}
 
 abbrev pub word_at : List ℕ → ℕ → Option ℕ
 word_at registers r = pointer_in (decode (slice_index registers r))

@@ -10,16 +10,16 @@ use Rattle.std.proofs.Math.Decide.{dec_le, dec_lt}
 use Rattle.record_layout.proofs.Rereading.{header_in-said, header_in-header_says}
 use Rattle.gc_worker.specs.declared.access_stage.AccessStage.TheVariants.{LoadsHeader}
 use Rattle.gc_worker.specs.declared.record_access.RecordAccess.{RecordAccess}
-use Rattle.gc_worker.specs.Access.{GoesTo, read_header, role_in, used_by}
-use Rattle.gc_worker.specs.Seen.{IsValueAs, IsValueWord, by_address, making_in, seen, seen_as, value_seen, word_for}
+use Rattle.gc_worker.specs.Steps.Access.{GoesTo, read_header, role_in, used_by}
+use Rattle.gc_worker.specs.Plain.Seen.{IsValueAs, IsValueWord, by_address, making_in, seen, seen_as, value_seen, word_for}
 use Rattle.heap_state.specs.Worker.{Account}
 use Rattle.plain_heap.specs.Action.{register}
-use Rattle.gc_worker.specs.Fits.{FitsStage, IsMaking}
-use Rattle.gc_worker.specs.Held.{Held, at_stage}
+use Rattle.gc_worker.specs.Workers.Fits.{FitsStage, IsMaking}
+use Rattle.gc_worker.specs.Workers.Held.{Held, at_stage}
 use Rattle.gc_worker.specs.declared.stage.Stage.{Stage}
 use Rattle.gc_worker.specs.declared.stage.Stage.TheVariants.{Forwards, Serves}
-use Rattle.gc_worker.specs.Turned.{Pointed, back_from, first_pointer, forwarded_to, forwards_from, forwards_it, places, scans, served_by, turned, turned_at, turned_register, turned_round, with_evac}
-use Rattle.gc_worker.specs.Stepped.{served_in, uncounted}
+use Rattle.gc_worker.specs.Steps.Turned.{Pointed, back_from, first_pointer, forwarded_to, forwards_from, forwards_it, places, scans, served_by, turned, turned_at, turned_register, turned_round, with_evac}
+use Rattle.gc_worker.specs.Steps.Stepped.{served_in, uncounted}
 use Rattle.gc_worker.specs.declared.after.After.{After}
 use Rattle.gc_worker.specs.declared.forwarding_register.ForwardingRegister.{ForwardingRegister}
 use Rattle.gc_worker.specs.declared.back.Back.{Back}

@@ -9,9 +9,9 @@ use Rattle.atom_store.specs.declared.reply.Reply.TheVariants.{Value, Done, Won, 
 use Rattle.space_map.specs.Table.{Row, IsRow, place_of}
 use Rattle.space_map.proofs.Rows.{place_of-lt}
 use Rattle.heap_state.specs.Configuration.{Configuration, Stands, era, memory, team}
-use Rattle.heap_state.specs.Entries.{Entry, row_of, word_of}
-use Rattle.heap_state.specs.Ghost.{Ghost}
-use Rattle.heap_state.specs.Table.{word_in}
+use Rattle.heap_state.specs.Memory.Entries.{Entry, row_of, word_of}
+use Rattle.heap_state.specs.Invariant.Ghost.{Ghost}
+use Rattle.heap_state.specs.Memory.Table.{word_in}
 use Rattle.heap_state.specs.Worker.{Worker}
 use Rattle.heap_laws.specs.Composing.{IsAtMost}
 use Rattle.heap_laws.specs.Steps.{Ready}
@@ -22,11 +22,11 @@ use Rattle.heap_laws.proofs.Lifting.Laws.{steps_are_lifted}
 use Rattle.heap_laws.proofs.Steps.Composing.{steps_forget}
 use Rattle.heap_state.proofs.Table.Places.{word_in-row}
 use Rattle.heap_state.proofs.Table.Stores.{entry_has_row}
-use Rattle.gc_worker.specs.Fits.{Fits, Takes}
-use Rattle.gc_worker.specs.Goes.{Is, Goes, StepsInTable, Wins}
-use Rattle.gc_worker.specs.Held.{Held}
-use Rattle.gc_worker.specs.Knows.{knows}
-use Rattle.gc_worker.specs.Turned.{Silent, PageWon, turned, told, won}
+use Rattle.gc_worker.specs.Workers.Fits.{Fits, Takes}
+use Rattle.gc_worker.specs.Steps.Goes.{Is, Goes, StepsInTable, Wins}
+use Rattle.gc_worker.specs.Workers.Held.{Held}
+use Rattle.gc_worker.specs.Workers.Knows.{knows}
+use Rattle.gc_worker.specs.Steps.Turned.{Silent, PageWon, turned, told, won}
 
 module _ (c : Configuration) (p : Plain) (s : Stands c p) (k : ℕ) (x : Held) where
   -- what a law of the heap says of a step of worker k

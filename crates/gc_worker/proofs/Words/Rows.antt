@@ -16,13 +16,13 @@ use Rattle.forwarding.proofs.RowsFit as copy_rows
 use Rattle.gate_core.proofs.RowsFit.{flip_rows_fit, passage_rows_fit}
 use Rattle.page_scan.proofs.RowsFit as scan_rows
 use Rattle.page_slots.proofs.RowsFit.{opening_rows_fit}
-use Rattle.gc_worker.specs.Access as access
+use Rattle.gc_worker.specs.Steps.Access as access
 use Rattle.gc_worker.specs.declared.stage.Stage.{Stage}
 use Rattle.gc_worker.specs.declared.stage.Stage.TheVariants.{Looks, Passes, Flips, Forwards, Accesses, Places, Serves, Scans, Evacuates, Opens, Gone}
-use Rattle.gc_worker.specs.Fits.{Fits, FitsCopy, FitsStage}
-use Rattle.gc_worker.specs.Held.{Held}
-use Rattle.gc_worker.specs.Law.{PlacesFit}
-use Rattle.gc_worker.specs.Wanted.{wanted_at}
+use Rattle.gc_worker.specs.Workers.Fits.{Fits, FitsCopy, FitsStage}
+use Rattle.gc_worker.specs.Workers.Held.{Held}
+use Rattle.gc_worker.specs.Laws.Step.{PlacesFit}
+use Rattle.gc_worker.specs.Steps.Wanted.{wanted_at}
 use Rattle.gc_worker.proofs.Stages.Access.RowsFit as access_rows
 
 -- there is a step, on a row of the table with n pages a space

@@ -2,11 +2,11 @@
 use Rattle.std.proofs.Common.{◌≡◌, ℕ, List, get_or, ap, sym, ◌∙◌, arith}
 use Rattle.space_map.specs.Spaces.{to_space}
 use Rattle.space_map.specs.Table.{Row, IsRow, Gate, Traced, Area, place_of}
-use Rattle.heap_state.specs.Table.{word_in}
+use Rattle.heap_state.specs.Memory.Table.{word_in}
 use Rattle.heap_state.proofs.Table.Places.{word_in-row}
-use Rattle.gc_worker.specs.Law.{Heap}
+use Rattle.gc_worker.specs.Laws.Step.{Heap}
 use Rattle.gc_worker.specs.Readers.{cycles_in, live_in, live_said}
-use Rattle.gc_worker.specs.Turned.{epoch_said}
+use Rattle.gc_worker.specs.Steps.Turned.{epoch_said}
 
 module _ (h : Heap) (words : List ℕ) (words_are : words ≡ h.words) where
   -- a row's word

@@ -9,10 +9,10 @@ use Rattle.heap_state.specs.Functions.{put}
 use Rattle.heap_state.specs.Worker.{Account}
 use Rattle.heap_state.proofs.Puts.{put_is}
 use Rattle.gc_worker.specs.declared.stage.Stage.TheVariants.{Looks}
-use Rattle.gc_worker.specs.Fits.{AreValues, Fits, FitsRun}
-use Rattle.gc_worker.specs.Held.{Held}
-use Rattle.gc_worker.specs.Seen.{IsValueWord}
-use Rattle.gc_worker.specs.Turned.{ended}
+use Rattle.gc_worker.specs.Workers.Fits.{AreValues, Fits, FitsRun}
+use Rattle.gc_worker.specs.Workers.Held.{Held}
+use Rattle.gc_worker.specs.Plain.Seen.{IsValueWord}
+use Rattle.gc_worker.specs.Steps.Turned.{ended}
 use Rattle.gc_worker.proofs.Workers.Parts.{with_parts, page_count}
 
 -- a register changed in the list is changed in the function

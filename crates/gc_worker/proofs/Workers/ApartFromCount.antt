@@ -52,13 +52,13 @@ use Rattle.gc_worker.specs.declared.stage.Stage.{Stage}
 use Rattle.gc_worker.specs.declared.stage.Stage.TheVariants.{Looks, Passes, Flips, Forwards, Accesses, Places, Serves, Scans, Evacuates, Opens, Gone}
 use Rattle.gc_worker.specs.declared.task.Task.{Task}
 use Rattle.gc_worker.specs.declared.task.Task.TheVariants.{Calls, Stops}
-use Rattle.gc_worker.specs.Access as access
-use Rattle.gc_worker.specs.Counted.{counted, count_after, CountsAreApart, CountedFit}
-use Rattle.gc_worker.specs.Fits.{Fits, FitsCall, FitsCopy, FitsRound, FitsScan, FitsStage, FitsTask, FitsTaskAfter, FitsTaskBack, FitsTaskBefore, ExecutesAction, IsAccessing, IsMaking, MayBegin}
-use Rattle.gc_worker.specs.Held.{Held, pages_needed, at_stage, header_for, header_of, making_for, pages_asked}
-use Rattle.gc_worker.specs.Seen.{Making, making_in, seen}
-use Rattle.gc_worker.specs.Turned.{Told, Silent, acted, begins, end_by_shortage, ended, full_by, goes_back, goes_on, finds_full, loads, looked_by, of_round, passed_by, passes, places, started, told_access, told_acted, told_at, told_effect, told_end, told_flip, told_full, told_gate, told_place, told_start, turned_access, turned_at, turned_copy, turned_flip, turned_gate, turned_opening, turned_place, turned_register, turned_round, turned_scan, went_on, with_evac, with_record}
-use Rattle.gc_worker.specs.Wanted.{wanted_at}
+use Rattle.gc_worker.specs.Steps.Access as access
+use Rattle.gc_worker.specs.Workers.Counted.{counted, count_after, CountsAreApart, CountedFit}
+use Rattle.gc_worker.specs.Workers.Fits.{Fits, FitsCall, FitsCopy, FitsRound, FitsScan, FitsStage, FitsTask, FitsTaskAfter, FitsTaskBack, FitsTaskBefore, ExecutesAction, IsAccessing, IsMaking, MayBegin}
+use Rattle.gc_worker.specs.Workers.Held.{Held, pages_needed, at_stage, header_for, header_of, making_for, pages_asked}
+use Rattle.gc_worker.specs.Plain.Seen.{Making, making_in, seen}
+use Rattle.gc_worker.specs.Steps.Turned.{Told, Silent, acted, begins, end_by_shortage, ended, full_by, goes_back, goes_on, finds_full, loads, looked_by, of_round, passed_by, passes, places, started, told_access, told_acted, told_at, told_effect, told_end, told_flip, told_full, told_gate, told_place, told_start, turned_access, turned_at, turned_copy, turned_flip, turned_gate, turned_opening, turned_place, turned_register, turned_round, turned_scan, went_on, with_evac, with_record}
+use Rattle.gc_worker.specs.Steps.Wanted.{wanted_at}
 use Rattle.gc_worker.proofs.Plain.NewRecords.{made, made_is}
 
 -- no action depends on the count

@@ -2,9 +2,9 @@
 use Rattle.std.proofs.Common.{◌≡◌, ℕ, false, is_some, nat_lt, refl, arith}
 use Rattle.gc_worker.specs.declared.back.Back.{Back}
 use Rattle.gc_worker.specs.declared.back.Back.TheVariants.{ToAccess, ToPlace, ToScanner}
-use Rattle.gc_worker.specs.Fits.{Fits, FitsBack, FitsTaskBack, IsOnSideBack}
-use Rattle.gc_worker.specs.Held.{Held}
-use Rattle.gc_worker.specs.Turned.{goes_back, back_from}
+use Rattle.gc_worker.specs.Workers.Fits.{Fits, FitsBack, FitsTaskBack, IsOnSideBack}
+use Rattle.gc_worker.specs.Workers.Held.{Held}
+use Rattle.gc_worker.specs.Steps.Turned.{goes_back, back_from}
 use Rattle.gc_worker.proofs.Workers.Parts.{refit, page_count}
 use Rattle.gc_worker.proofs.Workers.GoingOn.{places_fit}
 

@@ -10,10 +10,10 @@ use Rattle.record_layout.specs.declared.header.Header.{Header}
 use Rattle.gc_worker.specs.declared.after.After.{After}
 use Rattle.gc_worker.specs.declared.after.After.TheVariants as afters
 use Rattle.gc_worker.specs.declared.stage.Stage.TheVariants.{Looks, Places}
-use Rattle.gc_worker.specs.Fits.{Fits, FitsRun, FitsTaskAfter, IsMaking}
-use Rattle.gc_worker.specs.Held.{Held, at_stage, header_for, run_held, run_in}
-use Rattle.gc_worker.specs.Knows.{knows, known_at, stock_at, own_stock}
-use Rattle.gc_worker.specs.Turned.{places, goes_on}
+use Rattle.gc_worker.specs.Workers.Fits.{Fits, FitsRun, FitsTaskAfter, IsMaking}
+use Rattle.gc_worker.specs.Workers.Held.{Held, at_stage, header_for, run_held, run_in}
+use Rattle.gc_worker.specs.Workers.Knows.{knows, known_at, stock_at, own_stock}
+use Rattle.gc_worker.specs.Steps.Turned.{places, goes_on}
 use Rattle.gc_worker.proofs.Workers.Parts.{refit, page_count}
 use Rattle.gc_worker.proofs.Plain.NewRecords.{makes_header}
 

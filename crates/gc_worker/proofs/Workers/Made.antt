@@ -3,11 +3,11 @@ use Rattle.std.proofs.Common.{◌≡◌, ℕ, List, Some, sym, subst}
 use Rattle.atom_store.specs.declared.reply.Reply.{Reply}
 use Rattle.atom_store.specs.declared.step.Step.{Step}
 use Rattle.atom_store.specs.Step.{reply_of}
-use Rattle.gc_worker.specs.Held.{Held}
-use Rattle.gc_worker.specs.Made.{Allows, AllowsStep, MayMake}
-use Rattle.gc_worker.specs.Stepped.{IsSound}
-use Rattle.gc_worker.specs.Turned.{turned}
-use Rattle.gc_worker.specs.Wanted.{wanted}
+use Rattle.gc_worker.specs.Workers.Held.{Held}
+use Rattle.gc_worker.specs.Steps.Made.{Allows, AllowsStep, MayMake}
+use Rattle.gc_worker.specs.Steps.Stepped.{IsSound}
+use Rattle.gc_worker.specs.Steps.Turned.{turned}
+use Rattle.gc_worker.specs.Steps.Wanted.{wanted}
 
 pub sound_after : (x : Held) (words : List ℕ) (q : Step) (reply : Reply) → MayMake x words → wanted x ≡ Some q → reply ≡ reply_of q words → IsSound (turned x reply)
 sound_after x words q reply may wants same =

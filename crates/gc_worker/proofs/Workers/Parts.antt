@@ -6,9 +6,9 @@ use Rattle.alloc_end.specs.declared.run.Run.{Run}
 use Rattle.gate_core.specs.declared.passage.Passage.{Passage}
 use Rattle.gc_worker.specs.declared.after.After.{After}
 use Rattle.gc_worker.specs.declared.stage.Stage.{Stage}
-use Rattle.gc_worker.specs.Fits.{IsWorkerOf, AreValues, Fits, FitsRun, FitsStage, FitsEnd, FitsTask, FitsTaskBefore, IsOnSide, IsOwnPassage, IsEndBefore}
-use Rattle.gc_worker.specs.Held.{Held, at_stage}
-use Rattle.gc_worker.specs.Turned.{passes, in_epoch}
+use Rattle.gc_worker.specs.Workers.Fits.{IsWorkerOf, AreValues, Fits, FitsRun, FitsStage, FitsEnd, FitsTask, FitsTaskBefore, IsOnSide, IsOwnPassage, IsEndBefore}
+use Rattle.gc_worker.specs.Workers.Held.{Held, at_stage}
+use Rattle.gc_worker.specs.Steps.Turned.{passes, in_epoch}
 
 -- The parts of a worker are spelled here alone: of a new one, and of one of which some are others now.
 pub new_worker : (n mutators k : ℕ) → IsPageCount n → k ≤ 23 → AreValues (replicate REGISTERS 0) → IsWorkerOf n mutators k k n mutators 0 (replicate REGISTERS 0) [] None

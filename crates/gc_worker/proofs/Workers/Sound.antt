@@ -4,12 +4,12 @@ use Rattle.std.proofs.lemmas.Bool.{le-ltb}
 use Rattle.space_map.specs.Spaces.{IsPageCount}
 use Rattle.atom_store.specs.declared.step.Step.{Step}
 use Rattle.gc_worker.specs.declared.task.Task.{Task}
-use Rattle.gc_worker.specs.Between.{IsIdle, fresh_mutator, fresh_scanner, with_task}
-use Rattle.gc_worker.specs.Fits.{MayBegin}
-use Rattle.gc_worker.specs.Held.{Held}
-use Rattle.gc_worker.specs.Made.{AllowsStep, MayMake, step_made, step_made_by}
-use Rattle.gc_worker.specs.Stepped.{IsSound, uncounted}
-use Rattle.gc_worker.specs.Wanted.{wanted}
+use Rattle.gc_worker.specs.Laws.Between.{IsIdle, fresh_mutator, fresh_scanner, with_task}
+use Rattle.gc_worker.specs.Workers.Fits.{MayBegin}
+use Rattle.gc_worker.specs.Workers.Held.{Held}
+use Rattle.gc_worker.specs.Steps.Made.{AllowsStep, MayMake, step_made, step_made_by}
+use Rattle.gc_worker.specs.Steps.Stepped.{IsSound, uncounted}
+use Rattle.gc_worker.specs.Steps.Wanted.{wanted}
 use Rattle.gc_worker.proofs.Between.Beginning.{tasks_may_begin}
 use Rattle.gc_worker.proofs.Between.Opening.{mutator_fits, scanner_fits}
 use Rattle.gc_worker.proofs.Workers.ApartFromCount.{counted_fit}

@@ -6,8 +6,8 @@ use Rattle.gc_worker.specs.declared.call.Call.{Call}
 use Rattle.gc_worker.specs.declared.entry.Entry.{Entry}
 use Rattle.gc_worker.specs.declared.entry.Entry.TheVariants.{Made, Exchanged}
 use Rattle.gc_worker.specs.declared.task.Task.{Task}
-use Rattle.gc_worker.specs.Answer.{ComesTo, after_told}
-use Rattle.gc_worker.specs.Turned.{Told, Silent, Answers, Marks}
+use Rattle.gc_worker.specs.Plain.Answer.{ComesTo, after_told}
+use Rattle.gc_worker.specs.Steps.Turned.{Told, Silent, Answers, Marks}
 
 -- ---- calls
 

@@ -9,7 +9,7 @@ use Rattle.plain_heap.specs.declared.mark.Mark.TheVariants.{Step, Flip, Full}
 use Rattle.plain_heap.specs.Order.{Story, opening, plain, story, story_marked}
 use Rattle.plain_heap.specs.Step.{asked_by}
 use Rattle.heap_state.specs.Functions.{sum_below}
-use Rattle.heap_state.specs.Reachable.{IsLive}
+use Rattle.heap_state.specs.Meaning.Reachable.{IsLive}
 
 -- ---- flips
 

@@ -13,7 +13,7 @@ use Rattle.gc_worker.specs.declared.did.Did.TheVariants.{Done, Trap}
 use Rattle.gc_worker.specs.declared.entry.Entry.{Entry}
 use Rattle.gc_worker.specs.declared.entry.Entry.TheVariants.{Made, Exchanged}
 use Rattle.gc_worker.specs.History.Legal.{after_call}
-use Rattle.gc_worker.specs.Marks.{end_mark, task_of}
+use Rattle.gc_worker.specs.Plain.Marks.{end_mark, task_of}
 
 -- ---- the order of a history
 

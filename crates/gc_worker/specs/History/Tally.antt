@@ -7,18 +7,18 @@ use Rattle.plain_state.specs.declared.sizes.TheConstants.{PAGE_WORDS}
 use Rattle.plain_state.specs.State.{Mutator, Plain}
 use Rattle.plain_heap.specs.Step.{new_record, pages_of}
 use Rattle.heap_state.specs.Functions.{sum_below}
-use Rattle.heap_state.specs.Reachable.{IsLive}
+use Rattle.heap_state.specs.Meaning.Reachable.{IsLive}
 use Rattle.gc_worker.specs.declared.did.Did.{Did}
 use Rattle.gc_worker.specs.declared.did.Did.TheVariants.{Done, Trap}
 use Rattle.gc_worker.specs.declared.entry.Entry.{Entry}
 use Rattle.gc_worker.specs.declared.entry.Entry.TheVariants.{Made, Exchanged}
 use Rattle.gc_worker.specs.declared.task.Task.{Task}
 use Rattle.gc_worker.specs.declared.task.Task.TheVariants.{Calls, Stops}
-use Rattle.gc_worker.specs.Begun.{IsPastLook}
-use Rattle.gc_worker.specs.Cycles.{IsFirst, IsInCall, low_of, set_aside}
-use Rattle.gc_worker.specs.Held.{Held}
+use Rattle.gc_worker.specs.Workers.Begun.{IsPastLook}
+use Rattle.gc_worker.specs.Laws.Cycles.{IsFirst, IsInCall, low_of, set_aside}
+use Rattle.gc_worker.specs.Workers.Held.{Held}
 use Rattle.gc_worker.specs.History.Legal.{after_call}
-use Rattle.gc_worker.specs.Law.{Heap, epoch_of, held_at, nobody}
+use Rattle.gc_worker.specs.Laws.Step.{Heap, epoch_of, held_at, nobody}
 
 -- ---- what a mutator does next
 

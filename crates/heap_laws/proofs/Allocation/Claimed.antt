@@ -2,16 +2,16 @@
 use Rattle.std.proofs.Common.{◌≡◌, ℕ, ◌+◌, ◌-◌, ◌*◌, ◌/◌, ◌<◌, ◌≤◌, true, Some, refl, sym, ap, arith, ⊎_elim, ◌⊎◌, inl, inr}
 use Rattle.std.proofs.lemmas.Bool.{cases_lt}
 use Rattle.space_map.specs.declared.gate_word.GateWord.{GateWord}
-use Rattle.heap_state.specs.Era.{Era, IsLaidOut, Memory}
+use Rattle.heap_state.specs.Memory.Era.{Era, IsLaidOut, Memory}
 use Rattle.heap_state.specs.Functions.{count_one}
-use Rattle.heap_state.specs.Ghost.{Ghost}
-use Rattle.heap_state.specs.Inductive.{Invariant, Knows}
-use Rattle.heap_state.specs.Parts.Copies.{Room}
-use Rattle.heap_state.specs.Parts.Gate.{Counted}
-use Rattle.heap_state.specs.Parts.Knowledge.{Resets}
-use Rattle.heap_state.specs.Parts.Pages.{Shut}
-use Rattle.heap_state.specs.Parts.Records.{Laid, NewArea, NewWritten}
-use Rattle.heap_state.specs.Parts.Stocks.{Stocks, Stocked}
+use Rattle.heap_state.specs.Invariant.Ghost.{Ghost}
+use Rattle.heap_state.specs.Invariant.Inductive.{Invariant, Knows}
+use Rattle.heap_state.specs.Invariant.Parts.Copies.{Room}
+use Rattle.heap_state.specs.Invariant.Parts.Gate.{Counted}
+use Rattle.heap_state.specs.Invariant.Parts.Knowledge.{Resets}
+use Rattle.heap_state.specs.Invariant.Parts.Pages.{Shut}
+use Rattle.heap_state.specs.Invariant.Parts.Records.{Laid, NewArea, NewWritten}
+use Rattle.heap_state.specs.Invariant.Parts.Stocks.{Stocks, Stocked}
 use Rattle.heap_state.specs.Worker.{Worker, Team, Stock, is_running, Reset}
 use Rattle.heap_state.proofs.Workers.Frames.{counted_put, staffed_put, scanned_put, stocks_anew, numbered_put, rooted_put}
 use Rattle.heap_state.proofs.Puts.{team_put, some_same}

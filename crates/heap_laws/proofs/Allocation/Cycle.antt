@@ -4,12 +4,12 @@ use Rattle.plain_state.specs.declared.kind.Kind.{Kind}
 use Rattle.plain_state.specs.State as plain
 use Rattle.plain_state.specs.declared.value.Identity.{Identity}
 use Rattle.plain_state.specs.Layout.{word_of_value}
-use Rattle.heap_state.specs.Cycle.{Cycle, Copying, Rooted, RootLeads, ByBoard, ByRegister, StillLeads, IsCopied}
-use Rattle.heap_state.specs.Era.{Era, IsLaidOut, Memory}
+use Rattle.heap_state.specs.Cycles.Cycle.{Cycle, Copying, Rooted, RootLeads, ByBoard, ByRegister, StillLeads, IsCopied}
+use Rattle.heap_state.specs.Memory.Era.{Era, IsLaidOut, Memory}
 use Rattle.heap_state.specs.Functions.{put}
-use Rattle.heap_state.specs.Ghost.{Ghost}
-use Rattle.heap_state.specs.Inductive.{Invariant}
-use Rattle.heap_state.specs.Values.{value_of, Shows}
+use Rattle.heap_state.specs.Invariant.Ghost.{Ghost}
+use Rattle.heap_state.specs.Invariant.Inductive.{Invariant}
+use Rattle.heap_state.specs.Meaning.Values.{value_of, Shows}
 use Rattle.heap_state.specs.Worker.{Worker, Team, Stock, is_mutator, is_late}
 use Rattle.heap_state.proofs.Puts.{put_other, proj_put}
 use Rattle.heap_laws.specs.Allocation.Records.{next_identity, allocated}

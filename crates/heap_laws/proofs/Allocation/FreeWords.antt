@@ -6,17 +6,17 @@ use Rattle.plain_state.specs.declared.value.Identity.{Identity}
 use Rattle.plain_state.specs.declared.value.Value.{Value}
 use Rattle.plain_state.specs.declared.value.Value.TheVariants.{Reference}
 use Rattle.space_map.specs.declared.page_word.PageWord.{PageWord}
-use Rattle.heap_state.specs.Cycle.{Copying, Rooted, RootLeads, ByBoard, ByRegister}
-use Rattle.heap_state.specs.Era.{Era, IsLaidOut, Memory}
+use Rattle.heap_state.specs.Cycles.Cycle.{Copying, Rooted, RootLeads, ByBoard, ByRegister}
+use Rattle.heap_state.specs.Memory.Era.{Era, IsLaidOut, Memory}
 use Rattle.heap_state.specs.Functions.{put}
-use Rattle.heap_state.specs.Ghost.{Ghost, IsField, Here}
-use Rattle.heap_state.specs.Inductive.{Knows}
-use Rattle.heap_state.specs.Parts.Copying.{Copies, Keeps, IsOrigin}
-use Rattle.heap_state.specs.Parts.Leading.{Opened, Landing, Older}
-use Rattle.heap_state.specs.Parts.OldSpace.{OldSpace}
-use Rattle.heap_state.specs.Parts.Records.{Headed, RawWords}
-use Rattle.heap_state.specs.Parts.Scanning.{Scans}
-use Rattle.heap_state.specs.Values.{value_of, Shows, ShowsAll, BoardShows}
+use Rattle.heap_state.specs.Invariant.Ghost.{Ghost, IsField, Here}
+use Rattle.heap_state.specs.Invariant.Inductive.{Knows}
+use Rattle.heap_state.specs.Invariant.Parts.Copying.{Copies, Keeps, IsOrigin}
+use Rattle.heap_state.specs.Invariant.Parts.Leading.{Opened, Landing, Older}
+use Rattle.heap_state.specs.Invariant.Parts.OldSpace.{OldSpace}
+use Rattle.heap_state.specs.Invariant.Parts.Records.{Headed, RawWords}
+use Rattle.heap_state.specs.Invariant.Parts.Scanning.{Scans}
+use Rattle.heap_state.specs.Meaning.Values.{value_of, Shows, ShowsAll, BoardShows}
 use Rattle.heap_state.specs.Worker.{Worker, Copy, Scan, Origin, Register, Scanned, is_late, Quest}
 use Rattle.heap_state.proofs.Puts.{put_other}
 use Rattle.heap_laws.proofs.Frames.OtherWords.{has_place, headed_same, old_space_same, scans_same, copies_same, shows_same}

@@ -5,12 +5,12 @@ use Rattle.plain_state.specs.declared.kind.Kind.{Kind}
 use Rattle.heap_words.specs.Decoded.{PointerWord, decode}
 use Rattle.plain_state.specs.declared.value.Identity.{Identity}
 use Rattle.space_map.specs.declared.page_word.PageWord.TheVariants.{Open}
-use Rattle.heap_state.specs.Era.{Era, IsLaidOut, Memory}
+use Rattle.heap_state.specs.Memory.Era.{Era, IsLaidOut, Memory}
 use Rattle.heap_state.specs.Functions.{put}
-use Rattle.heap_state.specs.Ghost.{Ghost, Leads, Lands}
-use Rattle.heap_state.specs.Inductive.{Invariant, Knows}
-use Rattle.heap_state.specs.Parts.Stocks.{Stocks, Stocked, Numbered}
-use Rattle.heap_state.specs.Values.{value_of}
+use Rattle.heap_state.specs.Invariant.Ghost.{Ghost, Leads, Lands}
+use Rattle.heap_state.specs.Invariant.Inductive.{Invariant, Knows}
+use Rattle.heap_state.specs.Invariant.Parts.Stocks.{Stocks, Stocked, Numbered}
+use Rattle.heap_state.specs.Meaning.Values.{value_of}
 use Rattle.heap_state.specs.Worker.{Worker, Team, Stock}
 use Rattle.heap_state.proofs.Workers.Frames.{counted_put, staffed_put, scanned_put, stocks_anew}
 use Rattle.heap_state.proofs.Puts.{put_at, put_other, put_same, each_put, team_put, some_same}

@@ -5,9 +5,9 @@ use Rattle.space_map.specs.AreaWord.{AreaFits}
 use Rattle.space_map.specs.declared.area_word.AreaWord.{AreaWord}
 use Rattle.space_map.specs.declared.page_word.PageWord.TheVariants.{Open}
 use Rattle.space_map.specs.Spaces.{to_space}
-use Rattle.heap_state.specs.Entries.{AreaIs, PageIs}
-use Rattle.heap_state.specs.Era.{Era, Memory}
-use Rattle.heap_state.specs.Ghost.{Ghost}
+use Rattle.heap_state.specs.Memory.Entries.{AreaIs, PageIs}
+use Rattle.heap_state.specs.Memory.Era.{Era, Memory}
+use Rattle.heap_state.specs.Invariant.Ghost.{Ghost}
 use Rattle.heap_state.specs.Worker.{Team, Stock, is_running}
 use Rattle.heap_laws.specs.Allocation.Stocks.{HasRoomForPages, StocksAreClaimed, StocksAreZeroed, StocksAreOpened, claimed, lowered, owed_beside, stocked, opened_further, RoomIsSeen}
 use Rattle.heap_laws.specs.Steps.{Ready, IsAreaNow, Steps, Preserves, InArea, InPage, InWord, with_area, with_page, with_worker}

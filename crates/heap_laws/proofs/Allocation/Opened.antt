@@ -4,14 +4,14 @@ use Rattle.std.proofs.lemmas.Bool.{cases_eq}
 use Rattle.space_map.specs.declared.page_word.PageWord.{PageWord}
 use Rattle.space_map.specs.declared.page_word.PageWord.TheVariants.{Open, Scanning}
 use Rattle.space_map.specs.PageWord.{age_of}
-use Rattle.heap_state.specs.Era.{Era, IsLaidOut, Memory}
+use Rattle.heap_state.specs.Memory.Era.{Era, IsLaidOut, Memory}
 use Rattle.heap_state.specs.Functions.{put}
-use Rattle.heap_state.specs.Ghost.{Ghost, Here, IsField}
-use Rattle.heap_state.specs.Inductive.{Invariant, Knows}
-use Rattle.heap_state.specs.Parts.Leading.{Opened}
-use Rattle.heap_state.specs.Parts.Pages.{Shut, Filling}
-use Rattle.heap_state.specs.Parts.Records.{NewArea}
-use Rattle.heap_state.specs.Parts.Stocks.{Stocks, Stocked}
+use Rattle.heap_state.specs.Invariant.Ghost.{Ghost, Here, IsField}
+use Rattle.heap_state.specs.Invariant.Inductive.{Invariant, Knows}
+use Rattle.heap_state.specs.Invariant.Parts.Leading.{Opened}
+use Rattle.heap_state.specs.Invariant.Parts.Pages.{Shut, Filling}
+use Rattle.heap_state.specs.Invariant.Parts.Records.{NewArea}
+use Rattle.heap_state.specs.Invariant.Parts.Stocks.{Stocks, Stocked}
 use Rattle.heap_state.specs.Worker.{Worker, Team, Stock}
 use Rattle.heap_state.proofs.Workers.Frames.{counted_put, staffed_put, scanned_put, stocks_anew, numbered_put, rooted_put}
 use Rattle.heap_state.proofs.Puts.{put_at, put_other, each_put, team_put, some_same}

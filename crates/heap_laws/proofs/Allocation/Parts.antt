@@ -6,15 +6,15 @@ use Rattle.heap_words.specs.Decoded.{HeaderWord, decode}
 use Rattle.plain_state.specs.declared.value.Identity.{Identity}
 use Rattle.space_map.specs.declared.page_word.PageWord.{PageWord}
 use Rattle.space_map.specs.declared.page_word.PageWord.TheVariants.{Open}
-use Rattle.heap_state.specs.Era.{Era, IsLaidOut}
+use Rattle.heap_state.specs.Memory.Era.{Era, IsLaidOut}
 use Rattle.heap_state.specs.Functions.{put, sum_below}
-use Rattle.heap_state.specs.Ghost.{Lands, IsField, Here, header_kind}
-use Rattle.heap_state.specs.Parts.Copies.{Copied, Once, Keepers, Room, owing}
-use Rattle.heap_state.specs.Parts.Crossing.{Crossing}
-use Rattle.heap_state.specs.Parts.Leading.{Opened, Landing, Older}
-use Rattle.heap_state.specs.Parts.OldSpace.{OldSpace}
-use Rattle.heap_state.specs.Parts.Pages.{Shut}
-use Rattle.heap_state.specs.Parts.Records.{Laid, Headed, NewArea, NewWritten, SpaceOf, RawWords}
+use Rattle.heap_state.specs.Invariant.Ghost.{Lands, IsField, Here, header_kind}
+use Rattle.heap_state.specs.Invariant.Parts.Copies.{Copied, Once, Keepers, Room, owing}
+use Rattle.heap_state.specs.Invariant.Parts.Crossing.{Crossing}
+use Rattle.heap_state.specs.Invariant.Parts.Leading.{Opened, Landing, Older}
+use Rattle.heap_state.specs.Invariant.Parts.OldSpace.{OldSpace}
+use Rattle.heap_state.specs.Invariant.Parts.Pages.{Shut}
+use Rattle.heap_state.specs.Invariant.Parts.Records.{Laid, Headed, NewArea, NewWritten, SpaceOf, RawWords}
 use Rattle.heap_state.proofs.Puts.{put_at, put_other, put_cases, sum_below-same}
 use Rattle.heap_laws.proofs.Frames.Values.{zero_clean, zero_lands}
 

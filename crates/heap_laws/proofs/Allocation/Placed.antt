@@ -8,10 +8,10 @@ use Rattle.plain_state.specs.Writing.{gained}
 use Rattle.plain_state.specs.declared.kind.Kind.{Kind}
 use Rattle.plain_state.specs.declared.value.Identity.{Identity}
 use Rattle.plain_state.specs.declared.value.Value.TheVariants.{Reference}
-use Rattle.heap_state.specs.Era.{Era, Memory}
-use Rattle.heap_state.specs.Ghost.{Ghost}
-use Rattle.heap_state.specs.Values.{Shown, Shows, value_of}
-use Rattle.heap_state.specs.Parts.Knowledge.{Accesses}
+use Rattle.heap_state.specs.Memory.Era.{Era, Memory}
+use Rattle.heap_state.specs.Invariant.Ghost.{Ghost}
+use Rattle.heap_state.specs.Meaning.Values.{Shown, Shows, value_of}
+use Rattle.heap_state.specs.Invariant.Parts.Knowledge.{Accesses}
 use Rattle.heap_state.specs.Worker.{Worker, Team, Stock, Access}
 use Rattle.heap_state.proofs.Puts.{put_at, put_other, put_same, put_twice}
 use Rattle.heap_laws.specs.Fields.Held.{MayHold, HoldsValue, MutatorGoesOn}

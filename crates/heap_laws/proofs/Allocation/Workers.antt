@@ -3,13 +3,13 @@ use Rattle.std.proofs.Common.{◌≡◌, ℕ, ◌+◌, ◌<◌, Bool, Option, re
 use Rattle.plain_state.specs.declared.kind.Kind.{Kind}
 use Rattle.plain_state.specs.declared.value.Identity.{Identity}
 use Rattle.space_map.specs.declared.page_word.PageWord.{PageWord}
-use Rattle.heap_state.specs.Era.{Era, Memory}
+use Rattle.heap_state.specs.Memory.Era.{Era, Memory}
 use Rattle.heap_state.specs.Functions.{put}
-use Rattle.heap_state.specs.Ghost.{Ghost}
-use Rattle.heap_state.specs.Inductive.{Knows}
-use Rattle.heap_state.specs.Parts.Copying.{Copies, Keeps, IsOrigin, Seeks}
-use Rattle.heap_state.specs.Parts.Knowledge.{Accesses, Clean}
-use Rattle.heap_state.specs.Parts.Scanning.{Scans, Stepping, Claims}
+use Rattle.heap_state.specs.Invariant.Ghost.{Ghost}
+use Rattle.heap_state.specs.Invariant.Inductive.{Knows}
+use Rattle.heap_state.specs.Invariant.Parts.Copying.{Copies, Keeps, IsOrigin, Seeks}
+use Rattle.heap_state.specs.Invariant.Parts.Knowledge.{Accesses, Clean}
+use Rattle.heap_state.specs.Invariant.Parts.Scanning.{Scans, Stepping, Claims}
 use Rattle.heap_state.specs.Worker.{Worker, Copy, Scan, Claim, Quest, Access, Origin, Register, Scanned, is_late, is_mutator}
 use Rattle.heap_state.proofs.Puts.{each_put}
 use Rattle.heap_laws.specs.Allocation.Records.{allocated}

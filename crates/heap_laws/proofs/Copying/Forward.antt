@@ -4,18 +4,18 @@ use Rattle.std.proofs.lemmas.Bool.{cases_eq}
 use Rattle.heap_words.specs.Decoded.{HeaderWord, ForwardWord, PointerWord, decode}
 use Rattle.plain_state.specs.Layout.{is_field}
 use Rattle.space_map.specs.declared.page_word.PageWord.TheVariants.{Scanning}
-use Rattle.heap_state.specs.Era.{Era, Memory}
+use Rattle.heap_state.specs.Memory.Era.{Era, Memory}
 use Rattle.heap_state.specs.Functions.{put}
-use Rattle.heap_state.specs.Ghost.{Ghost, IsField, Here, Lands, header_kind}
-use Rattle.heap_state.specs.Inductive.{Invariant, Knows}
-use Rattle.heap_state.specs.Parts.Copies.{Copied, Keepers}
-use Rattle.heap_state.specs.Parts.Copying.{IsOrigin, Seeks, Copies, Licensed, Keeps}
-use Rattle.heap_state.specs.Parts.Crossing.{Crossing}
-use Rattle.heap_state.specs.Parts.Knowledge.{Clean, Accesses}
-use Rattle.heap_state.specs.Parts.Leading.{Opened, Landing, Older}
-use Rattle.heap_state.specs.Parts.Pages.{Shut}
-use Rattle.heap_state.specs.Parts.Records.{Headed, RawWords}
-use Rattle.heap_state.specs.Parts.Scanning.{Scans, Stepping, Claims}
+use Rattle.heap_state.specs.Invariant.Ghost.{Ghost, IsField, Here, Lands, header_kind}
+use Rattle.heap_state.specs.Invariant.Inductive.{Invariant, Knows}
+use Rattle.heap_state.specs.Invariant.Parts.Copies.{Copied, Keepers}
+use Rattle.heap_state.specs.Invariant.Parts.Copying.{IsOrigin, Seeks, Copies, Licensed, Keeps}
+use Rattle.heap_state.specs.Invariant.Parts.Crossing.{Crossing}
+use Rattle.heap_state.specs.Invariant.Parts.Knowledge.{Clean, Accesses}
+use Rattle.heap_state.specs.Invariant.Parts.Leading.{Opened, Landing, Older}
+use Rattle.heap_state.specs.Invariant.Parts.Pages.{Shut}
+use Rattle.heap_state.specs.Invariant.Parts.Records.{Headed, RawWords}
+use Rattle.heap_state.specs.Invariant.Parts.Scanning.{Scans, Stepping, Claims}
 use Rattle.heap_state.specs.Worker.{Worker, Team, Quest, Copy, Scan, Claim, Access, Origin, Register, Scanned, is_late, is_mutator}
 use Rattle.heap_state.proofs.Workers.Frames.{counted_put, staffed_put, scanned_put, stocks_put, numbered_put}
 use Rattle.heap_state.proofs.Puts.{put_at, put_other, put_same, team_put, each_put, some_same, none≢some}

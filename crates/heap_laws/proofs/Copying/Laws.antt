@@ -2,9 +2,9 @@
 use Rattle.std.proofs.Common.{◌≡◌, ℕ, ◌+◌, ◌-◌, ◌*◌, ◌/◌, ◌<◌, true, Some, ap, arith, ⊎_elim, refl}
 use Rattle.space_map.specs.declared.area_word.AreaWord.{AreaWord}
 use Rattle.space_map.specs.AreaWord.{AreaFits}
-use Rattle.heap_state.specs.Era.{Era, Memory}
-use Rattle.heap_state.specs.Ghost.{Ghost}
-use Rattle.heap_state.specs.Parts.Copying.{Copies}
+use Rattle.heap_state.specs.Memory.Era.{Era, Memory}
+use Rattle.heap_state.specs.Invariant.Ghost.{Ghost}
+use Rattle.heap_state.specs.Invariant.Parts.Copying.{Copies}
 use Rattle.heap_state.specs.Worker.{Copy, Team}
 use Rattle.heap_laws.specs.Copying.{IsNextWord, moved_by, HasRoomForCopy, HeadersAreTaken, ForwardsAreFound, PlacesAreAimed, PlacesAreAnnounced, PlacesAreReserved, AnnouncesAreCleared, OldWordsAreLoaded, WordsAreCopied, CrossingsAreStored, CopiesArePublished}
 use Rattle.heap_laws.specs.Steps.{Ready, IsAreaNow, NoRow, InArea, InCross, InWord, InAnnounce, with_area, with_word, with_crossing, with_announced, KnowledgeChangesAlone, NothingChanges}

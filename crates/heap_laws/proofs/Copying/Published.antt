@@ -7,13 +7,13 @@ use Rattle.plain_state.specs.State as plain
 use Rattle.plain_state.specs.declared.value.Identity.{Identity}
 use Rattle.plain_state.specs.declared.value.Value.TheVariants.{Reference}
 use Rattle.plain_state.specs.Layout.{is_field, word_of_value}
-use Rattle.heap_state.specs.Cycle.{Copying, Rooted, IsCopied, StillLeads}
-use Rattle.heap_state.specs.Era.{Era, Memory}
+use Rattle.heap_state.specs.Cycles.Cycle.{Copying, Rooted, IsCopied, StillLeads}
+use Rattle.heap_state.specs.Memory.Era.{Era, Memory}
 use Rattle.heap_state.specs.Functions.{put}
-use Rattle.heap_state.specs.Ghost.{Ghost, Here}
-use Rattle.heap_state.specs.Inductive.{Invariant}
-use Rattle.heap_state.specs.Reachable.{Reachable, FromRecord}
-use Rattle.heap_state.specs.Values.{ShowsAll, Shows, value_of}
+use Rattle.heap_state.specs.Invariant.Ghost.{Ghost, Here}
+use Rattle.heap_state.specs.Invariant.Inductive.{Invariant}
+use Rattle.heap_state.specs.Meaning.Reachable.{Reachable, FromRecord}
+use Rattle.heap_state.specs.Meaning.Values.{ShowsAll, Shows, value_of}
 use Rattle.heap_state.specs.Worker.{Worker, Team, Quest, Copy}
 use Rattle.heap_state.proofs.Workers.Frames.{accounts_put, registers_put, rooted_put}
 use Rattle.heap_state.proofs.Puts.{put_at, put_other, some_same}

@@ -2,15 +2,15 @@
 use Rattle.std.proofs.Common.{◌≡◌, ◌≢◌, ℕ, ◌+◌, ◌*◌, ◌<◌, ◌≤◌, refl, sym, ap, ◌∙◌, arith, ⊎_elim, ◌⊎◌, inl, inr}
 use Rattle.std.proofs.lemmas.Bool.{cases_eq, cases_lt}
 use Rattle.space_map.specs.declared.page_word.PageWord.{PageWord}
-use Rattle.heap_state.specs.Era.{Era, IsLaidOut}
+use Rattle.heap_state.specs.Memory.Era.{Era, IsLaidOut}
 use Rattle.heap_state.specs.Functions.{put}
-use Rattle.heap_state.specs.Ghost.{Ghost, IsField, Here, Lands}
-use Rattle.heap_state.specs.Parts.Copies.{Copied, Once}
-use Rattle.heap_state.specs.Parts.Crossing.{Crossing}
-use Rattle.heap_state.specs.Parts.Leading.{Opened, Landing, Older}
-use Rattle.heap_state.specs.Parts.Records.{Laid, Headed, NewArea, NewWritten, SpaceOf, RawWords}
-use Rattle.heap_state.specs.Parts.Stocks.{Stocked, Stocks, Numbered}
-use Rattle.heap_state.specs.Values.{value_of}
+use Rattle.heap_state.specs.Invariant.Ghost.{Ghost, IsField, Here, Lands}
+use Rattle.heap_state.specs.Invariant.Parts.Copies.{Copied, Once}
+use Rattle.heap_state.specs.Invariant.Parts.Crossing.{Crossing}
+use Rattle.heap_state.specs.Invariant.Parts.Leading.{Opened, Landing, Older}
+use Rattle.heap_state.specs.Invariant.Parts.Records.{Laid, Headed, NewArea, NewWritten, SpaceOf, RawWords}
+use Rattle.heap_state.specs.Invariant.Parts.Stocks.{Stocked, Stocks, Numbered}
+use Rattle.heap_state.specs.Meaning.Values.{value_of}
 use Rattle.heap_state.specs.Worker.{Worker, Stock}
 use Rattle.heap_state.proofs.Puts.{put_at, put_other, put_same, put_cases}
 use Rattle.heap_laws.specs.Copying.{reserved}

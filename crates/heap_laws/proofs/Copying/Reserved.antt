@@ -7,12 +7,12 @@ use Rattle.plain_state.specs.State as plain
 use Rattle.plain_state.specs.declared.value.Identity.{Identity}
 use Rattle.plain_state.specs.declared.value.Value.TheVariants.{Reference}
 use Rattle.plain_state.specs.Layout.{is_field, word_of_value, size_of}
-use Rattle.heap_state.specs.Cycle.{Copying, Rooted, IsCopied, StillLeads, RootLeads, ByBoard, ByRegister}
-use Rattle.heap_state.specs.Era.{Era, Memory}
+use Rattle.heap_state.specs.Cycles.Cycle.{Copying, Rooted, IsCopied, StillLeads, RootLeads, ByBoard, ByRegister}
+use Rattle.heap_state.specs.Memory.Era.{Era, Memory}
 use Rattle.heap_state.specs.Functions.{put}
-use Rattle.heap_state.specs.Ghost.{Ghost, Here, IsField, Lands}
-use Rattle.heap_state.specs.Inductive.{Invariant, Knows}
-use Rattle.heap_state.specs.Values.{Shown, ShowsAll, Shows, RegistersShow, value_of}
+use Rattle.heap_state.specs.Invariant.Ghost.{Ghost, Here, IsField, Lands}
+use Rattle.heap_state.specs.Invariant.Inductive.{Invariant, Knows}
+use Rattle.heap_state.specs.Meaning.Values.{Shown, ShowsAll, Shows, RegistersShow, value_of}
 use Rattle.heap_state.specs.Worker.{Team, Copy, is_mutator}
 use Rattle.heap_state.proofs.Workers.Frames.{accounts_put, registers_put, rooted_put}
 use Rattle.heap_state.proofs.Puts.{put_at, put_other}

@@ -3,15 +3,15 @@ use Rattle.std.proofs.Common.{◌≡◌, ◌≢◌, ℕ, ◌+◌, ◌-◌, ◌*�
 use Rattle.std.proofs.lemmas.Bool.{cases_eq, cases_lt, ne_eqb}
 use Rattle.space_map.specs.declared.page_word.PageWord.TheVariants.{Open, Scanning}
 use Rattle.space_map.specs.PageWord.{age_of}
-use Rattle.heap_state.specs.Era.{Era, Memory}
+use Rattle.heap_state.specs.Memory.Era.{Era, Memory}
 use Rattle.heap_state.specs.Functions.{sum_below}
-use Rattle.heap_state.specs.Ghost.{Ghost}
-use Rattle.heap_state.specs.Inductive.{Invariant, Knows}
-use Rattle.heap_state.specs.Parts.Copies.{Keepers, Room, owing}
-use Rattle.heap_state.specs.Parts.Copying.{IsOrigin, Seeks, Copies, Keeps, Licensed}
-use Rattle.heap_state.specs.Parts.Knowledge.{Clean, Accesses, Resets}
-use Rattle.heap_state.specs.Parts.Pages.{Shut, Quiet, Filling, Tracing}
-use Rattle.heap_state.specs.Parts.Scanning.{Scans, Stepping, Rounds, Claims, Looks, LastLooks}
+use Rattle.heap_state.specs.Invariant.Ghost.{Ghost}
+use Rattle.heap_state.specs.Invariant.Inductive.{Invariant, Knows}
+use Rattle.heap_state.specs.Invariant.Parts.Copies.{Keepers, Room, owing}
+use Rattle.heap_state.specs.Invariant.Parts.Copying.{IsOrigin, Seeks, Copies, Keeps, Licensed}
+use Rattle.heap_state.specs.Invariant.Parts.Knowledge.{Clean, Accesses, Resets}
+use Rattle.heap_state.specs.Invariant.Parts.Pages.{Shut, Quiet, Filling, Tracing}
+use Rattle.heap_state.specs.Invariant.Parts.Scanning.{Scans, Stepping, Rounds, Claims, Looks, LastLooks}
 use Rattle.heap_state.specs.Worker.{Worker, Team, Quest, Copy, Scan, Claim, Look, LastLook, Round, Reset, Access, Origin, Register, Scanned, is_late, is_mutator}
 use Rattle.heap_state.proofs.Workers.Frames.{counted_put, staffed_put, scanned_put, stocks_put, numbered_put}
 use Rattle.heap_state.proofs.Puts.{put_at, put_other, put_same, team_put, some_same, none≢some, sum_below-change}

@@ -2,12 +2,12 @@
 use Rattle.std.proofs.Common.{◌≡◌, ◌≢◌, ℕ, ◌+◌, ◌-◌, ◌*◌, ◌/◌, ◌<◌, ◌≤◌, false, sym, ap, ◌∙◌, arith, Some, ⊎_elim}
 use Rattle.std.proofs.lemmas.Bool.{cases_eq}
 use Rattle.space_map.specs.declared.page_word.PageWord.TheVariants.{Scanning}
-use Rattle.heap_state.specs.Era.{Era, Memory}
-use Rattle.heap_state.specs.Ghost.{Ghost}
-use Rattle.heap_state.specs.Inductive.{Invariant, Knows}
-use Rattle.heap_state.specs.Parts.Copies.{owing}
-use Rattle.heap_state.specs.Parts.Copying.{IsOrigin}
-use Rattle.heap_state.specs.Parts.Pages.{Quiet}
+use Rattle.heap_state.specs.Memory.Era.{Era, Memory}
+use Rattle.heap_state.specs.Invariant.Ghost.{Ghost}
+use Rattle.heap_state.specs.Invariant.Inductive.{Invariant, Knows}
+use Rattle.heap_state.specs.Invariant.Parts.Copies.{owing}
+use Rattle.heap_state.specs.Invariant.Parts.Copying.{IsOrigin}
+use Rattle.heap_state.specs.Invariant.Parts.Pages.{Quiet}
 use Rattle.heap_state.specs.Worker.{Team, Copy, Scan, Origin, Register, Scanned, is_late}
 use Rattle.heap_state.proofs.Puts.{some_same}
 use Rattle.heap_state.proofs.Holds.Still.{still, nobody_copies}

@@ -6,15 +6,15 @@ use Rattle.heap_words.specs.Decoded.{decode}
 use Rattle.plain_state.specs.State as plain
 use Rattle.plain_state.specs.declared.value.Identity.{Identity}
 use Rattle.space_map.specs.declared.page_word.PageWord.{PageWord}
-use Rattle.heap_state.specs.Era.{Era, IsLaidOut}
+use Rattle.heap_state.specs.Memory.Era.{Era, IsLaidOut}
 use Rattle.heap_state.specs.Functions.{put}
-use Rattle.heap_state.specs.Ghost.{IsField, Here}
-use Rattle.heap_state.specs.Parts.Copying.{IsOrigin, Copies, Keeps}
-use Rattle.heap_state.specs.Parts.Leading.{Opened, Landing, Older}
-use Rattle.heap_state.specs.Parts.Records.{Laid, NewArea, SpaceOf, RawWords}
-use Rattle.heap_state.specs.Parts.Scanning.{Scans}
-use Rattle.heap_state.specs.Parts.Stocks.{Stocked, Stocks}
-use Rattle.heap_state.specs.Values.{Shows, ShowsAll, BoardShows, value_of}
+use Rattle.heap_state.specs.Invariant.Ghost.{IsField, Here}
+use Rattle.heap_state.specs.Invariant.Parts.Copying.{IsOrigin, Copies, Keeps}
+use Rattle.heap_state.specs.Invariant.Parts.Leading.{Opened, Landing, Older}
+use Rattle.heap_state.specs.Invariant.Parts.Records.{Laid, NewArea, SpaceOf, RawWords}
+use Rattle.heap_state.specs.Invariant.Parts.Scanning.{Scans}
+use Rattle.heap_state.specs.Invariant.Parts.Stocks.{Stocked, Stocks}
+use Rattle.heap_state.specs.Meaning.Values.{Shows, ShowsAll, BoardShows, value_of}
 use Rattle.heap_state.specs.Worker.{Worker, Copy, Scan, Stock, Register, Scanned, Origin}
 use Rattle.heap_state.proofs.Puts.{put_other}
 use Rattle.heap_laws.proofs.Frames.OtherWords.{has_place, area_same, stocked_same, scans_same, copies_same, shows_same}

@@ -7,16 +7,16 @@ use Rattle.plain_state.specs.declared.value.Identity.{Identity}
 use Rattle.plain_state.specs.declared.value.Value.TheVariants.{Reference}
 use Rattle.space_map.specs.declared.gate_word.GateWord.{GateWord}
 use Rattle.space_map.specs.declared.page_word.PageWord.{PageWord}
-use Rattle.heap_state.specs.Cycle.{Copying, Rooted, RootLeads, ByBoard, ByRegister}
-use Rattle.heap_state.specs.Era.{Era, Memory}
+use Rattle.heap_state.specs.Cycles.Cycle.{Copying, Rooted, RootLeads, ByBoard, ByRegister}
+use Rattle.heap_state.specs.Memory.Era.{Era, Memory}
 use Rattle.heap_state.specs.Functions.{put}
-use Rattle.heap_state.specs.Ghost.{Ghost, header_kind}
-use Rattle.heap_state.specs.Inductive.{Invariant, Knows}
-use Rattle.heap_state.specs.Parts.Copies.{Copied}
-use Rattle.heap_state.specs.Parts.Copying.{Copies, Keeps}
-use Rattle.heap_state.specs.Parts.Leading.{Older}
-use Rattle.heap_state.specs.Parts.OldSpace.{OldSpace}
-use Rattle.heap_state.specs.Parts.Records.{Headed}
+use Rattle.heap_state.specs.Invariant.Ghost.{Ghost, header_kind}
+use Rattle.heap_state.specs.Invariant.Inductive.{Invariant, Knows}
+use Rattle.heap_state.specs.Invariant.Parts.Copies.{Copied}
+use Rattle.heap_state.specs.Invariant.Parts.Copying.{Copies, Keeps}
+use Rattle.heap_state.specs.Invariant.Parts.Leading.{Older}
+use Rattle.heap_state.specs.Invariant.Parts.OldSpace.{OldSpace}
+use Rattle.heap_state.specs.Invariant.Parts.Records.{Headed}
 use Rattle.heap_state.specs.Worker.{Worker, Team, Quest, Copy, Scan}
 use Rattle.heap_state.proofs.Workers.Frames.{counted_put, staffed_put, scanned_put, stocks_put, numbered_put, accounts_put, registers_put, rooted_put}
 use Rattle.heap_state.proofs.Puts.{put_at, put_other, team_put, none≢some}

@@ -12,10 +12,10 @@ use Rattle.plain_state.specs.declared.kind.Kind.{Kind}
 use Rattle.plain_state.specs.declared.value.Identity.{Identity}
 use Rattle.plain_state.specs.declared.value.Value.{Value}
 use Rattle.plain_state.specs.declared.value.Value.TheVariants.{Number}
-use Rattle.heap_state.specs.Era.{Era, Memory}
-use Rattle.heap_state.specs.Ghost.{Ghost, header_kind}
-use Rattle.heap_state.specs.Parts.Knowledge.{HasRole}
-use Rattle.heap_state.specs.Values.{value_of, Shown, Shows}
+use Rattle.heap_state.specs.Memory.Era.{Era, Memory}
+use Rattle.heap_state.specs.Invariant.Ghost.{Ghost, header_kind}
+use Rattle.heap_state.specs.Invariant.Parts.Knowledge.{HasRole}
+use Rattle.heap_state.specs.Meaning.Values.{value_of, Shown, Shows}
 use Rattle.heap_state.specs.Worker.{Team, Role, FieldRole, NumberRole, Access}
 use Rattle.heap_state.proofs.Records.Headers.{said_kind-header_kind}
 use Rattle.heap_state.proofs.Records.Holding.{uncopied_here}

@@ -7,15 +7,15 @@ use Rattle.std.proofs.lemmas.Option.{slice_get_within}
 use Rattle.plain_state.specs.State.{Plain, Mutator}
 use Rattle.space_map.specs.declared.page_word.PageWord.TheVariants.{Open}
 use Rattle.plain_state.specs.declared.value.Identity.{Identity}
-use Rattle.heap_state.specs.Cycle.{Rooted, RootLeads, ByBoard, ByRegister, StillLeads, Cycle}
-use Rattle.heap_state.specs.Era.{Era, Memory}
+use Rattle.heap_state.specs.Cycles.Cycle.{Rooted, RootLeads, ByBoard, ByRegister, StillLeads, Cycle}
+use Rattle.heap_state.specs.Memory.Era.{Era, Memory}
 use Rattle.heap_state.specs.Functions.{put}
-use Rattle.heap_state.specs.Ghost.{Ghost}
-use Rattle.heap_state.specs.Inductive.{Invariant, Knows}
-use Rattle.heap_state.specs.Parts.Copying.{IsOrigin}
-use Rattle.heap_state.specs.Parts.Knowledge.{Clean, Ends, Passes}
-use Rattle.heap_state.specs.Reachable.{Reachable}
-use Rattle.heap_state.specs.Values.{Accounts, RegistersShow, value_of, Shown}
+use Rattle.heap_state.specs.Invariant.Ghost.{Ghost}
+use Rattle.heap_state.specs.Invariant.Inductive.{Invariant, Knows}
+use Rattle.heap_state.specs.Invariant.Parts.Copying.{IsOrigin}
+use Rattle.heap_state.specs.Invariant.Parts.Knowledge.{Clean, Ends, Passes}
+use Rattle.heap_state.specs.Meaning.Reachable.{Reachable}
+use Rattle.heap_state.specs.Meaning.Values.{Accounts, RegistersShow, value_of, Shown}
 use Rattle.heap_state.specs.Worker.{Worker, Team, Post, Running, Outside, Scanner, Stopped, Flipping, Gone, Origin, Register, Scanned, Quest, Access, GateStep, is_mutator, is_live, is_running, is_flipper, is_gone, is_late}
 use Rattle.heap_state.proofs.Workers.Frames.{counted_put, staffed_put, scanned_put, stocks_put, numbered_put}
 use Rattle.heap_state.proofs.Puts.{put_at, put_other, each_put, team_put, none≢some, true_false}

@@ -5,11 +5,11 @@ use Rattle.plain_state.specs.Layout.{word_of_value}
 use Rattle.plain_state.specs.State as plain
 use Rattle.plain_state.specs.declared.end.End.TheVariants.{HeapFull}
 use Rattle.space_map.specs.PageWord.{age_of}
-use Rattle.heap_state.specs.Cycle.{Cycle}
-use Rattle.heap_state.specs.Era.{Era, Memory}
-use Rattle.heap_state.specs.Ghost.{Ghost}
-use Rattle.heap_state.specs.Inductive.{Invariant}
-use Rattle.heap_state.specs.Values.{Accounts, Shown}
+use Rattle.heap_state.specs.Cycles.Cycle.{Cycle}
+use Rattle.heap_state.specs.Memory.Era.{Era, Memory}
+use Rattle.heap_state.specs.Invariant.Ghost.{Ghost}
+use Rattle.heap_state.specs.Invariant.Inductive.{Invariant}
+use Rattle.heap_state.specs.Meaning.Values.{Accounts, Shown}
 use Rattle.heap_state.specs.Worker.{Worker, Team, Account, is_running}
 use Rattle.heap_state.proofs.Puts.{none≢some}
 use Rattle.heap_laws.specs.Fields.Held.{MutatorGoesOn, with_mutator, GoesOnSo}

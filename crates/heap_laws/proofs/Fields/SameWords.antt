@@ -6,9 +6,9 @@ use Rattle.heap_words.specs.Word.{number_word, pointer_word}
 use Rattle.plain_state.specs.declared.value.Identity.{Identity}
 use Rattle.plain_state.specs.declared.value.Value.{Value}
 use Rattle.plain_state.specs.declared.value.Value.TheVariants.{Number, Reference}
-use Rattle.heap_state.specs.Era.{Era, Memory}
-use Rattle.heap_state.specs.Ghost.{Ghost, Leads, Lands}
-use Rattle.heap_state.specs.Values.{value_said, value_of}
+use Rattle.heap_state.specs.Memory.Era.{Era, Memory}
+use Rattle.heap_state.specs.Invariant.Ghost.{Ghost, Leads, Lands}
+use Rattle.heap_state.specs.Meaning.Values.{value_said, value_of}
 use Rattle.heap_state.specs.Worker.{Team}
 use Rattle.heap_state.proofs.Puts.{some_same, none≢some}
 use Rattle.heap_laws.specs.Fields.Held.{MayHold, HoldsValue, SameWords}

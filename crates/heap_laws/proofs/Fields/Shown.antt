@@ -9,11 +9,11 @@ use Rattle.plain_state.specs.declared.value.Identity.{Identity}
 use Rattle.plain_state.specs.declared.value.Value.{Value}
 use Rattle.plain_state.specs.Writing.{stored, with_heap, with_value}
 use Rattle.plain_state.specs.Layout.{word_of_value}
-use Rattle.heap_state.specs.Era.{Era, IsLaidOut, Memory}
+use Rattle.heap_state.specs.Memory.Era.{Era, IsLaidOut, Memory}
 use Rattle.heap_state.specs.Functions.{put}
-use Rattle.heap_state.specs.Ghost.{Ghost, Leads, Lands}
-use Rattle.heap_state.specs.Inductive.{Invariant}
-use Rattle.heap_state.specs.Values.{value_of, Shows, Shown}
+use Rattle.heap_state.specs.Invariant.Ghost.{Ghost, Leads, Lands}
+use Rattle.heap_state.specs.Invariant.Inductive.{Invariant}
+use Rattle.heap_state.specs.Meaning.Values.{value_of, Shows, Shown}
 use Rattle.heap_state.specs.Worker.{Team}
 use Rattle.heap_state.proofs.Puts.{put_at, put_other, some_same}
 use Rattle.heap_laws.specs.Fields.Words.{IsWordOf, StandsFor, IsLedTo, HeadersAreRead, RegistersAreHeld, NumbersAreHeld}

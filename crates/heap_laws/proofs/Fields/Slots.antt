@@ -5,16 +5,16 @@ use Rattle.plain_state.specs.State as plain
 use Rattle.plain_state.specs.declared.value.Identity.{Identity}
 use Rattle.plain_state.specs.Layout.{is_field}
 use Rattle.space_map.specs.declared.page_word.PageWord.{PageWord}
-use Rattle.heap_state.specs.Era.{Era, IsLaidOut}
+use Rattle.heap_state.specs.Memory.Era.{Era, IsLaidOut}
 use Rattle.heap_state.specs.Functions.{put}
-use Rattle.heap_state.specs.Ghost.{IsField, Leads, Lands, OnBoard, Here}
-use Rattle.heap_state.specs.Parts.Copying.{Copies, Keeps, IsOrigin}
-use Rattle.heap_state.specs.Parts.Leading.{Opened, Landing, Older}
-use Rattle.heap_state.specs.Parts.OldSpace.{OldSpace}
-use Rattle.heap_state.specs.Parts.Records.{Laid, Headed, RawWords, NewArea}
-use Rattle.heap_state.specs.Parts.Scanning.{Scans}
-use Rattle.heap_state.specs.Parts.Stocks.{Stocks, Stocked}
-use Rattle.heap_state.specs.Values.{Shows, ShowsAll, BoardShows, value_of}
+use Rattle.heap_state.specs.Invariant.Ghost.{IsField, Leads, Lands, OnBoard, Here}
+use Rattle.heap_state.specs.Invariant.Parts.Copying.{Copies, Keeps, IsOrigin}
+use Rattle.heap_state.specs.Invariant.Parts.Leading.{Opened, Landing, Older}
+use Rattle.heap_state.specs.Invariant.Parts.OldSpace.{OldSpace}
+use Rattle.heap_state.specs.Invariant.Parts.Records.{Laid, Headed, RawWords, NewArea}
+use Rattle.heap_state.specs.Invariant.Parts.Scanning.{Scans}
+use Rattle.heap_state.specs.Invariant.Parts.Stocks.{Stocks, Stocked}
+use Rattle.heap_state.specs.Meaning.Values.{Shows, ShowsAll, BoardShows, value_of}
 use Rattle.heap_state.specs.Worker.{Worker, Copy, Scan, Stock, Origin, Register, Scanned}
 use Rattle.heap_state.proofs.Puts.{put_other, each_put}
 use Rattle.heap_state.proofs.Records.Layouts.{raw_is_no_field}

@@ -2,10 +2,10 @@
 use Rattle.std.proofs.Common.{◌≡◌, ◌≢◌, ℕ, ◌+◌, ◌/◌, ◌<◌, true, false, Some, refl, sym, ap, ◌∙◌, arith, ◌⊎◌, inl, inr}
 use Rattle.plain_state.specs.Layout.{is_field, word_of_value}
 use Rattle.space_map.specs.declared.page_word.PageWord.TheVariants.{Open, Scanning}
-use Rattle.heap_state.specs.Era.{Era, IsLaidOut, Memory}
+use Rattle.heap_state.specs.Memory.Era.{Era, IsLaidOut, Memory}
 use Rattle.heap_state.specs.Functions.{put}
-use Rattle.heap_state.specs.Ghost.{Ghost, InRecord, OnBoard, Here}
-use Rattle.heap_state.specs.Inductive.{Invariant, Knows}
+use Rattle.heap_state.specs.Invariant.Ghost.{Ghost, InRecord, OnBoard, Here}
+use Rattle.heap_state.specs.Invariant.Inductive.{Invariant, Knows}
 use Rattle.heap_state.specs.Worker.{Worker, Team, Quest, Copy, Scan, is_late}
 use Rattle.heap_laws.specs.Fields.Words.{IsWordOf, MayStore, WordsAreLoaded, BoardIsLoaded, AccessesAreAllowed}
 use Rattle.heap_laws.specs.Fields.Held.{MayHold}

@@ -8,21 +8,21 @@ use Rattle.plain_state.specs.declared.value.Value.{Value}
 use Rattle.plain_state.specs.declared.value.Value.TheVariants.{Reference}
 use Rattle.plain_state.specs.State as plain
 use Rattle.space_map.specs.declared.gate_word.GateWord.{GateWord}
-use Rattle.heap_state.specs.Cycle.{Cycle, Copying, Rooted, RootLeads, ByBoard, ByRegister, IsRoot, InRegister, OnTheBoard, StillLeads}
-use Rattle.heap_state.specs.Era.{Era, Memory, IsLaidOut, era_of, memory_of}
+use Rattle.heap_state.specs.Cycles.Cycle.{Cycle, Copying, Rooted, RootLeads, ByBoard, ByRegister, IsRoot, InRegister, OnTheBoard, StillLeads}
+use Rattle.heap_state.specs.Memory.Era.{Era, Memory, IsLaidOut, era_of, memory_of}
 use Rattle.heap_state.specs.Functions.{put, sum_below, count_one}
-use Rattle.heap_state.specs.Ghost.{Ghost, Here, OnBoard, Lands, Leads}
-use Rattle.heap_state.specs.Inductive.{Invariant, Knows}
-use Rattle.heap_state.specs.Parts.Gate.{Counted, Staffed}
-use Rattle.heap_state.specs.Parts.Stocks.{Stocks, Numbered}
-use Rattle.heap_state.specs.Reachable.{Reachable, FromRegister, FromBoard}
-use Rattle.heap_state.specs.Table.{Table}
-use Rattle.heap_state.specs.Values.{Shown, value_of}
+use Rattle.heap_state.specs.Invariant.Ghost.{Ghost, Here, OnBoard, Lands, Leads}
+use Rattle.heap_state.specs.Invariant.Inductive.{Invariant, Knows}
+use Rattle.heap_state.specs.Invariant.Parts.Gate.{Counted, Staffed}
+use Rattle.heap_state.specs.Invariant.Parts.Stocks.{Stocks, Numbered}
+use Rattle.heap_state.specs.Meaning.Reachable.{Reachable, FromRegister, FromBoard}
+use Rattle.heap_state.specs.Memory.Table.{Table}
+use Rattle.heap_state.specs.Meaning.Values.{Shown, value_of}
 use Rattle.heap_state.specs.Worker.{Worker, Team, Post, Stopped, Reset, is_mutator, is_live, is_running, is_flipper, is_gone, is_behind, is_late}
 use Rattle.heap_state.proofs.Table.Seen.{follows}
 use Rattle.heap_state.proofs.Records.Holding.{uncopied_here}
 use Rattle.heap_state.proofs.Puts.{each_put, proj_put, team_put, sum_below-same}
-use Rattle.heap_state.specs.Entries.{GateIs, with_entry}
+use Rattle.heap_state.specs.Memory.Entries.{GateIs, with_entry}
 use Rattle.heap_laws.specs.Steps as laws
 use Rattle.heap_laws.specs.Flipping.Flip.{next_era, next_memory, next_ghost, flipped_gate, after_flip, Flips, FlipKeeps}
 use Rattle.heap_laws.specs.Steps.{with_worker}

@@ -3,15 +3,15 @@ use Rattle.std.proofs.Common.{◌≡◌, ◌≢◌, ℕ, ◌+◌, ◌*◌, ◌/�
 use Rattle.std.proofs.lemmas.Bool.{cases_eq, cases_lt}
 use Rattle.heap_words.specs.Decoded.{PointerWord, decode}
 use Rattle.space_map.specs.PageWord.{age_of}
-use Rattle.heap_state.specs.Era.{Era, Memory, IsLaidOut}
-use Rattle.heap_state.specs.Ghost.{Ghost, IsField, OnBoard, Here, Leads, Lands}
-use Rattle.heap_state.specs.Inductive.{Invariant}
-use Rattle.heap_state.specs.Parts.Copies.{Copied, Once, Keepers, Room}
-use Rattle.heap_state.specs.Parts.Crossing.{Crossing}
-use Rattle.heap_state.specs.Parts.Leading.{Opened, Landing, Older}
-use Rattle.heap_state.specs.Parts.OldSpace.{OldSpace, OldArea}
-use Rattle.heap_state.specs.Parts.Pages.{Shut, Filling, Tracing, Aged, OldPages, ScannedBy}
-use Rattle.heap_state.specs.Parts.Records.{Laid, Headed, NewArea, NewWritten, RawWords, SpaceOf}
+use Rattle.heap_state.specs.Memory.Era.{Era, Memory, IsLaidOut}
+use Rattle.heap_state.specs.Invariant.Ghost.{Ghost, IsField, OnBoard, Here, Leads, Lands}
+use Rattle.heap_state.specs.Invariant.Inductive.{Invariant}
+use Rattle.heap_state.specs.Invariant.Parts.Copies.{Copied, Once, Keepers, Room}
+use Rattle.heap_state.specs.Invariant.Parts.Crossing.{Crossing}
+use Rattle.heap_state.specs.Invariant.Parts.Leading.{Opened, Landing, Older}
+use Rattle.heap_state.specs.Invariant.Parts.OldSpace.{OldSpace, OldArea}
+use Rattle.heap_state.specs.Invariant.Parts.Pages.{Shut, Filling, Tracing, Aged, OldPages, ScannedBy}
+use Rattle.heap_state.specs.Invariant.Parts.Records.{Laid, Headed, NewArea, NewWritten, RawWords, SpaceOf}
 use Rattle.heap_state.specs.Worker.{Team, Worker}
 use Rattle.heap_state.proofs.Records.Holding.{uncopied_here}
 use Rattle.heap_laws.specs.Flipping.Flip.{next_era, only_in}

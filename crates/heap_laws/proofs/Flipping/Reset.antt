@@ -1,13 +1,13 @@
 -- The steps of a flipper before the flip.
 use Rattle.std.proofs.Common.{◌≡◌, ◌≢◌, ℕ, ◌+◌, ◌<◌, true, false, Some, None, refl, sym, ◌∙◌, arith, ⊎_elim}
 use Rattle.std.proofs.lemmas.Bool.{cases_eq}
-use Rattle.heap_state.specs.Era.{Era, Memory, IsLaidOut}
+use Rattle.heap_state.specs.Memory.Era.{Era, Memory, IsLaidOut}
 use Rattle.heap_state.specs.Functions.{count_one}
-use Rattle.heap_state.specs.Ghost.{Ghost}
-use Rattle.heap_state.specs.Inductive.{Invariant, Knows}
-use Rattle.heap_state.specs.Parts.Knowledge.{Resets}
-use Rattle.heap_state.specs.Parts.OldSpace.{OldSpace, OldArea}
-use Rattle.heap_state.specs.Parts.Pages.{OldPages}
+use Rattle.heap_state.specs.Invariant.Ghost.{Ghost}
+use Rattle.heap_state.specs.Invariant.Inductive.{Invariant, Knows}
+use Rattle.heap_state.specs.Invariant.Parts.Knowledge.{Resets}
+use Rattle.heap_state.specs.Invariant.Parts.OldSpace.{OldSpace, OldArea}
+use Rattle.heap_state.specs.Invariant.Parts.Pages.{OldPages}
 use Rattle.heap_state.specs.Worker.{Worker, Team, Reset, is_flipper}
 use Rattle.heap_state.proofs.Workers.Frames.{counted_put, staffed_put, scanned_put, stocks_put, numbered_put, rooted_put}
 use Rattle.heap_state.proofs.Puts.{team_put, some_same, none≢some}

@@ -2,7 +2,7 @@
 use Rattle.std.proofs.Common.{◌≡◌, ◌≢◌, ℕ, zero, suc, ◌+◌, ◌-◌, ◌<◌, ◌≤◌, Bool, true, false, refl, sym, arith, ⊎_elim, ◌⊎◌, inl, inr}
 use Rattle.std.proofs.lemmas.Bool.{cases_eq, cases_lt, lt-ltb, le-ltb, lt-leb, le-leb}
 use Rattle.heap_state.specs.Functions.{put, sum_below, count_one}
-use Rattle.heap_state.specs.Parts.Copies.{owing}
+use Rattle.heap_state.specs.Invariant.Parts.Copies.{owing}
 use Rattle.heap_state.proofs.Puts.{put_at, put_other, sum_below-same, sum_below-change}
 use Rattle.heap_state.proofs.Walks.Walking.{sum_below-from}
 use Rattle.heap_laws.specs.Flipping.Flip.{only_in}

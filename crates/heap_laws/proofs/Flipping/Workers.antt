@@ -3,13 +3,13 @@ use Rattle.std.proofs.Common.{◌≡◌, ◌≢◌, ℕ, ◌+◌, ◌/◌, ◌<�
 use Rattle.std.proofs.lemmas.Bool.{cases_eq, cases_Bool, eq-eqb}
 use Rattle.space_map.specs.declared.gate_word.GateWord.{GateWord}
 use Rattle.space_map.specs.PageWord.{age_of}
-use Rattle.heap_state.specs.Era.{Era, Memory}
+use Rattle.heap_state.specs.Memory.Era.{Era, Memory}
 use Rattle.heap_state.specs.Functions.{count_one}
-use Rattle.heap_state.specs.Ghost.{Ghost}
-use Rattle.heap_state.specs.Inductive.{Knows, KnowsAtPages}
-use Rattle.heap_state.specs.Parts.Copying.{IsOrigin, Licensed}
-use Rattle.heap_state.specs.Parts.Knowledge.{Timely, Clean, Passes}
-use Rattle.heap_state.specs.Parts.Scanning.{Rounds, Claims, Looks, LastLooks}
+use Rattle.heap_state.specs.Invariant.Ghost.{Ghost}
+use Rattle.heap_state.specs.Invariant.Inductive.{Knows, KnowsAtPages}
+use Rattle.heap_state.specs.Invariant.Parts.Copying.{IsOrigin, Licensed}
+use Rattle.heap_state.specs.Invariant.Parts.Knowledge.{Timely, Clean, Passes}
+use Rattle.heap_state.specs.Invariant.Parts.Scanning.{Rounds, Claims, Looks, LastLooks}
 use Rattle.heap_state.specs.Worker.{Worker, Team, Post, Scanner, Outside, Running, Stopped, Flipping, Gone, Passage, Enter, Park, Request, Forwarded, Resume, Leave, Origin, Register, Scanned, Quest, Round, Claim, Look, LastLook, GateStep, is_mutator, is_live, is_running, is_flipper, is_gone, is_behind, is_late}
 use Rattle.heap_state.proofs.Puts.{none≢some, true_false}
 use Rattle.heap_laws.specs.Flipping.Flip.{next_era, next_ghost, flipped_gate, after_flip}

@@ -6,14 +6,14 @@ use Rattle.plain_state.specs.State as plain
 use Rattle.plain_state.specs.declared.value.Identity.{Identity}
 use Rattle.plain_state.specs.declared.value.Value.{Value}
 use Rattle.space_map.specs.declared.page_word.PageWord.{PageWord}
-use Rattle.heap_state.specs.Era.{Era}
-use Rattle.heap_state.specs.Ghost.{Here, Leads}
-use Rattle.heap_state.specs.Parts.Copying.{Copies}
-use Rattle.heap_state.specs.Parts.OldSpace.{OldSpace}
-use Rattle.heap_state.specs.Parts.Records.{Headed, NewArea, SpaceOf}
-use Rattle.heap_state.specs.Parts.Scanning.{Scans}
-use Rattle.heap_state.specs.Parts.Stocks.{Stocked}
-use Rattle.heap_state.specs.Values.{Shows}
+use Rattle.heap_state.specs.Memory.Era.{Era}
+use Rattle.heap_state.specs.Invariant.Ghost.{Here, Leads}
+use Rattle.heap_state.specs.Invariant.Parts.Copying.{Copies}
+use Rattle.heap_state.specs.Invariant.Parts.OldSpace.{OldSpace}
+use Rattle.heap_state.specs.Invariant.Parts.Records.{Headed, NewArea, SpaceOf}
+use Rattle.heap_state.specs.Invariant.Parts.Scanning.{Scans}
+use Rattle.heap_state.specs.Invariant.Parts.Stocks.{Stocked}
+use Rattle.heap_state.specs.Meaning.Values.{Shows}
 use Rattle.heap_state.specs.Worker.{Copy, Scan, Stock}
 
 -- a copy that has words is in a place that is reserved

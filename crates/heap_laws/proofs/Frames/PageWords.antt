@@ -5,14 +5,14 @@ use Rattle.space_map.specs.declared.gate_word.GateWord.{GateWord}
 use Rattle.space_map.specs.declared.page_word.PageWord.{PageWord}
 use Rattle.space_map.specs.declared.page_word.PageWord.TheVariants.{Open, Scanning}
 use Rattle.space_map.specs.PageWord.{age_of}
-use Rattle.heap_state.specs.Era.{Era}
+use Rattle.heap_state.specs.Memory.Era.{Era}
 use Rattle.heap_state.specs.Functions.{put}
-use Rattle.heap_state.specs.Ghost.{Ghost}
-use Rattle.heap_state.specs.Inductive.{Knows}
-use Rattle.heap_state.specs.Parts.OldSpace.{OldSpace}
-use Rattle.heap_state.specs.Parts.Pages.{Quiet, Tracing, Aged, OldPages}
-use Rattle.heap_state.specs.Parts.Records.{SpaceOf}
-use Rattle.heap_state.specs.Parts.Scanning.{Scans, Claims, Looks, LastLooks}
+use Rattle.heap_state.specs.Invariant.Ghost.{Ghost}
+use Rattle.heap_state.specs.Invariant.Inductive.{Knows}
+use Rattle.heap_state.specs.Invariant.Parts.OldSpace.{OldSpace}
+use Rattle.heap_state.specs.Invariant.Parts.Pages.{Quiet, Tracing, Aged, OldPages}
+use Rattle.heap_state.specs.Invariant.Parts.Records.{SpaceOf}
+use Rattle.heap_state.specs.Invariant.Parts.Scanning.{Scans, Claims, Looks, LastLooks}
 use Rattle.heap_state.specs.Worker.{Worker, Scan, Claim, Look, LastLook, is_running}
 use Rattle.heap_state.proofs.Puts.{put_other, each_put}
 

@@ -2,12 +2,12 @@
 -- speaks of both.
 use Rattle.std.proofs.Common.{◌≢◌, ℕ, ◌<◌, Option, refl}
 use Rattle.space_map.specs.declared.page_word.PageWord.{PageWord}
-use Rattle.heap_state.specs.Era.{Era, Memory}
+use Rattle.heap_state.specs.Memory.Era.{Era, Memory}
 use Rattle.heap_state.specs.Functions.{put}
-use Rattle.heap_state.specs.Ghost.{Ghost}
-use Rattle.heap_state.specs.Inductive.{Invariant, Knows}
-use Rattle.heap_state.specs.Parts.Leading.{Opened}
-use Rattle.heap_state.specs.Parts.Pages.{Shut, Filling, ScannedBy}
+use Rattle.heap_state.specs.Invariant.Ghost.{Ghost}
+use Rattle.heap_state.specs.Invariant.Inductive.{Invariant, Knows}
+use Rattle.heap_state.specs.Invariant.Parts.Leading.{Opened}
+use Rattle.heap_state.specs.Invariant.Parts.Pages.{Shut, Filling, ScannedBy}
 use Rattle.heap_state.specs.Worker.{Worker, Team, Scan, Claim}
 use Rattle.heap_state.proofs.Puts.{team_put}
 use Rattle.heap_state.proofs.Workers.Frames.{counted_put, staffed_put, stocks_put, numbered_put, rooted_put}

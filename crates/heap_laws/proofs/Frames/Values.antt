@@ -11,10 +11,10 @@ use Rattle.plain_state.specs.declared.value.Identity.{Identity}
 use Rattle.plain_state.specs.declared.value.Value.TheVariants.{Number, Reference}
 use Rattle.plain_state.specs.Layout.{word_of_value, size_of}
 use Rattle.plain_state.specs.declared.value.Value.{Value}
-use Rattle.heap_state.specs.Cycle.{StillLeads, Copying}
-use Rattle.heap_state.specs.Era.{Era}
-use Rattle.heap_state.specs.Ghost.{IsField, Here, Leads, Lands}
-use Rattle.heap_state.specs.Values.{value_said, value_of}
+use Rattle.heap_state.specs.Cycles.Cycle.{StillLeads, Copying}
+use Rattle.heap_state.specs.Memory.Era.{Era}
+use Rattle.heap_state.specs.Invariant.Ghost.{IsField, Here, Leads, Lands}
+use Rattle.heap_state.specs.Meaning.Values.{value_said, value_of}
 use Rattle.heap_state.proofs.Puts.{some_same}
 
 -- two records that share a word are one

@@ -2,7 +2,7 @@
 use Rattle.std.proofs.Common.{◌≡◌, ℕ, zero, suc, ◌+◌, ◌<◌, ◌≤◌, Bool, false, sym, ap, arith}
 use Rattle.space_map.specs.declared.gate_word.GateWord.{GateWord}
 use Rattle.heap_state.specs.Functions.{put, sum_below, count_one}
-use Rattle.heap_state.specs.Parts.Gate.{Counted}
+use Rattle.heap_state.specs.Invariant.Parts.Gate.{Counted}
 use Rattle.heap_state.specs.Worker.{Worker, Post, is_live, is_running, is_flipper, is_gone, is_late}
 use Rattle.heap_state.proofs.Puts.{put_other, put_same, sum_below-change}
 use Rattle.heap_laws.specs.Gate.{GatesFit}

@@ -3,17 +3,17 @@ use Rattle.std.proofs.Common.{◌≡◌, ◌≢◌, ℕ, ◌+◌, ◌-◌, ◌<�
 use Rattle.std.proofs.lemmas.Bool.{eq-eqb}
 use Rattle.space_map.specs.declared.gate_word.GateWord.{GateWord}
 use Rattle.space_map.specs.declared.page_word.PageWord.TheVariants.{Open}
-use Rattle.heap_state.specs.Era.{Era, Memory}
+use Rattle.heap_state.specs.Memory.Era.{Era, Memory}
 use Rattle.heap_state.specs.Functions.{count_one}
-use Rattle.heap_state.specs.Ghost.{Ghost}
-use Rattle.heap_state.specs.Inductive.{Invariant, Knows}
-use Rattle.heap_state.specs.Parts.Copying.{IsOrigin, Licensed}
-use Rattle.heap_state.specs.Parts.Knowledge.{Accesses, Clean, Ends, Passes, Resets}
-use Rattle.heap_state.specs.Parts.Pages.{Quiet}
-use Rattle.heap_state.specs.Parts.Scanning.{Claims, Looks, LastLooks}
+use Rattle.heap_state.specs.Invariant.Ghost.{Ghost}
+use Rattle.heap_state.specs.Invariant.Inductive.{Invariant, Knows}
+use Rattle.heap_state.specs.Invariant.Parts.Copying.{IsOrigin, Licensed}
+use Rattle.heap_state.specs.Invariant.Parts.Knowledge.{Accesses, Clean, Ends, Passes, Resets}
+use Rattle.heap_state.specs.Invariant.Parts.Pages.{Quiet}
+use Rattle.heap_state.specs.Invariant.Parts.Scanning.{Claims, Looks, LastLooks}
 use Rattle.heap_state.specs.Worker.{Worker, Team, Post, Scanner, Outside, Running, Stopped, Flipping, Gone, Passage, Enter, Park, Request, Forwarded, Resume, Leave, Origin, Register, Scanned, Quest, Claim, Look, LastLook, GateStep, Reset, Access, is_mutator, is_flipper, is_gone, is_live, is_running, is_late}
 use Rattle.heap_state.proofs.Puts.{none≢some, true_false}
-use Rattle.heap_state.specs.Entries.{GateIs}
+use Rattle.heap_state.specs.Memory.Entries.{GateIs}
 use Rattle.heap_laws.specs.Gate.{gate_after, into_epoch, worker_after, WinsGate, PassingGateKeeps}
 use Rattle.heap_laws.specs.Steps.{with_worker, Ready, Steps, InGate, with_gate, Preserves}
 use Rattle.heap_laws.proofs.Flipping.Sums.{sum_below-term, sum_below-two, one_of}

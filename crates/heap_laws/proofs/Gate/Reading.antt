@@ -1,7 +1,7 @@
 -- What a worker reads of the gate and of TRACED, and what it forgets.
 use Rattle.std.proofs.Common.{◌≡◌, ℕ, Bool, ◌+◌, true, Some, is_some, refl, arith, ◌⊎◌, inl}
 use Rattle.space_map.specs.declared.gate_word.GateWord.{GateWord}
-use Rattle.heap_state.specs.Parts.Knowledge.{Passes}
+use Rattle.heap_state.specs.Invariant.Parts.Knowledge.{Passes}
 use Rattle.heap_state.specs.Worker.{Worker, Post, Passage, Enter, Park, Request, Forwarded, Resume, Leave, GateStep, is_running, is_flipper}
 use Rattle.heap_state.proofs.Puts.{some_same}
 use Rattle.heap_laws.proofs.Steps.Learning.{learns, learnt}

@@ -1,9 +1,9 @@
 -- A scanner takes the epoch of the gate.
 use Rattle.std.proofs.Common.{◌≡◌, ℕ, ◌<◌, false, Some, None, refl, sym, ap, ◌∙◌}
-use Rattle.heap_state.specs.Era.{Era, Memory}
-use Rattle.heap_state.specs.Ghost.{Ghost}
-use Rattle.heap_state.specs.Inductive.{Invariant, Knows}
-use Rattle.heap_state.specs.Parts.Copying.{IsOrigin}
+use Rattle.heap_state.specs.Memory.Era.{Era, Memory}
+use Rattle.heap_state.specs.Invariant.Ghost.{Ghost}
+use Rattle.heap_state.specs.Invariant.Inductive.{Invariant, Knows}
+use Rattle.heap_state.specs.Invariant.Parts.Copying.{IsOrigin}
 use Rattle.heap_state.specs.Worker.{Worker, Team, Scanner, Origin, Register, Scanned, Quest, is_mutator, is_flipper, is_late}
 use Rattle.heap_state.proofs.Puts.{none≢some, true_false}
 use Rattle.heap_laws.specs.Gate.{TakingEpochKeeps, into_epoch}

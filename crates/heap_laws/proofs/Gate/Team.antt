@@ -1,13 +1,13 @@
 -- A worker passes the gate: what it brings with it, and the new gate and team, keep all.
 use Rattle.std.proofs.Common.{◌≡◌, ◌≢◌, ℕ, ◌<◌, ◌≤◌, Bool, true, false, Some, refl, ap, arith, ◌⊎◌}
 use Rattle.space_map.specs.declared.gate_word.GateWord.{GateWord}
-use Rattle.heap_state.specs.Era.{Era, Memory}
+use Rattle.heap_state.specs.Memory.Era.{Era, Memory}
 use Rattle.heap_state.specs.Functions.{put}
-use Rattle.heap_state.specs.Ghost.{Ghost}
-use Rattle.heap_state.specs.Inductive.{Invariant, Knows}
-use Rattle.heap_state.specs.Parts.Gate.{Counted}
-use Rattle.heap_state.specs.Parts.Knowledge.{Resets}
-use Rattle.heap_state.specs.Parts.Pages.{Filling, Tracing}
+use Rattle.heap_state.specs.Invariant.Ghost.{Ghost}
+use Rattle.heap_state.specs.Invariant.Inductive.{Invariant, Knows}
+use Rattle.heap_state.specs.Invariant.Parts.Gate.{Counted}
+use Rattle.heap_state.specs.Invariant.Parts.Knowledge.{Resets}
+use Rattle.heap_state.specs.Invariant.Parts.Pages.{Filling, Tracing}
 use Rattle.heap_state.specs.Worker.{Worker, Team, Stock, Reset, is_mutator, is_late}
 use Rattle.heap_state.proofs.Workers.Frames.{staffed_put, scanned_put, stocks_put, numbered_put, rooted_put}
 use Rattle.heap_state.proofs.Puts.{team_put}

@@ -3,12 +3,12 @@ use Rattle.std.proofs.Common.{◌≡◌, ℕ, ◌+◌, ◌<◌, Bool, true, fals
 use Rattle.space_map.specs.declared.gate_word.GateWord.{GateWord}
 use Rattle.space_map.specs.declared.page_word.PageWord.{PageWord}
 use Rattle.space_map.specs.declared.page_word.PageWord.TheVariants.{Open}
-use Rattle.heap_state.specs.Era.{Era, Memory}
+use Rattle.heap_state.specs.Memory.Era.{Era, Memory}
 use Rattle.heap_state.specs.Functions.{count_one}
-use Rattle.heap_state.specs.Ghost.{Ghost}
-use Rattle.heap_state.specs.Inductive.{Invariant, Knows, KnowsAtPages}
-use Rattle.heap_state.specs.Parts.Copying.{IsOrigin}
-use Rattle.heap_state.specs.Parts.Knowledge.{Ends, Clean, Accesses}
+use Rattle.heap_state.specs.Invariant.Ghost.{Ghost}
+use Rattle.heap_state.specs.Invariant.Inductive.{Invariant, Knows, KnowsAtPages}
+use Rattle.heap_state.specs.Invariant.Parts.Copying.{IsOrigin}
+use Rattle.heap_state.specs.Invariant.Parts.Knowledge.{Ends, Clean, Accesses}
 use Rattle.heap_state.specs.Worker.{Worker, Team, Post, Outside, Origin, Register, Scanned, Quest, Stock, Access, Reset, is_mutator, is_running, is_flipper, is_late}
 use Rattle.heap_state.proofs.Puts.{none≢some, true_false}
 use Rattle.heap_state.proofs.Workers.Idle.{at_rest, nothing_at_pages}

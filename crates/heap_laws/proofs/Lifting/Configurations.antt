@@ -1,14 +1,14 @@
 -- What a step makes of a configuration.
 use Rattle.heap_laws.specs.Steps.{with_worker}
-use Rattle.heap_state.specs.Ghost.{Ghost}
-use Rattle.heap_state.specs.Inductive.{Invariant}
-use Rattle.heap_state.specs.Values.{Shown}
-use Rattle.heap_state.specs.Era.{era_of, memory_of}
+use Rattle.heap_state.specs.Invariant.Ghost.{Ghost}
+use Rattle.heap_state.specs.Invariant.Inductive.{Invariant}
+use Rattle.heap_state.specs.Meaning.Values.{Shown}
+use Rattle.heap_state.specs.Memory.Era.{era_of, memory_of}
 use Rattle.std.proofs.Common.{◌≡◌, ℕ, ◌+◌, ◌*◌, ◌<◌, ◌≤◌, arith, List, Option, Some, None, refl, length}
 use Rattle.plain_state.specs.State.{Plain}
 use Rattle.heap_state.specs.Configuration.{Configuration, Stands, table, era, team}
-use Rattle.heap_state.specs.Entries.{Entry}
-use Rattle.heap_state.specs.Table.{table_of, IsFormed, Table}
+use Rattle.heap_state.specs.Memory.Entries.{Entry}
+use Rattle.heap_state.specs.Memory.Table.{table_of, IsFormed, Table}
 use Rattle.heap_state.specs.Worker.{Team, Worker}
 use Rattle.heap_state.proofs.Table.LaidOut.{laid_out, table_pages}
 use Rattle.heap_state.proofs.Workers.Teams.{team_changes}

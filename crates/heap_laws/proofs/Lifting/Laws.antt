@@ -4,9 +4,9 @@ use Rattle.space_map.specs.declared.gate_word.GateWord.{GateWord}
 use Rattle.space_map.specs.Spaces.{to_space, space_start}
 use Rattle.space_map.specs.GateWord.{GateFits}
 use Rattle.heap_state.specs.Configuration.{Configuration, table, era, memory, team}
-use Rattle.heap_state.specs.Entries.{Entry, GateIs}
-use Rattle.heap_state.specs.Era.{Memory, era_of, era_at, memory_of, from_space}
-use Rattle.heap_state.specs.Table.{Table}
+use Rattle.heap_state.specs.Memory.Entries.{Entry, GateIs}
+use Rattle.heap_state.specs.Memory.Era.{Memory, era_of, era_at, memory_of, from_space}
+use Rattle.heap_state.specs.Memory.Table.{Table}
 use Rattle.heap_state.proofs.Table.Seen.{follows}
 use Rattle.heap_laws.specs.Lifting.{table_after, RowFits, StepsAreLifted, PlainStepsAreLifted, Flipped, FlipsAreLifted}
 use Rattle.heap_laws.specs.Steps.{WritesRow, NoRow, InGate, InTraced, InArea, InOldArea, InPage, InCross, InWord, InAnnounce}

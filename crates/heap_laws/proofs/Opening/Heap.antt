@@ -9,15 +9,15 @@ use Rattle.plain_state.specs.State as plain
 use Rattle.space_map.specs.declared.page_word.PageWord.TheVariants.{Unset, Open, Scanning}
 use Rattle.space_map.specs.PageWord.{age_of}
 use Rattle.space_map.specs.Spaces.{IsPageCount}
-use Rattle.heap_state.specs.Cycle.{Cycle, IsRoot, InRegister, OnTheBoard, StillLeads}
-use Rattle.heap_state.specs.Entries.{table_with, EachFits}
-use Rattle.heap_state.specs.Era.{Era, era_of, Memory, memory_of}
+use Rattle.heap_state.specs.Cycles.Cycle.{Cycle, IsRoot, InRegister, OnTheBoard, StillLeads}
+use Rattle.heap_state.specs.Memory.Entries.{table_with, EachFits}
+use Rattle.heap_state.specs.Memory.Era.{Era, era_of, Memory, memory_of}
 use Rattle.heap_state.specs.Functions.{put}
-use Rattle.heap_state.specs.Ghost.{Ghost}
-use Rattle.heap_state.specs.Inductive.{Invariant, Knows}
-use Rattle.heap_state.specs.Parts.Pages.{Quiet}
-use Rattle.heap_state.specs.Table.{Table}
-use Rattle.heap_state.specs.Values.{value_of, Accounts, RegistersShow, Shown}
+use Rattle.heap_state.specs.Invariant.Ghost.{Ghost}
+use Rattle.heap_state.specs.Invariant.Inductive.{Invariant, Knows}
+use Rattle.heap_state.specs.Invariant.Parts.Pages.{Quiet}
+use Rattle.heap_state.specs.Memory.Table.{Table}
+use Rattle.heap_state.specs.Meaning.Values.{value_of, Accounts, RegistersShow, Shown}
 use Rattle.heap_state.specs.Worker.{Worker, Outside, Scanner, fresh}
 use Rattle.heap_state.proofs.Workers.Idle.{idle_knows}
 use Rattle.heap_state.proofs.Puts.{put_at, put_other, none≢some, true_false}

@@ -7,7 +7,7 @@ use Rattle.std.specs.Prelude.{nat_lt}
 use Rattle.space_map.specs.declared.gate_word.GateWord.{GateWord}
 use Rattle.heap_state.specs.Configuration.{team_of}
 use Rattle.heap_state.specs.Functions.{sum_below, count_one}
-use Rattle.heap_state.specs.Parts.Gate.{Counted, Staffed}
+use Rattle.heap_state.specs.Invariant.Parts.Gate.{Counted, Staffed}
 use Rattle.heap_state.specs.Worker.{Worker, Team, Outside, Scanner, fresh, is_live, is_running, is_gone, is_flipper, is_late, is_mutator}
 use Rattle.heap_laws.specs.Opening.{opening_workers}
 

@@ -4,18 +4,18 @@ use Rattle.std.proofs.lemmas.Bool.{cases_eq, cases_lt, cases_Bool}
 use Rattle.space_map.specs.declared.page_word.PageWord.{PageWord}
 use Rattle.space_map.specs.declared.page_word.PageWord.TheVariants.{Open, Scanning}
 use Rattle.space_map.specs.PageWord.{age_of}
-use Rattle.heap_state.specs.Era.{Era, Memory, IsLaidOut}
+use Rattle.heap_state.specs.Memory.Era.{Era, Memory, IsLaidOut}
 use Rattle.heap_state.specs.Functions.{put}
-use Rattle.heap_state.specs.Ghost.{Ghost}
-use Rattle.heap_state.specs.Inductive.{Invariant, Knows}
-use Rattle.heap_state.specs.Parts.Copying.{IsOrigin, Licensed}
-use Rattle.heap_state.specs.Parts.Leading.{Opened}
-use Rattle.heap_state.specs.Parts.Pages.{Shut, Quiet, Filling, ScannedBy}
-use Rattle.heap_state.specs.Parts.Scanning.{Scans, Stepping, Claims}
+use Rattle.heap_state.specs.Invariant.Ghost.{Ghost}
+use Rattle.heap_state.specs.Invariant.Inductive.{Invariant, Knows}
+use Rattle.heap_state.specs.Invariant.Parts.Copying.{IsOrigin, Licensed}
+use Rattle.heap_state.specs.Invariant.Parts.Leading.{Opened}
+use Rattle.heap_state.specs.Invariant.Parts.Pages.{Shut, Quiet, Filling, ScannedBy}
+use Rattle.heap_state.specs.Invariant.Parts.Scanning.{Scans, Stepping, Claims}
 use Rattle.heap_state.specs.Worker.{Worker, Team, Origin, Register, Scanned, Scan, Claim, is_late, Quest}
 use Rattle.heap_state.proofs.Records.Holding.{writer}
 use Rattle.heap_state.proofs.Puts.{put_at, put_other, put_same, some_same, none≢some}
-use Rattle.heap_state.specs.Entries.{PageIs}
+use Rattle.heap_state.specs.Memory.Entries.{PageIs}
 use Rattle.heap_laws.specs.Scanning.Claims.{WinsPage, scan_from, begins_scan, ClaimsPage, SleeperLosesPage}
 use Rattle.heap_laws.specs.Steps.{Ready, Steps, InPage, with_page}
 use Rattle.heap_laws.proofs.Frames.PageWords.{Turns, quiet_turns, scans_beside, knows_turns}

@@ -2,19 +2,19 @@
 use Rattle.std.proofs.Common.{◌≤◌, ◌≡◌, ◌≢◌, ℕ, ◌+◌, ◌-◌, ◌/◌, ◌<◌, Some, None, refl, sym, ◌∙◌, arith, ⊎_elim, inl, inr, subst, ap, Option}
 use Rattle.std.proofs.lemmas.Bool.{cases_eq}
 use Rattle.heap_words.specs.Decoded.{PointerWord, decode}
-use Rattle.heap_state.specs.Era.{Era, Memory, IsLaidOut}
+use Rattle.heap_state.specs.Memory.Era.{Era, Memory, IsLaidOut}
 use Rattle.heap_state.specs.Functions.{put}
-use Rattle.heap_state.specs.Ghost.{Ghost, InRecord, Here, Leads, OnBoard}
-use Rattle.heap_state.specs.Inductive.{Invariant, Knows}
-use Rattle.heap_state.specs.Parts.Copying.{IsOrigin, Seeks, Licensed}
-use Rattle.heap_state.specs.Parts.Pages.{ScannedBy}
-use Rattle.heap_state.specs.Parts.Scanning.{Stepping}
+use Rattle.heap_state.specs.Invariant.Ghost.{Ghost, InRecord, Here, Leads, OnBoard}
+use Rattle.heap_state.specs.Invariant.Inductive.{Invariant, Knows}
+use Rattle.heap_state.specs.Invariant.Parts.Copying.{IsOrigin, Seeks, Licensed}
+use Rattle.heap_state.specs.Invariant.Parts.Pages.{ScannedBy}
+use Rattle.heap_state.specs.Invariant.Parts.Scanning.{Stepping}
 use Rattle.heap_state.specs.Worker.{Worker, Team, Origin, Scanned, Quest, Copy, Scan, SeenRecord, is_late}
 use Rattle.heap_state.proofs.Workers.Frames.{counted_put, staffed_put, stocks_put, numbered_put, rooted_put}
 use Rattle.heap_state.proofs.Puts.{put_same, team_put, some_same, none≢some}
-use Rattle.heap_state.specs.FieldSpan.{next_scanned, next_from}
+use Rattle.heap_state.specs.Memory.FieldSpan.{next_scanned, next_from}
 use Rattle.heap_state.proofs.Records.FieldSpans.{passes_no_field, next_within, span-within, field-span}
-use Rattle.heap_state.specs.Entries.{WordIs}
+use Rattle.heap_state.specs.Memory.Entries.{WordIs}
 use Rattle.heap_laws.specs.Scanning.Words.{scanning, on_to, AtField, PassingFieldKeeps, asking, AskingKeeps, HasFound, past_word}
 use Rattle.heap_laws.specs.Steps.{with_worker, with_word, Ready, Steps, InWord, Preserves}
 use Rattle.heap_laws.proofs.Fields.Cycle.{slot_keeps_cycle}

@@ -2,11 +2,11 @@
 use Rattle.std.proofs.Common.{◌≡◌, ◌≢◌, ℕ, ◌+◌, ◌*◌, ◌/◌, ◌<◌, ◌≤◌, true, Some, None, refl, sym, ap, ◌∙◌, arith, ⊎_elim, ◌⊎◌, inl, inr}
 use Rattle.std.proofs.lemmas.Bool.{cases_eq, cases_lt, eq-eqb, ne_eqb, leb-true}
 use Rattle.plain_state.specs.declared.kind.Kind.{Kind}
-use Rattle.heap_state.specs.Era.{Era, Memory}
-use Rattle.heap_state.specs.Ghost.{Ghost, Here, Leads}
-use Rattle.heap_state.specs.Inductive.{Invariant, Knows}
-use Rattle.heap_state.specs.Parts.Copying.{Copies, IsOrigin, Keeps, Licensed, Seeks}
-use Rattle.heap_state.specs.Parts.Scanning.{Scans, Stepping}
+use Rattle.heap_state.specs.Memory.Era.{Era, Memory}
+use Rattle.heap_state.specs.Invariant.Ghost.{Ghost, Here, Leads}
+use Rattle.heap_state.specs.Invariant.Inductive.{Invariant, Knows}
+use Rattle.heap_state.specs.Invariant.Parts.Copying.{Copies, IsOrigin, Keeps, Licensed, Seeks}
+use Rattle.heap_state.specs.Invariant.Parts.Scanning.{Scans, Stepping}
 use Rattle.heap_state.specs.Worker.{Worker, Team, Copy, Scan, SeenRecord, Quest, is_late}
 use Rattle.heap_state.proofs.Records.Holding.{writer}
 use Rattle.heap_state.proofs.Puts.{some_same, none≢some}

@@ -5,15 +5,15 @@ use Rattle.plain_state.specs.declared.kind.Kind.{Kind}
 use Rattle.plain_state.specs.Layout.{is_field}
 use Rattle.heap_words.specs.declared.kind.Kind.{Kind as HeaderKind}
 use Rattle.heap_words.specs.Decoded.{HeaderWord, decode}
-use Rattle.heap_state.specs.Era.{Era, Memory, IsLaidOut}
-use Rattle.heap_state.specs.Ghost.{Ghost, Here, said_kind}
-use Rattle.heap_state.specs.Inductive.{Invariant, Knows}
-use Rattle.heap_state.specs.Parts.Scanning.{Scans, Stepping, IsIn}
+use Rattle.heap_state.specs.Memory.Era.{Era, Memory, IsLaidOut}
+use Rattle.heap_state.specs.Invariant.Ghost.{Ghost, Here, said_kind}
+use Rattle.heap_state.specs.Invariant.Inductive.{Invariant, Knows}
+use Rattle.heap_state.specs.Invariant.Parts.Scanning.{Scans, Stepping, IsIn}
 use Rattle.heap_state.specs.Worker.{Team, Copy, Scan, SeenRecord}
 use Rattle.heap_state.proofs.Records.Holding.{writer, uncopied_here}
 use Rattle.heap_state.proofs.Puts.{some_same, none≢some}
 use Rattle.heap_state.proofs.Records.Headers.{said_kind-header_kind}
-use Rattle.heap_state.specs.FieldSpan.{seen_at, entry_of}
+use Rattle.heap_state.specs.Memory.FieldSpan.{seen_at, entry_of}
 use Rattle.heap_state.proofs.Records.FieldSpans.{enters_within, enters_past_no_field}
 use Rattle.heap_laws.specs.Scanning.Words.{scanning, scan_in_record, IsScanning, ReadingCrossingKeeps, ReadingFirstHeaderKeeps, ReadingFrontKeeps, ReadingNextHeaderKeeps}
 use Rattle.heap_laws.specs.Steps.{with_worker, Preserves}

@@ -7,16 +7,16 @@ use Rattle.space_map.specs.GateWord.{GateFits}
 use Rattle.space_map.specs.Spaces.{to_space}
 use Rattle.space_map.specs.AreaWord.{AreaFits}
 use Rattle.heap_state.specs.Configuration.{Configuration, Stands, table, era, team}
-use Rattle.heap_state.specs.Era.{Era, Memory, from_space}
+use Rattle.heap_state.specs.Memory.Era.{Era, Memory, from_space}
 use Rattle.heap_state.specs.Functions.{count_one}
-use Rattle.heap_state.specs.Ghost.{Ghost, header_kind}
-use Rattle.heap_state.specs.Parts.Knowledge.{Passes}
+use Rattle.heap_state.specs.Invariant.Ghost.{Ghost, header_kind}
+use Rattle.heap_state.specs.Invariant.Parts.Knowledge.{Passes}
 use Rattle.heap_state.specs.Worker.{Team, Post, Outside, Stopped, Passage, Enter, Park, Request, Forwarded, Resume, Leave, Scan, is_live, is_running, is_late, is_gone, Flipping, Gone, Running, Scanner}
 use Rattle.heap_state.proofs.Records.Holding.{First, OwnHeader, KeptBy as KeptByWorker, GoneTo, first, uncopied_here}
 use Rattle.heap_state.proofs.Table.LaidOut.{table_pages, table_in_use, to_space-before}
 use Rattle.heap_state.proofs.Table.Spelled.{spelled}
-use Rattle.heap_state.specs.Parts.Copying.{Copies}
-use Rattle.heap_state.specs.Parts.Gate.{Counted}
+use Rattle.heap_state.specs.Invariant.Parts.Copying.{Copies}
+use Rattle.heap_state.specs.Invariant.Parts.Gate.{Counted}
 use Rattle.heap_laws.specs.Answers.{OldHeader, InPlace, KeptBy, Forwards, OldHeadersAreRead, CopiesAreThere, MeetsHeader, ScanAnswers, ScansAreAnswered, IsCounted, PassagesFit, AreaAnswers, AreasAnswer, AreasAreRead}
 use Rattle.heap_laws.specs.Gate.{gate_after}
 use Rattle.heap_laws.specs.Scanning.Words.{IsScanning}

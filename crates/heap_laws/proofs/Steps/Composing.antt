@@ -3,15 +3,15 @@ use Rattle.std.proofs.Common.{◌≡◌, ℕ, ◌<◌, true, Option, Some, None,
 use Rattle.plain_state.specs.State.{Plain}
 use Rattle.plain_state.specs.declared.kind.Kind.{Kind}
 use Rattle.space_map.specs.declared.page_word.PageWord.{PageWord}
-use Rattle.heap_state.specs.Cycle.{Cycle}
-use Rattle.heap_state.specs.Entries.{Entry}
-use Rattle.heap_state.specs.Era.{Era, Memory}
+use Rattle.heap_state.specs.Cycles.Cycle.{Cycle}
+use Rattle.heap_state.specs.Memory.Entries.{Entry}
+use Rattle.heap_state.specs.Memory.Era.{Era, Memory}
 use Rattle.heap_state.specs.Functions.{put}
-use Rattle.heap_state.specs.Ghost.{Ghost}
-use Rattle.heap_state.specs.Inductive.{Invariant, Knows, KnowsAtPages}
-use Rattle.heap_state.specs.Parts.Copying.{IsOrigin, Licensed}
-use Rattle.heap_state.specs.Parts.Scanning.{Scans, Stepping, Rounds}
-use Rattle.heap_state.specs.Values.{Shown}
+use Rattle.heap_state.specs.Invariant.Ghost.{Ghost}
+use Rattle.heap_state.specs.Invariant.Inductive.{Invariant, Knows, KnowsAtPages}
+use Rattle.heap_state.specs.Invariant.Parts.Copying.{IsOrigin, Licensed}
+use Rattle.heap_state.specs.Invariant.Parts.Scanning.{Scans, Stepping, Rounds}
+use Rattle.heap_state.specs.Meaning.Values.{Shown}
 use Rattle.heap_state.specs.Worker.{Worker, Team, Account, Quest, Scan, Round, Origin, Register, Scanned, is_mutator, is_flipper, is_late}
 use Rattle.heap_state.proofs.Workers.Frames.{counted_put, staffed_put, stocks_put, numbered_put, rooted_put}
 use Rattle.heap_state.proofs.Puts.{put_same, put_twice, each_put, some_same}

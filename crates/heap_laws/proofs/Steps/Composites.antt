@@ -1,10 +1,10 @@
 -- Atomic steps that are several changes of what a worker knows.
 use Rattle.std.proofs.Common.{◌≡◌, ℕ, zero, suc, ◌+◌, ◌-◌, ◌<◌, ◌≤◌, true, Option, Some, None, refl, sym, ap, ◌∙◌, arith, subst}
 use Rattle.heap_words.specs.Decoded.{decode}
-use Rattle.heap_state.specs.Entries.{Entry, AnnounceIs}
-use Rattle.heap_state.specs.Era.{Era, Memory}
+use Rattle.heap_state.specs.Memory.Entries.{Entry, AnnounceIs}
+use Rattle.heap_state.specs.Memory.Era.{Era, Memory}
 use Rattle.heap_state.specs.Functions.{put}
-use Rattle.heap_state.specs.Ghost.{Ghost}
+use Rattle.heap_state.specs.Invariant.Ghost.{Ghost}
 use Rattle.heap_state.specs.Worker.{Worker, Team, Register, Quest, is_late}
 use Rattle.heap_state.proofs.Puts.{put_same, put_other}
 use Rattle.heap_laws.specs.Composing.{ends_round}

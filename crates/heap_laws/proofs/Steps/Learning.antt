@@ -3,14 +3,14 @@ use Rattle.std.proofs.Common.{◌≡◌, ◌≢◌, ℕ, ◌<◌, Some, refl, sy
 use Rattle.std.proofs.lemmas.Bool.{cases_eq}
 use Rattle.plain_state.specs.State as plain
 use Rattle.space_map.specs.declared.page_word.PageWord.{PageWord}
-use Rattle.heap_state.specs.Era.{Era, Memory}
+use Rattle.heap_state.specs.Memory.Era.{Era, Memory}
 use Rattle.heap_state.specs.Functions.{put}
-use Rattle.heap_state.specs.Ghost.{Ghost}
-use Rattle.heap_state.specs.Inductive.{Invariant, Knows}
-use Rattle.heap_state.specs.Parts.Copying.{Copies}
-use Rattle.heap_state.specs.Parts.Crossing.{Crossing}
-use Rattle.heap_state.specs.Parts.Pages.{ScannedBy}
-use Rattle.heap_state.specs.Values.{Shown}
+use Rattle.heap_state.specs.Invariant.Ghost.{Ghost}
+use Rattle.heap_state.specs.Invariant.Inductive.{Invariant, Knows}
+use Rattle.heap_state.specs.Invariant.Parts.Copying.{Copies}
+use Rattle.heap_state.specs.Invariant.Parts.Crossing.{Crossing}
+use Rattle.heap_state.specs.Invariant.Parts.Pages.{ScannedBy}
+use Rattle.heap_state.specs.Meaning.Values.{Shown}
 use Rattle.heap_state.specs.Worker.{Worker, Team, Copy, Scan, is_mutator}
 use Rattle.heap_state.proofs.Workers.Frames.{counted_put, staffed_put, stocks_put, numbered_put, accounts_put, registers_put, rooted_put}
 use Rattle.heap_state.proofs.Puts.{put_at, put_other, team_put}

@@ -6,11 +6,11 @@ use Rattle.plain_state.specs.declared.value.Identity.{Identity}
 use Rattle.plain_state.specs.declared.value.Value.TheVariants.{Reference}
 use Rattle.plain_state.specs.State as plain
 use Rattle.plain_state.specs.Layout.{is_field, word_of_value, size_of}
-use Rattle.heap_state.specs.Cycle.{Cycle, RootLeads, ByBoard, ByRegister, IsRoot, InRegister, OnTheBoard, IsCopied}
-use Rattle.heap_state.specs.Era.{Era, Memory, IsLaidOut}
-use Rattle.heap_state.specs.Ghost.{Ghost}
-use Rattle.heap_state.specs.Inductive.{Invariant}
-use Rattle.heap_state.specs.Reachable.{Reachable, FromRegister, FromBoard, FromRecord}
+use Rattle.heap_state.specs.Cycles.Cycle.{Cycle, RootLeads, ByBoard, ByRegister, IsRoot, InRegister, OnTheBoard, IsCopied}
+use Rattle.heap_state.specs.Memory.Era.{Era, Memory, IsLaidOut}
+use Rattle.heap_state.specs.Invariant.Ghost.{Ghost}
+use Rattle.heap_state.specs.Invariant.Inductive.{Invariant}
+use Rattle.heap_state.specs.Meaning.Reachable.{Reachable, FromRegister, FromBoard, FromRecord}
 use Rattle.heap_state.specs.Worker.{Team}
 use Rattle.heap_state.proofs.Puts.{some_same}
 use Rattle.heap_laws.specs.Tracing.{NothingLeads, CopiesReachable}

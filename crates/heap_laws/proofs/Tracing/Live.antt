@@ -8,16 +8,16 @@ use Rattle.std.proofs.lemmas.Option.{slice_get_within, slice_get-map, get_or_fro
 use Rattle.plain_state.specs.declared.value.Identity.{Identity}
 use Rattle.plain_state.specs.State.{Plain, Heap, record_of}
 use Rattle.heap_state.specs.Configuration.{Configuration, era, memory, team}
-use Rattle.heap_state.specs.Copies.{copied_of, words_copied, name_of, CopiedIsLive}
-use Rattle.heap_state.specs.Cycle.{IsCopied}
-use Rattle.heap_state.specs.Denotes.{named_by}
-use Rattle.heap_state.specs.Era.{IsLaidOut}
-use Rattle.heap_state.specs.Ghost.{Ghost}
-use Rattle.heap_state.specs.Inductive.{Invariant}
-use Rattle.heap_state.specs.Reachable.{Reachable, IsLive, words_of, sum_of_records}
+use Rattle.heap_state.specs.Cycles.Copies.{copied_of, words_copied, name_of, CopiedIsLive}
+use Rattle.heap_state.specs.Cycles.Cycle.{IsCopied}
+use Rattle.heap_state.specs.Meaning.Denotes.{named_by}
+use Rattle.heap_state.specs.Memory.Era.{IsLaidOut}
+use Rattle.heap_state.specs.Invariant.Ghost.{Ghost}
+use Rattle.heap_state.specs.Invariant.Inductive.{Invariant}
+use Rattle.heap_state.specs.Meaning.Reachable.{Reachable, IsLive, words_of, sum_of_records}
 use Rattle.heap_state.specs.Sums.{sum_of_sizes}
 use Rattle.heap_state.specs.Theorems.Standing.{StandsInCycle}
-use Rattle.heap_state.specs.Walk.{Walked}
+use Rattle.heap_state.specs.Memory.Walk.{Walked}
 use Rattle.heap_state.proofs.Records.Holding.{uncopied_here}
 use Rattle.heap_state.proofs.Table.LaidOut.{laid_out}
 use Rattle.heap_state.proofs.Walks.Copies.{copied_total, copied_once, copied_sound, copied_complete}

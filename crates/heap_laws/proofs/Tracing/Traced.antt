@@ -2,17 +2,17 @@
 use Rattle.std.proofs.Common.{◌≡◌, ◌≢◌, ℕ, ◌+◌, ◌*◌, ◌/◌, ◌<◌, ◌≤◌, true, Some, None, refl, arith, ⊎_elim, ◌⊎◌, subst, sym}
 use Rattle.std.proofs.lemmas.Bool.{cases_lt}
 use Rattle.space_map.specs.declared.page_word.PageWord.TheVariants.{Open}
-use Rattle.heap_state.specs.Era.{Era, Memory, IsLaidOut}
-use Rattle.heap_state.specs.Ghost.{Ghost, Here, Leads}
-use Rattle.heap_state.specs.Inductive.{Invariant, Knows}
-use Rattle.heap_state.specs.Parts.Copies.{Room}
-use Rattle.heap_state.specs.Parts.OldSpace.{OldSpace}
-use Rattle.heap_state.specs.Parts.Pages.{Quiet, IsLastOpen, Tracing}
-use Rattle.heap_state.specs.Parts.Scanning.{Rounds, LastLooks}
+use Rattle.heap_state.specs.Memory.Era.{Era, Memory, IsLaidOut}
+use Rattle.heap_state.specs.Invariant.Ghost.{Ghost, Here, Leads}
+use Rattle.heap_state.specs.Invariant.Inductive.{Invariant, Knows}
+use Rattle.heap_state.specs.Invariant.Parts.Copies.{Room}
+use Rattle.heap_state.specs.Invariant.Parts.OldSpace.{OldSpace}
+use Rattle.heap_state.specs.Invariant.Parts.Pages.{Quiet, IsLastOpen, Tracing}
+use Rattle.heap_state.specs.Invariant.Parts.Scanning.{Rounds, LastLooks}
 use Rattle.heap_state.specs.Worker.{Worker, Team, Copy, Scan, Round, LastLook, is_mutator, is_running, is_flipper}
 use Rattle.heap_state.proofs.Workers.Frames.{counted_put, staffed_put, scanned_put, stocks_put, numbered_put, rooted_put}
 use Rattle.heap_state.proofs.Puts.{team_put, none≢some}
-use Rattle.heap_state.specs.Entries.{TracedIs}
+use Rattle.heap_state.specs.Memory.Entries.{TracedIs}
 use Rattle.heap_laws.specs.Steps.{with_worker, Ready, Steps, InTraced, with_traced}
 use Rattle.heap_laws.specs.Tracing.{WinsTraced, has_traced, Traces, SleeperLosesTraced, NothingLeads}
 use Rattle.heap_laws.proofs.Steps.Learning.{shown_put}

@@ -3,9 +3,9 @@ use Rattle.std.specs.Prelude.{◌≡◌, ℕ, ◌+◌, ◌-◌, ◌*◌, ◌<◌
 use Rattle.space_map.specs.declared.area_word.AreaWord.{AreaWord}
 use Rattle.space_map.specs.declared.page_word.PageWord.TheVariants.{Open}
 use Rattle.space_map.specs.Spaces.{to_space, first_word}
-use Rattle.heap_state.specs.Entries.{AreaIs, PageIs, WordIs}
-use Rattle.heap_state.specs.Era.{Era, Memory}
-use Rattle.heap_state.specs.Ghost.{Ghost}
+use Rattle.heap_state.specs.Memory.Entries.{AreaIs, PageIs, WordIs}
+use Rattle.heap_state.specs.Memory.Era.{Era, Memory}
+use Rattle.heap_state.specs.Invariant.Ghost.{Ghost}
 use Rattle.heap_state.specs.Worker.{Worker, Team, Stock, is_running}
 use Rattle.heap_laws.specs.Steps.{Ready, IsAreaNow, Steps}
 use Rattle.space_map.specs.declared.spaces.TheConstants.{PAGE_WORDS}

@@ -8,10 +8,10 @@ use Rattle.plain_state.specs.State as plain
 use Rattle.plain_state.specs.declared.value.Value.{Value}
 use Rattle.plain_state.specs.declared.value.Value.TheVariants.{Number, Reference}
 use Rattle.space_map.specs.declared.page_word.PageWord.TheVariants.{Open}
-use Rattle.heap_state.specs.Era.{Era, Memory}
-use Rattle.heap_state.specs.Ghost.{Ghost, said_kind}
-use Rattle.heap_state.specs.Parts.Knowledge.{HasRole, Accesses}
-use Rattle.heap_state.specs.Values.{Shown}
+use Rattle.heap_state.specs.Memory.Era.{Era, Memory}
+use Rattle.heap_state.specs.Invariant.Ghost.{Ghost, said_kind}
+use Rattle.heap_state.specs.Invariant.Parts.Knowledge.{HasRole, Accesses}
+use Rattle.heap_state.specs.Meaning.Values.{Shown}
 use Rattle.heap_state.specs.Worker.{Team, Role, FieldRole, NumberRole, Access, is_mutator, is_late}
 use Rattle.heap_laws.specs.Fields.Words.{IsWordOf, MayStore, StandsFor}
 use Rattle.heap_laws.specs.Fields.Held.{MayHold, HoldsValue}

@@ -3,10 +3,10 @@ use Rattle.plain_state.specs.declared.value.Value.{Value}
 use Rattle.std.specs.Prelude.{◌≡◌, ℕ, ◌+◌, ◌<◌, true, Some, None, slice_set, Option, ◌↔◌}
 use Rattle.plain_state.specs.State as plain
 use Rattle.space_map.specs.declared.page_word.PageWord.TheVariants.{Open}
-use Rattle.heap_state.specs.Era.{Era, Memory}
-use Rattle.heap_state.specs.Ghost.{Ghost, Leads, Lands}
-use Rattle.heap_state.specs.Parts.Knowledge.{Accesses}
-use Rattle.heap_state.specs.Values.{value_of}
+use Rattle.heap_state.specs.Memory.Era.{Era, Memory}
+use Rattle.heap_state.specs.Invariant.Ghost.{Ghost, Leads, Lands}
+use Rattle.heap_state.specs.Invariant.Parts.Knowledge.{Accesses}
+use Rattle.heap_state.specs.Meaning.Values.{value_of}
 use Rattle.heap_state.specs.Worker.{Worker, Stock, Access, Round, Reset, Account, Team}
 use Rattle.heap_laws.specs.Composing.{LessAtPages}
 use Rattle.heap_laws.specs.Steps.{Ready}

@@ -13,10 +13,10 @@ use Rattle.plain_state.specs.Writing.{with_heap, stored, with_board, gained}
 use Rattle.plain_state.specs.Layout.{word_of_value}
 use Rattle.space_map.specs.declared.area_word.AreaWord.{AreaWord}
 use Rattle.space_map.specs.declared.page_word.PageWord.TheVariants.{Open}
-use Rattle.heap_state.specs.Entries.{WordIs}
-use Rattle.heap_state.specs.Era.{Era, Memory}
-use Rattle.heap_state.specs.Ghost.{Ghost}
-use Rattle.heap_state.specs.Values.{Shown, Shows, Accounts, RegistersShow, value_of}
+use Rattle.heap_state.specs.Memory.Entries.{WordIs}
+use Rattle.heap_state.specs.Memory.Era.{Era, Memory}
+use Rattle.heap_state.specs.Invariant.Ghost.{Ghost}
+use Rattle.heap_state.specs.Meaning.Values.{Shown, Shows, Accounts, RegistersShow, value_of}
 use Rattle.heap_state.specs.Worker.{Worker, Team, Stock, is_running}
 use Rattle.heap_state.specs.Functions.{put}
 use Rattle.heap_laws.specs.Allocation.Stocks.{SeesRoom}

@@ -7,10 +7,10 @@ use Rattle.plain_state.specs.State as plain
 use Rattle.plain_state.specs.Layout.{is_field, is_raw, word_of_value}
 use Rattle.plain_state.specs.declared.kind.Kind.{Kind}
 use Rattle.space_map.specs.declared.page_word.PageWord.TheVariants.{Open}
-use Rattle.heap_state.specs.Era.{Era, Memory}
-use Rattle.heap_state.specs.Ghost.{Ghost, header_kind}
-use Rattle.heap_state.specs.Parts.Knowledge.{HasRole}
-use Rattle.heap_state.specs.Values.{Shown, Shows, value_of}
+use Rattle.heap_state.specs.Memory.Era.{Era, Memory}
+use Rattle.heap_state.specs.Invariant.Ghost.{Ghost, header_kind}
+use Rattle.heap_state.specs.Invariant.Parts.Knowledge.{HasRole}
+use Rattle.heap_state.specs.Meaning.Values.{Shown, Shows, value_of}
 use Rattle.heap_state.specs.Worker.{Team, Access, is_mutator, is_late}
 use Rattle.heap_laws.specs.Fields.Held.{MayHold}
 use Rattle.heap_laws.specs.Steps.{Ready}

@@ -2,11 +2,11 @@
 use Rattle.std.specs.Prelude.{◌≡◌, ℕ, ◌+◌, ◌^◌, ◌<◌, ◌≤◌, ◌&&◌, true, false, Some, None, nat_le, nat_lt, if◌then◌else◌}
 use Rattle.plain_state.specs.State.{Plain}
 use Rattle.space_map.specs.declared.gate_word.GateWord.{GateWord}
-use Rattle.heap_state.specs.Cycle.{Cycle}
-use Rattle.heap_state.specs.Era.{Era, Memory}
-use Rattle.heap_state.specs.Ghost.{Ghost}
-use Rattle.heap_state.specs.Inductive.{Invariant}
-use Rattle.heap_state.specs.Values.{Shown}
+use Rattle.heap_state.specs.Cycles.Cycle.{Cycle}
+use Rattle.heap_state.specs.Memory.Era.{Era, Memory}
+use Rattle.heap_state.specs.Invariant.Ghost.{Ghost}
+use Rattle.heap_state.specs.Invariant.Inductive.{Invariant}
+use Rattle.heap_state.specs.Meaning.Values.{Shown}
 use Rattle.heap_state.specs.Worker.{Worker, Team, Stopped, Flipping, Reset}
 use Rattle.heap_laws.specs.Steps.{with_worker, Ready}
 

@@ -1,9 +1,9 @@
 -- Each stopped mutator forwards its registers after the flip.
 use Rattle.std.specs.Prelude.{◌≡◌, ℕ, ◌+◌, ◌<◌, true, Some, None}
 use Rattle.heap_words.specs.Decoded.{PointerWord, decode}
-use Rattle.heap_state.specs.Era.{Era, Memory}
+use Rattle.heap_state.specs.Memory.Era.{Era, Memory}
 use Rattle.heap_state.specs.Functions.{put}
-use Rattle.heap_state.specs.Ghost.{Ghost, Leads}
+use Rattle.heap_state.specs.Invariant.Ghost.{Ghost, Leads}
 use Rattle.heap_state.specs.Worker.{Worker, Team, Register, Quest, is_late}
 use Rattle.heap_laws.specs.Steps.{Ready, Steps}
 

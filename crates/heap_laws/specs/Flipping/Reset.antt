@@ -3,10 +3,10 @@
 use Rattle.std.specs.Prelude.{◌≡◌, ℕ, ◌+◌, true, false, Some, None}
 use Rattle.space_map.specs.declared.area_word.AreaWord.{AreaWord}
 use Rattle.space_map.specs.AreaWord.{AreaFits}
-use Rattle.heap_state.specs.Era.{Era, Memory, from_space}
-use Rattle.heap_state.specs.Ghost.{Ghost}
+use Rattle.heap_state.specs.Memory.Era.{Era, Memory, from_space}
+use Rattle.heap_state.specs.Invariant.Ghost.{Ghost}
 use Rattle.heap_state.specs.Worker.{Worker, Team, Reset, is_flipper}
-use Rattle.heap_state.specs.Entries.{AreaIs}
+use Rattle.heap_state.specs.Memory.Entries.{AreaIs}
 use Rattle.heap_laws.specs.Steps.{Ready, Steps}
 
 -- the worker whose flip is so far

@@ -3,11 +3,11 @@ use Rattle.std.specs.Prelude.{◌≡◌, ◌≢◌, ℕ, ◌+◌, ◌<◌, ◌�
 use Rattle.heap_words.specs.declared.kind.Kind.{Kind as HeaderKind}
 use Rattle.plain_state.specs.declared.kind.Kind.{Kind}
 use Rattle.heap_words.specs.Decoded.{PointerWord, HeaderWord, decode}
-use Rattle.heap_state.specs.Era.{Era, Memory}
-use Rattle.heap_state.specs.Ghost.{Ghost, OnBoard, Leads, said_kind}
+use Rattle.heap_state.specs.Memory.Era.{Era, Memory}
+use Rattle.heap_state.specs.Invariant.Ghost.{Ghost, OnBoard, Leads, said_kind}
 use Rattle.heap_state.specs.Worker.{Worker, Team, SeenRecord, Scanned, Quest, Scan}
-use Rattle.heap_state.specs.FieldSpan.{next_from, seen_at, entry_of}
-use Rattle.heap_state.specs.Entries.{WordIs}
+use Rattle.heap_state.specs.Memory.FieldSpan.{next_from, seen_at, entry_of}
+use Rattle.heap_state.specs.Memory.Entries.{WordIs}
 use Rattle.heap_laws.specs.Steps.{Ready, Steps}
 use Rattle.space_map.specs.Spaces.{page_of, first_word}
 use Rattle.space_map.specs.declared.spaces.TheConstants.{PAGE_WORDS}

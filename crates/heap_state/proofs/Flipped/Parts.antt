@@ -11,21 +11,21 @@ use Rattle.space_map.specs.declared.page_word.PageWord.{PageWord}
 use Rattle.space_map.specs.declared.page_word.PageWord.TheVariants.{Unset, Open, Scanning}
 use Rattle.space_map.specs.PageWord.{age_of}
 use Rattle.heap_state.specs.Configuration.{team}
-use Rattle.heap_state.specs.Entries.{table_with}
-use Rattle.heap_state.specs.Era.{Era}
-use Rattle.heap_state.specs.Flipped.{flipped, flipped_entries}
+use Rattle.heap_state.specs.Memory.Entries.{table_with}
+use Rattle.heap_state.specs.Memory.Era.{Era}
+use Rattle.heap_state.specs.Examples.Flipped.{flipped, flipped_entries}
 use Rattle.heap_state.specs.Functions.{put, sum_below}
-use Rattle.heap_state.specs.Ghost.{Ghost, Here, Leads, Lands, header_kind}
-use Rattle.heap_state.specs.Parts.Copies.{Copied, Once, Keepers, Room}
-use Rattle.heap_state.specs.Parts.Crossing.{Crossing}
-use Rattle.heap_state.specs.Parts.Gate.{Counted, Staffed}
-use Rattle.heap_state.specs.Parts.Leading.{Opened, Landing, Older}
-use Rattle.heap_state.specs.Parts.OldSpace.{OldSpace, OldArea}
-use Rattle.heap_state.specs.Parts.Pages.{Shut, Filling, Tracing, Aged, OldPages, ScannedBy}
-use Rattle.heap_state.specs.Parts.Records.{Laid, Headed, NewArea, NewWritten, SpaceOf, RawWords}
-use Rattle.heap_state.specs.Parts.Stocks.{Stocks, Stocked, Numbered}
-use Rattle.heap_state.specs.Table.{Table}
-use Rattle.heap_state.specs.Worked.{made}
+use Rattle.heap_state.specs.Invariant.Ghost.{Ghost, Here, Leads, Lands, header_kind}
+use Rattle.heap_state.specs.Invariant.Parts.Copies.{Copied, Once, Keepers, Room}
+use Rattle.heap_state.specs.Invariant.Parts.Crossing.{Crossing}
+use Rattle.heap_state.specs.Invariant.Parts.Gate.{Counted, Staffed}
+use Rattle.heap_state.specs.Invariant.Parts.Leading.{Opened, Landing, Older}
+use Rattle.heap_state.specs.Invariant.Parts.OldSpace.{OldSpace, OldArea}
+use Rattle.heap_state.specs.Invariant.Parts.Pages.{Shut, Filling, Tracing, Aged, OldPages, ScannedBy}
+use Rattle.heap_state.specs.Invariant.Parts.Records.{Laid, Headed, NewArea, NewWritten, SpaceOf, RawWords}
+use Rattle.heap_state.specs.Invariant.Parts.Stocks.{Stocks, Stocked, Numbered}
+use Rattle.heap_state.specs.Memory.Table.{Table}
+use Rattle.heap_state.specs.Examples.Worked.{made}
 use Rattle.heap_state.specs.Worker.{Team, Stock, Scan, is_mutator}
 use Rattle.heap_state.proofs.Puts.{none≢some}
 

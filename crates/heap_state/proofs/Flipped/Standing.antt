@@ -7,21 +7,21 @@ use Rattle.heap_words.specs.Decoded.{PointerWord, NumberWord, decode}
 use Rattle.heap_words.specs.Word.{header_word, pointer_word, tag_of}
 use Rattle.plain_state.specs.declared.value.Value.TheVariants.{Number, Reference}
 use Rattle.heap_state.specs.Configuration.{team, Stands}
-use Rattle.heap_state.specs.Denotes.{denoted, denoted_in}
-use Rattle.heap_state.specs.Entries.{EachFits}
-use Rattle.heap_state.specs.Era.{era_of, memory_of}
-use Rattle.heap_state.specs.Flipped.{flipped, flipped_entries, flipped_plain, late_mutator}
+use Rattle.heap_state.specs.Meaning.Denotes.{denoted, denoted_in}
+use Rattle.heap_state.specs.Memory.Entries.{EachFits}
+use Rattle.heap_state.specs.Memory.Era.{era_of, memory_of}
+use Rattle.heap_state.specs.Examples.Flipped.{flipped, flipped_entries, flipped_plain, late_mutator}
 use Rattle.heap_state.specs.Functions.{put}
-use Rattle.heap_state.specs.Inductive.{Invariant, Knows}
-use Rattle.heap_state.specs.Parts.Knowledge.{Clean}
+use Rattle.heap_state.specs.Invariant.Inductive.{Invariant, Knows}
+use Rattle.heap_state.specs.Invariant.Parts.Knowledge.{Clean}
 use Rattle.std.proofs.Common.{◌⊎◌, inl, inr, ◌≤◌}
 use Rattle.heap_state.specs.Sums.{uncopied}
 use Rattle.heap_state.specs.Theorems.Examples.{IsWorkedOutFlipped}
 use Rattle.heap_state.specs.Theorems.Rows.{Written}
 use Rattle.heap_state.specs.Theorems.Standing.{IsSound}
-use Rattle.heap_state.specs.Values.{value_of, ShowsAll, Accounts, RegistersShow, BoardShows, Shown}
-use Rattle.heap_state.specs.Walk.{walk, old_walk_of}
-use Rattle.heap_state.specs.Worked.{made}
+use Rattle.heap_state.specs.Meaning.Values.{value_of, ShowsAll, Accounts, RegistersShow, BoardShows, Shown}
+use Rattle.heap_state.specs.Memory.Walk.{walk, old_walk_of}
+use Rattle.heap_state.specs.Examples.Worked.{made}
 use Rattle.heap_state.specs.Worker.{Worker}
 use Rattle.heap_state.proofs.Flipped.Parts.{flipped_table, flipped_era, flipped_ghost, workers, heap, page, size, none, identity, only, blank_word, zero_word, first_register, number_lands, pointer_lands, counted, staffed, laid, headed, copied, once, kept_by, room, raw_words, shut, filling, tracing, aged, scanned, opened, landing, older, new_area, new_written, old_space, old_words, old_pages, crossing, stocks, numbered}
 use Rattle.heap_state.proofs.Workers.Idle.{idle_knows}

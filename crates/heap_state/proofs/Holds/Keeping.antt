@@ -4,18 +4,18 @@ use Rattle.std.proofs.lemmas.Bool.{cases_eq, cases_lt, cases_Bool, eq-eqb, ne_eq
 use Rattle.heap_words.specs.Decoded.{BusyWord, ForwardWord, decode}
 use Rattle.space_map.specs.declared.page_word.PageWord.TheVariants.{Open}
 use Rattle.heap_state.specs.Configuration.{Configuration, era, memory, team}
-use Rattle.heap_state.specs.Era.{Era, Memory}
-use Rattle.heap_state.specs.Ghost.{Ghost, Here, OnBoard, header_kind}
-use Rattle.heap_state.specs.Holds.{worker_of, IsWalkedField, GateHolds, HeadersHold, AccessHolds, RoomHolds, CrossingHolds, ClaimsHold, FreeHolds, Holds}
-use Rattle.heap_state.specs.Inductive.{Invariant, Knows}
-use Rattle.heap_state.specs.Parts.Copies.{owing}
-use Rattle.heap_state.specs.Parts.Stocks.{Stocked}
-use Rattle.heap_state.specs.Dump.{dump_of}
+use Rattle.heap_state.specs.Memory.Era.{Era, Memory}
+use Rattle.heap_state.specs.Invariant.Ghost.{Ghost, Here, OnBoard, header_kind}
+use Rattle.heap_state.specs.Invariant.Holds.{worker_of, IsWalkedField, GateHolds, HeadersHold, AccessHolds, RoomHolds, CrossingHolds, ClaimsHold, FreeHolds, Holds}
+use Rattle.heap_state.specs.Invariant.Inductive.{Invariant, Knows}
+use Rattle.heap_state.specs.Invariant.Parts.Copies.{owing}
+use Rattle.heap_state.specs.Invariant.Parts.Stocks.{Stocked}
+use Rattle.heap_state.specs.Meaning.Dump.{dump_of}
 use Rattle.heap_state.specs.Kept.{kept_of, size_said, IsReservedIn}
-use Rattle.heap_state.specs.Represents.{IsInHeap}
+use Rattle.heap_state.specs.Meaning.Represents.{IsInHeap}
 use Rattle.heap_state.proofs.Walks.Reserving.{kept_there}
 use Rattle.heap_state.specs.Sums.{is_uncopied}
-use Rattle.heap_state.specs.Walk.{Walked}
+use Rattle.heap_state.specs.Memory.Walk.{Walked}
 use Rattle.heap_state.specs.Worker.{Post, Scanner, Outside, Running, Stopped, Flipping, Gone, Claim, Stock, is_live, is_running, is_flipper, is_late}
 use Rattle.heap_state.proofs.Represents.Denoting.{none_leads}
 use Rattle.heap_state.proofs.Records.Holding.{First, OwnHeader, KeptBy, GoneTo, first, keeper, writer, reserves}

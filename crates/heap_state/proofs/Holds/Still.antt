@@ -3,11 +3,11 @@ use Rattle.std.proofs.Common.{◌≡◌, ◌≢◌, ℕ, ◌+◌, ◌-◌, ◌*�
 use Rattle.std.proofs.lemmas.Bool.{cases_eq, cases_lt}
 use Rattle.space_map.specs.declared.page_word.PageWord.{PageWord}
 use Rattle.space_map.specs.declared.page_word.PageWord.TheVariants.{Open, Scanning}
-use Rattle.heap_state.specs.Era.{Era, Memory}
-use Rattle.heap_state.specs.Ghost.{Ghost}
-use Rattle.heap_state.specs.Inductive.{Invariant}
-use Rattle.heap_state.specs.Parts.Pages.{Quiet}
-use Rattle.heap_state.specs.Parts.Scanning.{Scans}
+use Rattle.heap_state.specs.Memory.Era.{Era, Memory}
+use Rattle.heap_state.specs.Invariant.Ghost.{Ghost}
+use Rattle.heap_state.specs.Invariant.Inductive.{Invariant}
+use Rattle.heap_state.specs.Invariant.Parts.Pages.{Quiet}
+use Rattle.heap_state.specs.Invariant.Parts.Scanning.{Scans}
 use Rattle.heap_state.specs.Theorems.Standing.{ScansFillingPage, StandsStill}
 use Rattle.heap_state.specs.Worker.{Team, Copy, Scan, is_late}
 use Rattle.heap_state.proofs.Records.Holding.{writer}

@@ -4,7 +4,7 @@ use Rattle.std.proofs.lemmas.Bool.{cases_lt}
 use Rattle.plain_state.specs.declared.kind.Kind.{Kind}
 use Rattle.plain_state.specs.declared.kind.Kind.TheVariants.{Fields, Raw}
 use Rattle.plain_state.specs.Layout.{is_field}
-use Rattle.heap_state.specs.FieldSpan.{first_field, fields_end, next_scanned, entry_of}
+use Rattle.heap_state.specs.Memory.FieldSpan.{first_field, fields_end, next_scanned, entry_of}
 use Rattle.heap_state.specs.Worker.{SeenRecord}
 
 -- a word behind the header is a field exactly where it lies from the first field up to the fields' end

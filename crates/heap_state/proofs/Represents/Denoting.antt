@@ -5,15 +5,15 @@ use Rattle.heap_words.specs.Decoded.{Decoded, NumberWord, PointerWord, HeaderWor
 use Rattle.plain_state.specs.declared.value.Identity.{Identity}
 use Rattle.space_map.specs.declared.page_word.PageWord.TheVariants.{Open}
 use Rattle.heap_state.specs.Configuration.{Configuration, era, memory, team}
-use Rattle.heap_state.specs.Denotes.{named_in, denoted, denoted_in, denoted_by}
-use Rattle.heap_state.specs.Dump.{dump_of}
+use Rattle.heap_state.specs.Meaning.Denotes.{named_in, denoted, denoted_in, denoted_by}
+use Rattle.heap_state.specs.Meaning.Dump.{dump_of}
 use Rattle.heap_state.specs.Kept.{kept_of}
-use Rattle.heap_state.specs.Represents.{own_header}
+use Rattle.heap_state.specs.Meaning.Represents.{own_header}
 use Rattle.heap_state.proofs.Walks.Reserving.{kept_there}
-use Rattle.heap_state.specs.Era.{Era, Memory}
-use Rattle.heap_state.specs.Ghost.{Ghost, IsField, Here, Leads, Lands, header_kind}
-use Rattle.heap_state.specs.Inductive.{Invariant}
-use Rattle.heap_state.specs.Values.{value_of, value_said}
+use Rattle.heap_state.specs.Memory.Era.{Era, Memory}
+use Rattle.heap_state.specs.Invariant.Ghost.{Ghost, IsField, Here, Leads, Lands, header_kind}
+use Rattle.heap_state.specs.Invariant.Inductive.{Invariant}
+use Rattle.heap_state.specs.Meaning.Values.{value_of, value_said}
 use Rattle.heap_state.proofs.Records.Holding.{First, OwnHeader, KeptBy, GoneTo, first, keeper, uncopied_here}
 use Rattle.heap_state.proofs.Walks.InHeap.{IsInReach, lay}
 

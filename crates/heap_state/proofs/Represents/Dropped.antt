@@ -1,12 +1,12 @@
 -- The invariant without the records of the old space, once the epoch is traced: what workers know of it, and the whole.
 use Rattle.std.proofs.Common.{◌≡◌, ℕ, ◌+◌, ◌<◌, true, arith, Some, None}
 use Rattle.heap_state.specs.Configuration.{Configuration, era, memory, team}
-use Rattle.heap_state.specs.Era.{Era, Memory}
-use Rattle.heap_state.specs.Ghost.{Ghost}
-use Rattle.heap_state.specs.Inductive.{Invariant, Knows}
-use Rattle.heap_state.specs.Parts.Copying.{IsOrigin, Seeks, Copies, Keeps}
-use Rattle.heap_state.specs.Parts.Knowledge.{Clean, Accesses}
-use Rattle.heap_state.specs.Parts.Scanning.{Scans, Stepping, Claims}
+use Rattle.heap_state.specs.Memory.Era.{Era, Memory}
+use Rattle.heap_state.specs.Invariant.Ghost.{Ghost}
+use Rattle.heap_state.specs.Invariant.Inductive.{Invariant, Knows}
+use Rattle.heap_state.specs.Invariant.Parts.Copying.{IsOrigin, Seeks, Copies, Keeps}
+use Rattle.heap_state.specs.Invariant.Parts.Knowledge.{Clean, Accesses}
+use Rattle.heap_state.specs.Invariant.Parts.Scanning.{Scans, Stepping, Claims}
 use Rattle.heap_state.specs.Worker.{Worker, Origin, Register, Scanned, Quest, Copy, Access, Scan, Claim, is_mutator, is_late}
 use Rattle.heap_state.proofs.Holds.Still.{nobody_scans, nobody_copies}
 use Rattle.heap_state.proofs.Represents.Dropping as drop

@@ -5,13 +5,13 @@ use Rattle.heap_words.specs.Decoded.{HeaderWord, Malformed}
 use Rattle.plain_state.specs.declared.value.Identity.{Identity}
 use Rattle.plain_state.specs.Layout.{is_field}
 use Rattle.heap_state.specs.Configuration.{Configuration, era, memory, team}
-use Rattle.heap_state.specs.Dump.{dump_of}
-use Rattle.heap_state.specs.Era.{Era, Memory}
-use Rattle.heap_state.specs.Ghost.{Ghost, IsField, Here, header_kind, said_kind}
-use Rattle.heap_state.specs.Holds.{IsWalkedField}
-use Rattle.heap_state.specs.Inductive.{Invariant}
-use Rattle.heap_state.specs.Represents.{IsOwn}
-use Rattle.heap_state.specs.Walk.{Walked}
+use Rattle.heap_state.specs.Meaning.Dump.{dump_of}
+use Rattle.heap_state.specs.Memory.Era.{Era, Memory}
+use Rattle.heap_state.specs.Invariant.Ghost.{Ghost, IsField, Here, header_kind, said_kind}
+use Rattle.heap_state.specs.Invariant.Holds.{IsWalkedField}
+use Rattle.heap_state.specs.Invariant.Inductive.{Invariant}
+use Rattle.heap_state.specs.Meaning.Represents.{IsOwn}
+use Rattle.heap_state.specs.Memory.Walk.{Walked}
 use Rattle.heap_state.proofs.Represents.Denoting.{header_of, Headers, Own, Forwarded, headers}
 use Rattle.heap_state.proofs.Walks.InHeap.{StandsUnwritten, in_heap_sound, now_sound}
 use Rattle.heap_state.proofs.Records.Headers.{said_kind-header_kind}

@@ -8,14 +8,14 @@ use Rattle.plain_state.specs.declared.kind.Kind.{Kind}
 use Rattle.plain_state.specs.State as plain
 use Rattle.plain_state.specs.Layout.{is_raw, word_of_value}
 use Rattle.heap_state.specs.Configuration.{Configuration, table, era, memory, team}
-use Rattle.heap_state.specs.Denotes.{denoted}
-use Rattle.heap_state.specs.Era.{Era, Memory}
-use Rattle.heap_state.specs.Ghost.{Ghost, Leads, Lands, header_kind}
-use Rattle.heap_state.specs.Inductive.{Invariant}
-use Rattle.heap_state.specs.Dump.{dump_of}
-use Rattle.heap_state.specs.Represents.{IsOwn, HasOwn, IsFieldOf, LeadsToRecord, RegisterShows, BoardWordShows, Represents}
-use Rattle.heap_state.specs.Values.{value_of, Shows, Shown}
-use Rattle.heap_state.specs.Walk.{Walked, walk_of}
+use Rattle.heap_state.specs.Meaning.Denotes.{denoted}
+use Rattle.heap_state.specs.Memory.Era.{Era, Memory}
+use Rattle.heap_state.specs.Invariant.Ghost.{Ghost, Leads, Lands, header_kind}
+use Rattle.heap_state.specs.Invariant.Inductive.{Invariant}
+use Rattle.heap_state.specs.Meaning.Dump.{dump_of}
+use Rattle.heap_state.specs.Meaning.Represents.{IsOwn, HasOwn, IsFieldOf, LeadsToRecord, RegisterShows, BoardWordShows, Represents}
+use Rattle.heap_state.specs.Meaning.Values.{value_of, Shows, Shown}
+use Rattle.heap_state.specs.Memory.Walk.{Walked, walk_of}
 use Rattle.heap_state.specs.Worker.{is_mutator}
 use Rattle.heap_state.proofs.Represents.Denoting.{denotes, reaches, field_lands, board_lands}
 use Rattle.heap_state.proofs.Records.Holding.{uncopied_here}

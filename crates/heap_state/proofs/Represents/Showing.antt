@@ -6,13 +6,13 @@ use Rattle.std.proofs.lemmas.Option.{slice_get_within}
 use Rattle.plain_state.specs.State as plain
 use Rattle.plain_state.specs.Layout.{word_of_value}
 use Rattle.heap_state.specs.Configuration.{Configuration, era, memory, team}
-use Rattle.heap_state.specs.Denotes.{denoted}
-use Rattle.heap_state.specs.Dump.{dump_of}
-use Rattle.heap_state.specs.Era.{Era, Memory}
-use Rattle.heap_state.specs.Ghost.{Ghost, IsField, Lands, header_kind}
-use Rattle.heap_state.specs.Inductive.{Invariant}
-use Rattle.heap_state.specs.Represents.{IsOwn, Represents}
-use Rattle.heap_state.specs.Values.{value_of, Shows, BoardShows, RegistersShow, Shown}
+use Rattle.heap_state.specs.Meaning.Denotes.{denoted}
+use Rattle.heap_state.specs.Meaning.Dump.{dump_of}
+use Rattle.heap_state.specs.Memory.Era.{Era, Memory}
+use Rattle.heap_state.specs.Invariant.Ghost.{Ghost, IsField, Lands, header_kind}
+use Rattle.heap_state.specs.Invariant.Inductive.{Invariant}
+use Rattle.heap_state.specs.Meaning.Represents.{IsOwn, Represents}
+use Rattle.heap_state.specs.Meaning.Values.{value_of, Shows, BoardShows, RegistersShow, Shown}
 use Rattle.heap_state.specs.Worker.{is_mutator}
 use Rattle.heap_state.proofs.Records.Headers.{said_kind-header_kind}
 use Rattle.heap_state.proofs.Represents.Denoting.{Headers, Own, Forwarded, headers, denotes, field_lands, board_lands}

@@ -1,8 +1,8 @@
 -- The spaces of a configuration lie apart, in whole pages, below the board.
 use Rattle.std.proofs.Common.{◌≡◌, ◌≢◌, ℕ, ◌+◌, ◌%◌, List, refl, arith, ⊎_elim, inl, inr}
 use Rattle.std.proofs.lemmas.Bool.{cases_eq}
-use Rattle.heap_state.specs.Era.{era_at, era_of, from_space, IsLaidOut}
-use Rattle.heap_state.specs.Table.{table_of}
+use Rattle.heap_state.specs.Memory.Era.{era_at, era_of, from_space, IsLaidOut}
+use Rattle.heap_state.specs.Memory.Table.{table_of}
 use Rattle.space_map.specs.Spaces.{to_space}
 
 pub table_pages : (n : ℕ) (words : List ℕ) → (table_of n words).pages ≡ n

@@ -6,7 +6,7 @@ use Rattle.std.proofs.lemmas.Bool.{cases_Bool}
 use Rattle.std.proofs.lemmas.Bool.Decides.{not_from_Decides}
 use Rattle.space_map.specs.Table.{Row, IsRow, is_row, place_of, table_length}
 use Rattle.space_map.proofs.Rows.{is_row-decides, place_of-apart, place_of-lt, row_eq, row_eq-decides}
-use Rattle.heap_state.specs.Table.{word_in}
+use Rattle.heap_state.specs.Memory.Table.{word_in}
 
 -- a row that the table has is one that it has
 pub row_is : (n : ℕ) (row : Row) → is_row n row ≡ true → IsRow n row

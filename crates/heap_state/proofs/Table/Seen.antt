@@ -3,8 +3,8 @@ use Rattle.std.proofs.Common.{◌≡◌, ◌≢◌, ℕ, ◌+◌, ◌%◌, refl,
 use Rattle.space_map.specs.declared.area_word.AreaWord.{AreaWord}
 use Rattle.space_map.specs.declared.gate_word.GateWord.{GateWord}
 use Rattle.space_map.specs.Spaces.{to_space}
-use Rattle.heap_state.specs.Era.{from_space}
-use Rattle.heap_state.specs.Table.{Table}
+use Rattle.heap_state.specs.Memory.Era.{from_space}
+use Rattle.heap_state.specs.Memory.Table.{Table}
 use Rattle.heap_state.specs.Theorems.Rows.{AreaSeen, FlipSeen, MemoryFollows}
 use Rattle.heap_state.proofs.Table.LaidOut.{laid_out}
 use Rattle.heap_state.proofs.Puts.{put_same, put_other}

@@ -4,7 +4,7 @@ use Rattle.space_map.specs.Table.{Gate, Area, Page}
 use Rattle.space_map.proofs.AreaWords.{encode_area-area_in, AreaFits-area_in}
 use Rattle.space_map.proofs.GateWords.{encode_gate-gate_in, GateFits-gate_in}
 use Rattle.space_map.proofs.PageWords.{encode_page-decode_page, PageFits-decode_page}
-use Rattle.heap_state.specs.Table.{word_in, table_of, IsFormed}
+use Rattle.heap_state.specs.Memory.Table.{word_in, table_of, IsFormed}
 use Rattle.heap_state.specs.Theorems.Rows.{SpellsTable}
 
 pub spelled : (n : ℕ) (words : List ℕ) → IsFormed n words → SpellsTable n words

@@ -10,9 +10,9 @@ use Rattle.space_map.proofs.AreaWords.{area_in-encode_area, encode_area-lt}
 use Rattle.space_map.proofs.GateWords.{gate_in-encode_gate, encode_gate-lt}
 use Rattle.space_map.proofs.PageWords.{decode_page-encode_page}
 use Rattle.space_map.proofs.Rows.{row_eq, row_eq-decides}
-use Rattle.heap_state.specs.Entries.{Entry, GateIs, AreaIs, PageIs, EntryFits, row_of, word_of, with_entry}
+use Rattle.heap_state.specs.Memory.Entries.{Entry, GateIs, AreaIs, PageIs, EntryFits, row_of, word_of, with_entry}
 use Rattle.heap_state.specs.Functions.{put}
-use Rattle.heap_state.specs.Table.{HasForm, page_in, table_by, table_of, word_in}
+use Rattle.heap_state.specs.Memory.Table.{HasForm, page_in, table_by, table_of, word_in}
 use Rattle.heap_state.specs.Theorems.Rows.{StoresEntry}
 use Rattle.heap_state.proofs.Table.Places.{length-after, put_row, word_in-set}
 

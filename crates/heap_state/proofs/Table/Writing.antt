@@ -8,8 +8,8 @@ use Rattle.space_map.specs.GateWord.{gate_in}
 use Rattle.space_map.specs.PageWord.{decode_page}
 use Rattle.space_map.specs.Table.{Row, Gate, Area, Page, is_row, place_of, table_length}
 use Rattle.space_map.proofs.Rows.{place_of-lt}
-use Rattle.heap_state.specs.Entries.{with_entry, blank_words, blank_table, written}
-use Rattle.heap_state.specs.Table.{HasForm, IsFormed, table_by, table_of, word_in}
+use Rattle.heap_state.specs.Memory.Entries.{with_entry, blank_words, blank_table, written}
+use Rattle.heap_state.specs.Memory.Table.{HasForm, IsFormed, table_by, table_of, word_in}
 use Rattle.heap_state.specs.Theorems.Rows.{WritesTables}
 use Rattle.heap_state.proofs.Table.Places.{row_is}
 use Rattle.heap_state.proofs.Table.Stores.{stores_entry}

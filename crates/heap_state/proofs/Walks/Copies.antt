@@ -5,12 +5,12 @@ use Rattle.std.proofs.lemmas.Bool.{cases_lt}
 use Rattle.std.proofs.lemmas.List.Elements.{All-contains}
 use Rattle.space_map.specs.declared.page_word.PageWord.{PageWord}
 use Rattle.heap_state.specs.Configuration.{Configuration, era, memory, team}
-use Rattle.heap_state.specs.Copies.{copied_of, words_copied}
-use Rattle.heap_state.specs.Ghost.{Ghost}
-use Rattle.heap_state.specs.Inductive.{Invariant}
+use Rattle.heap_state.specs.Cycles.Copies.{copied_of, words_copied}
+use Rattle.heap_state.specs.Invariant.Ghost.{Ghost}
+use Rattle.heap_state.specs.Invariant.Inductive.{Invariant}
 use Rattle.heap_state.specs.Kept.{kept_of, reserved_in}
 use Rattle.heap_state.specs.Sums.{sum_of_sizes}
-use Rattle.heap_state.specs.Walk.{Met, AtEnd, Nothing, Reserved, Record, Broken, meets, Walked, walk}
+use Rattle.heap_state.specs.Memory.Walk.{Met, AtEnd, Nothing, Reserved, Record, Broken, meets, Walked, walk}
 use Rattle.heap_state.proofs.Puts.{some_same, none≢some}
 use Rattle.heap_state.proofs.Walks.InHeap.{told_now}
 use Rattle.heap_state.proofs.Walks.Reserving.{tells}

@@ -2,19 +2,19 @@
 use Rattle.std.proofs.Common.{◌≡◌, ◌≢◌, ℕ, ◌+◌, ◌-◌, ◌<◌, ◌≤◌, refl, ap, arith, ⊎_elim, ◌⊎◌, inl, inr, Bool, true}
 use Rattle.std.specs.List.{Contains}
 use Rattle.heap_state.specs.Configuration.{Configuration, table, era, memory, team}
-use Rattle.heap_state.specs.Era.{Era, Memory, IsLaidOut}
+use Rattle.heap_state.specs.Memory.Era.{Era, Memory, IsLaidOut}
 use Rattle.heap_state.specs.Functions.{sum_below}
-use Rattle.heap_state.specs.Ghost.{Ghost}
-use Rattle.heap_state.specs.Inductive.{Invariant}
-use Rattle.heap_state.specs.Parts.Records.{SpaceOf}
-use Rattle.heap_state.specs.Dump.{dump_of}
+use Rattle.heap_state.specs.Invariant.Ghost.{Ghost}
+use Rattle.heap_state.specs.Invariant.Inductive.{Invariant}
+use Rattle.heap_state.specs.Invariant.Parts.Records.{SpaceOf}
+use Rattle.heap_state.specs.Meaning.Dump.{dump_of}
 use Rattle.heap_state.specs.Kept.{kept_of, reserved_in}
-use Rattle.heap_state.specs.Represents.{IsCopying, IsInHeap}
+use Rattle.heap_state.specs.Meaning.Represents.{IsCopying, IsInHeap}
 use Rattle.space_map.specs.declared.page_word.PageWord.{PageWord}
 use Rattle.space_map.specs.declared.page_word.PageWord.TheVariants.{Unset, Open, Scanning}
 use Rattle.std.proofs.lemmas.Bool.{cases_eq, cases_lt, eq-eqb, ne_eqb}
 use Rattle.heap_state.specs.Sums.{sum_of_sizes}
-use Rattle.heap_state.specs.Walk.{Walked, walk_of, old_walk_of, walk_space, is_protected, is_closed_before, IsWalkable, IsOldReadable, met_word, Record}
+use Rattle.heap_state.specs.Memory.Walk.{Walked, walk_of, old_walk_of, walk_space, is_protected, is_closed_before, IsWalkable, IsOldReadable, met_word, Record}
 use Rattle.heap_state.proofs.Records.Holding.{says}
 use Rattle.heap_state.proofs.Table.LaidOut.{laid_out}
 use Rattle.heap_state.proofs.Walks.Reserving.{tells}

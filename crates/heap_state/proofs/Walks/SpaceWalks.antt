@@ -4,8 +4,8 @@ use Rattle.std.proofs.lemmas.Bool.{cases_eq, cases_lt, cases_Bool, lt-ltb, eq-eq
 use Rattle.heap_words.specs.Decoded.{NumberWord, decode}
 use Rattle.space_map.specs.declared.page_word.PageWord.{PageWord}
 use Rattle.space_map.specs.declared.page_word.PageWord.TheVariants.{Unset, Open, Scanning}
-use Rattle.heap_state.specs.Parts.Records.{SpaceOf}
-use Rattle.heap_state.specs.Walk.{Nothing, Reserved, Record, Broken, met_word, meets, next_place, is_protected}
+use Rattle.heap_state.specs.Invariant.Parts.Records.{SpaceOf}
+use Rattle.heap_state.specs.Memory.Walk.{Nothing, Reserved, Record, Broken, met_word, meets, next_place, is_protected}
 use Rattle.heap_state.proofs.Walks.Walking.{MetAt, Part}
 use Rattle.heap_words.specs.Word.{tag_of}
 

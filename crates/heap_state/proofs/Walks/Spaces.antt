@@ -6,7 +6,7 @@ use Rattle.std.proofs.lemmas.List.Elements.{All-append, All-contains, All-weaker
 use Rattle.space_map.specs.declared.page_word.PageWord.{PageWord}
 use Rattle.heap_state.specs.Functions.{sum_below}
 use Rattle.heap_state.specs.Sums.{sum_of_sizes}
-use Rattle.heap_state.specs.Walk.{Walked, walk, walk_space, ReadsSpace, is_protected}
+use Rattle.heap_state.specs.Memory.Walk.{Walked, walk, walk_space, ReadsSpace, is_protected}
 use Rattle.heap_state.proofs.Walks.Walking.{IsItem, item, sound, reads_all, complete, sum_sound, sum_below-head}
 use Rattle.heap_state.proofs.Walks.SpaceWalks.{SpaceSaysSizes, TellsReserved, IsClear, copied_part, copied_start, new_part}
 

@@ -7,7 +7,7 @@ use Rattle.std.specs.Prelude.{if◌then◌else◌}
 use Rattle.space_map.specs.Spaces.{page_of, first_word}
 use Rattle.heap_state.specs.Functions.{sum_below}
 use Rattle.heap_state.specs.Sums.{sum_of_sizes}
-use Rattle.heap_state.specs.Walk.{Met, AtEnd, Nothing, Reserved, Record, Broken, meets, next_place, Walked, walked_at, walk, IsRead, ReadsAll}
+use Rattle.heap_state.specs.Memory.Walk.{Met, AtEnd, Nothing, Reserved, Record, Broken, meets, next_place, Walked, walked_at, walk, IsRead, ReadsAll}
 use Rattle.heap_state.proofs.Puts.{sum_below-same}
 
 -- what stands at a place where a walk meets this

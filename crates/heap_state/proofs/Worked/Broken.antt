@@ -8,23 +8,23 @@ use Rattle.heap_words.specs.Word.{header_word, pointer_word, forward_word, busy_
 use Rattle.heap_words.proofs.Decoding.{decode-pointer_word, decode-header_word}
 use Rattle.space_map.specs.declared.page_word.PageWord.TheVariants.{Open}
 use Rattle.heap_state.specs.Configuration.{table, era, memory}
-use Rattle.heap_state.specs.Denotes.{denoted, denoted_in}
-use Rattle.heap_state.specs.Dump.{dump_of}
-use Rattle.heap_state.specs.Entries.{PageIs, AreaIs, WordIs}
-use Rattle.heap_state.specs.Era.{memory_of}
+use Rattle.heap_state.specs.Meaning.Denotes.{denoted, denoted_in}
+use Rattle.heap_state.specs.Meaning.Dump.{dump_of}
+use Rattle.heap_state.specs.Memory.Entries.{PageIs, AreaIs, WordIs}
+use Rattle.heap_state.specs.Memory.Era.{memory_of}
 use Rattle.heap_state.specs.Functions.{put}
-use Rattle.heap_state.specs.Ghost.{Leads, header_kind}
-use Rattle.heap_state.specs.Holds.{AccessHolds, RoomHolds, IsWalkedField}
-use Rattle.heap_state.specs.Represents.{IsCopying, IsOwn, Represents}
-use Rattle.heap_state.specs.Table.{Table}
+use Rattle.heap_state.specs.Invariant.Ghost.{Leads, header_kind}
+use Rattle.heap_state.specs.Invariant.Holds.{AccessHolds, RoomHolds, IsWalkedField}
+use Rattle.heap_state.specs.Meaning.Represents.{IsCopying, IsOwn, Represents}
+use Rattle.heap_state.specs.Memory.Table.{Table}
 use Rattle.heap_state.specs.Theorems.Rows.{Written}
-use Rattle.heap_state.specs.Walk.{walk, walk_of, old_walk_of}
+use Rattle.heap_state.specs.Memory.Walk.{walk, walk_of, old_walk_of}
 use Rattle.plain_state.specs.declared.kind.Kind.TheVariants as plain_kind
 use Rattle.plain_state.specs.declared.value.Value.{Value}
 use Rattle.plain_state.specs.declared.value.Value.TheVariants.{Reference}
 use Rattle.plain_state.specs.State as plain
 use Rattle.heap_state.proofs.Puts.{none≢some}
-use Rattle.heap_state.specs.Worked.{worked_entries, forwarded_wrong, opened_early, short_of_room, made}
+use Rattle.heap_state.specs.Examples.Worked.{worked_entries, forwarded_wrong, opened_early, short_of_room, made}
 use Rattle.heap_state.proofs.Worked.Standing.{entries_fit}
 use Rattle.heap_state.proofs.Table.Writing.{writes_tables}
 

@@ -4,11 +4,11 @@ use Rattle.std.specs.Prelude.{if◌then◌else◌, ◌==◌}
 use Rattle.std.proofs.lemmas.Bool.{cases_eq, ne_eqb}
 use Rattle.plain_state.specs.declared.kind.Kind.TheVariants.{Fields}
 use Rattle.plain_state.specs.declared.value.Identity.{Identity}
-use Rattle.heap_state.specs.Entries.{table_with}
-use Rattle.heap_state.specs.Era.{Era}
-use Rattle.heap_state.specs.Ghost.{Ghost}
-use Rattle.heap_state.specs.Table.{Table}
-use Rattle.heap_state.specs.Worked.{worked_entries, made}
+use Rattle.heap_state.specs.Memory.Entries.{table_with}
+use Rattle.heap_state.specs.Memory.Era.{Era}
+use Rattle.heap_state.specs.Invariant.Ghost.{Ghost}
+use Rattle.heap_state.specs.Memory.Table.{Table}
+use Rattle.heap_state.specs.Examples.Worked.{worked_entries, made}
 
 abbrev pub worked_table : Table
 worked_table = table_with 4 worked_entries

@@ -7,23 +7,23 @@ use Rattle.heap_words.specs.Word.{header_word, pointer_word, forward_word, busy_
 use Rattle.plain_state.specs.declared.value.Identity.{Identity}
 use Rattle.plain_state.specs.declared.value.Value.TheVariants.{Number, Reference}
 use Rattle.plain_state.specs.State as plain
-use Rattle.heap_state.specs.Denotes.{denoted, denoted_in}
+use Rattle.heap_state.specs.Meaning.Denotes.{denoted, denoted_in}
 use Rattle.heap_state.specs.Functions.{put}
-use Rattle.heap_state.specs.Reachable.{Reachable, FromRegister, FromBoard, FromRecord, IsLive}
+use Rattle.heap_state.specs.Meaning.Reachable.{Reachable, FromRegister, FromBoard, FromRecord, IsLive}
 use Rattle.heap_state.specs.Sums.{uncopied}
 use Rattle.heap_state.specs.Theorems.Rows.{Written}
 use Rattle.heap_state.specs.Theorems.Standing.{IsSound}
 use Rattle.heap_state.specs.Theorems.Examples.{IsWorkedOut}
-use Rattle.heap_state.specs.Walk.{walk, walk_of, old_walk_of}
-use Rattle.heap_state.specs.Worked.{worked, worked_entries, worked_plain, made}
+use Rattle.heap_state.specs.Memory.Walk.{walk, walk_of, old_walk_of}
+use Rattle.heap_state.specs.Examples.Worked.{worked, worked_entries, worked_plain, made}
 use Rattle.heap_state.proofs.Puts.{some_same, none≢some}
 use Rattle.std.proofs.lemmas.List.Elements.{All-nil, All-cons}
 use Rattle.plain_state.specs.declared.kind.Kind.TheVariants as plain_kind
 use Rattle.plain_state.specs.declared.kind.Kind.TheVariants.{Fields}
 use Rattle.plain_state.specs.Layout.{word_of_value, size_of}
 use Rattle.heap_state.specs.Configuration.{team}
-use Rattle.heap_state.specs.Cycle.{IsCopied, StillLeads, IsRoot, InRegister, OnTheBoard, Copying, Rooted, Cycle}
-use Rattle.heap_state.specs.Era.{era_of, memory_of}
+use Rattle.heap_state.specs.Cycles.Cycle.{IsCopied, StillLeads, IsRoot, InRegister, OnTheBoard, Copying, Rooted, Cycle}
+use Rattle.heap_state.specs.Memory.Era.{era_of, memory_of}
 use Rattle.std.proofs.lemmas.Bool.{cases_eq, ne_eqb}
 use Rattle.heap_state.proofs.Worked.Ghost.{worked_table, worked_era, worked_ghost, size, writer, copy, keeper, identity, each_place}
 use Rattle.heap_state.proofs.Worked.Records.{heap, older, word_258}

@@ -6,9 +6,9 @@ use Rattle.space_map.specs.declared.page_word.PageWord.TheVariants.{Unset, Open,
 use Rattle.space_map.specs.PageWord.{age_of}
 use Rattle.heap_state.specs.Configuration.{team}
 use Rattle.heap_state.specs.Functions.{put}
-use Rattle.heap_state.specs.Parts.OldSpace.{OldArea}
-use Rattle.heap_state.specs.Parts.Pages.{Shut, Quiet, Filling, Tracing, Aged, OldPages, ScannedBy}
-use Rattle.heap_state.specs.Worked.{worked}
+use Rattle.heap_state.specs.Invariant.Parts.OldSpace.{OldArea}
+use Rattle.heap_state.specs.Invariant.Parts.Pages.{Shut, Quiet, Filling, Tracing, Aged, OldPages, ScannedBy}
+use Rattle.heap_state.specs.Examples.Worked.{worked}
 use Rattle.heap_state.specs.Worker.{Team, Scan}
 use Rattle.heap_state.proofs.Worked.Ghost.{worked_table, worked_era, size, writer, each_place}
 

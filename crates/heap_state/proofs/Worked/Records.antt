@@ -2,16 +2,16 @@
 use Rattle.std.proofs.Common.{◌≡◌, ◌≢◌, ℕ, ◌+◌, ◌-◌, ◌<◌, ◌≤◌, refl, sym, ap, ◌∙◌, arith, ⊎_elim, ◌⊎◌, inl, inr}
 use Rattle.std.proofs.lemmas.Bool.{cases_eq, ne_eqb}
 use Rattle.plain_state.specs.declared.value.Identity.{Identity}
-use Rattle.heap_state.specs.Worked.{made}
+use Rattle.heap_state.specs.Examples.Worked.{made}
 use Rattle.plain_state.specs.declared.kind.Kind.TheVariants.{Fields}
 use Rattle.heap_words.specs.Decoded.{NumberWord, PointerWord, HeaderWord, BusyWord, ForwardWord, decode}
 use Rattle.heap_words.specs.Word.{number_word}
 use Rattle.heap_words.proofs.Decoding.{decode-number_word, decode-pointer_word, decode-header_word, decode-forward_word, decode-busy_word}
 use Rattle.heap_state.specs.Functions.{put, sum_below}
-use Rattle.heap_state.specs.Ghost.{Here, Lands, header_kind}
-use Rattle.heap_state.specs.Parts.Copies.{Copied, Once, Keepers, Room}
-use Rattle.heap_state.specs.Parts.Leading.{Landing, Older}
-use Rattle.heap_state.specs.Parts.Records.{Laid, Headed, NewWritten}
+use Rattle.heap_state.specs.Invariant.Ghost.{Here, Lands, header_kind}
+use Rattle.heap_state.specs.Invariant.Parts.Copies.{Copied, Once, Keepers, Room}
+use Rattle.heap_state.specs.Invariant.Parts.Leading.{Landing, Older}
+use Rattle.heap_state.specs.Invariant.Parts.Records.{Laid, Headed, NewWritten}
 use Rattle.heap_state.proofs.Worked.Ghost.{worked_table, worked_era, size, writer, copy, keeper, identity, kept, each_place, Sizes, sizes}
 
 abbrev pub heap : ℕ → ℕ

@@ -5,13 +5,13 @@ use Rattle.plain_state.specs.declared.kind.Kind.TheVariants.{Fields}
 use Rattle.heap_words.specs.Decoded.{PointerWord, NumberWord, decode}
 use Rattle.space_map.specs.declared.page_word.PageWord.TheVariants.{Open}
 use Rattle.heap_state.specs.Functions.{put, sum_below}
-use Rattle.heap_state.specs.Ghost.{Here, Leads}
-use Rattle.heap_state.specs.Parts.Crossing.{Crossing}
-use Rattle.heap_state.specs.Parts.Gate.{Counted, Staffed}
-use Rattle.heap_state.specs.Parts.Leading.{Opened}
-use Rattle.heap_state.specs.Parts.OldSpace.{OldSpace}
-use Rattle.heap_state.specs.Parts.Records.{NewArea, SpaceOf}
-use Rattle.heap_state.specs.Parts.Stocks.{Stocks, Stocked, Numbered}
+use Rattle.heap_state.specs.Invariant.Ghost.{Here, Leads}
+use Rattle.heap_state.specs.Invariant.Parts.Crossing.{Crossing}
+use Rattle.heap_state.specs.Invariant.Parts.Gate.{Counted, Staffed}
+use Rattle.heap_state.specs.Invariant.Parts.Leading.{Opened}
+use Rattle.heap_state.specs.Invariant.Parts.OldSpace.{OldSpace}
+use Rattle.heap_state.specs.Invariant.Parts.Records.{NewArea, SpaceOf}
+use Rattle.heap_state.specs.Invariant.Parts.Stocks.{Stocks, Stocked, Numbered}
 use Rattle.heap_state.specs.Worker.{Stock, is_mutator}
 use Rattle.heap_state.proofs.Puts.{some_same, none≢some}
 use Rattle.heap_state.proofs.Worked.Ghost.{worked_table, worked_era, size, writer, identity, each_place, Sizes, sizes}

@@ -8,13 +8,13 @@ use Rattle.plain_state.specs.declared.value.Identity.{Identity}
 use Rattle.plain_state.specs.declared.value.Value.TheVariants.{Number, Reference}
 use Rattle.plain_state.specs.State as plain
 use Rattle.heap_state.specs.Configuration.{team, Stands}
-use Rattle.heap_state.specs.Entries.{EachFits}
-use Rattle.heap_state.specs.Era.{era_of, memory_of}
+use Rattle.heap_state.specs.Memory.Entries.{EachFits}
+use Rattle.heap_state.specs.Memory.Era.{era_of, memory_of}
 use Rattle.heap_state.specs.Functions.{put}
-use Rattle.heap_state.specs.Inductive.{Invariant}
-use Rattle.heap_state.specs.Parts.Records.{RawWords}
-use Rattle.heap_state.specs.Values.{value_of, Shows, ShowsAll, Accounts, RegistersShow, BoardShows, Shown}
-use Rattle.heap_state.specs.Worked.{worked, worked_entries, worked_plain, worked_mutator, made, zeros_after}
+use Rattle.heap_state.specs.Invariant.Inductive.{Invariant}
+use Rattle.heap_state.specs.Invariant.Parts.Records.{RawWords}
+use Rattle.heap_state.specs.Meaning.Values.{value_of, Shows, ShowsAll, Accounts, RegistersShow, BoardShows, Shown}
+use Rattle.heap_state.specs.Examples.Worked.{worked, worked_entries, worked_plain, worked_mutator, made, zeros_after}
 use Rattle.heap_words.specs.Word.{pointer_word}
 use Rattle.heap_state.proofs.Puts.{some_same, none≢some}
 use Rattle.heap_state.proofs.Worked.Ghost.{worked_table, worked_era, worked_ghost, size, writer, copy, keeper, identity, each_place}

@@ -6,12 +6,12 @@ use Rattle.heap_words.specs.Decoded.{PointerWord, NumberWord, decode}
 use Rattle.heap_words.specs.Word.{number_word, pointer_word, header_word}
 use Rattle.heap_words.proofs.Decoding.{decode-number_word, decode-pointer_word, decode-header_word}
 use Rattle.heap_state.specs.Functions.{put}
-use Rattle.heap_state.specs.Ghost.{Here, Leads, header_kind}
-use Rattle.heap_state.specs.Inductive.{Knows, KnowsAtPages}
-use Rattle.heap_state.specs.Parts.Copying.{IsOrigin, Seeks, Copies, Keeps}
-use Rattle.heap_state.specs.Parts.Knowledge.{Clean}
-use Rattle.heap_state.specs.Parts.Scanning.{Scans, Stepping}
-use Rattle.heap_state.specs.Worked.{worked_mutator, worked_scanner}
+use Rattle.heap_state.specs.Invariant.Ghost.{Here, Leads, header_kind}
+use Rattle.heap_state.specs.Invariant.Inductive.{Knows, KnowsAtPages}
+use Rattle.heap_state.specs.Invariant.Parts.Copying.{IsOrigin, Seeks, Copies, Keeps}
+use Rattle.heap_state.specs.Invariant.Parts.Knowledge.{Clean}
+use Rattle.heap_state.specs.Invariant.Parts.Scanning.{Scans, Stepping}
+use Rattle.heap_state.specs.Examples.Worked.{worked_mutator, worked_scanner}
 use Rattle.heap_state.specs.Worker.{Worker, Copy, Scan, Quest, Scanned}
 use Rattle.heap_state.proofs.Workers.Idle.{at_rest, nothing_at_pages, idle_knows}
 use Rattle.heap_state.proofs.Puts.{some_same, none≢some, true_false}

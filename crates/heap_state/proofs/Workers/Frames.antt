@@ -5,14 +5,14 @@ use Rattle.plain_state.specs.State as plain
 use Rattle.plain_state.specs.declared.value.Identity.{Identity}
 use Rattle.space_map.specs.declared.gate_word.GateWord.{GateWord}
 use Rattle.space_map.specs.declared.page_word.PageWord.{PageWord}
-use Rattle.heap_state.specs.Cycle.{Rooted, RootLeads, ByBoard, ByRegister}
-use Rattle.heap_state.specs.Era.{Era}
+use Rattle.heap_state.specs.Cycles.Cycle.{Rooted, RootLeads, ByBoard, ByRegister}
+use Rattle.heap_state.specs.Memory.Era.{Era}
 use Rattle.heap_state.specs.Functions.{put, sum_below, count_one}
-use Rattle.heap_state.specs.Parts.Gate.{Counted, Staffed}
-use Rattle.heap_state.specs.Parts.Pages.{ScannedBy}
-use Rattle.heap_state.specs.Parts.Stocks.{Stocks, Stocked, Numbered}
+use Rattle.heap_state.specs.Invariant.Parts.Gate.{Counted, Staffed}
+use Rattle.heap_state.specs.Invariant.Parts.Pages.{ScannedBy}
+use Rattle.heap_state.specs.Invariant.Parts.Stocks.{Stocks, Stocked, Numbered}
 use Rattle.heap_state.specs.Theorems.Workers.{FramesOfWorkers}
-use Rattle.heap_state.specs.Values.{Accounts, RegistersShow}
+use Rattle.heap_state.specs.Meaning.Values.{Accounts, RegistersShow}
 use Rattle.heap_state.specs.Worker.{Worker, Stock, is_mutator, is_live, is_running, is_flipper, is_gone, is_late}
 use Rattle.heap_state.proofs.Puts.{put_at, put_other, each_put, proj_put, sum_below-same}
 

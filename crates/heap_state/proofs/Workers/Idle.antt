@@ -2,10 +2,10 @@
 use Rattle.std.proofs.Common.{◌≡◌, ℕ, ◌<◌, true, false, Some, None, is_some, refl}
 use Rattle.space_map.specs.declared.gate_word.GateWord.{GateWord}
 use Rattle.space_map.specs.declared.page_word.PageWord.{PageWord}
-use Rattle.heap_state.specs.Era.{Era}
-use Rattle.heap_state.specs.Ghost.{Ghost}
-use Rattle.heap_state.specs.Inductive.{Knows, KnowsAtPages}
-use Rattle.heap_state.specs.Parts.Knowledge.{Timely, Ends, Clean}
+use Rattle.heap_state.specs.Memory.Era.{Era}
+use Rattle.heap_state.specs.Invariant.Ghost.{Ghost}
+use Rattle.heap_state.specs.Invariant.Inductive.{Knows, KnowsAtPages}
+use Rattle.heap_state.specs.Invariant.Parts.Knowledge.{Timely, Ends, Clean}
 use Rattle.heap_state.specs.Worker.{Worker, Outside, Stock, fresh, is_mutator, is_flipper, is_late}
 use Rattle.heap_state.proofs.Puts.{none≢some, true_false}
 

@@ -3,17 +3,17 @@ use Rattle.std.specs.Prelude.{◌≡◌, [], ◌∷◌, true, Some, None}
 use Rattle.heap_words.specs.Word.{number_word, pointer_word}
 use Rattle.plain_state.specs.declared.value.Value.TheVariants.{Number, Reference}
 use Rattle.plain_state.specs.State.{Plain}
-use Rattle.heap_state.specs.Denotes.{denoted}
-use Rattle.heap_state.specs.Flipped.{flipped, flipped_plain, late_mutator}
-use Rattle.heap_state.specs.Reachable.{IsLive}
+use Rattle.heap_state.specs.Meaning.Denotes.{denoted}
+use Rattle.heap_state.specs.Examples.Flipped.{flipped, flipped_plain, late_mutator}
+use Rattle.heap_state.specs.Meaning.Reachable.{IsLive}
 use Rattle.heap_state.specs.Sums.{uncopied}
-use Rattle.heap_state.specs.Walk.{walk_of, old_walk_of}
+use Rattle.heap_state.specs.Memory.Walk.{walk_of, old_walk_of}
 use Rattle.heap_state.specs.Worker.{is_late}
-use Rattle.heap_state.specs.Worked.{worked, forwarded_wrong, opened_early, short_of_room, worked_plain, made}
+use Rattle.heap_state.specs.Examples.Worked.{worked, forwarded_wrong, opened_early, short_of_room, worked_plain, made}
 use Rattle.heap_state.specs.Configuration.{Stands, era, memory, team}
-use Rattle.heap_state.specs.Cycle.{Cycle}
-use Rattle.heap_state.specs.Holds.{AccessHolds, RoomHolds}
-use Rattle.heap_state.specs.Represents.{Represents}
+use Rattle.heap_state.specs.Cycles.Cycle.{Cycle}
+use Rattle.heap_state.specs.Invariant.Holds.{AccessHolds, RoomHolds}
+use Rattle.heap_state.specs.Meaning.Represents.{Represents}
 use Rattle.heap_state.specs.Theorems.Standing.{IsSound}
 
 -- ---- a configuration worked out by hand

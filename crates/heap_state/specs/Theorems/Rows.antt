@@ -8,11 +8,11 @@ use Rattle.space_map.specs.AreaWord.{AreaFits, encode_area}
 use Rattle.space_map.specs.GateWord.{GateFits, encode_gate}
 use Rattle.space_map.specs.PageWord.{PageFits, encode_page}
 use Rattle.space_map.specs.Table.{Row, Gate, Traced, Area, Page, Cross, HeapWord, Announce, IsRow, place_of}
-use Rattle.heap_state.specs.Entries.{Entry, row_of, word_of, EntryFits, with_entry, written, table_with, EachFits}
-use Rattle.heap_state.specs.Era.{era_of, memory_of, from_space, IsLaidOut}
+use Rattle.heap_state.specs.Memory.Entries.{Entry, row_of, word_of, EntryFits, with_entry, written, table_with, EachFits}
+use Rattle.heap_state.specs.Memory.Era.{era_of, memory_of, from_space, IsLaidOut}
 use Rattle.space_map.specs.Spaces.{to_space}
 use Rattle.heap_state.specs.Functions.{put}
-use Rattle.heap_state.specs.Table.{Table, table_of, word_in, IsFormed}
+use Rattle.heap_state.specs.Memory.Table.{Table, table_of, word_in, IsFormed}
 
 -- ---- loads
 

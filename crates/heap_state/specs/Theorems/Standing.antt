@@ -3,14 +3,14 @@ use Rattle.std.specs.Prelude.{◌≡◌, ℕ, ◌+◌, ◌<◌, Some}
 use Rattle.space_map.specs.declared.page_word.PageWord.{PageWord}
 use Rattle.plain_state.specs.State.{Plain}
 use Rattle.heap_state.specs.Configuration.{Configuration, Stands, era, memory, team}
-use Rattle.heap_state.specs.Cycle.{Cycle}
-use Rattle.heap_state.specs.Era.{Era, Memory}
-use Rattle.heap_state.specs.Ghost.{Ghost}
-use Rattle.heap_state.specs.Inductive.{Invariant}
-use Rattle.heap_state.specs.Parts.Pages.{Quiet}
+use Rattle.heap_state.specs.Cycles.Cycle.{Cycle}
+use Rattle.heap_state.specs.Memory.Era.{Era, Memory}
+use Rattle.heap_state.specs.Invariant.Ghost.{Ghost}
+use Rattle.heap_state.specs.Invariant.Inductive.{Invariant}
+use Rattle.heap_state.specs.Invariant.Parts.Pages.{Quiet}
 use Rattle.space_map.specs.declared.page_word.PageWord.TheVariants.{Scanning}
-use Rattle.heap_state.specs.Holds.{Holds}
-use Rattle.heap_state.specs.Represents.{Represents}
+use Rattle.heap_state.specs.Invariant.Holds.{Holds}
+use Rattle.heap_state.specs.Meaning.Represents.{Represents}
 use Rattle.heap_state.specs.Worker.{Team, Copy, Scan}
 use Rattle.space_map.specs.Spaces.{first_word}
 use Rattle.space_map.specs.declared.spaces.TheConstants.{PAGE_WORDS}

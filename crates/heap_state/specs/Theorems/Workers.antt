@@ -3,11 +3,11 @@ use Rattle.std.specs.Prelude.{◌≡◌, ◌≢◌, ℕ, ◌+◌, ◌<◌, List,
 use Rattle.space_map.specs.declared.gate_word.GateWord.{GateWord}
 use Rattle.space_map.specs.declared.page_word.PageWord.{PageWord}
 use Rattle.heap_state.specs.Configuration.{team_of}
-use Rattle.heap_state.specs.Era.{Era}
+use Rattle.heap_state.specs.Memory.Era.{Era}
 use Rattle.heap_state.specs.Functions.{put, sum_below}
-use Rattle.heap_state.specs.Parts.Gate.{Counted, Staffed}
-use Rattle.heap_state.specs.Parts.Pages.{ScannedBy}
-use Rattle.heap_state.specs.Parts.Stocks.{Stocks, Numbered}
+use Rattle.heap_state.specs.Invariant.Parts.Gate.{Counted, Staffed}
+use Rattle.heap_state.specs.Invariant.Parts.Pages.{ScannedBy}
+use Rattle.heap_state.specs.Invariant.Parts.Stocks.{Stocks, Numbered}
 use Rattle.plain_state.specs.declared.value.Identity.{Identity}
 use Rattle.heap_state.specs.Worker.{Worker}
 

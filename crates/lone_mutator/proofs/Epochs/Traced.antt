@@ -4,9 +4,9 @@ use Rattle.std.proofs.lemmas.Bool.{cases_lt}
 use Rattle.space_map.specs.declared.page_word.PageWord.{PageWord}
 use Rattle.space_map.specs.declared.page_word.PageWord.TheVariants.{Open}
 use Rattle.space_map.specs.Spaces.{first_word, page_of}
-use Rattle.heap_state.specs.Era.{Era, IsLaidOut}
-use Rattle.heap_state.specs.Parts.Pages.{Tracing}
-use Rattle.heap_state.specs.Parts.Records.{Laid, NewArea}
+use Rattle.heap_state.specs.Memory.Era.{Era, IsLaidOut}
+use Rattle.heap_state.specs.Invariant.Parts.Pages.{Tracing}
+use Rattle.heap_state.specs.Invariant.Parts.Records.{Laid, NewArea}
 
 module _ (E : Era) (traced behind front low : ℕ) (size : ℕ → ℕ) (heap : ℕ → ℕ) (page : ℕ → PageWord) (out : IsLaidOut E) (tracing : Tracing E traced behind front page)
     (laid : Laid E front low size) (new : NewArea low (E.start + E.span) E.epoch size heap page) (done : traced ≡ E.epoch + 1) where

@@ -9,14 +9,14 @@ use Rattle.plain_state.proofs.Lists.{slice_get-set_same}
 use Rattle.plain_heap.specs.Call.{After, call}
 use Rattle.plain_heap.specs.Step.{settled}
 use Rattle.plain_heap.proofs.Calls.Counts.{Went, call-went}
-use Rattle.heap_state.specs.Values.{Accounts}
+use Rattle.heap_state.specs.Meaning.Values.{Accounts}
 use Rattle.gc_worker.specs.declared.task.Task.{Task}
 use Rattle.gc_worker.specs.declared.task.Task.TheVariants.{Calls, Stops}
-use Rattle.gc_worker.specs.Answer.{ComesTo, after_answer, after_told}
-use Rattle.gc_worker.specs.Between.{IsSo}
-use Rattle.gc_worker.specs.Law.{Heap, held_at}
+use Rattle.gc_worker.specs.Plain.Answer.{ComesTo, after_answer, after_told}
+use Rattle.gc_worker.specs.Laws.Between.{IsSo}
+use Rattle.gc_worker.specs.Laws.Step.{Heap, held_at}
 use Rattle.gc_worker.specs.declared.did.Did.TheVariants.{Done}
-use Rattle.gc_worker.specs.Turned.{Answers}
+use Rattle.gc_worker.specs.Steps.Turned.{Answers}
 
 -- its plain mutator, with the same account
 pub record HasPlain (h : Heap) (p : Plain) (q : Mutator) : Type 0 where

@@ -1,14 +1,14 @@
 -- A new heap of one mutator is alone, and has no more to pay than an instruction and its attaching.
 use Rattle.std.proofs.Common.{◌≡◌, ℕ, ◌<◌, length, refl, sym, ap, subst, arith}
-use Rattle.heap_state.specs.Entries.{table_with, written}
-use Rattle.heap_state.specs.Table.{Table, table_of}
+use Rattle.heap_state.specs.Memory.Entries.{table_with, written}
+use Rattle.heap_state.specs.Memory.Table.{Table, table_of}
 use Rattle.heap_state.proofs.Table.Writing.{writes_tables}
 use Rattle.heap_laws.specs.Opening.{opening_entries}
 use Rattle.heap_laws.proofs.Opening.Heap.{entries_fit}
 use Rattle.space_map.specs.Spaces.{IsPageCount, to_space}
-use Rattle.gc_worker.specs.Between.{fresh_mutator, fresh_workers, opening_heap}
-use Rattle.gc_worker.specs.Held.{Held}
-use Rattle.gc_worker.specs.Law.{held_at}
+use Rattle.gc_worker.specs.Laws.Between.{fresh_mutator, fresh_workers, opening_heap}
+use Rattle.gc_worker.specs.Workers.Held.{Held}
+use Rattle.gc_worker.specs.Laws.Step.{held_at}
 use Rattle.lone_mutator.specs.Bound.{most_steps}
 use Rattle.lone_mutator.specs.Law.{LoneHeapsOpen}
 use Rattle.lone_mutator.specs.Lone.{IsLone, Remembers, potential}

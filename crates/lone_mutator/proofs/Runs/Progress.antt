@@ -13,14 +13,14 @@ use Rattle.gc_worker.specs.declared.config.Config.{Config}
 use Rattle.gc_worker.specs.declared.stage.Stage.{Stage}
 use Rattle.gc_worker.specs.declared.stage.Stage.TheVariants.{Looks, Gone}
 use Rattle.gc_worker.specs.declared.task.Task.{Task}
-use Rattle.gc_worker.specs.Between.{fresh_workers, opening_heap, with_task, with_worker}
-use Rattle.gc_worker.specs.Fits.{Fits, IsGoneBy}
-use Rattle.gc_worker.specs.Held.{Held}
-use Rattle.gc_worker.specs.Law.{Heap, WorkersStand, held_at, moved, nobody}
-use Rattle.gc_worker.specs.Stepped.{awaits, awaits_at}
+use Rattle.gc_worker.specs.Laws.Between.{fresh_workers, opening_heap, with_task, with_worker}
+use Rattle.gc_worker.specs.Workers.Fits.{Fits, IsGoneBy}
+use Rattle.gc_worker.specs.Workers.Held.{Held}
+use Rattle.gc_worker.specs.Laws.Step.{Heap, WorkersStand, held_at, moved, nobody}
+use Rattle.gc_worker.specs.Steps.Stepped.{awaits, awaits_at}
 use Rattle.gc_worker.specs.declared.did.Did.TheVariants.{Done, Trap}
-use Rattle.gc_worker.specs.Turned.{Told, Silent, Answers, Marks, told, turned}
-use Rattle.gc_worker.specs.Wanted.{wanted}
+use Rattle.gc_worker.specs.Steps.Turned.{Told, Silent, Answers, Marks, told, turned}
+use Rattle.gc_worker.specs.Steps.Wanted.{wanted}
 use Rattle.gc_worker.proofs.Between.Beginning.{tasks_may_begin}
 use Rattle.gc_worker.proofs.Between.Readying.{readying_stands}
 use Rattle.gc_worker.proofs.Between.Wanting.{workers_want}

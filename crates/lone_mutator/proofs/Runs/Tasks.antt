@@ -1,11 +1,11 @@
 -- A task that is given to a lone mutator changes nothing of what it remembers or has to pay.
 use Rattle.std.proofs.Common.{◌≡◌, sym, ap, subst, ◌∙◌, arith, get_or-set_same, length-set}
 use Rattle.heap_state.specs.Configuration.{table}
-use Rattle.heap_state.specs.Table.{Table}
+use Rattle.heap_state.specs.Memory.Table.{Table}
 use Rattle.gc_worker.specs.declared.task.Task.{Task}
-use Rattle.gc_worker.specs.Between.{with_task, with_worker}
-use Rattle.gc_worker.specs.Held.{Held}
-use Rattle.gc_worker.specs.Law.{Heap, held_at, nobody, read}
+use Rattle.gc_worker.specs.Laws.Between.{with_task, with_worker}
+use Rattle.gc_worker.specs.Workers.Held.{Held}
+use Rattle.gc_worker.specs.Laws.Step.{Heap, held_at, nobody, read}
 use Rattle.lone_mutator.specs.Law.{LoneTasksBegin}
 use Rattle.lone_mutator.specs.Lone.{IsLone, Remembers, potential}
 use Rattle.lone_mutator.specs.Potential.{potential_in}

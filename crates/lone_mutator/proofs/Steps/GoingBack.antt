@@ -3,10 +3,10 @@ use Rattle.std.proofs.Common.{◌≡◌, ℕ, true, refl}
 use Rattle.heap_state.specs.Worker.{is_running}
 use Rattle.gc_worker.specs.declared.back.Back.{Back}
 use Rattle.gc_worker.specs.declared.back.Back.TheVariants.{ToAccess, ToPlace, ToScanner}
-use Rattle.gc_worker.specs.Begun.{IsPastBack}
-use Rattle.gc_worker.specs.Fits.{IsEpochOf}
-use Rattle.gc_worker.specs.Held.{Held}
-use Rattle.gc_worker.specs.Knows.{post_back}
+use Rattle.gc_worker.specs.Workers.Begun.{IsPastBack}
+use Rattle.gc_worker.specs.Workers.Fits.{IsEpochOf}
+use Rattle.gc_worker.specs.Workers.Held.{Held}
+use Rattle.gc_worker.specs.Workers.Knows.{post_back}
 use Rattle.lone_mutator.specs.Lone.{BackStands}
 use Rattle.lone_mutator.specs.Potential.{back_left}
 

@@ -5,15 +5,15 @@ use Rattle.space_map.specs.Spaces.{Layout}
 use Rattle.alloc_end.specs.declared.place_stage.PlaceStage.TheVariants.{LoadsTraced, StoresHeader}
 use Rattle.alloc_end.specs.declared.place_stage.PlaceStage.{PlaceStage}
 use Rattle.alloc_end.specs.Place as place
-use Rattle.heap_state.specs.Table.{Table}
+use Rattle.heap_state.specs.Memory.Table.{Table}
 use Rattle.gc_worker.specs.declared.access_stage.AccessStage.{AccessStage}
 use Rattle.gc_worker.specs.declared.access_stage.AccessStage.TheVariants.{SwapsBoard}
 use Rattle.gc_worker.specs.declared.back.Back.{Back}
 use Rattle.gc_worker.specs.declared.back.Back.TheVariants.{ToAccess, ToPlace, ToScanner}
 use Rattle.gc_worker.specs.declared.stage.Stage.TheVariants.{Places}
-use Rattle.gc_worker.specs.Fits.{FitsTaskBack, IsMaking}
-use Rattle.gc_worker.specs.Held.{Held, at_stage, header_for, run_held}
-use Rattle.gc_worker.specs.Turned.{places, back_from}
+use Rattle.gc_worker.specs.Workers.Fits.{FitsTaskBack, IsMaking}
+use Rattle.gc_worker.specs.Workers.Held.{Held, at_stage, header_for, run_held}
+use Rattle.gc_worker.specs.Steps.Turned.{places, back_from}
 use Rattle.gc_worker.proofs.Plain.NewRecords.{header_made, header_is}
 use Rattle.lone_mutator.specs.Bound.{longest_placing}
 use Rattle.lone_mutator.specs.Lone.{AccessStands, BackStands, IsLook, NobodyElseAnnounces, Remembers}

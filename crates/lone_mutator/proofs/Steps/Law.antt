@@ -16,16 +16,16 @@ use Rattle.gc_worker.specs.declared.after.After.{After}
 use Rattle.gc_worker.specs.declared.stage.Stage.{Stage}
 use Rattle.gc_worker.specs.declared.stage.Stage.TheVariants.{Looks, Passes, Flips, Forwards, Accesses, Places, Serves, Scans, Evacuates, Opens, Gone}
 use Rattle.gc_worker.specs.declared.task.Task.{Task}
-use Rattle.gc_worker.specs.Answer.{IsAnswered, after_told}
-use Rattle.gc_worker.specs.Begun.{IsPastLook}
-use Rattle.gc_worker.specs.Between.{KeepsToTask, IsSo}
-use Rattle.gc_worker.specs.Held.{Held, at_stage}
-use Rattle.gc_worker.specs.Knows.{knows}
-use Rattle.gc_worker.specs.Law.{Heap, StepKeeps, WorkersStand, at_flip, held_at, moved, nobody, read}
-use Rattle.gc_worker.specs.Stepped.{awaits_at}
+use Rattle.gc_worker.specs.Plain.Answer.{IsAnswered, after_told}
+use Rattle.gc_worker.specs.Workers.Begun.{IsPastLook}
+use Rattle.gc_worker.specs.Laws.Between.{KeepsToTask, IsSo}
+use Rattle.gc_worker.specs.Workers.Held.{Held, at_stage}
+use Rattle.gc_worker.specs.Workers.Knows.{knows}
+use Rattle.gc_worker.specs.Laws.Step.{Heap, StepKeeps, WorkersStand, at_flip, held_at, moved, nobody, read}
+use Rattle.gc_worker.specs.Steps.Stepped.{awaits_at}
 use Rattle.gc_worker.specs.declared.did.Did.TheVariants.{Done, Trap}
-use Rattle.gc_worker.specs.Turned.{Told, Silent, Answers, Marks, turned, told}
-use Rattle.gc_worker.specs.Wanted.{wanted}
+use Rattle.gc_worker.specs.Steps.Turned.{Told, Silent, Answers, Marks, turned, told}
+use Rattle.gc_worker.specs.Steps.Wanted.{wanted}
 use Rattle.gc_worker.proofs.Between.GoingOn.{workers_go_on}
 use Rattle.gc_worker.proofs.Between.Standing.{what_stands_is_so}
 use Rattle.gc_worker.proofs.Words.Eras.{span_is}

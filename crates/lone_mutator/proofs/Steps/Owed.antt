@@ -8,11 +8,11 @@ use Rattle.atom_store.specs.declared.step.Step.{Step}
 use Rattle.atom_store.specs.declared.step.Step.TheVariants.{Load, Store, Exchange}
 use Rattle.space_map.specs.Table.{Row, IsRow, place_of}
 use Rattle.heap_state.specs.Configuration.{Configuration, Stands, table}
-use Rattle.heap_state.specs.Entries.{Entry, EntryFits, with_entry, row_of, word_of}
-use Rattle.heap_state.specs.Table.{Table, word_in}
-use Rattle.gc_worker.specs.Held.{Held}
-use Rattle.gc_worker.specs.Turned.{turned, told}
-use Rattle.gc_worker.specs.Wanted.{wanted}
+use Rattle.heap_state.specs.Memory.Entries.{Entry, EntryFits, with_entry, row_of, word_of}
+use Rattle.heap_state.specs.Memory.Table.{Table, word_in}
+use Rattle.gc_worker.specs.Workers.Held.{Held}
+use Rattle.gc_worker.specs.Steps.Turned.{turned, told}
+use Rattle.gc_worker.specs.Steps.Wanted.{wanted}
 use Rattle.lone_mutator.specs.Law.{LowersWhereTold, StepsLower}
 use Rattle.lone_mutator.proofs.Steps.Rows as steps
 

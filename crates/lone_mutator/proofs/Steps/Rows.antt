@@ -9,8 +9,8 @@ use Rattle.atom_store.specs.declared.step.Step.TheVariants.{Load, Store, Exchang
 use Rattle.atom_store.specs.Step.{words_after, reply_of}
 use Rattle.space_map.specs.Table.{Row, IsRow, place_of}
 use Rattle.heap_state.specs.Configuration.{Configuration, Stands, table}
-use Rattle.heap_state.specs.Entries.{Entry, EntryFits, with_entry, row_of, word_of}
-use Rattle.heap_state.specs.Table.{Table, table_of, word_in}
+use Rattle.heap_state.specs.Memory.Entries.{Entry, EntryFits, with_entry, row_of, word_of}
+use Rattle.heap_state.specs.Memory.Table.{Table, table_of, word_in}
 use Rattle.heap_state.proofs.Table.Places.{word_in-row}
 use Rattle.heap_state.proofs.Table.Stores.{entry_has_row, stores_entry}
 

@@ -2,7 +2,7 @@ use Rattle.std.proofs.Common.{ap, ◌∙◌}
 use Rattle.std.proofs.lemmas.Result.{IfOk-weaker}
 use Rattle.clap.specs.Simple.{App}
 use Rattle.simple_commands.specs.Options.{operand_rules_of, with_rules}
-use Rattle.ael_commands.specs.Options.{bench_numbers, bench_wide}
+use Rattle.ael_commands.specs.Arguments.Options.{bench_numbers, bench_wide}
 use Rattle.ael_commands.proofs.command_line.bench.Goals as goal
 
 pub returns-clause-app : goal.returns-clause-app

@@ -1,5 +1,5 @@
 use Rattle.std.proofs.Common.{[], ◌∷◌}
-use Rattle.ael_commands.specs.CommandLine.{ael_with, asm_app, bench_app, run_app, sim_app}
+use Rattle.ael_commands.specs.Arguments.CommandLine.{ael_with, asm_app, bench_app, run_app, sim_app}
 use Rattle.ael_commands.proofs.command_line.command.Goals as goal
 
 pub returns : goal.returns

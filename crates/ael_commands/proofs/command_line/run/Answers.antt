@@ -2,7 +2,7 @@ use Rattle.std.proofs.Common.{ap, ◌∙◌}
 use Rattle.std.proofs.lemmas.Result.{IfOk-weaker}
 use Rattle.clap.specs.Simple.{App}
 use Rattle.simple_commands.specs.Options.{rules_of, with_rules}
-use Rattle.ael_commands.specs.Options.{run_flags, run_numbers, run_wide}
+use Rattle.ael_commands.specs.Arguments.Options.{run_flags, run_numbers, run_wide}
 use Rattle.ael_commands.proofs.command_line.run.Goals as goal
 
 pub returns-clause-app : goal.returns-clause-app

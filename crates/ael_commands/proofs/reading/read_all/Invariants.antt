@@ -1,5 +1,5 @@
 use Rattle.std.proofs.Common.{◌≡◌, ◌+◌, ◌-◌, ◌≤◌, vec_len}
-use Rattle.ael_commands.specs.Stream.{IsFront}
+use Rattle.ael_commands.specs.Streams.Stream.{IsFront}
 use Rattle.ael_commands.specs.declared.reading.TheConstants.{LONGEST_INPUT}
 use Rattle.ael_commands.proofs.reading.read_all.Given as goal
 

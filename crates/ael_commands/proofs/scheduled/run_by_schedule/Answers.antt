@@ -1,7 +1,7 @@
 use Rattle.std.proofs.Common.{rules, ◌≡◌, ℕ}
 use Rattle.gc_core.specs.Core.{workers_of}
-use Rattle.ael_commands.specs.Coming.{in_turn_from, listed_from}
-use Rattle.ael_commands.specs.Schedule.{scheduled_by}
+use Rattle.ael_commands.specs.Runs.Schedulers.{in_turn_from, listed_from}
+use Rattle.ael_commands.specs.Runs.Schedule.{scheduled_by}
 use Rattle.ael_commands.proofs.Agreeing.{runs_agree}
 use Rattle.ael_commands.proofs.scheduled.run_by_schedule.Goals as goal
 

@@ -1,7 +1,7 @@
 use Rattle.std.proofs.Common.{refl, ◌∙◌}
 use Rattle.std.proofs.lemmas.Result.{IfOk-weaker}
-use Rattle.ael_commands.specs.Runs.{IsRunOf, Scheduled}
-use Rattle.ael_commands.specs.Simulation.{config, simulated_run, scheduled}
+use Rattle.ael_commands.specs.Runs.Run.{IsRunOf, Scheduled}
+use Rattle.ael_commands.specs.Runs.Simulation.{config, simulated_run, scheduled}
 use Rattle.ael_commands.proofs.Simulating.{simulated}
 use Rattle.ael_commands.proofs.sim.sim.Goals as goal
 

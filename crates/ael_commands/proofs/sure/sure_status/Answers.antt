@@ -1,5 +1,5 @@
 use Rattle.std.proofs.Common.{◌<◌, ℕ, List, Some, ap, arith}
-use Rattle.ael_commands.specs.Ends.{IsFaultless}
+use Rattle.ael_commands.specs.Streams.Ends.{IsFaultless}
 use Rattle.ael_commands.proofs.Assured.{goes_as}
 use Rattle.ael_commands.proofs.sure.sure_status.Goals as goal
 

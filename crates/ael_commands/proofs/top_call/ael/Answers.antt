@@ -1,8 +1,8 @@
 use Rattle.std.proofs.Common.{map, refl}
 use Rattle.std.specs.Prelude.{string_bytes}
-use Rattle.ael_commands.specs.Call.{call_of}
-use Rattle.ael_commands.specs.Ends.{drawn_and_filled}
-use Rattle.ael_commands.specs.Headline.{HeadlineHolds}
+use Rattle.ael_commands.specs.Calls.Call.{call_of}
+use Rattle.ael_commands.specs.Streams.Ends.{drawn_and_filled}
+use Rattle.ael_commands.specs.Calls.Headline.{HeadlineHolds}
 use Rattle.ael_commands.proofs.top_call.ael.Given as given
 use Rattle.ael_commands.proofs.top_call.ael.Goals as goal
 

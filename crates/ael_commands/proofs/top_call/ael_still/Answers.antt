@@ -1,7 +1,7 @@
 use Rattle.std.proofs.Common.{map, subst, sym}
 use Rattle.std.specs.Prelude.{string_bytes}
-use Rattle.ael_commands.specs.Answer.{IsAsked}
-use Rattle.ael_commands.specs.Words.{job_of}
+use Rattle.ael_commands.specs.Calls.Answer.{IsAsked}
+use Rattle.ael_commands.specs.Arguments.Words.{job_of}
 use Rattle.ael_commands.proofs.top_call.ael_still.Given as given
 use Rattle.ael_commands.proofs.top_call.ael_still.Goals as goal
 use Rattle.ael_commands.proofs.top_call.ael_still.Goals.{in_default-via-in-Ok+else-waits, in_default-via-in-Err-1}

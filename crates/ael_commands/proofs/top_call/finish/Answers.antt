@@ -1,6 +1,6 @@
-use Rattle.ael_commands.specs.Call.{Call, call_with}
-use Rattle.ael_commands.specs.Ends.{filled}
-use Rattle.ael_commands.specs.Headline.{CallIsAnswered}
+use Rattle.ael_commands.specs.Calls.Call.{Call, call_with}
+use Rattle.ael_commands.specs.Streams.Ends.{filled}
+use Rattle.ael_commands.specs.Calls.Headline.{CallIsAnswered}
 use Rattle.ael_commands.proofs.Plainly.{holds}
 use Rattle.ael_commands.proofs.top_call.finish.Goals as goal
 

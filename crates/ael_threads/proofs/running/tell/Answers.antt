@@ -2,7 +2,7 @@ use Rattle.std.proofs.Common.{ℕ, map, arith, ◌∙◌, ap}
 use Rattle.space_map.specs.Spaces.{to_space}
 use Rattle.space_map.specs.Table.{Area, Gate, Traced, place_of}
 use Rattle.gc_worker.specs.Readers.{live_said}
-use Rattle.gc_worker.specs.Turned.{epoch_said}
+use Rattle.gc_worker.specs.Steps.Turned.{epoch_said}
 use Rattle.ael_threads.specs.Outputs.{seat_registers, seat_seen}
 use Rattle.ael_threads.proofs.ProgramRuns.Outputs.{word_read}
 use Rattle.ael_threads.proofs.running.tell.Goals as goal

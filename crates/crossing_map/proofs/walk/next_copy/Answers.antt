@@ -1,6 +1,6 @@
 use Rattle.std.proofs.Common.{◌∙◌, ◌-◌, refl, sym, ap, arith}
 use Rattle.heap_state.specs.Kept.{reserved_in}
-use Rattle.heap_state.specs.Table.{table_of}
+use Rattle.heap_state.specs.Memory.Table.{table_of}
 use Rattle.crossing_map.specs.Crossing.{pairs_kept}
 use Rattle.crossing_map.specs.Walking.{next_in, passes_none}
 use Rattle.crossing_map.proofs.Parts.{next_in-end}

@@ -1,7 +1,7 @@
 use Rattle.std.proofs.Common.{◌∙◌, ◌≡◌, ◌-◌, ◌/◌, true, false, refl, sym, ap, arith}
 use Rattle.space_map.specs.Table.{Page, place_of}
-use Rattle.heap_state.specs.Table.{table_of}
-use Rattle.heap_state.specs.Walk.{is_protected}
+use Rattle.heap_state.specs.Memory.Table.{table_of}
+use Rattle.heap_state.specs.Memory.Walk.{is_protected}
 use Rattle.crossing_map.specs.Walking.{next_in, nothing_reserved, passes_closed}
 use Rattle.crossing_map.proofs.Parts.{next_in-end}
 use Rattle.crossing_map.proofs.Steps.{at_word, heap-word, over_page, page-word}

@@ -1,5 +1,5 @@
 use Rattle.std.proofs.Common.{◌≡◌, ◌-◌, ◌<◌, ◌^◌}
-use Rattle.heap_state.specs.Table.{table_of}
+use Rattle.heap_state.specs.Memory.Table.{table_of}
 use Rattle.crossing_map.specs.Walking.{next_in, nothing_reserved, passes_closed}
 use Rattle.crossing_map.proofs.walk.next_new.Given as goal
 

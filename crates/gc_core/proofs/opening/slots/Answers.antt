@@ -1,5 +1,5 @@
 use Rattle.std.proofs.Common.{◌≡◌, ◌+◌, ◌∙◌, sym, arith}
-use Rattle.gc_worker.specs.Between.{fresh_workers}
+use Rattle.gc_worker.specs.Laws.Between.{fresh_workers}
 use Rattle.gc_core.proofs.Events.Opening.{fresh_push}
 use Rattle.gc_core.proofs.opening.slots.Goals as goal
 

@@ -1,6 +1,6 @@
 -- the workers so far
 use Rattle.std.proofs.Common.{◌≡◌}
-use Rattle.gc_worker.specs.Between.{fresh_workers}
+use Rattle.gc_worker.specs.Laws.Between.{fresh_workers}
 use Rattle.gc_core.proofs.opening.slots.Given as goal
 
 abbrev pub invariant-loop-k : goal.invariant-loop-k

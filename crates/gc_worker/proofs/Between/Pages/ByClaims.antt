@@ -7,13 +7,13 @@ use Rattle.space_map.specs.AreaWord.{decode_area}
 use Rattle.space_map.specs.Spaces.{board_page, first_word, space_start, to_space}
 use Rattle.space_map.specs.Table.{Area}
 use Rattle.heap_state.specs.Configuration.{Configuration, table, era, memory}
-use Rattle.heap_state.specs.Table.{word_in}
+use Rattle.heap_state.specs.Memory.Table.{word_in}
 use Rattle.heap_laws.proofs.Steps.Answers.{areas_are_read}
-use Rattle.gc_worker.specs.Held.{Held}
-use Rattle.gc_worker.specs.Claims.{IsBelowLow, IsForCopies, IsOfEpoch, ComesByClaim, PagesAreOpenedByClaims, LowRisesAtFlips}
-use Rattle.gc_worker.specs.Law.{Heap, read, held_at, WorkersStand, moved, epoch_of, FlipsWhereTold, StepKeeps}
-use Rattle.gc_worker.specs.Turned.{PageWon, Told, Silent, Answers, Marks, told, won}
-use Rattle.gc_worker.specs.Wanted.{wanted}
+use Rattle.gc_worker.specs.Workers.Held.{Held}
+use Rattle.gc_worker.specs.Laws.Claims.{IsBelowLow, IsForCopies, IsOfEpoch, ComesByClaim, PagesAreOpenedByClaims, LowRisesAtFlips}
+use Rattle.gc_worker.specs.Laws.Step.{Heap, read, held_at, WorkersStand, moved, epoch_of, FlipsWhereTold, StepKeeps}
+use Rattle.gc_worker.specs.Steps.Turned.{PageWon, Told, Silent, Answers, Marks, told, won}
+use Rattle.gc_worker.specs.Steps.Wanted.{wanted}
 use Rattle.gc_worker.proofs.Words.Areas.{area_says, is_space}
 use Rattle.gc_worker.proofs.Words.Eras.{board_is, start_is}
 use Rattle.gc_worker.proofs.Workers.Members.{member}

@@ -25,7 +25,7 @@ use Rattle.alloc_end.specs.declared.shortage.Shortage.{Shortage}
 use Rattle.alloc_end.specs.Place as place
 use Rattle.gate_core.specs.Flip.{Flipping}
 use Rattle.heap_state.specs.Configuration.{Configuration, table, era, memory, team}
-use Rattle.heap_state.specs.Parts.Pages.{Quiet}
+use Rattle.heap_state.specs.Invariant.Parts.Pages.{Quiet}
 use Rattle.heap_state.specs.Worker.{Worker}
 use Rattle.heap_laws.specs.Answers.{AreaAnswers}
 use Rattle.heap_laws.proofs.Steps.Answers.{areas_are_read}
@@ -35,15 +35,15 @@ use Rattle.gc_worker.specs.declared.stage.Stage.{Stage}
 use Rattle.gc_worker.specs.declared.stage.Stage.TheVariants.{Looks, Passes, Flips, Forwards, Accesses, Places, Serves, Scans, Evacuates, Opens, Gone}
 use Rattle.gc_worker.specs.declared.task.Task.{Task}
 use Rattle.gc_worker.specs.declared.task.Task.TheVariants.{Calls, Stops}
-use Rattle.gc_worker.specs.Access as access
-use Rattle.gc_worker.specs.Claims.{IsBelowLow, IsCopiedPage, IsForCopies, CopiedPagesAreBelowLow, TracedPagesAreOpen, FlipsAreOfTraced, epoch_of_heap}
-use Rattle.gc_worker.specs.Copied.{IsTraced}
-use Rattle.gc_worker.specs.Held.{Held}
-use Rattle.gc_worker.specs.Knows.{traced_seen_in}
-use Rattle.gc_worker.specs.Law.{Heap, read, WorkersStand}
-use Rattle.gc_worker.specs.Seen.{seen}
-use Rattle.gc_worker.specs.Turned.{Told, Silent, Answers, Marks, told_at, told_look, told_gate, told_start, told_acted, told_action, told_access, told_place, told_full, told_effect, told_end, finds_full, end_by_shortage}
-use Rattle.gc_worker.specs.Turned as turning
+use Rattle.gc_worker.specs.Steps.Access as access
+use Rattle.gc_worker.specs.Laws.Claims.{IsBelowLow, IsCopiedPage, IsForCopies, CopiedPagesAreBelowLow, TracedPagesAreOpen, FlipsAreOfTraced, epoch_of_heap}
+use Rattle.gc_worker.specs.Laws.Copied.{IsTraced}
+use Rattle.gc_worker.specs.Workers.Held.{Held}
+use Rattle.gc_worker.specs.Workers.Knows.{traced_seen_in}
+use Rattle.gc_worker.specs.Laws.Step.{Heap, read, WorkersStand}
+use Rattle.gc_worker.specs.Plain.Seen.{seen}
+use Rattle.gc_worker.specs.Steps.Turned.{Told, Silent, Answers, Marks, told_at, told_look, told_gate, told_start, told_acted, told_action, told_access, told_place, told_full, told_effect, told_end, finds_full, end_by_shortage}
+use Rattle.gc_worker.specs.Steps.Turned as turning
 use Rattle.gc_worker.proofs.Words.Areas.{area_now, area_says, is_space}
 use Rattle.gc_worker.proofs.Words.Eras.{board_is, start_is}
 use Rattle.gc_worker.proofs.Stages.Gate.Words.{gate_says}

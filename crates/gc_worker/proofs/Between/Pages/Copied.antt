@@ -6,15 +6,15 @@ use Rattle.space_map.specs.declared.area_word.AreaWord.{AreaWord}
 use Rattle.space_map.specs.declared.gate_word.GateWord.{GateWord}
 use Rattle.space_map.specs.Spaces.{to_space}
 use Rattle.heap_state.specs.Configuration.{Configuration, table, era}
-use Rattle.heap_state.specs.Copies.{CopiedIsLive, words_copied}
-use Rattle.heap_state.specs.Reachable.{IsLive}
+use Rattle.heap_state.specs.Cycles.Copies.{CopiedIsLive, words_copied}
+use Rattle.heap_state.specs.Meaning.Reachable.{IsLive}
 use Rattle.heap_laws.proofs.Steps.Answers.{areas_are_read}
 use Rattle.heap_laws.proofs.Tracing.Live.{traced_is_live}
-use Rattle.gc_worker.specs.Copied.{CopiedWasLive, FullTellsLive}
-use Rattle.gc_worker.specs.Full.{FindsNoRoom}
-use Rattle.gc_worker.specs.Held.{Held}
-use Rattle.gc_worker.specs.Law.{Heap, read, WorkersStand}
-use Rattle.gc_worker.specs.Turned.{epoch_in_gate}
+use Rattle.gc_worker.specs.Laws.Copied.{CopiedWasLive, FullTellsLive}
+use Rattle.gc_worker.specs.Plain.Full.{FindsNoRoom}
+use Rattle.gc_worker.specs.Workers.Held.{Held}
+use Rattle.gc_worker.specs.Laws.Step.{Heap, read, WorkersStand}
+use Rattle.gc_worker.specs.Steps.Turned.{epoch_in_gate}
 use Rattle.gc_worker.proofs.Words.Areas.{area_says, is_space}
 use Rattle.gc_worker.proofs.Stages.Gate.Words.{gate_says}
 use Rattle.gc_worker.proofs.Stages.Rounds.Words.{traced_word}

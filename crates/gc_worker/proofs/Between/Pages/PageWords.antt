@@ -40,12 +40,12 @@ use Rattle.page_slots.specs.Open as open_page
 use Rattle.gc_worker.specs.declared.back.Back.{Back}
 use Rattle.gc_worker.specs.declared.stage.Stage.{Stage}
 use Rattle.gc_worker.specs.declared.stage.Stage.TheVariants.{Looks, Passes, Flips, Forwards, Accesses, Places, Serves, Scans, Evacuates, Opens, Gone}
-use Rattle.gc_worker.specs.Access as access
-use Rattle.gc_worker.specs.Goes.{Is}
-use Rattle.gc_worker.specs.Held.{Held, at_stage}
-use Rattle.gc_worker.specs.Knows.{opened_to, scan_of}
-use Rattle.gc_worker.specs.Turned.{PageWon, won, won_at, won_by, won_in}
-use Rattle.gc_worker.specs.Wanted.{wanted, wanted_at}
+use Rattle.gc_worker.specs.Steps.Access as access
+use Rattle.gc_worker.specs.Steps.Goes.{Is}
+use Rattle.gc_worker.specs.Workers.Held.{Held, at_stage}
+use Rattle.gc_worker.specs.Workers.Knows.{opened_to, scan_of}
+use Rattle.gc_worker.specs.Steps.Turned.{PageWon, won, won_at, won_by, won_in}
+use Rattle.gc_worker.specs.Steps.Wanted.{wanted, wanted_at}
 use Rattle.gc_worker.proofs.Stages.Access.RowsFit as access_rows
 use Rattle.gc_worker.proofs.Words.Areas.{is_space}
 use Rattle.gc_worker.proofs.Words.Eras.{board_is}

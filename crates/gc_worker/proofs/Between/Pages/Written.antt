@@ -8,7 +8,7 @@ use Rattle.atom_store.specs.Step.{place_in, words_after}
 use Rattle.atom_store.specs.StepOn.{StepOn, Load, Store, Exchange, WritesOnly, step_at}
 use Rattle.atom_store.proofs.Steps.{slice_index-words_after}
 use Rattle.space_map.specs.Table.{Row, Area, Page, IsRow, place_of}
-use Rattle.heap_state.specs.Table.{is_row, word_in}
+use Rattle.heap_state.specs.Memory.Table.{is_row, word_in}
 use Rattle.heap_state.proofs.Table.Places.{row_is}
 
 -- ---- rows

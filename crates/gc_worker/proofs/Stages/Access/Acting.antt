@@ -16,18 +16,18 @@ use Rattle.heap_words.specs.Decoded.{Decoded, NumberWord, PointerWord, HeaderWor
 use Rattle.heap_words.specs.Word.{number_word, pointer_word}
 use Rattle.heap_words.proofs.Decoding.{decode-number_word, decode-pointer_word}
 use Rattle.heap_state.specs.Configuration.{Configuration, Stands, era, memory, team}
-use Rattle.heap_state.specs.Era.{Era}
-use Rattle.heap_state.specs.Ghost.{Ghost}
-use Rattle.heap_state.specs.Values.{value_of, value_said}
+use Rattle.heap_state.specs.Memory.Era.{Era}
+use Rattle.heap_state.specs.Invariant.Ghost.{Ghost}
+use Rattle.heap_state.specs.Meaning.Values.{value_of, value_said}
 use Rattle.heap_laws.specs.Fields.Held.{HoldsValue}
 use Rattle.heap_laws.specs.Fields.Words.{IsLedTo}
 use Rattle.heap_laws.proofs.Fields.Shown.{headers_are_read, numbers_are_held}
 use Rattle.gc_worker.specs.declared.access_stage.AccessStage.{AccessStage}
-use Rattle.gc_worker.specs.Access.{IsHeapAddress}
-use Rattle.gc_worker.specs.Fits.{ExecutesAction}
-use Rattle.gc_worker.specs.Goes.{Is}
-use Rattle.gc_worker.specs.Held.{Held}
-use Rattle.gc_worker.specs.Seen.{IsValueAs, IsValueWord, seen}
+use Rattle.gc_worker.specs.Steps.Access.{IsHeapAddress}
+use Rattle.gc_worker.specs.Workers.Fits.{ExecutesAction}
+use Rattle.gc_worker.specs.Steps.Goes.{Is}
+use Rattle.gc_worker.specs.Workers.Held.{Held}
+use Rattle.gc_worker.specs.Plain.Seen.{IsValueAs, IsValueWord, seen}
 use Rattle.gc_worker.proofs.Plain.Actions.{plain_action, plain_outcome}
 use Rattle.gc_worker.proofs.Plain.Registers.{alike, held, small_number, Holds}
 use Rattle.gc_worker.proofs.Plain.AnswerSteps.{IsIts, its_mutator}

@@ -16,8 +16,8 @@ use Rattle.space_map.specs.declared.page_word.PageWord.TheVariants.{Open}
 use Rattle.space_map.specs.Spaces.{board_page, page_of}
 use Rattle.space_map.specs.Table.{HeapWord, place_of}
 use Rattle.heap_state.specs.Configuration.{Configuration, Stands, era, memory, team}
-use Rattle.heap_state.specs.Entries.{WordIs}
-use Rattle.heap_state.specs.Table.{word_in}
+use Rattle.heap_state.specs.Memory.Entries.{WordIs}
+use Rattle.heap_state.specs.Memory.Table.{word_in}
 use Rattle.heap_state.specs.Worker as workers
 use Rattle.heap_laws.specs.Fields.Held.{MutatorGoesOn, HoldsValue}
 use Rattle.heap_laws.specs.Fields.Stores.{IsAs}
@@ -28,13 +28,13 @@ use Rattle.gc_worker.specs.declared.access_stage.AccessStage.TheVariants.{LooksA
 use Rattle.gc_worker.specs.declared.board_access.BoardAccess.{BoardAccess}
 use Rattle.gc_worker.specs.declared.board_access.BoardSwap.{BoardSwap}
 use Rattle.gc_worker.specs.declared.board_access.BoardUse.TheVariants as board_uses
-use Rattle.gc_worker.specs.Access.{begun, board_at}
-use Rattle.gc_worker.specs.Fits.{ExecutesAction}
-use Rattle.gc_worker.specs.Goes.{Is, Goes, StepsSo}
-use Rattle.gc_worker.specs.Held.{Held}
-use Rattle.gc_worker.specs.Knows.{knows, opened_at}
-use Rattle.gc_worker.specs.Seen.{IsValueWord, word_for}
-use Rattle.gc_worker.specs.Turned.{loads, went_on}
+use Rattle.gc_worker.specs.Steps.Access.{begun, board_at}
+use Rattle.gc_worker.specs.Workers.Fits.{ExecutesAction}
+use Rattle.gc_worker.specs.Steps.Goes.{Is, Goes, StepsSo}
+use Rattle.gc_worker.specs.Workers.Held.{Held}
+use Rattle.gc_worker.specs.Workers.Knows.{knows, opened_at}
+use Rattle.gc_worker.specs.Plain.Seen.{IsValueWord, word_for}
+use Rattle.gc_worker.specs.Steps.Turned.{loads, went_on}
 use Rattle.gc_worker.proofs.Plain.Actions.{plain_value}
 use Rattle.gc_worker.proofs.Plain.AnswerSteps.{LawTo, IsIts}
 use Rattle.gc_worker.proofs.Plain.Effects.{moved_goes, moved_as, loaded_goes, loaded_as}

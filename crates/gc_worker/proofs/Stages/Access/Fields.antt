@@ -24,9 +24,9 @@ use Rattle.heap_words.specs.Decoded.{number_in}
 use Rattle.space_map.specs.Spaces.{page_of}
 use Rattle.space_map.specs.Table.{HeapWord, place_of}
 use Rattle.heap_state.specs.Configuration.{Configuration, Stands, era, memory, team}
-use Rattle.heap_state.specs.Entries.{Entry, WordIs}
-use Rattle.heap_state.specs.Parts.Knowledge as parts
-use Rattle.heap_state.specs.Table.{word_in}
+use Rattle.heap_state.specs.Memory.Entries.{Entry, WordIs}
+use Rattle.heap_state.specs.Invariant.Parts.Knowledge as parts
+use Rattle.heap_state.specs.Memory.Table.{word_in}
 use Rattle.heap_state.specs.Worker.{Worker}
 use Rattle.heap_laws.specs.Fields.Effects.{IsValueOf, FitsRole, word_held, word_stored}
 use Rattle.heap_laws.specs.Fields.Held.{HoldsValue}
@@ -40,12 +40,12 @@ use Rattle.gc_worker.specs.declared.field_access.FieldAccess.{FieldAccess}
 use Rattle.gc_worker.specs.declared.field_access.FieldUse.TheVariants as field_uses
 use Rattle.gc_worker.specs.declared.field_access.Role.{Role}
 use Rattle.gc_worker.specs.declared.field_access.Role.TheVariants as roles
-use Rattle.gc_worker.specs.Access.{IsFieldOfAction, IsHeapAddress, field_at, field_of, kind_of, role_of, word_as}
-use Rattle.gc_worker.specs.Fits.{ExecutesAction}
-use Rattle.gc_worker.specs.Goes.{Is, Goes, StepsSo}
-use Rattle.gc_worker.specs.Held.{Held}
-use Rattle.gc_worker.specs.Knows.{known_access, access_at, opened_at}
-use Rattle.gc_worker.specs.Seen.{word_for}
+use Rattle.gc_worker.specs.Steps.Access.{IsFieldOfAction, IsHeapAddress, field_at, field_of, kind_of, role_of, word_as}
+use Rattle.gc_worker.specs.Workers.Fits.{ExecutesAction}
+use Rattle.gc_worker.specs.Steps.Goes.{Is, Goes, StepsSo}
+use Rattle.gc_worker.specs.Workers.Held.{Held}
+use Rattle.gc_worker.specs.Workers.Knows.{known_access, access_at, opened_at}
+use Rattle.gc_worker.specs.Plain.Seen.{word_for}
 use Rattle.gc_worker.proofs.Plain.Actions.{plain_value}
 use Rattle.gc_worker.proofs.Plain.Effects.{moved, moved_goes, moved_as}
 use Rattle.gc_worker.proofs.Stages.Gate.Words.{wants}

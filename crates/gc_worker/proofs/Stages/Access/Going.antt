@@ -8,8 +8,8 @@ use Rattle.fault_duty.specs.declared.caller.Caller.TheVariants as callers
 use Rattle.fault_duty.specs.Duty as duty
 use Rattle.plain_state.specs.declared.end.End.{End}
 use Rattle.heap_state.specs.Configuration.{Configuration, Stands, table, era, memory, team}
-use Rattle.heap_state.specs.Inductive as inductive
-use Rattle.heap_state.specs.Parts.Knowledge as parts
+use Rattle.heap_state.specs.Invariant.Inductive as inductive
+use Rattle.heap_state.specs.Invariant.Parts.Knowledge as parts
 use Rattle.heap_state.specs.Worker.{Worker, is_running}
 use Rattle.heap_state.specs.Worker as workers
 use Rattle.heap_laws.specs.Fields.Held.{MayHold, MutatorGoesOn}
@@ -22,13 +22,13 @@ use Rattle.gc_worker.specs.declared.access_stage.AccessStage.{AccessStage}
 use Rattle.gc_worker.specs.declared.accessed.Accessed.TheVariants.{Faults}
 use Rattle.gc_worker.specs.declared.back.Back.TheVariants.{ToAccess}
 use Rattle.gc_worker.specs.declared.stage.Stage.TheVariants.{Accesses, Serves}
-use Rattle.gc_worker.specs.Access.{Answered, GoesTo, Comes, answered, turn_by, goes_by, FitsStage}
-use Rattle.gc_worker.specs.Access as access
-use Rattle.gc_worker.specs.Fits.{Fits, IsAccessing, IsFaulting}
-use Rattle.gc_worker.specs.Goes.{Is, Goes}
-use Rattle.gc_worker.specs.Held.{Held, at_stage}
-use Rattle.gc_worker.specs.Knows.{knows, access_at, opened_at}
-use Rattle.gc_worker.specs.Turned.{turned_access, told_access}
+use Rattle.gc_worker.specs.Steps.Access.{Answered, GoesTo, Comes, answered, turn_by, goes_by, FitsStage}
+use Rattle.gc_worker.specs.Steps.Access as access
+use Rattle.gc_worker.specs.Workers.Fits.{Fits, IsAccessing, IsFaulting}
+use Rattle.gc_worker.specs.Steps.Goes.{Is, Goes}
+use Rattle.gc_worker.specs.Workers.Held.{Held, at_stage}
+use Rattle.gc_worker.specs.Workers.Knows.{knows, access_at, opened_at}
+use Rattle.gc_worker.specs.Steps.Turned.{turned_access, told_access}
 use Rattle.gc_worker.proofs.Workers.Parts.{refit, page_count}
 use Rattle.gc_worker.proofs.Words.RowSteps.{Law, becomes, nothing, prepared}
 

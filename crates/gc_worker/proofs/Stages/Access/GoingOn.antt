@@ -7,8 +7,8 @@ use Rattle.atom_store.specs.Step.{reply_of}
 use Rattle.gc_worker.specs.declared.access.Access.{Access}
 use Rattle.gc_worker.specs.declared.access_stage.AccessStage.{AccessStage}
 use Rattle.gc_worker.specs.declared.access_stage.AccessStage.TheVariants.{LooksAtRecord, LoadsHeader, LooksAtField, LoadsField, StoresField, LooksAtBoard, LoadsBoard, StoresBoard, LoadsForSwap, SwapsBoard}
-use Rattle.gc_worker.specs.Access.{advances_at, at_stage, told, wanted}
-use Rattle.gc_worker.specs.HeldUp.{AccessesGoOn, IsHeldUp, LostSwapsLoadAgain}
+use Rattle.gc_worker.specs.Steps.Access.{advances_at, at_stage, told, wanted}
+use Rattle.gc_worker.specs.Steps.HeldUp.{AccessesGoOn, IsHeldUp, LostSwapsLoadAgain}
 
 module _ (a : Access) where
   abbrev Holds : AccessStage → Reply → Type 0

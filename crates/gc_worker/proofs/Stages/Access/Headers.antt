@@ -27,9 +27,9 @@ use Rattle.space_map.specs.declared.page_word.PageWord.TheVariants.{Open}
 use Rattle.space_map.specs.Spaces.{page_of}
 use Rattle.space_map.specs.Table.{HeapWord, place_of}
 use Rattle.heap_state.specs.Configuration.{Configuration, Stands, table, era, memory, team}
-use Rattle.heap_state.specs.Ghost.{header_kind, said_kind}
-use Rattle.heap_state.specs.Parts.Knowledge as parts
-use Rattle.heap_state.specs.Table.{word_in}
+use Rattle.heap_state.specs.Invariant.Ghost.{header_kind, said_kind}
+use Rattle.heap_state.specs.Invariant.Parts.Knowledge as parts
+use Rattle.heap_state.specs.Memory.Table.{word_in}
 use Rattle.heap_state.specs.Worker as workers
 use Rattle.heap_laws.specs.Fields.Effects.{HeaderSays}
 use Rattle.heap_laws.specs.Fields.Held.{HoldsValue}
@@ -46,14 +46,14 @@ use Rattle.gc_worker.specs.declared.field_access.Role.{Role}
 use Rattle.gc_worker.specs.declared.field_access.Role.TheVariants as roles
 use Rattle.gc_worker.specs.declared.record_access.RecordAccess.{RecordAccess}
 use Rattle.gc_worker.specs.declared.record_access.RecordUse.TheVariants as record_uses
-use Rattle.gc_worker.specs.Access.{GoesTo, Comes, IsHeapAddress, begun, IsFieldOfAction, FitsFieldUse, answered, field_at, field_of, kind_of, role_in, role_of, read_header, used_by, to_field, uses_field, loading, storing, may_store, word_as}
-use Rattle.gc_worker.specs.Fits.{ExecutesAction}
-use Rattle.gc_worker.specs.Goes.{Is, Goes, StepsSo}
-use Rattle.gc_worker.specs.Held.{Held}
-use Rattle.gc_worker.specs.Knows.{known_access}
-use Rattle.gc_worker.specs.Answer.{MayEnd}
-use Rattle.gc_worker.specs.Full.{FullByEnd}
-use Rattle.gc_worker.specs.Seen.{IsValueWord, by_address, seen_as, word_for, value_seen}
+use Rattle.gc_worker.specs.Steps.Access.{GoesTo, Comes, IsHeapAddress, begun, IsFieldOfAction, FitsFieldUse, answered, field_at, field_of, kind_of, role_in, role_of, read_header, used_by, to_field, uses_field, loading, storing, may_store, word_as}
+use Rattle.gc_worker.specs.Workers.Fits.{ExecutesAction}
+use Rattle.gc_worker.specs.Steps.Goes.{Is, Goes, StepsSo}
+use Rattle.gc_worker.specs.Workers.Held.{Held}
+use Rattle.gc_worker.specs.Workers.Knows.{known_access}
+use Rattle.gc_worker.specs.Plain.Answer.{MayEnd}
+use Rattle.gc_worker.specs.Plain.Full.{FullByEnd}
+use Rattle.gc_worker.specs.Plain.Seen.{IsValueWord, by_address, seen_as, word_for, value_seen}
 use Rattle.gc_worker.proofs.Plain.Actions.{plain_value}
 use Rattle.gc_worker.proofs.Stages.Gate.Words.{wants}
 use Rattle.gc_worker.proofs.Stages.Scan.Headers.{heap_word}

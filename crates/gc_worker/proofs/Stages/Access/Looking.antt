@@ -11,7 +11,7 @@ use Rattle.space_map.specs.Spaces.{board_page, first_word, page_of, space_start,
 use Rattle.space_map.specs.Table.{Page, place_of}
 use Rattle.mmu_model.specs.Access.{access_of}
 use Rattle.heap_state.specs.Configuration.{Configuration, Stands, table, era}
-use Rattle.heap_state.specs.Parts.Knowledge as parts
+use Rattle.heap_state.specs.Invariant.Parts.Knowledge as parts
 use Rattle.heap_state.specs.Worker as workers
 use Rattle.gc_worker.specs.declared.access_stage.AccessStage.{AccessStage}
 use Rattle.gc_worker.specs.declared.access_stage.AccessStage.TheVariants.{LooksAtRecord, LoadsHeader, LooksAtField, LoadsField, StoresField, LooksAtBoard, LoadsBoard, StoresBoard, LoadsForSwap}
@@ -22,12 +22,12 @@ use Rattle.gc_worker.specs.declared.field_access.FieldAccess.{FieldAccess}
 use Rattle.gc_worker.specs.declared.field_access.FieldUse.{FieldUse}
 use Rattle.gc_worker.specs.declared.field_access.FieldUse.TheVariants as field_uses
 use Rattle.gc_worker.specs.declared.record_access.RecordAccess.{RecordAccess}
-use Rattle.gc_worker.specs.Access.{GoesTo, Comes, IsHeapAddress, FitsStage, answered, let_through, looked, page_step, field_at}
-use Rattle.gc_worker.specs.Access as access
-use Rattle.gc_worker.specs.Fits.{IsAccessing, IsFaulting}
-use Rattle.gc_worker.specs.Goes.{Is, Goes, StepsSo}
-use Rattle.gc_worker.specs.Held.{Held}
-use Rattle.gc_worker.specs.Knows.{access_at, opened_at, known_access}
+use Rattle.gc_worker.specs.Steps.Access.{GoesTo, Comes, IsHeapAddress, FitsStage, answered, let_through, looked, page_step, field_at}
+use Rattle.gc_worker.specs.Steps.Access as access
+use Rattle.gc_worker.specs.Workers.Fits.{IsAccessing, IsFaulting}
+use Rattle.gc_worker.specs.Steps.Goes.{Is, Goes, StepsSo}
+use Rattle.gc_worker.specs.Workers.Held.{Held}
+use Rattle.gc_worker.specs.Workers.Knows.{access_at, opened_at, known_access}
 use Rattle.gc_worker.proofs.Words.Eras.{start_is}
 use Rattle.gc_worker.proofs.Stages.Gate.Words.{wants}
 use Rattle.gc_worker.proofs.Stages.Rounds.Words.{page_now, page_says}

@@ -8,21 +8,21 @@ use Rattle.plain_heap.specs.Call as plain
 use Rattle.plain_heap.specs.Call.{performed}
 use Rattle.atom_store.specs.declared.reply.Reply.{Reply}
 use Rattle.heap_state.specs.Configuration.{Configuration, Stands, era, memory, team}
-use Rattle.heap_state.specs.Entries.{Entry}
+use Rattle.heap_state.specs.Memory.Entries.{Entry}
 use Rattle.heap_laws.specs.Fields.Held.{HoldsValue}
 use Rattle.heap_laws.proofs.Fields.Laws.{mutators_step}
 use Rattle.gc_worker.specs.declared.access_stage.AccessStage.{AccessStage}
 use Rattle.gc_worker.specs.declared.accessed.Accessed.TheVariants.{Brings, Stored, Fails}
-use Rattle.gc_worker.specs.Access.{Answered, Comes, answered, turn_by, goes_by}
-use Rattle.gc_worker.specs.Access as access
-use Rattle.gc_worker.specs.Answer.{MayEnd}
-use Rattle.gc_worker.specs.Fits.{ExecutesAction}
-use Rattle.gc_worker.specs.Full.{FullByEnd}
-use Rattle.gc_worker.specs.Goes.{Is, Goes}
-use Rattle.gc_worker.specs.Held.{Held}
-use Rattle.gc_worker.specs.Knows.{knows}
-use Rattle.gc_worker.specs.Seen.{IsValueWord}
-use Rattle.gc_worker.specs.Turned.{turned_access, told_access, loads, went_on}
+use Rattle.gc_worker.specs.Steps.Access.{Answered, Comes, answered, turn_by, goes_by}
+use Rattle.gc_worker.specs.Steps.Access as access
+use Rattle.gc_worker.specs.Plain.Answer.{MayEnd}
+use Rattle.gc_worker.specs.Workers.Fits.{ExecutesAction}
+use Rattle.gc_worker.specs.Plain.Full.{FullByEnd}
+use Rattle.gc_worker.specs.Steps.Goes.{Is, Goes}
+use Rattle.gc_worker.specs.Workers.Held.{Held}
+use Rattle.gc_worker.specs.Workers.Knows.{knows}
+use Rattle.gc_worker.specs.Plain.Seen.{IsValueWord}
+use Rattle.gc_worker.specs.Steps.Turned.{turned_access, told_access, loads, went_on}
 use Rattle.gc_worker.proofs.Plain.Actions.{plain_action}
 use Rattle.gc_worker.proofs.Plain.AnswerSteps.{LawTo}
 use Rattle.gc_worker.proofs.Plain.Effects.{loaded_goes, loaded_as, effect, ends, went_on_fits, loads_fits}

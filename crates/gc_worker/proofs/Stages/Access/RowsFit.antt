@@ -5,7 +5,7 @@ use Rattle.space_map.specs.Spaces.{Layout}
 use Rattle.space_map.specs.Table.{Row, HeapWord, IsRow}
 use Rattle.gc_worker.specs.declared.access_stage.AccessStage.{AccessStage}
 use Rattle.gc_worker.specs.declared.access_stage.AccessStage.TheVariants.{LooksAtRecord, LoadsHeader, LooksAtField, LoadsField, StoresField, LooksAtBoard, LoadsBoard, StoresBoard, LoadsForSwap, SwapsBoard}
-use Rattle.gc_worker.specs.Access.{FitsStage, board_at, field_at, wants_at}
+use Rattle.gc_worker.specs.Steps.Access.{FitsStage, board_at, field_at, wants_at}
 
 pub rows_fit : (l : Layout) (stage : AccessStage) → FitsStage l.pages stage → IsOn (IsRow l.pages) (Some (wants_at l stage))
 rows_fit l (LooksAtRecord r) fits = let inside = fits.0 in omega (arith, inside)

@@ -11,10 +11,10 @@ use Rattle.gc_worker.specs.declared.access_stage.AccessStage.{AccessStage}
 use Rattle.gc_worker.specs.declared.access_stage.AccessStage.TheVariants.{LooksAtRecord, LoadsHeader, LooksAtField, LoadsField, StoresField, LooksAtBoard, LoadsBoard, StoresBoard, LoadsForSwap, SwapsBoard}
 use Rattle.gc_worker.specs.declared.record_access.RecordAccess.{RecordAccess}
 use Rattle.gc_worker.specs.declared.stage.Stage.TheVariants.{Accesses}
-use Rattle.gc_worker.specs.Access.{begun, is_header}
-use Rattle.gc_worker.specs.Fits.{ExecutesAction}
-use Rattle.gc_worker.specs.Goes.{Is, StepsSo}
-use Rattle.gc_worker.specs.Held.{Held, at_stage}
+use Rattle.gc_worker.specs.Steps.Access.{begun, is_header}
+use Rattle.gc_worker.specs.Workers.Fits.{ExecutesAction}
+use Rattle.gc_worker.specs.Steps.Goes.{Is, StepsSo}
+use Rattle.gc_worker.specs.Workers.Held.{Held, at_stage}
 use Rattle.gc_worker.proofs.Stages.Access.Acting.{led, names, Held_value}
 use Rattle.gc_worker.proofs.Stages.Access.Board.{loads_board, stores_board, loads_for_swap, swaps_board}
 use Rattle.gc_worker.proofs.Stages.Access.Fields.{loads_field, stores_field}

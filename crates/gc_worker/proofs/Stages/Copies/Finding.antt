@@ -19,9 +19,9 @@ use Rattle.page_scan.specs.declared.scan_stage.ScanStage.TheVariants as scan_sta
 use Rattle.page_scan.specs.Scanning.{Scanning}
 use Rattle.page_scan.specs.Taken.{answered}
 use Rattle.heap_state.specs.Configuration.{Configuration, Stands, era, memory, team}
-use Rattle.heap_state.specs.Entries.{Entry, AnnounceIs}
-use Rattle.heap_state.specs.Ghost.{Ghost}
-use Rattle.heap_state.specs.Table.{word_in}
+use Rattle.heap_state.specs.Memory.Entries.{Entry, AnnounceIs}
+use Rattle.heap_state.specs.Invariant.Ghost.{Ghost}
+use Rattle.heap_state.specs.Memory.Table.{word_in}
 use Rattle.heap_state.specs.Worker.{Worker, Copy}
 use Rattle.heap_laws.specs.Answers.{OldHeader, OldHeaderAnswers, InPlace, KeptBy, Forwards}
 use Rattle.heap_laws.proofs.Copying.Laws.{announces_are_cleared, forwards_are_found}
@@ -29,11 +29,11 @@ use Rattle.heap_laws.proofs.Steps.Answers.{old_headers_are_read}
 use Rattle.gc_worker.specs.declared.back.Back.{Back}
 use Rattle.gc_worker.specs.declared.back.Back.TheVariants.{ToAccess, ToPlace, ToScanner}
 use Rattle.gc_worker.specs.declared.stage.Stage.TheVariants.{Evacuates, Scans}
-use Rattle.gc_worker.specs.Fits.{Fits, FitsBack, HasAsked}
-use Rattle.gc_worker.specs.Goes.{Is, Goes, StepsSo}
-use Rattle.gc_worker.specs.Held.{Held}
-use Rattle.gc_worker.specs.Knows.{knows, cursor_asked}
-use Rattle.gc_worker.specs.Turned.{turned_copy}
+use Rattle.gc_worker.specs.Workers.Fits.{Fits, FitsBack, HasAsked}
+use Rattle.gc_worker.specs.Steps.Goes.{Is, Goes, StepsSo}
+use Rattle.gc_worker.specs.Workers.Held.{Held}
+use Rattle.gc_worker.specs.Workers.Knows.{knows, cursor_asked}
+use Rattle.gc_worker.specs.Steps.Turned.{turned_copy}
 use Rattle.gc_worker.proofs.Stages.Copies.Hosts.{Host, ForScan, at, machine_at, wants_its, is_sound, has_pages, is_worker, takes, with_sound, tells_nothing, wins_nothing, copy_is, quest_with, quest_is}
 use Rattle.gc_worker.proofs.Stages.Copies.Publishing.{stays}
 use Rattle.gc_worker.proofs.Stages.Copies.Words.{heap_word}

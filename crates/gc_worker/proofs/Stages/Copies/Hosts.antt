@@ -14,11 +14,11 @@ use Rattle.gc_worker.specs.declared.back.Back.{Back}
 use Rattle.gc_worker.specs.declared.back.Back.TheVariants.{ToAccess, ToPlace, ToScanner}
 use Rattle.gc_worker.specs.declared.stage.Stage.{Stage}
 use Rattle.gc_worker.specs.declared.stage.Stage.TheVariants.{Forwards, Evacuates}
-use Rattle.gc_worker.specs.Fits.{Fits, FitsBack, Takes}
-use Rattle.gc_worker.specs.Held.{Held}
-use Rattle.gc_worker.specs.Knows.{knows, copy_at, found_in, cursor_asked}
-use Rattle.gc_worker.specs.Turned.{Silent, turned, turned_copy, turned_register, told, won}
-use Rattle.gc_worker.specs.Wanted.{wanted}
+use Rattle.gc_worker.specs.Workers.Fits.{Fits, FitsBack, Takes}
+use Rattle.gc_worker.specs.Workers.Held.{Held}
+use Rattle.gc_worker.specs.Workers.Knows.{knows, copy_at, found_in, cursor_asked}
+use Rattle.gc_worker.specs.Steps.Turned.{Silent, turned, turned_copy, turned_register, told, won}
+use Rattle.gc_worker.specs.Steps.Wanted.{wanted}
 use Rattle.gc_worker.proofs.Workers.Parts.{refit}
 
 -- what the copy is for

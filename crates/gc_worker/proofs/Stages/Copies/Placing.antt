@@ -18,16 +18,16 @@ use Rattle.heap_laws.specs.Steps.{IsAreaNow}
 use Rattle.forwarding.specs.Soundness.{IsSound, IsKeptHeader, AreaHoldsCopy}
 use Rattle.forwarding.specs.Taken.{by_area, by_other_area, reserved_at, stage_after}
 use Rattle.heap_state.specs.Configuration.{Configuration, Stands, era, memory, team}
-use Rattle.heap_state.specs.Entries.{AnnounceIs, AreaIs}
-use Rattle.heap_state.specs.Table.{table_of, word_in}
+use Rattle.heap_state.specs.Memory.Entries.{AnnounceIs, AreaIs}
+use Rattle.heap_state.specs.Memory.Table.{table_of, word_in}
 use Rattle.heap_state.specs.Worker.{Worker, Copy, is_late}
 use Rattle.heap_state.proofs.Table.Spelled.{spelled}
 use Rattle.heap_laws.proofs.Copying.Room.{copies_have_room}
 use Rattle.heap_laws.specs.Copying as law
 use Rattle.heap_laws.proofs.Copying.Laws.{places_are_aimed, places_are_announced, places_are_reserved}
-use Rattle.gc_worker.specs.Goes.{Is, Goes, StepsSo}
-use Rattle.gc_worker.specs.Held.{Held}
-use Rattle.gc_worker.specs.Knows.{knows, placing, copy_at, found_in, scan_of}
+use Rattle.gc_worker.specs.Steps.Goes.{Is, Goes, StepsSo}
+use Rattle.gc_worker.specs.Workers.Held.{Held}
+use Rattle.gc_worker.specs.Workers.Knows.{knows, placing, copy_at, found_in, scan_of}
 use Rattle.gc_worker.proofs.Stages.Copies.Hosts.{Host, ForScan, ForRegister, at, machine_at, wants_its, is_sound, has_pages, is_worker, copy_is, quest_with, quest_is}
 use Rattle.gc_worker.proofs.Stages.Copies.Publishing.{goes, stays}
 use Rattle.gc_worker.proofs.Stages.Gate.Words.{wants}
@@ -42,7 +42,7 @@ module _ (c : Configuration) (p : Plain) (s : Stands c p) (k : ℕ) (y : Held) (
   with_copy copy = record ((team c).worker k) { copy = Some copy; quest = Some (quest_with y v o None) }
 
   -- what a law says of a worker that seeks the copy
-  still_seeks : (z : EvacStage) (copy : Copy) → Is c k (here z) → Rattle.gc_worker.specs.Knows.found_in z ≡ None → law.copying ((team c).worker k) copy ≡ with_copy copy
+  still_seeks : (z : EvacStage) (copy : Copy) → Is c k (here z) → Rattle.gc_worker.specs.Workers.Knows.found_in z ≡ None → law.copying ((team c).worker k) copy ≡ with_copy copy
   still_seeks z copy is not_yet =
       λ i. record ((team c).worker k) { copy = Some copy; quest = (ap (λ (u : Worker). u.quest) is.as_known ∙ quest_is y v o z ∙ ap (λ f. Some (quest_with y v o f)) not_yet) i }
 

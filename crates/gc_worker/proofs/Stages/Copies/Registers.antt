@@ -19,23 +19,23 @@ use Rattle.forwarding.specs.Taken.{by_first_word, stage_after}
 use Rattle.forwarding.specs.Taken as evac_taken
 use Rattle.gate_core.specs.declared.passage.Passage.TheVariants.{Forwarded}
 use Rattle.heap_state.specs.Configuration.{Configuration, Stands, era, memory, team}
-use Rattle.heap_state.specs.Entries.{Entry, AnnounceIs}
-use Rattle.heap_state.specs.Table.{word_in}
+use Rattle.heap_state.specs.Memory.Entries.{Entry, AnnounceIs}
+use Rattle.heap_state.specs.Memory.Table.{word_in}
 use Rattle.heap_state.specs.Worker.{Worker, Quest, Register, is_late}
 use Rattle.heap_laws.specs.Composites.{AsksAt, AllDone, AsksNext, LeadNowhere, forwarded_to}
 use Rattle.heap_laws.proofs.Copying.Laws.{announces_are_cleared}
 use Rattle.heap_laws.proofs.Steps.Composites.{registers_find_forwards, registers_are_settled}
 use Rattle.gc_worker.proofs.Workers.Answered.{registers_put, values_set}
 use Rattle.gc_worker.proofs.Plain.Tasks.{task_stays}
-use Rattle.gc_worker.specs.Seen.{IsValueAs}
+use Rattle.gc_worker.specs.Plain.Seen.{IsValueAs}
 use Rattle.gc_worker.specs.declared.after.After.{After}
 use Rattle.gc_worker.specs.declared.stage.Stage.{Stage}
 use Rattle.gc_worker.specs.declared.stage.Stage.TheVariants.{Forwards}
-use Rattle.gc_worker.specs.Fits.{AreValues, Fits, FitsEnd, FitsStage, FitsTask, FitsTaskAfter, IsOnSide}
-use Rattle.gc_worker.specs.Goes.{Is, Goes, StepsSo}
-use Rattle.gc_worker.specs.Held.{Held, at_stage}
-use Rattle.gc_worker.specs.Knows.{knows, found_in}
-use Rattle.gc_worker.specs.Turned.{Pointed, first_pointer, passes, forwards_it, turned_register}
+use Rattle.gc_worker.specs.Workers.Fits.{AreValues, Fits, FitsEnd, FitsStage, FitsTask, FitsTaskAfter, IsOnSide}
+use Rattle.gc_worker.specs.Steps.Goes.{Is, Goes, StepsSo}
+use Rattle.gc_worker.specs.Workers.Held.{Held, at_stage}
+use Rattle.gc_worker.specs.Workers.Knows.{knows, found_in}
+use Rattle.gc_worker.specs.Steps.Turned.{Pointed, first_pointer, passes, forwards_it, turned_register}
 use Rattle.gc_worker.proofs.Stages.Copies.Finding.{loads_header}
 use Rattle.gc_worker.proofs.Stages.Copies.Hosts.{Host, ForRegister, at, machine_at, wants_its, is_sound, has_pages, is_worker, takes, with_sound, tells_nothing, wins_nothing, quest_with, quest_is}
 use Rattle.gc_worker.proofs.Stages.Copies.Words.{heap_word}

@@ -9,8 +9,8 @@ use Rattle.heap_state.specs.Configuration.{Configuration, Stands}
 use Rattle.gc_worker.specs.declared.back.Back.{Back}
 use Rattle.gc_worker.specs.declared.forwarding_register.ForwardingRegister.{ForwardingRegister}
 use Rattle.gc_worker.specs.declared.stage.Stage.TheVariants.{Forwards, Evacuates}
-use Rattle.gc_worker.specs.Goes.{Is, StepsSo}
-use Rattle.gc_worker.specs.Held.{Held, at_stage}
+use Rattle.gc_worker.specs.Steps.Goes.{Is, StepsSo}
+use Rattle.gc_worker.specs.Workers.Held.{Held, at_stage}
 use Rattle.gc_worker.proofs.Stages.Copies.Hosts.{Host, ForScan, ForRegister, at, wants_its}
 use Rattle.gc_worker.proofs.Stages.Copies.Finding.{scan_loads_header, scan_clears}
 use Rattle.gc_worker.proofs.Stages.Copies.Placing.{announces, loads_area, reserves}

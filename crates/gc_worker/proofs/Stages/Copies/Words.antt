@@ -16,15 +16,15 @@ use Rattle.forwarding.specs.Evacuation.{Evacuation, size_of}
 use Rattle.forwarding.specs.Soundness.{FitsStage, HasReserved}
 use Rattle.forwarding.specs.Taken.{copied, crossed, first_page, told}
 use Rattle.heap_state.specs.Configuration.{Configuration, Stands, era, memory, team}
-use Rattle.heap_state.specs.Entries.{Entry, WordIs, CrossIs}
+use Rattle.heap_state.specs.Memory.Entries.{Entry, WordIs, CrossIs}
 use Rattle.heap_state.specs.Worker.{Worker, Copy}
-use Rattle.heap_state.specs.Table.{table_of, word_in}
+use Rattle.heap_state.specs.Memory.Table.{table_of, word_in}
 use Rattle.heap_laws.specs.Copying.{IsNextWord, copying}
 use Rattle.heap_laws.proofs.Copying.Laws.{words_are_copied, old_words_are_loaded, crossings_are_stored}
-use Rattle.gc_worker.specs.Goes.{Is, Goes, StepsSo}
-use Rattle.gc_worker.specs.Held.{Held}
-use Rattle.gc_worker.specs.Knows.{knows, copy_at, found_in, moving}
-use Rattle.gc_worker.specs.Wanted.{wanted}
+use Rattle.gc_worker.specs.Steps.Goes.{Is, Goes, StepsSo}
+use Rattle.gc_worker.specs.Workers.Held.{Held}
+use Rattle.gc_worker.specs.Workers.Knows.{knows, copy_at, found_in, moving}
+use Rattle.gc_worker.specs.Steps.Wanted.{wanted}
 use Rattle.gc_worker.proofs.Stages.Copies.Hosts.{Host, at, machine_at, wants_its, tells_nothing, wins_nothing, turns, takes, is_sound, has_pages, with_sound, refits, copy_is, quest_with, quest_is, becomes_known}
 use Rattle.gc_worker.proofs.Stages.Gate.Words.{wants}
 use Rattle.gc_worker.proofs.Words.RowSteps.{Law, becomes, loads, stores, row_fits, prepared}

@@ -11,17 +11,17 @@ use Rattle.gate_core.specs.declared.passage.Passage.TheVariants.{Resume}
 use Rattle.gate_core.specs.declared.reset.Reset as resets
 use Rattle.gate_core.specs.Flip.{gate_flipped}
 use Rattle.heap_state.specs.Configuration.{Configuration, Stands, era, memory, team}
-use Rattle.heap_state.specs.Entries.{GateIs}
+use Rattle.heap_state.specs.Memory.Entries.{GateIs}
 use Rattle.heap_state.specs.Worker.{Worker, Reset}
 use Rattle.heap_laws.specs.Flipping.Flip.{Flips, after_flip, flipped_gate, next_ghost}
 use Rattle.heap_laws.specs.Lifting.{Flipped}
 use Rattle.heap_laws.proofs.Flipping.Flipped.{flip_keeps}
 use Rattle.heap_laws.proofs.Lifting.Laws.{flips_are_lifted}
 use Rattle.gc_worker.specs.declared.after.After.TheVariants as afters
-use Rattle.gc_worker.specs.Goes.{Is, Goes, StepsSo}
-use Rattle.gc_worker.specs.Held.{Held, at_stage}
-use Rattle.gc_worker.specs.Knows.{knows}
-use Rattle.gc_worker.specs.Turned.{passes}
+use Rattle.gc_worker.specs.Steps.Goes.{Is, Goes, StepsSo}
+use Rattle.gc_worker.specs.Workers.Held.{Held, at_stage}
+use Rattle.gc_worker.specs.Workers.Knows.{knows}
+use Rattle.gc_worker.specs.Steps.Turned.{passes}
 use Rattle.gc_worker.proofs.Words.Eras.{old_span_is, span_is}
 use Rattle.gc_worker.proofs.Workers.Parts.{before_passage}
 use Rattle.gc_worker.proofs.Stages.Flip.Resetting.{at, now}

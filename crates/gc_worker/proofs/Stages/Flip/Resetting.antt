@@ -17,19 +17,19 @@ use Rattle.gate_core.specs.declared.reset.Reset as resets
 use Rattle.gate_core.specs.Flip.{is_still, looked, read_area, used_in, area_reset, told_at}
 use Rattle.gate_core.specs.Soundness.{IsFlippingGoing, FitsFlipStage, MayFlip}
 use Rattle.heap_state.specs.Configuration.{Configuration, Stands, table, era, memory, team}
-use Rattle.heap_state.specs.Entries.{AreaIs}
-use Rattle.heap_state.specs.Era.{from_space}
+use Rattle.heap_state.specs.Memory.Entries.{AreaIs}
+use Rattle.heap_state.specs.Memory.Era.{from_space}
 use Rattle.heap_state.specs.Worker.{Worker}
 use Rattle.heap_laws.specs.Flipping.Reset.{resetting, whole_area}
 use Rattle.heap_laws.proofs.Flipping.Reset.{finds_still, reads_used, stores_area_word}
 use Rattle.heap_laws.proofs.Gate.Counts.{fits}
 use Rattle.heap_laws.proofs.Steps.Answers.{areas_are_read}
 use Rattle.gc_worker.specs.declared.stage.Stage.TheVariants.{Flips}
-use Rattle.gc_worker.specs.Fits.{Fits}
-use Rattle.gc_worker.specs.Goes.{Is, Goes, StepsSo}
-use Rattle.gc_worker.specs.Held.{Held, at_stage}
-use Rattle.gc_worker.specs.Knows.{knows}
-use Rattle.gc_worker.specs.Turned.{Silent, turned_flip, told_flip}
+use Rattle.gc_worker.specs.Workers.Fits.{Fits}
+use Rattle.gc_worker.specs.Steps.Goes.{Is, Goes, StepsSo}
+use Rattle.gc_worker.specs.Workers.Held.{Held, at_stage}
+use Rattle.gc_worker.specs.Workers.Knows.{knows}
+use Rattle.gc_worker.specs.Steps.Turned.{Silent, turned_flip, told_flip}
 use Rattle.gc_worker.proofs.Words.Areas.{area_now, area_says, is_space}
 use Rattle.gc_worker.proofs.Words.Eras.{old_span_is, span_is}
 use Rattle.gc_worker.proofs.Workers.Parts.{refit}

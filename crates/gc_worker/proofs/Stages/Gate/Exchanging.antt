@@ -16,7 +16,7 @@ use Rattle.gate_core.specs.declared.passage.Passage.TheVariants.{Look, Attach, P
 use Rattle.gate_core.specs.Flip as flip
 use Rattle.gate_core.specs.Gate.{gate_after}
 use Rattle.heap_state.specs.Configuration.{Configuration, Stands, table, era, memory, team}
-use Rattle.heap_state.specs.Entries.{GateIs}
+use Rattle.heap_state.specs.Memory.Entries.{GateIs}
 use Rattle.heap_state.specs.Worker.{Worker, is_mutator}
 use Rattle.heap_state.specs.Worker as workers
 use Rattle.heap_laws.specs.Gate as laws
@@ -24,11 +24,11 @@ use Rattle.heap_laws.proofs.Gate.Passages.{passes_gate}
 use Rattle.heap_laws.proofs.Steps.Forgotten.{reads_are_forgotten}
 use Rattle.gc_worker.specs.declared.after.After.{After}
 use Rattle.gc_worker.specs.declared.stage.Stage.TheVariants.{Passes, Flips, Looks, Gone}
-use Rattle.gc_worker.specs.Fits.{Fits, IsGoneBy}
-use Rattle.gc_worker.specs.Goes.{Is, Goes, StepsSo}
-use Rattle.gc_worker.specs.Held.{Held, at_stage, pages_needed}
-use Rattle.gc_worker.specs.Knows.{knows, known_at, post_gone}
-use Rattle.gc_worker.specs.Turned.{passes, goes_on, turned, in_epoch, epoch_said, epoch_in_gate}
+use Rattle.gc_worker.specs.Workers.Fits.{Fits, IsGoneBy}
+use Rattle.gc_worker.specs.Steps.Goes.{Is, Goes, StepsSo}
+use Rattle.gc_worker.specs.Workers.Held.{Held, at_stage, pages_needed}
+use Rattle.gc_worker.specs.Workers.Knows.{knows, known_at, post_gone}
+use Rattle.gc_worker.specs.Steps.Turned.{passes, goes_on, turned, in_epoch, epoch_said, epoch_in_gate}
 use Rattle.gc_worker.proofs.Workers.Parts.{refit, come, before_passage, page_count}
 use Rattle.gc_worker.proofs.Workers.GoingOn.{goes_on_known, goes_on_fits}
 use Rattle.gc_worker.proofs.Stages.Gate.Words.{wants, gate_now, gate_is}

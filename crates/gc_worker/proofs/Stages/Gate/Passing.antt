@@ -18,7 +18,7 @@ use Rattle.gate_core.specs.declared.passed.Passed.TheVariants.{NotYet}
 use Rattle.gate_core.specs.Gate.{allows, allowed, is_clear, told_at, looked}
 use Rattle.gate_core.specs.Soundness.{CountsAllow, FitsGateStage, MayPass}
 use Rattle.heap_state.specs.Configuration.{Configuration, Stands, table, era, memory, team}
-use Rattle.heap_state.specs.Parts.Knowledge as parts
+use Rattle.heap_state.specs.Invariant.Parts.Knowledge as parts
 use Rattle.heap_state.specs.Worker.{Worker, Enter, is_behind}
 use Rattle.heap_state.specs.Worker as workers
 use Rattle.heap_laws.specs.Answers.{GateAnswers}
@@ -28,11 +28,11 @@ use Rattle.heap_laws.proofs.Steps.Forgotten.{traced_is_forgotten}
 use Rattle.gc_worker.specs.declared.after.After.{After}
 use Rattle.gc_worker.specs.declared.after.After.TheVariants as afters
 use Rattle.gc_worker.specs.declared.stage.Stage.TheVariants.{Passes}
-use Rattle.gc_worker.specs.Fits.{Fits, FitsTaskAfter, IsMaking}
-use Rattle.gc_worker.specs.Goes.{Is, Goes, StepsSo}
-use Rattle.gc_worker.specs.Held.{Held, at_stage, pages_needed}
-use Rattle.gc_worker.specs.Knows.{knows}
-use Rattle.gc_worker.specs.Turned.{passes, goes_on, forwards_from, epoch_in_gate, turned_gate}
+use Rattle.gc_worker.specs.Workers.Fits.{Fits, FitsTaskAfter, IsMaking}
+use Rattle.gc_worker.specs.Steps.Goes.{Is, Goes, StepsSo}
+use Rattle.gc_worker.specs.Workers.Held.{Held, at_stage, pages_needed}
+use Rattle.gc_worker.specs.Workers.Knows.{knows}
+use Rattle.gc_worker.specs.Steps.Turned.{passes, goes_on, forwards_from, epoch_in_gate, turned_gate}
 use Rattle.gc_worker.proofs.Workers.Parts.{refit, before_passage}
 use Rattle.gc_worker.proofs.Workers.GoingOn.{goes_on_known, goes_on_fits}
 use Rattle.gc_worker.proofs.Stages.Gate.Resuming.{stopped_at, stopped_law, stopped_fits}

@@ -12,11 +12,11 @@ use Rattle.heap_laws.specs.Composites.{AsksAt, AllDone, AsksNext, LeadNowhere, c
 use Rattle.heap_laws.proofs.Steps.Composites.{registers_are_passed}
 use Rattle.gc_worker.specs.declared.after.After.{After}
 use Rattle.gc_worker.specs.declared.stage.Stage.TheVariants.{Forwards}
-use Rattle.gc_worker.specs.Fits.{Fits, FitsTaskAfter}
-use Rattle.gc_worker.specs.Goes.{Is}
-use Rattle.gc_worker.specs.Held.{Held, at_stage}
-use Rattle.gc_worker.specs.Knows.{knows, known_at}
-use Rattle.gc_worker.specs.Turned.{Pointed, first_pointer, passes, forwards_it, forwards_from}
+use Rattle.gc_worker.specs.Workers.Fits.{Fits, FitsTaskAfter}
+use Rattle.gc_worker.specs.Steps.Goes.{Is}
+use Rattle.gc_worker.specs.Workers.Held.{Held, at_stage}
+use Rattle.gc_worker.specs.Workers.Knows.{knows, known_at}
+use Rattle.gc_worker.specs.Steps.Turned.{Pointed, first_pointer, passes, forwards_it, forwards_from}
 use Rattle.gc_worker.proofs.Words.Eras.{board_is}
 use Rattle.gc_worker.proofs.Workers.Parts.{refit, before_passage, page_count}
 use Rattle.gc_worker.proofs.Words.Pointers.{FirstPointer, Nowhere, There, word_at, found, is_pointer, leads_nowhere}

@@ -8,10 +8,10 @@ use Rattle.space_map.specs.GateWord.{GateFits, gate_in, decode_gate, encode_gate
 use Rattle.space_map.specs.Table.{Gate}
 use Rattle.space_map.proofs.GateWords.{decode_gate-short, gate_in-encode_gate}
 use Rattle.heap_state.specs.Configuration.{Configuration, Stands, table}
-use Rattle.heap_state.specs.Table.{table_of, word_in}
-use Rattle.gc_worker.specs.Goes.{StepsInTable, StepsSo}
-use Rattle.gc_worker.specs.Held.{Held}
-use Rattle.gc_worker.specs.Wanted.{wanted}
+use Rattle.heap_state.specs.Memory.Table.{table_of, word_in}
+use Rattle.gc_worker.specs.Steps.Goes.{StepsInTable, StepsSo}
+use Rattle.gc_worker.specs.Workers.Held.{Held}
+use Rattle.gc_worker.specs.Steps.Wanted.{wanted}
 
 -- the next step goes so
 pub wants : (c : Configuration) (p : Plain) (s : Stands c p) (k : ℕ) (x : Held) (q : Step) → wanted x ≡ Some q → StepsInTable c p s k x q → StepsSo c p s k x

@@ -17,13 +17,13 @@ use Rattle.heap_state.specs.Configuration.{Configuration, Stands, era, memory, t
 use Rattle.gc_worker.specs.declared.access_stage.AccessStage.{AccessStage}
 use Rattle.gc_worker.specs.declared.stage.Stage.TheVariants.{Looks, Accesses}
 use Rattle.gc_worker.specs.declared.task.Task.TheVariants.{Calls}
-use Rattle.gc_worker.specs.Access.{FitsStage, IsHeapAddress, IsAccessOf}
-use Rattle.gc_worker.specs.Fits.{MayBegin, FitsCall, ExecutesAction, IsMaking}
-use Rattle.gc_worker.specs.Goes.{Is, Goes}
-use Rattle.gc_worker.specs.Held.{Held, at_stage, header_for}
-use Rattle.gc_worker.specs.Knows.{knows}
-use Rattle.gc_worker.specs.Seen.{IsValueWord, seen, word_for}
-use Rattle.gc_worker.specs.Turned.{Silent, acts, begins, places, turned, told}
+use Rattle.gc_worker.specs.Steps.Access.{FitsStage, IsHeapAddress, IsAccessOf}
+use Rattle.gc_worker.specs.Workers.Fits.{MayBegin, FitsCall, ExecutesAction, IsMaking}
+use Rattle.gc_worker.specs.Steps.Goes.{Is, Goes}
+use Rattle.gc_worker.specs.Workers.Held.{Held, at_stage, header_for}
+use Rattle.gc_worker.specs.Workers.Knows.{knows}
+use Rattle.gc_worker.specs.Plain.Seen.{IsValueWord, seen, word_for}
+use Rattle.gc_worker.specs.Steps.Turned.{Silent, acts, begins, places, turned, told}
 use Rattle.heap_laws.proofs.Fields.Shown.{headers_are_read}
 use Rattle.gc_worker.proofs.Plain.Actions.{plain_value}
 use Rattle.gc_worker.proofs.Plain.AnswerSteps.{IsIts}

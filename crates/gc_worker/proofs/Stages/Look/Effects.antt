@@ -24,14 +24,14 @@ use Rattle.heap_laws.specs.Fields.Stores.{IsAs}
 use Rattle.heap_laws.proofs.Fields.Laws.{mutators_step}
 use Rattle.gc_worker.specs.declared.stage.Stage.TheVariants.{Looks}
 use Rattle.gc_worker.specs.declared.task.Task.TheVariants.{Calls}
-use Rattle.gc_worker.specs.Fits.{AreValues, Fits}
-use Rattle.gc_worker.specs.Goes.{Is, Goes}
-use Rattle.gc_worker.specs.Held.{Held, at_stage}
-use Rattle.gc_worker.specs.Knows.{knows}
-use Rattle.gc_worker.specs.Seen.{word_for}
+use Rattle.gc_worker.specs.Workers.Fits.{AreValues, Fits}
+use Rattle.gc_worker.specs.Steps.Goes.{Is, Goes}
+use Rattle.gc_worker.specs.Workers.Held.{Held, at_stage}
+use Rattle.gc_worker.specs.Workers.Knows.{knows}
+use Rattle.gc_worker.specs.Plain.Seen.{word_for}
 use Rattle.gc_worker.specs.declared.did.Did.TheVariants.{Done}
-use Rattle.gc_worker.specs.Turned.{Answers, begins, acts, turned, told, told_effect}
-use Rattle.gc_worker.specs.Turned as turn
+use Rattle.gc_worker.specs.Steps.Turned.{Answers, begins, acts, turned, told, told_effect}
+use Rattle.gc_worker.specs.Steps.Turned as turn
 use Rattle.gc_worker.proofs.Plain.Actions.{plain_value, plain_action, plain_outcome}
 use Rattle.gc_worker.proofs.Plain.AnswerSteps.{LawTo, IsIts, may_hold, going, next_as}
 use Rattle.gc_worker.proofs.Plain.Effects.{counted, loaded_goes, loaded_as, effect}

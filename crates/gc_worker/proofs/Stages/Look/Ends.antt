@@ -19,7 +19,7 @@ use Rattle.mutator_asm.specs.declared.operand.Operand.TheVariants as operands
 use Rattle.plain_heap.specs.declared.action.Action.{Action}
 use Rattle.plain_heap.specs.declared.action.Action.TheVariants.{Prints}
 use Rattle.plain_heap.specs.Action.{◌>>=◌, register, as_number, reference_in, operand, length_of, on_board, board_place, computes, allocates, action}
-use Rattle.gc_worker.specs.Fits.{MayStop}
+use Rattle.gc_worker.specs.Workers.Fits.{MayStop}
 
 -- where it has an end, it is not that the heap is full
 abbrev pub Stops : {A : Type 0} → Result A End → Type 0

@@ -25,15 +25,15 @@ use Rattle.gc_worker.specs.declared.after.After.TheVariants as afters
 use Rattle.gc_worker.specs.declared.stage.Stage.TheVariants.{Looks}
 use Rattle.gc_worker.specs.declared.task.Task.{Task}
 use Rattle.gc_worker.specs.declared.task.Task.TheVariants.{Calls, Stops}
-use Rattle.gc_worker.specs.Answer.{MayCome, MayEnd, after_outcome}
-use Rattle.gc_worker.specs.Fits.{MayBegin, MayStop}
-use Rattle.gc_worker.specs.Full.{FullByEnd}
-use Rattle.gc_worker.specs.Goes.{Is, Goes, StepsSo}
-use Rattle.gc_worker.specs.Held.{Held, at_stage}
-use Rattle.gc_worker.specs.Knows.{knows}
-use Rattle.gc_worker.specs.Seen.{seen}
+use Rattle.gc_worker.specs.Plain.Answer.{MayCome, MayEnd, after_outcome}
+use Rattle.gc_worker.specs.Workers.Fits.{MayBegin, MayStop}
+use Rattle.gc_worker.specs.Plain.Full.{FullByEnd}
+use Rattle.gc_worker.specs.Steps.Goes.{Is, Goes, StepsSo}
+use Rattle.gc_worker.specs.Workers.Held.{Held, at_stage}
+use Rattle.gc_worker.specs.Workers.Knows.{knows}
+use Rattle.gc_worker.specs.Plain.Seen.{seen}
 use Rattle.gc_worker.specs.declared.did.Did.TheVariants.{Trap}
-use Rattle.gc_worker.specs.Turned.{Told, Silent, Answers, begins, passes, ended, acted, started, looked_by, turned, told, told_acted, told_start, told_gate}
+use Rattle.gc_worker.specs.Steps.Turned.{Told, Silent, Answers, begins, passes, ended, acted, started, looked_by, turned, told, told_acted, told_start, told_gate}
 use Rattle.gc_worker.proofs.Plain.Actions.{plain_outcome}
 use Rattle.gc_worker.proofs.Plain.AnswerSteps.{LawTo, IsIts, answers, its_mutator}
 use Rattle.gc_worker.proofs.Workers.Parts.{before_passage}

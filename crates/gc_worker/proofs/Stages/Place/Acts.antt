@@ -5,10 +5,10 @@ use Rattle.plain_heap.specs.declared.action.Action.TheVariants.{Makes}
 use Rattle.plain_heap.specs.Action.{action}
 use Rattle.heap_state.specs.Configuration.{Configuration, Stands}
 use Rattle.heap_state.specs.Worker.{is_running}
-use Rattle.gc_worker.specs.Fits.{IsMaking}
-use Rattle.gc_worker.specs.Goes.{Is}
-use Rattle.gc_worker.specs.Held.{Held}
-use Rattle.gc_worker.specs.Knows.{post_in}
+use Rattle.gc_worker.specs.Workers.Fits.{IsMaking}
+use Rattle.gc_worker.specs.Steps.Goes.{Is}
+use Rattle.gc_worker.specs.Workers.Held.{Held}
+use Rattle.gc_worker.specs.Workers.Knows.{post_in}
 use Rattle.gc_worker.proofs.Plain.Actions.{plain_outcome}
 use Rattle.gc_worker.proofs.Plain.AnswerSteps.{IsIts}
 use Rattle.gc_worker.proofs.Plain.Registers.{alike}

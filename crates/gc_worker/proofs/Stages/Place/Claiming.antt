@@ -17,7 +17,7 @@ use Rattle.alloc_end.specs.declared.run.Run.{Run}
 use Rattle.alloc_end.specs.Place.{Placing, size_of, pages_for, words_for, kept_room, area_after, first_claimed}
 use Rattle.alloc_end.specs.Soundness.{FitsPlaceStage, AreaHoldsClaim, IsPlacingGoing}
 use Rattle.heap_state.specs.Configuration.{Configuration, Stands, table, era, memory, team}
-use Rattle.heap_state.specs.Entries.{AreaIs}
+use Rattle.heap_state.specs.Memory.Entries.{AreaIs}
 use Rattle.heap_state.specs.Worker.{Worker, Stock}
 use Rattle.heap_laws.specs.Allocation.Stocks.{SeesRoom, owed_beside, lowered, claimed, stocked}
 use Rattle.heap_laws.specs.Allocation.Stocks as room_laws
@@ -29,10 +29,10 @@ use Rattle.heap_laws.proofs.Steps.Answers.{areas_are_read}
 use Rattle.heap_laws.proofs.Steps.Composing.{steps_forget}
 use Rattle.heap_laws.proofs.Steps.Forgotten.{traced_is_forgotten}
 use Rattle.gc_worker.specs.declared.stage.Stage.TheVariants.{Places}
-use Rattle.gc_worker.specs.Fits.{Fits}
-use Rattle.gc_worker.specs.Goes.{Is, Goes, StepsSo}
-use Rattle.gc_worker.specs.Held.{Held, at_stage}
-use Rattle.gc_worker.specs.Knows.{knows, zeroed_to}
+use Rattle.gc_worker.specs.Workers.Fits.{Fits}
+use Rattle.gc_worker.specs.Steps.Goes.{Is, Goes, StepsSo}
+use Rattle.gc_worker.specs.Workers.Held.{Held, at_stage}
+use Rattle.gc_worker.specs.Workers.Knows.{knows, zeroed_to}
 use Rattle.gc_worker.proofs.Words.Areas.{area_now, area_is, is_space}
 use Rattle.gc_worker.proofs.Words.Eras.{start_is, board_is, span_is}
 use Rattle.gc_worker.proofs.Workers.Parts.{refit}

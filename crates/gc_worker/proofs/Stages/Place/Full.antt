@@ -30,15 +30,15 @@ use Rattle.gate_core.specs.declared.passage.Passage.TheVariants.{Request}
 use Rattle.gc_worker.specs.declared.after.After.TheVariants as afters
 use Rattle.gc_worker.specs.declared.task.Task.{Task}
 use Rattle.gc_worker.specs.declared.task.Task.TheVariants.{Calls}
-use Rattle.gc_worker.specs.Answer.{after_outcome}
-use Rattle.gc_worker.specs.Fits.{IsMaking}
-use Rattle.gc_worker.specs.Full.{FindsNoRoom}
-use Rattle.gc_worker.specs.Goes.{Is, Goes}
-use Rattle.gc_worker.specs.Held.{Held, at_stage}
-use Rattle.gc_worker.specs.Knows.{knows}
+use Rattle.gc_worker.specs.Plain.Answer.{after_outcome}
+use Rattle.gc_worker.specs.Workers.Fits.{IsMaking}
+use Rattle.gc_worker.specs.Plain.Full.{FindsNoRoom}
+use Rattle.gc_worker.specs.Steps.Goes.{Is, Goes}
+use Rattle.gc_worker.specs.Workers.Held.{Held, at_stage}
+use Rattle.gc_worker.specs.Workers.Knows.{knows}
 use Rattle.gc_worker.specs.declared.did.Did.TheVariants.{Trap}
-use Rattle.gc_worker.specs.Turned.{Silent, Answers, finds_full, passes, ended, end_by_shortage, told_end, turned_place, told_place}
-use Rattle.gc_worker.specs.Turned as turning
+use Rattle.gc_worker.specs.Steps.Turned.{Silent, Answers, finds_full, passes, ended, end_by_shortage, told_end, turned_place, told_place}
+use Rattle.gc_worker.specs.Steps.Turned as turning
 use Rattle.gc_worker.proofs.Plain.AnswerSteps.{LawTo, IsIts, answers}
 use Rattle.gc_worker.proofs.Words.Areas.{area_now, area_says, is_space}
 use Rattle.gc_worker.proofs.Stages.Gate.Words.{gate_says}

@@ -24,24 +24,24 @@ use Rattle.alloc_end.specs.declared.run.Run.{Run}
 use Rattle.alloc_end.specs.Place.{size_of, placed}
 use Rattle.alloc_end.specs.Soundness.{IsSoundPlacing}
 use Rattle.heap_state.specs.Configuration.{Configuration, Stands, era, memory, team}
-use Rattle.heap_state.specs.Entries.{Entry, WordIs}
-use Rattle.heap_state.specs.Ghost.{Ghost, header_kind}
-use Rattle.heap_state.specs.Values.{Shows, value_of}
+use Rattle.heap_state.specs.Memory.Entries.{Entry, WordIs}
+use Rattle.heap_state.specs.Invariant.Ghost.{Ghost, header_kind}
+use Rattle.heap_state.specs.Meaning.Values.{Shows, value_of}
 use Rattle.heap_state.specs.Worker.{Account, Stock, Worker}
 use Rattle.heap_laws.specs.Allocation.Records.{PlacesNext, allocated, next_identity}
 use Rattle.heap_laws.specs.Fields.Stores.{with_record}
 use Rattle.heap_laws.proofs.Allocation.Placed.{mutators_place}
 use Rattle.heap_laws.proofs.Allocation.Shown.{zeros_show}
 use Rattle.gc_worker.specs.declared.task.Task.TheVariants.{Calls}
-use Rattle.gc_worker.specs.Answer.{after_outcome}
-use Rattle.gc_worker.specs.Fits.{Fits, IsMaking}
-use Rattle.gc_worker.specs.Goes.{Is, Goes, StepsSo}
-use Rattle.gc_worker.specs.Held.{Held}
-use Rattle.gc_worker.specs.Knows.{knows, stock_of}
-use Rattle.gc_worker.specs.Seen.{Making, IsValueAs, seen}
+use Rattle.gc_worker.specs.Plain.Answer.{after_outcome}
+use Rattle.gc_worker.specs.Workers.Fits.{Fits, IsMaking}
+use Rattle.gc_worker.specs.Steps.Goes.{Is, Goes, StepsSo}
+use Rattle.gc_worker.specs.Workers.Held.{Held}
+use Rattle.gc_worker.specs.Workers.Knows.{knows, stock_of}
+use Rattle.gc_worker.specs.Plain.Seen.{Making, IsValueAs, seen}
 use Rattle.gc_worker.specs.declared.did.Did.TheVariants.{Done}
-use Rattle.gc_worker.specs.Turned.{Answers, turned, told, told_effect}
-use Rattle.gc_worker.specs.Turned as turning
+use Rattle.gc_worker.specs.Steps.Turned.{Answers, turned, told, told_effect}
+use Rattle.gc_worker.specs.Steps.Turned as turning
 use Rattle.gc_worker.proofs.Plain.AnswerSteps.{LawTo, IsIts, answers, its_mutator, row_fits_to}
 use Rattle.gc_worker.proofs.Plain.Effects.{moved, moved_goes, moved_as}
 use Rattle.gc_worker.proofs.Stages.Gate.Resuming.{end_none}

@@ -17,16 +17,16 @@ use Rattle.alloc_end.specs.declared.run.Run.{Run}
 use Rattle.alloc_end.specs.Place.{Placing, size_of, pages_for, words_for, told}
 use Rattle.alloc_end.specs.Soundness.{IsSoundPlacing}
 use Rattle.heap_state.specs.Configuration.{Configuration, Stands, era, memory, team}
-use Rattle.heap_state.specs.Entries.{Entry, PageIs}
+use Rattle.heap_state.specs.Memory.Entries.{Entry, PageIs}
 use Rattle.heap_state.specs.Worker.{Worker, Stock}
 use Rattle.heap_laws.specs.Allocation.Stocks.{stocked, opened_further}
 use Rattle.heap_laws.proofs.Allocation.Laws.{opens_pages}
 use Rattle.gc_worker.specs.declared.stage.Stage.TheVariants.{Places}
-use Rattle.gc_worker.specs.Fits.{Fits}
-use Rattle.gc_worker.specs.Goes.{Is, Goes, StepsSo}
-use Rattle.gc_worker.specs.Held.{Held, at_stage}
-use Rattle.gc_worker.specs.Knows.{knows, opened_to}
-use Rattle.gc_worker.specs.Turned.{Silent, turned_place, told_place}
+use Rattle.gc_worker.specs.Workers.Fits.{Fits}
+use Rattle.gc_worker.specs.Steps.Goes.{Is, Goes, StepsSo}
+use Rattle.gc_worker.specs.Workers.Held.{Held, at_stage}
+use Rattle.gc_worker.specs.Workers.Knows.{knows, opened_to}
+use Rattle.gc_worker.specs.Steps.Turned.{Silent, turned_place, told_place}
 use Rattle.gc_worker.proofs.Workers.Parts.{refit}
 use Rattle.gc_worker.proofs.Stages.Gate.Words.{wants}
 use Rattle.gc_worker.proofs.Stages.Place.Claiming.{placing, at, now}

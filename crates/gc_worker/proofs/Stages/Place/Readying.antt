@@ -15,14 +15,14 @@ use Rattle.alloc_end.specs.declared.run.Run.{Run}
 use Rattle.alloc_end.specs.Place.{size_of, pages_for, words_for, told}
 use Rattle.alloc_end.specs.Soundness.{FitsPlaceStage, IsPlacingGoing}
 use Rattle.heap_state.specs.Configuration.{Configuration, Stands, era, memory, team}
-use Rattle.heap_state.specs.Entries.{WordIs}
+use Rattle.heap_state.specs.Memory.Entries.{WordIs}
 use Rattle.heap_state.specs.Worker.{Worker, Stock}
 use Rattle.heap_laws.specs.Allocation.Stocks.{stocked, zeroed_further}
 use Rattle.heap_laws.proofs.Allocation.Laws.{zeroes_words}
-use Rattle.gc_worker.specs.Goes.{Is, Goes, StepsSo}
-use Rattle.gc_worker.specs.Held.{Held}
-use Rattle.gc_worker.specs.Knows.{knows, zeroed_to}
-use Rattle.gc_worker.specs.Turned.{Told, Silent, turned_place, told_place}
+use Rattle.gc_worker.specs.Steps.Goes.{Is, Goes, StepsSo}
+use Rattle.gc_worker.specs.Workers.Held.{Held}
+use Rattle.gc_worker.specs.Workers.Knows.{knows, zeroed_to}
+use Rattle.gc_worker.specs.Steps.Turned.{Told, Silent, turned_place, told_place}
 use Rattle.gc_worker.proofs.Stages.Gate.Words.{wants}
 use Rattle.gc_worker.proofs.Stages.Place.Claiming.{placing, at, replace, now}
 use Rattle.gc_worker.proofs.Words.RowSteps.{Law, becomes, stores, row_fits, prepared}

@@ -9,9 +9,9 @@ use Rattle.alloc_end.specs.declared.run.Run.{Run}
 use Rattle.alloc_end.specs.Place.{Placing}
 use Rattle.heap_state.specs.Configuration.{Configuration, Stands}
 use Rattle.gc_worker.specs.declared.stage.Stage.TheVariants.{Places}
-use Rattle.gc_worker.specs.Goes.{Is, StepsSo}
-use Rattle.gc_worker.specs.Fits.{IsMaking}
-use Rattle.gc_worker.specs.Held.{Held, at_stage, header_for}
+use Rattle.gc_worker.specs.Steps.Goes.{Is, StepsSo}
+use Rattle.gc_worker.specs.Workers.Fits.{IsMaking}
+use Rattle.gc_worker.specs.Workers.Held.{Held, at_stage, header_for}
 use Rattle.gc_worker.proofs.Plain.NewRecords.{header_made, header_is}
 use Rattle.gc_worker.proofs.Stages.Place.Areas.{loads_area}
 use Rattle.gc_worker.proofs.Stages.Place.Claiming.{at, loads_traced, exchanges_area}

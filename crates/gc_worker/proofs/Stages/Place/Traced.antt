@@ -21,11 +21,11 @@ use Rattle.gate_core.specs.declared.passage.Passage.TheVariants.{Request}
 use Rattle.heap_state.specs.Configuration.{Configuration, Stands, table}
 use Rattle.heap_laws.proofs.Steps.Answers.{areas_are_read}
 use Rattle.gc_worker.specs.declared.after.After.TheVariants as afters
-use Rattle.gc_worker.specs.Fits.{Fits, IsMaking}
-use Rattle.gc_worker.specs.Goes.{Is, Goes, StepsSo}
-use Rattle.gc_worker.specs.Held.{Held, at_stage}
-use Rattle.gc_worker.specs.Knows.{knows}
-use Rattle.gc_worker.specs.Turned.{Silent, finds_full, passes, ended, end_by_shortage, told_end, turned_place, told_place}
+use Rattle.gc_worker.specs.Workers.Fits.{Fits, IsMaking}
+use Rattle.gc_worker.specs.Steps.Goes.{Is, Goes, StepsSo}
+use Rattle.gc_worker.specs.Workers.Held.{Held, at_stage}
+use Rattle.gc_worker.specs.Workers.Knows.{knows}
+use Rattle.gc_worker.specs.Steps.Turned.{Silent, finds_full, passes, ended, end_by_shortage, told_end, turned_place, told_place}
 use Rattle.gc_worker.proofs.Plain.AnswerSteps.{its_mutator}
 use Rattle.gc_worker.proofs.Words.Areas.{area_now, area_says, is_space}
 use Rattle.gc_worker.proofs.Workers.Parts.{before_passage}

@@ -24,10 +24,10 @@ use Rattle.heap_laws.proofs.Tracing.Looks.{reads_traced}
 use Rattle.gc_worker.specs.declared.back.Back.{Back}
 use Rattle.gc_worker.specs.declared.back.Back.TheVariants.{ToAccess, ToPlace, ToScanner}
 use Rattle.gc_worker.specs.declared.stage.Stage.TheVariants.{Serves, Gone}
-use Rattle.gc_worker.specs.Goes.{Is, Goes, StepsSo}
-use Rattle.gc_worker.specs.Held.{Held, at_stage}
-use Rattle.gc_worker.specs.Knows.{knows, own_stock, post_gone}
-use Rattle.gc_worker.specs.Turned.{turned_round}
+use Rattle.gc_worker.specs.Steps.Goes.{Is, Goes, StepsSo}
+use Rattle.gc_worker.specs.Workers.Held.{Held, at_stage}
+use Rattle.gc_worker.specs.Workers.Knows.{knows, own_stock, post_gone}
+use Rattle.gc_worker.specs.Steps.Turned.{turned_round}
 use Rattle.gc_worker.proofs.Workers.Parts.{refit}
 use Rattle.gc_worker.proofs.Stages.Gate.Words.{gate_now, gate_says}
 use Rattle.gc_worker.proofs.Stages.Rounds.Going.{round, at, sound_at, goes_on, ends, loads_it}

@@ -32,9 +32,9 @@ use Rattle.heap_laws.proofs.Steps.Answers.{areas_are_read}
 use Rattle.heap_laws.proofs.Steps.Forgotten.{round_fronts_are_forgotten}
 use Rattle.heap_laws.proofs.Tracing.Looks.{reads_front}
 use Rattle.gc_worker.specs.declared.back.Back.{Back}
-use Rattle.gc_worker.specs.Goes.{Is, Goes, StepsSo}
-use Rattle.gc_worker.specs.Held.{Held}
-use Rattle.gc_worker.specs.Knows.{knows}
+use Rattle.gc_worker.specs.Steps.Goes.{Is, Goes, StepsSo}
+use Rattle.gc_worker.specs.Workers.Held.{Held}
+use Rattle.gc_worker.specs.Workers.Knows.{knows}
 use Rattle.gc_worker.proofs.Words.Areas.{area_now, area_says, is_space}
 use Rattle.gc_worker.proofs.Stages.Rounds.Claiming.{begins, earlier_now, start_now, board_now}
 use Rattle.gc_worker.proofs.Stages.Rounds.Going.{round, at, goes_on, ends, loads_it, same_pages}

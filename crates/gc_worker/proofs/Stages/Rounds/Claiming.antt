@@ -23,10 +23,10 @@ use Rattle.heap_laws.specs.Composing.{ends_round}
 use Rattle.heap_laws.specs.Scanning.Claims.{MayClaim, claiming, claim_by_word}
 use Rattle.heap_laws.proofs.Steps.Composites.{claims_begin}
 use Rattle.gc_worker.specs.declared.back.Back.{Back}
-use Rattle.gc_worker.specs.Goes.{Is, Goes}
-use Rattle.gc_worker.specs.Held.{Held}
-use Rattle.gc_worker.specs.Knows.{knows, claim_at, epoch_at}
-use Rattle.gc_worker.specs.Turned.{won_in}
+use Rattle.gc_worker.specs.Steps.Goes.{Is, Goes}
+use Rattle.gc_worker.specs.Workers.Held.{Held}
+use Rattle.gc_worker.specs.Workers.Knows.{knows, claim_at, epoch_at}
+use Rattle.gc_worker.specs.Steps.Turned.{won_in}
 use Rattle.gc_worker.proofs.Words.Eras.{board_is, start_is}
 use Rattle.gc_worker.proofs.Stages.Rounds.Going.{round, at, goes_on, same_pages}
 use Rattle.gc_worker.proofs.Words.RowSteps.{Law, prepared}

@@ -23,9 +23,9 @@ use Rattle.heap_state.specs.Worker.{Worker, Look}
 use Rattle.heap_laws.specs.Tracing.{LooksAgain, IsFrontFor, about_to_trace, about_to_fill}
 use Rattle.heap_laws.proofs.Tracing.Looks.{looks_again, claims_filling}
 use Rattle.gc_worker.specs.declared.back.Back.{Back}
-use Rattle.gc_worker.specs.Goes.{Is, Goes, StepsSo}
-use Rattle.gc_worker.specs.Held.{Held}
-use Rattle.gc_worker.specs.Knows.{look_with, upto_all, is_open_state}
+use Rattle.gc_worker.specs.Steps.Goes.{Is, Goes, StepsSo}
+use Rattle.gc_worker.specs.Workers.Held.{Held}
+use Rattle.gc_worker.specs.Workers.Knows.{look_with, upto_all, is_open_state}
 use Rattle.gc_worker.proofs.Words.Areas.{area_now, area_says, is_space}
 use Rattle.fault_duty.proofs.Lowering.{to_start-le, to_start-to_page}
 use Rattle.gc_worker.proofs.Stages.Rounds.Choosing.{front_for}

@@ -21,7 +21,7 @@ use Rattle.space_map.proofs.PageWords.{PageFits-decode_page}
 use Rattle.fault_duty.specs.Duty as duty
 use Rattle.fault_duty.specs.Duty.{Round}
 use Rattle.heap_state.specs.Configuration.{Configuration, Stands, table, era, memory, team}
-use Rattle.heap_state.specs.Entries.{Entry, TracedIs}
+use Rattle.heap_state.specs.Memory.Entries.{Entry, TracedIs}
 use Rattle.heap_state.specs.Worker.{Worker, Look, LastLook}
 use Rattle.heap_state.specs.Worker as workers
 use Rattle.heap_state.proofs.Table.LaidOut.{table_pages}
@@ -32,10 +32,10 @@ use Rattle.heap_laws.proofs.Steps.Forgotten.{of_round}
 use Rattle.heap_laws.proofs.Tracing.Looks.{begins_look, looks_at_front, looks_at_filling}
 use Rattle.heap_laws.proofs.Tracing.Traced as tracing
 use Rattle.gc_worker.specs.declared.back.Back.{Back}
-use Rattle.gc_worker.specs.Goes.{Is, Goes, StepsSo}
-use Rattle.gc_worker.specs.Held.{Held}
-use Rattle.gc_worker.specs.Knows.{knows, look_with, upto_all, is_open_state}
-use Rattle.gc_worker.specs.Turned.{back_from}
+use Rattle.gc_worker.specs.Steps.Goes.{Is, Goes, StepsSo}
+use Rattle.gc_worker.specs.Workers.Held.{Held}
+use Rattle.gc_worker.specs.Workers.Knows.{knows, look_with, upto_all, is_open_state}
+use Rattle.gc_worker.specs.Steps.Turned.{back_from}
 use Rattle.gc_worker.proofs.Words.Areas.{area_now, area_says, is_space}
 use Rattle.gc_worker.proofs.Stages.Gate.Words.{wants, gate_now, gate_says}
 use Rattle.fault_duty.proofs.Lowering.{to_start-le}

@@ -13,9 +13,9 @@ use Rattle.fault_duty.specs.Duty as duty
 use Rattle.fault_duty.specs.Duty.{Round}
 use Rattle.fault_duty.specs.Soundness.{IsRoundGoing, IsSoundRound, FitsDutyStage}
 use Rattle.heap_state.specs.Configuration.{Configuration, Stands, era, memory, team}
-use Rattle.heap_state.specs.Entries.{Entry}
-use Rattle.heap_state.specs.Ghost.{Ghost}
-use Rattle.heap_state.specs.Table.{word_in}
+use Rattle.heap_state.specs.Memory.Entries.{Entry}
+use Rattle.heap_state.specs.Invariant.Ghost.{Ghost}
+use Rattle.heap_state.specs.Memory.Table.{word_in}
 use Rattle.space_map.specs.Spaces.{Layout}
 use Rattle.space_map.specs.Table.{Row, IsRow, place_of}
 use Rattle.atom_store.specs.declared.step.Step.TheVariants.{Load}
@@ -26,11 +26,11 @@ use Rattle.heap_laws.proofs.Steps.Composites.{rounds_end}
 use Rattle.gc_worker.specs.declared.back.Back.{Back}
 use Rattle.gc_worker.specs.declared.back.Back.TheVariants.{ToAccess, ToPlace, ToScanner}
 use Rattle.gc_worker.specs.declared.stage.Stage.TheVariants.{Serves}
-use Rattle.gc_worker.specs.Fits.{Fits, FitsBack, IsCallerOf, IsEpochOf}
-use Rattle.gc_worker.specs.Goes.{Is, Goes, StepsSo}
-use Rattle.gc_worker.specs.Held.{Held, header_for}
-use Rattle.gc_worker.specs.Knows.{knows, own_stock, epoch_at}
-use Rattle.gc_worker.specs.Turned.{turned_round, back_from, won_in}
+use Rattle.gc_worker.specs.Workers.Fits.{Fits, FitsBack, IsCallerOf, IsEpochOf}
+use Rattle.gc_worker.specs.Steps.Goes.{Is, Goes, StepsSo}
+use Rattle.gc_worker.specs.Workers.Held.{Held, header_for}
+use Rattle.gc_worker.specs.Workers.Knows.{knows, own_stock, epoch_at}
+use Rattle.gc_worker.specs.Steps.Turned.{turned_round, back_from, won_in}
 use Rattle.gc_worker.proofs.Workers.Parts.{with_parts, refit}
 use Rattle.gc_worker.proofs.Workers.GoingOn.{places_known}
 use Rattle.gc_worker.proofs.Workers.GoingBack.{back_fits}

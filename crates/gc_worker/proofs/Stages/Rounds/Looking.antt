@@ -23,9 +23,9 @@ use Rattle.heap_state.specs.Worker.{Worker}
 use Rattle.heap_laws.specs.Scanning.Claims.{claiming}
 use Rattle.heap_laws.proofs.Scanning.Claims.{looks_at_place, looks_at_gate}
 use Rattle.gc_worker.specs.declared.back.Back.{Back}
-use Rattle.gc_worker.specs.Goes.{Is, Goes, StepsSo}
-use Rattle.gc_worker.specs.Held.{Held}
-use Rattle.gc_worker.specs.Knows.{knows, claim_with, looked_all}
+use Rattle.gc_worker.specs.Steps.Goes.{Is, Goes, StepsSo}
+use Rattle.gc_worker.specs.Workers.Held.{Held}
+use Rattle.gc_worker.specs.Workers.Knows.{knows, claim_with, looked_all}
 use Rattle.gc_worker.proofs.Stages.Gate.Words.{gate_now, gate_says}
 use Rattle.gc_worker.proofs.Stages.Rounds.Going.{round, at, goes_on, ends, loads_it}
 use Rattle.gc_worker.proofs.Stages.Rounds.Words.{announced_now, announced_word}

@@ -10,8 +10,8 @@ use Rattle.fault_duty.specs.Duty.{Round}
 use Rattle.heap_state.specs.Configuration.{Configuration, Stands}
 use Rattle.gc_worker.specs.declared.back.Back.{Back}
 use Rattle.gc_worker.specs.declared.stage.Stage.TheVariants.{Serves}
-use Rattle.gc_worker.specs.Goes.{Is, StepsSo}
-use Rattle.gc_worker.specs.Held.{Held, at_stage}
+use Rattle.gc_worker.specs.Steps.Goes.{Is, StepsSo}
+use Rattle.gc_worker.specs.Workers.Held.{Held, at_stage}
 use Rattle.gc_worker.proofs.Stages.Rounds.Going.{at}
 use Rattle.gc_worker.proofs.Stages.Rounds.Beginning.{loads_gate, loads_traced}
 use Rattle.gc_worker.proofs.Stages.Rounds.Wanting.{loads_wanted, loads_front_for}

@@ -22,7 +22,7 @@ use Rattle.fault_duty.specs.declared.round_end.RoundEnd.TheVariants.{ScanPage, S
 use Rattle.fault_duty.specs.Duty.{Round}
 use Rattle.fault_duty.specs.Soundness.{IsOwnClaim}
 use Rattle.heap_state.specs.Configuration.{Configuration, Stands, table, era, memory, team}
-use Rattle.heap_state.specs.Entries.{Entry, PageIs}
+use Rattle.heap_state.specs.Memory.Entries.{Entry, PageIs}
 use Rattle.heap_state.specs.Worker.{Worker, Quest}
 use Rattle.heap_state.proofs.Puts.{put_at}
 use Rattle.heap_laws.specs.Lifting.{configuration_after}
@@ -31,11 +31,11 @@ use Rattle.heap_laws.proofs.Scanning.Claimed as claimed_laws
 use Rattle.heap_laws.proofs.Lifting.Configurations.{seen}
 use Rattle.gc_worker.specs.declared.back.Back.{Back}
 use Rattle.gc_worker.specs.declared.stage.Stage.TheVariants.{Scans}
-use Rattle.gc_worker.specs.Fits.{Fits}
-use Rattle.gc_worker.specs.Goes.{Is, Goes, StepsSo}
-use Rattle.gc_worker.specs.Held.{Held}
-use Rattle.gc_worker.specs.Knows.{knows, claim_with, looked_all, scan_of, quest_at}
-use Rattle.gc_worker.specs.Turned.{turned, served_by}
+use Rattle.gc_worker.specs.Workers.Fits.{Fits}
+use Rattle.gc_worker.specs.Steps.Goes.{Is, Goes, StepsSo}
+use Rattle.gc_worker.specs.Workers.Held.{Held}
+use Rattle.gc_worker.specs.Workers.Knows.{knows, claim_with, looked_all, scan_of, quest_at}
+use Rattle.gc_worker.specs.Steps.Turned.{turned, served_by}
 use Rattle.gc_worker.proofs.Words.Eras.{board_is}
 use Rattle.gc_worker.proofs.Workers.Parts.{refit}
 use Rattle.gc_worker.proofs.Stages.Gate.Words.{wants}

@@ -4,8 +4,8 @@ use Rattle.plain_state.specs.State.{Plain}
 use Rattle.space_map.specs.PageWord.{age_of, decode_page}
 use Rattle.space_map.specs.Table.{Traced, Page, Announce}
 use Rattle.heap_state.specs.Configuration.{Configuration, Stands, table}
-use Rattle.heap_state.specs.Table.{table_of, word_in}
-use Rattle.gc_worker.specs.Law.{age}
+use Rattle.heap_state.specs.Memory.Table.{table_of, word_in}
+use Rattle.gc_worker.specs.Laws.Step.{age}
 
 abbrev pub traced_now : Configuration → ℕ
 traced_now c = word_in c.pages c.words Traced

@@ -7,7 +7,7 @@ use Rattle.space_map.specs.Table.{Cross, place_of}
 use Rattle.page_scan.specs.Scanning.{Scanning}
 use Rattle.page_scan.specs.declared.scan_stage.ScanStage.TheVariants as scan_stage
 use Rattle.heap_state.specs.Configuration.{Configuration, Stands, era, memory, team, table}
-use Rattle.heap_state.specs.Table.{table_of, word_in}
+use Rattle.heap_state.specs.Memory.Table.{table_of, word_in}
 use Rattle.heap_state.specs.Worker.{Worker}
 use Rattle.heap_laws.specs.Answers.{ScanAnswers}
 use Rattle.heap_laws.specs.Scanning.Words.{IsScanning}
@@ -16,10 +16,10 @@ use Rattle.heap_laws.proofs.Scanning.Records.{reads_crossing}
 use Rattle.heap_laws.proofs.Steps.Answers.{scans_are_answered}
 use Rattle.gc_worker.specs.declared.back.Back.{Back}
 use Rattle.gc_worker.specs.declared.stage.Stage.TheVariants.{Scans}
-use Rattle.gc_worker.specs.Goes.{Is, Goes, StepsSo}
-use Rattle.gc_worker.specs.Held.{Held}
-use Rattle.gc_worker.specs.Knows.{knows, scan_of}
-use Rattle.gc_worker.specs.Turned.{turned}
+use Rattle.gc_worker.specs.Steps.Goes.{Is, Goes, StepsSo}
+use Rattle.gc_worker.specs.Workers.Held.{Held}
+use Rattle.gc_worker.specs.Workers.Knows.{knows, scan_of}
+use Rattle.gc_worker.specs.Steps.Turned.{turned}
 use Rattle.gc_worker.proofs.Stages.Gate.Words.{wants}
 use Rattle.gc_worker.proofs.Stages.Scan.GoingOn.{going_fits}
 use Rattle.gc_worker.proofs.Words.RowSteps.{Law, quiet, loads, prepared}

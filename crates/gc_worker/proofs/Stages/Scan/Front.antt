@@ -15,7 +15,7 @@ use Rattle.page_scan.specs.declared.scan_stage.ScanStage.{ScanStage}
 use Rattle.page_scan.specs.declared.scan_stage.ScanStage.TheVariants as scan_stage
 use Rattle.page_scan.specs.Soundness as scan_sound
 use Rattle.heap_state.specs.Configuration.{Configuration, Stands, era, memory, team, table}
-use Rattle.heap_state.specs.Table.{table_of, word_in}
+use Rattle.heap_state.specs.Memory.Table.{table_of, word_in}
 use Rattle.heap_state.specs.Worker.{Worker, Scan}
 use Rattle.heap_state.proofs.Table.LaidOut.{table_pages}
 use Rattle.heap_laws.specs.Scanning.Words.{scanning, IsScanning}
@@ -24,10 +24,10 @@ use Rattle.heap_laws.proofs.Scanning.Records.{reads_front}
 use Rattle.heap_laws.proofs.Steps.Composing.{steps_forget}
 use Rattle.gc_worker.specs.declared.back.Back.{Back}
 use Rattle.gc_worker.specs.declared.stage.Stage.TheVariants.{Scans}
-use Rattle.gc_worker.specs.Goes.{Is, Goes, StepsSo}
-use Rattle.gc_worker.specs.Held.{Held}
-use Rattle.gc_worker.specs.Fits.{Fits}
-use Rattle.gc_worker.specs.Knows.{knows, scan_of}
+use Rattle.gc_worker.specs.Steps.Goes.{Is, Goes, StepsSo}
+use Rattle.gc_worker.specs.Workers.Held.{Held}
+use Rattle.gc_worker.specs.Workers.Fits.{Fits}
+use Rattle.gc_worker.specs.Workers.Knows.{knows, scan_of}
 use Rattle.gc_worker.proofs.Stages.Gate.Words.{wants}
 use Rattle.heap_laws.proofs.Steps.Forgotten.{of_scan}
 use Rattle.gc_worker.proofs.Stages.Scan.GoingOn.{scans_to, going_fits, ended_fits}

@@ -11,9 +11,9 @@ use Rattle.gc_worker.specs.declared.back.Back.{Back}
 use Rattle.gc_worker.specs.declared.back.Back.TheVariants.{ToAccess, ToPlace, ToScanner}
 use Rattle.gc_worker.specs.declared.stage.Stage.{Stage}
 use Rattle.gc_worker.specs.declared.stage.Stage.TheVariants.{Scans, Opens}
-use Rattle.gc_worker.specs.Fits.{Fits, FitsScan, FitsBack, FitsTaskBack, IsOnSideBack}
-use Rattle.gc_worker.specs.Held.{Held, at_stage}
-use Rattle.gc_worker.specs.Turned.{turned_scan}
+use Rattle.gc_worker.specs.Workers.Fits.{Fits, FitsScan, FitsBack, FitsTaskBack, IsOnSideBack}
+use Rattle.gc_worker.specs.Workers.Held.{Held, at_stage}
+use Rattle.gc_worker.specs.Steps.Turned.{turned_scan}
 use Rattle.gc_worker.proofs.Workers.Parts.{refit, page_count}
 
 -- where it goes back to stays

@@ -17,9 +17,9 @@ use Rattle.page_scan.specs.declared.scanned_record.ScannedRecord.{ScannedRecord}
 use Rattle.page_scan.specs.declared.scan_stage.ScanStage.TheVariants as scan_stage
 use Rattle.page_scan.proofs.Packed.{fields_end-le, first_field-is}
 use Rattle.heap_state.specs.Configuration.{Configuration, Stands, era, memory, team}
-use Rattle.heap_state.specs.FieldSpan.{first_field, fields_end, next_scanned}
-use Rattle.heap_state.specs.Ghost.{said_kind}
-use Rattle.heap_state.specs.Table.{table_of, word_in}
+use Rattle.heap_state.specs.Memory.FieldSpan.{first_field, fields_end, next_scanned}
+use Rattle.heap_state.specs.Invariant.Ghost.{said_kind}
+use Rattle.heap_state.specs.Memory.Table.{table_of, word_in}
 use Rattle.heap_state.specs.Worker.{Worker, Scan}
 use Rattle.heap_laws.specs.Answers.{MeetsHeader, ScanAnswers}
 use Rattle.heap_laws.specs.Scanning.Words.{scanning, IsScanning, scan_in_record}
@@ -29,11 +29,11 @@ use Rattle.heap_laws.proofs.Steps.Answers.{scans_are_answered}
 use Rattle.heap_laws.proofs.Steps.Composing.{steps_forget}
 use Rattle.gc_worker.specs.declared.back.Back.{Back}
 use Rattle.gc_worker.specs.declared.stage.Stage.TheVariants.{Scans}
-use Rattle.gc_worker.specs.Fits.{Fits, Takes}
-use Rattle.gc_worker.specs.Goes.{Is, Goes, StepsSo}
-use Rattle.gc_worker.specs.Held.{Held}
-use Rattle.gc_worker.specs.Knows.{knows, scan_of, seen_record}
-use Rattle.gc_worker.specs.Turned.{turned, told, Silent}
+use Rattle.gc_worker.specs.Workers.Fits.{Fits, Takes}
+use Rattle.gc_worker.specs.Steps.Goes.{Is, Goes, StepsSo}
+use Rattle.gc_worker.specs.Workers.Held.{Held}
+use Rattle.gc_worker.specs.Workers.Knows.{knows, scan_of, seen_record}
+use Rattle.gc_worker.specs.Steps.Turned.{turned, told, Silent}
 use Rattle.gc_worker.proofs.Stages.Gate.Words.{wants}
 use Rattle.gc_worker.proofs.Stages.Scan.GoingOn.{scans_to}
 use Rattle.gc_worker.proofs.Stages.Scan.Passing.{gone_to, goes_on_less, goes_on_sound, goes_on_fits}

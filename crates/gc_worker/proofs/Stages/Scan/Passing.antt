@@ -10,16 +10,16 @@ use Rattle.page_scan.specs.declared.scanned_record.ScannedRecord.{ScannedRecord}
 use Rattle.page_scan.specs.declared.scan_stage.ScanStage.{ScanStage}
 use Rattle.page_scan.specs.declared.scan_stage.ScanStage.TheVariants as scan_stage
 use Rattle.page_scan.specs.declared.spot.Spot.TheVariants.{InRecord}
-use Rattle.heap_state.specs.Era.{Era}
-use Rattle.heap_state.specs.FieldSpan.{next_scanned}
+use Rattle.heap_state.specs.Memory.Era.{Era}
+use Rattle.heap_state.specs.Memory.FieldSpan.{next_scanned}
 use Rattle.heap_state.specs.Worker.{Scan}
 use Rattle.heap_laws.specs.Composing.{IsAtMost}
 use Rattle.heap_laws.specs.Scanning.Words.{scanning, is_past}
 use Rattle.gc_worker.specs.declared.back.Back.{Back}
 use Rattle.gc_worker.specs.declared.stage.Stage.TheVariants.{Scans}
-use Rattle.gc_worker.specs.Fits.{Fits, FitsScan, FitsBack, FitsTaskBack, IsOnSideBack}
-use Rattle.gc_worker.specs.Held.{Held}
-use Rattle.gc_worker.specs.Knows.{knows, scan_of, seen_record}
+use Rattle.gc_worker.specs.Workers.Fits.{Fits, FitsScan, FitsBack, FitsTaskBack, IsOnSideBack}
+use Rattle.gc_worker.specs.Workers.Held.{Held}
+use Rattle.gc_worker.specs.Workers.Knows.{knows, scan_of, seen_record}
 use Rattle.heap_laws.proofs.Steps.Forgotten.{of_scan}
 use Rattle.gc_worker.proofs.Stages.Scan.GoingOn.{scans_to, going_fits, ended_fits}
 

@@ -10,14 +10,14 @@ use Rattle.page_scan.specs.declared.scan_stage.ScanStage.{ScanStage}
 use Rattle.page_scan.specs.declared.scan_stage.ScanStage.TheVariants as scan_stage
 use Rattle.page_scan.specs.declared.spot.Spot.{Spot}
 use Rattle.page_scan.specs.declared.spot.Spot.TheVariants.{OnBoard, InRecord}
-use Rattle.heap_state.specs.Era.{Era}
+use Rattle.heap_state.specs.Memory.Era.{Era}
 use Rattle.heap_laws.specs.Composing.{IsAtMost}
 use Rattle.heap_laws.specs.Scanning.Words.{scanning, is_past, past_word, AtField}
 use Rattle.gc_worker.specs.declared.back.Back.{Back}
 use Rattle.gc_worker.specs.declared.stage.Stage.TheVariants.{Scans}
-use Rattle.gc_worker.specs.Fits.{Fits, FitsScan, FitsBack, FitsTaskBack, IsOnSideBack}
-use Rattle.gc_worker.specs.Held.{Held}
-use Rattle.gc_worker.specs.Knows.{knows, scan_of, seen_record, scan_at}
+use Rattle.gc_worker.specs.Workers.Fits.{Fits, FitsScan, FitsBack, FitsTaskBack, IsOnSideBack}
+use Rattle.gc_worker.specs.Workers.Held.{Held}
+use Rattle.gc_worker.specs.Workers.Knows.{knows, scan_of, seen_record, scan_at}
 use Rattle.heap_laws.proofs.Steps.Forgotten.{of_scan}
 use Rattle.gc_worker.proofs.Stages.Scan.GoingOn.{scans_to, going_fits, ended_fits}
 use Rattle.gc_worker.proofs.Stages.Scan.Passing.{goes_on_less, goes_on_sound, goes_on_fits}

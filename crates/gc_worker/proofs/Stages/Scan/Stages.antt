@@ -7,8 +7,8 @@ use Rattle.page_scan.specs.declared.scan_stage.ScanStage.TheVariants as scan_sta
 use Rattle.heap_state.specs.Configuration.{Configuration, Stands}
 use Rattle.gc_worker.specs.declared.back.Back.{Back}
 use Rattle.gc_worker.specs.declared.stage.Stage.TheVariants.{Scans}
-use Rattle.gc_worker.specs.Goes.{Is, StepsSo}
-use Rattle.gc_worker.specs.Held.{Held, at_stage}
+use Rattle.gc_worker.specs.Steps.Goes.{Is, StepsSo}
+use Rattle.gc_worker.specs.Workers.Held.{Held, at_stage}
 use Rattle.gc_worker.proofs.Stages.Scan.Crossing.{crosses}
 use Rattle.gc_worker.proofs.Stages.Scan.Front.{reads}
 use Rattle.gc_worker.proofs.Stages.Scan.Headers.{reads_first, reads_next}

@@ -12,7 +12,7 @@ use Rattle.page_scan.specs.Taken.{passes_word}
 use Rattle.page_scan.specs.declared.asked.Asked.{Asked}
 use Rattle.page_scan.specs.declared.scan_stage.ScanStage.TheVariants as scan_stage
 use Rattle.heap_state.specs.Configuration.{Configuration, Stands, era, memory, team}
-use Rattle.heap_state.specs.Entries.{Entry, WordIs}
+use Rattle.heap_state.specs.Memory.Entries.{Entry, WordIs}
 use Rattle.heap_state.specs.Worker.{Worker, Scan, Quest, Scanned}
 use Rattle.heap_state.proofs.Table.LaidOut.{laid_out}
 use Rattle.heap_laws.specs.Scanning.Words.{scanning, past_word, HasFound}
@@ -21,9 +21,9 @@ use Rattle.heap_laws.proofs.Scanning.Fields as fields
 use Rattle.heap_laws.proofs.Steps.Composing.{steps_forget}
 use Rattle.gc_worker.specs.declared.back.Back.{Back}
 use Rattle.gc_worker.specs.declared.stage.Stage.TheVariants.{Scans}
-use Rattle.gc_worker.specs.Goes.{Is, Goes, StepsSo}
-use Rattle.gc_worker.specs.Held.{Held}
-use Rattle.gc_worker.specs.Knows.{knows, scan_at}
+use Rattle.gc_worker.specs.Steps.Goes.{Is, Goes, StepsSo}
+use Rattle.gc_worker.specs.Workers.Held.{Held}
+use Rattle.gc_worker.specs.Workers.Knows.{knows, scan_at}
 use Rattle.gc_worker.proofs.Stages.Gate.Words.{wants}
 use Rattle.gc_worker.proofs.Stages.Scan.GoingOn.{scans_to}
 use Rattle.gc_worker.proofs.Stages.Scan.Spots.{at_field, passes_less, passes_sound, passes_fits}

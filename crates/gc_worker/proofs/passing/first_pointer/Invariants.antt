@@ -1,5 +1,5 @@
 use Rattle.std.proofs.Common.{◌≡◌, ◌-◌}
-use Rattle.gc_worker.specs.Turned.{first_pointer}
+use Rattle.gc_worker.specs.Steps.Turned.{first_pointer}
 use Rattle.gc_worker.proofs.passing.first_pointer.Given as goal
 
 abbrev pub invariant-loop-register : goal.invariant-loop-register

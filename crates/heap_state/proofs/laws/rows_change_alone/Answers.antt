@@ -1,4 +1,4 @@
-use Rattle.heap_state.specs.Entries.{GateIs, TracedIs, AreaIs, PageIs, CrossIs, WordIs, AnnounceIs}
+use Rattle.heap_state.specs.Memory.Entries.{GateIs, TracedIs, AreaIs, PageIs, CrossIs, WordIs, AnnounceIs}
 use Rattle.heap_state.proofs.Table.Stores.{stores_entry}
 use Rattle.heap_state.proofs.Table.Writing.{writes_tables}
 use Rattle.heap_state.proofs.laws.rows_change_alone.Goals as goal

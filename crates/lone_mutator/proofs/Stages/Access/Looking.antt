@@ -15,7 +15,7 @@ use Rattle.space_map.specs.Table.{Page, place_of}
 use Rattle.mmu_model.specs.Access.{access_of}
 use Rattle.heap_state.specs.Configuration.{Configuration, Stands, table, era, memory, team}
 use Rattle.heap_state.specs.Worker.{Worker}
-use Rattle.heap_state.specs.Parts.Knowledge as parts
+use Rattle.heap_state.specs.Invariant.Parts.Knowledge as parts
 use Rattle.heap_state.proofs.Table.LaidOut.{laid_out}
 use Rattle.heap_laws.specs.Fields.Words.{IsLedTo}
 use Rattle.gc_worker.specs.declared.access_stage.AccessStage.{AccessStage}
@@ -27,11 +27,11 @@ use Rattle.gc_worker.specs.declared.field_access.FieldAccess.{FieldAccess}
 use Rattle.gc_worker.specs.declared.field_access.FieldUse.{FieldUse}
 use Rattle.gc_worker.specs.declared.field_access.FieldUse.TheVariants as field_uses
 use Rattle.gc_worker.specs.declared.record_access.RecordAccess.{RecordAccess}
-use Rattle.gc_worker.specs.Access.{GoesTo, Comes, IsHeapAddress, answered, begun, field_at, left_at, let_through, looked, page_step}
-use Rattle.gc_worker.specs.Access as access
-use Rattle.gc_worker.specs.Fits.{ExecutesAction}
-use Rattle.gc_worker.specs.Held.{Held}
-use Rattle.gc_worker.specs.Knows.{known_access}
+use Rattle.gc_worker.specs.Steps.Access.{GoesTo, Comes, IsHeapAddress, answered, begun, field_at, left_at, let_through, looked, page_step}
+use Rattle.gc_worker.specs.Steps.Access as access
+use Rattle.gc_worker.specs.Workers.Fits.{ExecutesAction}
+use Rattle.gc_worker.specs.Workers.Held.{Held}
+use Rattle.gc_worker.specs.Workers.Knows.{known_access}
 use Rattle.gc_worker.proofs.Words.Eras.{board_is}
 use Rattle.gc_worker.proofs.Stages.Rounds.Words.{page_now, page_says}
 use Rattle.gc_worker.proofs.Stages.Access.Acting.{Held_value, led, names}

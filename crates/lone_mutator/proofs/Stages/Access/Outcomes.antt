@@ -3,13 +3,13 @@ use Rattle.std.proofs.Common.{ℕ, ◌<◌, false, Option, sym, subst, arith}
 use Rattle.plain_state.specs.declared.end.End.{End}
 use Rattle.plain_state.specs.State.{Plain}
 use Rattle.heap_state.specs.Configuration.{Configuration, Stands, table}
-use Rattle.heap_state.specs.Table.{Table}
+use Rattle.heap_state.specs.Memory.Table.{Table}
 use Rattle.gc_worker.specs.declared.access_stage.AccessStage.{AccessStage}
 use Rattle.gc_worker.specs.declared.accessed.Accessed.TheVariants.{Brings, Stored, Fails}
 use Rattle.gc_worker.specs.declared.task.Task.{Task}
-use Rattle.gc_worker.specs.Access.{Answered, GoesTo, Comes, goes_by, left_at, turn_by}
-use Rattle.gc_worker.specs.Held.{Held}
-use Rattle.gc_worker.specs.Turned.{ended, loads, told_access, told_effect, told_end, turned_access, went_on}
+use Rattle.gc_worker.specs.Steps.Access.{Answered, GoesTo, Comes, goes_by, left_at, turn_by}
+use Rattle.gc_worker.specs.Workers.Held.{Held}
+use Rattle.gc_worker.specs.Steps.Turned.{ended, loads, told_access, told_effect, told_end, turned_access, went_on}
 use Rattle.gc_worker.proofs.Stages.Access.Going.{own, at}
 use Rattle.lone_mutator.specs.Law.{IsAlone, LowersWhereTold}
 use Rattle.lone_mutator.specs.Lone.{AccessStands, NobodyElseAnnounces}

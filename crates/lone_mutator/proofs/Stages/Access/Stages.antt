@@ -6,7 +6,7 @@ use Rattle.gc_worker.specs.declared.access.Access.{Access}
 use Rattle.gc_worker.specs.declared.access_stage.AccessStage.{AccessStage}
 use Rattle.gc_worker.specs.declared.access_stage.AccessStage.TheVariants.{LooksAtRecord, LoadsHeader, LooksAtField, LoadsField, StoresField, LooksAtBoard, LoadsBoard, StoresBoard, LoadsForSwap, SwapsBoard}
 use Rattle.gc_worker.specs.declared.stage.Stage.TheVariants.{Accesses}
-use Rattle.gc_worker.specs.Held.{Held, at_stage}
+use Rattle.gc_worker.specs.Workers.Held.{Held, at_stage}
 use Rattle.gc_worker.proofs.Stages.Access.Going.{own, at}
 use Rattle.lone_mutator.specs.Law.{IsAlone, StepsLower}
 use Rattle.lone_mutator.proofs.Stages.Access.Headers.{loads_header}

@@ -4,15 +4,15 @@ use Rattle.plain_state.specs.State.{Plain}
 use Rattle.atom_store.specs.declared.step.Step.TheVariants.{Load, Store, Exchange}
 use Rattle.space_map.specs.Table.{HeapWord, place_of}
 use Rattle.heap_state.specs.Configuration.{Configuration, Stands, table}
-use Rattle.heap_state.specs.Entries.{WordIs}
+use Rattle.heap_state.specs.Memory.Entries.{WordIs}
 use Rattle.heap_state.specs.Functions.{put}
-use Rattle.heap_state.specs.Table.{word_in}
+use Rattle.heap_state.specs.Memory.Table.{word_in}
 use Rattle.heap_laws.specs.Fields.Effects.{word_held}
 use Rattle.gc_worker.specs.declared.access_stage.AccessStage.TheVariants.{LoadsField, StoresField, LoadsBoard, StoresBoard, LoadsForSwap, SwapsBoard}
 use Rattle.gc_worker.specs.declared.board_access.BoardSwap.{BoardSwap}
 use Rattle.gc_worker.specs.declared.field_access.FieldAccess.{FieldAccess}
-use Rattle.gc_worker.specs.Access.{board_at, field_at, role_of}
-use Rattle.gc_worker.specs.Held.{Held}
+use Rattle.gc_worker.specs.Steps.Access.{board_at, field_at, role_of}
+use Rattle.gc_worker.specs.Workers.Held.{Held}
 use Rattle.gc_worker.proofs.Stages.Access.Going.{at}
 use Rattle.gc_worker.proofs.Stages.Scan.Headers.{heap_word}
 use Rattle.lone_mutator.specs.Law.{IsAlone, StepsLower}

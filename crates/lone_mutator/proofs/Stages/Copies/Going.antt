@@ -25,8 +25,8 @@ use Rattle.forwarding.specs.Evacuation.{Evacuation, area_past, front_of, size_of
 use Rattle.forwarding.specs.Soundness.{IsSound}
 use Rattle.forwarding.specs.Taken.{by_area, by_first_word, copied, crossed, taken}
 use Rattle.heap_state.specs.Configuration.{Configuration, Stands, table}
-use Rattle.heap_state.specs.Entries.{Entry, EntryFits, AreaIs, CrossIs, WordIs, AnnounceIs, with_entry, row_of, word_of}
-use Rattle.heap_state.specs.Table.{Table, table_of, word_in}
+use Rattle.heap_state.specs.Memory.Entries.{Entry, EntryFits, AreaIs, CrossIs, WordIs, AnnounceIs, with_entry, row_of, word_of}
+use Rattle.heap_state.specs.Memory.Table.{Table, table_of, word_in}
 use Rattle.heap_state.proofs.Puts.{put_at, put_other}
 use Rattle.gc_worker.proofs.Words.Areas.{area_says, area_word, is_space}
 use Rattle.gc_worker.proofs.Stages.Scan.Headers.{heap_word}

@@ -8,7 +8,7 @@ use Rattle.forwarding.specs.declared.evac_stage.EvacStage.TheVariants.{LoadsWord
 use Rattle.forwarding.specs.Evacuation.{size_of}
 use Rattle.forwarding.specs.Taken.{copied, crossed, first_page}
 use Rattle.forwarding.specs.Evacuation.{Evacuation}
-use Rattle.heap_state.specs.Table.{Table}
+use Rattle.heap_state.specs.Memory.Table.{Table}
 use Rattle.lone_mutator.specs.Copies.{CopyStands, copy_left}
 use Rattle.lone_mutator.specs.Lone.{is_announced}
 

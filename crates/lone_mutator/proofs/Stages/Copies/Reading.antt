@@ -2,11 +2,11 @@
 use Rattle.std.proofs.Common.{◌≡◌, ℕ, zero, suc, ◌+◌, ◌<◌, ◌≤◌, ◌⊎◌, inl, inr, true, refl, ap, arith}
 use Rattle.heap_words.specs.Decoded.{Decoded, decode}
 use Rattle.heap_words.specs.FirstWords.{is_header, is_forward}
-use Rattle.heap_state.specs.Era.{Era, Memory}
-use Rattle.heap_state.specs.Ghost.{Ghost}
-use Rattle.heap_state.specs.Inductive.{Invariant}
+use Rattle.heap_state.specs.Memory.Era.{Era, Memory}
+use Rattle.heap_state.specs.Invariant.Ghost.{Ghost}
+use Rattle.heap_state.specs.Invariant.Inductive.{Invariant}
 use Rattle.heap_state.specs.Worker.{Team, Quest}
-use Rattle.heap_state.specs.Parts.Copying.{Seeks}
+use Rattle.heap_state.specs.Invariant.Parts.Copying.{Seeks}
 
 -- the word is a header or a forward
 abbrev pub IsFirstWord : Decoded → Type 0

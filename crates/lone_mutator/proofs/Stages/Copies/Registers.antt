@@ -9,13 +9,13 @@ use Rattle.forwarding.specs.declared.evac_stage.EvacStage.TheVariants.{LoadsHead
 use Rattle.forwarding.specs.Evacuation.{Evacuation}
 use Rattle.forwarding.specs.Taken.{stage_after, told}
 use Rattle.heap_state.specs.Configuration.{Configuration, Stands, table, era, memory, team}
-use Rattle.heap_state.specs.Table.{Table, table_of}
+use Rattle.heap_state.specs.Memory.Table.{Table, table_of}
 use Rattle.heap_state.specs.Worker.{Quest, Register, is_late}
 use Rattle.gc_worker.specs.declared.forwarding_register.ForwardingRegister.{ForwardingRegister}
 use Rattle.gc_worker.specs.declared.stage.Stage.TheVariants.{Forwards}
-use Rattle.gc_worker.specs.Held.{Held, at_stage}
-use Rattle.gc_worker.specs.Knows.{copy_at, knows, quest_for}
-use Rattle.gc_worker.specs.Turned.{Pointed, first_pointer, forwards_it, turned_register, with_copy, with_evac}
+use Rattle.gc_worker.specs.Workers.Held.{Held, at_stage}
+use Rattle.gc_worker.specs.Workers.Knows.{copy_at, knows, quest_for}
+use Rattle.gc_worker.specs.Steps.Turned.{Pointed, first_pointer, forwards_it, turned_register, with_copy, with_evac}
 use Rattle.gc_worker.proofs.Words.Pointers.{FirstPointer, Nowhere, There, found}
 use Rattle.lone_mutator.specs.Law.{Lowers, IsAlone, StepsLower}
 use Rattle.lone_mutator.specs.Lone.{GoesOnPlacing}

@@ -13,14 +13,14 @@ use Rattle.page_scan.specs.Left as scan_left
 use Rattle.page_scan.specs.Scanning.{Scanning}
 use Rattle.page_scan.specs.Taken as scan_taken
 use Rattle.heap_state.specs.Configuration.{Configuration, Stands, table, era, memory, team}
-use Rattle.heap_state.specs.Table.{Table, table_of}
+use Rattle.heap_state.specs.Memory.Table.{Table, table_of}
 use Rattle.heap_state.specs.Worker.{Worker, Quest, Scanned}
 use Rattle.gc_worker.specs.declared.back.Back.{Back}
 use Rattle.gc_worker.specs.declared.stage.Stage.TheVariants.{Evacuates}
-use Rattle.gc_worker.specs.Fits.{HasAsked}
-use Rattle.gc_worker.specs.Held.{Held, at_stage}
-use Rattle.gc_worker.specs.Knows.{copy_at, cursor_asked, quest_for, scan_of}
-use Rattle.gc_worker.specs.Turned.{turned_copy}
+use Rattle.gc_worker.specs.Workers.Fits.{HasAsked}
+use Rattle.gc_worker.specs.Workers.Held.{Held, at_stage}
+use Rattle.gc_worker.specs.Workers.Knows.{copy_at, cursor_asked, quest_for, scan_of}
+use Rattle.gc_worker.specs.Steps.Turned.{turned_copy}
 use Rattle.lone_mutator.specs.Law.{Lowers, IsAlone, StepsLower}
 use Rattle.lone_mutator.proofs.Stages.Gate.Counts.{knowing, present}
 use Rattle.lone_mutator.proofs.Steps.GoingBack.{runs}

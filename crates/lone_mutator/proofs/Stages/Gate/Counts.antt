@@ -6,10 +6,10 @@ use Rattle.space_map.specs.declared.gate_word.GateWord.{GateWord}
 use Rattle.gate_core.specs.Gate.{is_clear}
 use Rattle.heap_state.specs.Configuration.{Configuration, Stands, table, era, memory, team}
 use Rattle.heap_state.specs.Functions.{sum_below, count_one}
-use Rattle.heap_state.specs.Inductive as inductive
+use Rattle.heap_state.specs.Invariant.Inductive as inductive
 use Rattle.heap_state.specs.Worker.{Worker, is_live, is_running, is_flipper, is_late}
-use Rattle.gc_worker.specs.Held.{Held}
-use Rattle.gc_worker.specs.Knows.{knows}
+use Rattle.gc_worker.specs.Workers.Held.{Held}
+use Rattle.gc_worker.specs.Workers.Knows.{knows}
 use Rattle.lone_mutator.specs.Law.{IsAlone}
 
 -- ---- plain

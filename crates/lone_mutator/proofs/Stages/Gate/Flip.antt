@@ -17,11 +17,11 @@ use Rattle.gate_core.specs.declared.flipped.Flipped.TheVariants.{NotYet}
 use Rattle.gate_core.specs.declared.reset.Reset as resets
 use Rattle.gate_core.specs.Flip.{Flipping, area_reset, gate_flipped, is_still, looked, read_area, told_at}
 use Rattle.heap_state.specs.Configuration.{Configuration, Stands, table}
-use Rattle.heap_state.specs.Entries.{AreaIs, GateIs}
-use Rattle.heap_state.specs.Table.{Table}
+use Rattle.heap_state.specs.Memory.Entries.{AreaIs, GateIs}
+use Rattle.heap_state.specs.Memory.Table.{Table}
 use Rattle.gc_worker.specs.declared.stage.Stage.TheVariants.{Flips}
-use Rattle.gc_worker.specs.Held.{Held, at_stage}
-use Rattle.gc_worker.specs.Turned.{told_flip, turned, turned_flip}
+use Rattle.gc_worker.specs.Workers.Held.{Held, at_stage}
+use Rattle.gc_worker.specs.Steps.Turned.{told_flip, turned, turned_flip}
 use Rattle.gc_worker.proofs.Words.Areas.{area_says, is_space}
 use Rattle.gc_worker.proofs.Stages.Flip.Flipping.{unmoved}
 use Rattle.gc_worker.proofs.Stages.Gate.Words.{gate_now, gate_says}

@@ -17,11 +17,11 @@ use Rattle.gate_core.specs.declared.passage.Passage.TheVariants.{Park}
 use Rattle.gc_worker.specs.declared.stage.Stage.TheVariants.{Looks}
 use Rattle.gc_worker.specs.declared.task.Task.{Task}
 use Rattle.gc_worker.specs.declared.task.Task.TheVariants.{Calls, Stops}
-use Rattle.gc_worker.specs.Fits.{FitsCall, IsMaking, MayBegin}
-use Rattle.gc_worker.specs.Held.{Held, at_stage}
-use Rattle.gc_worker.specs.Seen.{seen}
-use Rattle.gc_worker.specs.Stepped.{awaits_at}
-use Rattle.gc_worker.specs.Turned.{Silent, acted, acts, begins, looked_by, passes, started, told_acted, told_action, told_gate, told_start}
+use Rattle.gc_worker.specs.Workers.Fits.{FitsCall, IsMaking, MayBegin}
+use Rattle.gc_worker.specs.Workers.Held.{Held, at_stage}
+use Rattle.gc_worker.specs.Plain.Seen.{seen}
+use Rattle.gc_worker.specs.Steps.Stepped.{awaits_at}
+use Rattle.gc_worker.specs.Steps.Turned.{Silent, acted, acts, begins, looked_by, passes, started, told_acted, told_action, told_gate, told_start}
 use Rattle.gc_worker.proofs.Stages.Gate.Words.{gate_says}
 use Rattle.lone_mutator.specs.Bound.{flip_cost}
 use Rattle.lone_mutator.specs.Law.{IsAlone, LowersWhereTold, StepsLower}

@@ -18,16 +18,16 @@ use Rattle.gate_core.specs.declared.passage.Passage.TheVariants.{Look, Attach, P
 use Rattle.gate_core.specs.declared.passed.Passed.TheVariants.{NotYet}
 use Rattle.gate_core.specs.Gate.{allows, allowed, gate_after, is_clear, looked, told_at}
 use Rattle.heap_state.specs.Configuration.{Configuration, Stands, table}
-use Rattle.heap_state.specs.Entries.{GateIs}
-use Rattle.heap_state.specs.Table.{Table}
+use Rattle.heap_state.specs.Memory.Entries.{GateIs}
+use Rattle.heap_state.specs.Memory.Table.{Table}
 use Rattle.heap_state.proofs.Table.Spelled.{spelled}
 use Rattle.gc_worker.specs.declared.after.After.{After}
 use Rattle.gc_worker.specs.declared.after.After.TheVariants as afters
 use Rattle.gc_worker.specs.declared.stage.Stage.TheVariants.{Passes}
-use Rattle.gc_worker.specs.Begun.{IsPastAfter}
-use Rattle.gc_worker.specs.Fits.{FitsTaskAfter, IsMaking}
-use Rattle.gc_worker.specs.Held.{Held, at_stage}
-use Rattle.gc_worker.specs.Turned.{Pointed, epoch_in_gate, first_pointer, forwards_it, goes_on, in_epoch, passes, turned, turned_gate}
+use Rattle.gc_worker.specs.Workers.Begun.{IsPastAfter}
+use Rattle.gc_worker.specs.Workers.Fits.{FitsTaskAfter, IsMaking}
+use Rattle.gc_worker.specs.Workers.Held.{Held, at_stage}
+use Rattle.gc_worker.specs.Steps.Turned.{Pointed, epoch_in_gate, first_pointer, forwards_it, goes_on, in_epoch, passes, turned, turned_gate}
 use Rattle.gc_worker.proofs.Stages.Gate.Passing.{resumes_so}
 use Rattle.gc_worker.proofs.Stages.Gate.Words.{gate_now, gate_says}
 use Rattle.lone_mutator.specs.Bound.{longest_placing}

@@ -18,16 +18,16 @@ use Rattle.alloc_end.specs.declared.shortage.Shortage.{Shortage}
 use Rattle.alloc_end.specs.Place.{Placing, area_after, fits, kept_room, looked_at_area, pages_for, shortage, size_of, told_at, words_for}
 use Rattle.gate_core.specs.declared.passage.Passage.TheVariants.{Request}
 use Rattle.heap_state.specs.Configuration.{Configuration, Stands, table}
-use Rattle.heap_state.specs.Entries.{AreaIs}
+use Rattle.heap_state.specs.Memory.Entries.{AreaIs}
 use Rattle.heap_state.specs.Functions.{put}
-use Rattle.heap_state.specs.Table.{Table}
+use Rattle.heap_state.specs.Memory.Table.{Table}
 use Rattle.heap_state.proofs.Puts.{put_at}
 use Rattle.heap_state.proofs.Table.Spelled.{spelled}
 use Rattle.gc_worker.specs.declared.after.After.TheVariants as afters
 use Rattle.gc_worker.specs.declared.stage.Stage.TheVariants.{Places}
 use Rattle.gc_worker.specs.declared.task.Task.{Task}
-use Rattle.gc_worker.specs.Held.{Held, at_stage}
-use Rattle.gc_worker.specs.Turned.{Silent, end_by_shortage, ended, full_by, finds_full, passes, told_end, told_full, told_place, turned_place}
+use Rattle.gc_worker.specs.Workers.Held.{Held, at_stage}
+use Rattle.gc_worker.specs.Steps.Turned.{Silent, end_by_shortage, ended, full_by, finds_full, passes, told_end, told_full, told_place, turned_place}
 use Rattle.gc_worker.proofs.Words.Areas.{area_says, is_space}
 use Rattle.gc_worker.proofs.Stages.Rounds.Words.{traced_now, traced_word}
 use Rattle.lone_mutator.specs.Bound.{flip_cost}

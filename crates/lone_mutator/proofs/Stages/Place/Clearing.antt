@@ -15,12 +15,12 @@ use Rattle.alloc_end.specs.declared.place_stage.PlaceStage.TheVariants.{StoresZe
 use Rattle.alloc_end.specs.declared.run.Run.{Run}
 use Rattle.alloc_end.specs.Place.{Placing, pages_for, size_of, told_at, words_for}
 use Rattle.heap_state.specs.Configuration.{Configuration, Stands, table}
-use Rattle.heap_state.specs.Entries.{PageIs, WordIs}
+use Rattle.heap_state.specs.Memory.Entries.{PageIs, WordIs}
 use Rattle.heap_state.specs.Functions.{put}
-use Rattle.heap_state.specs.Table.{Table}
+use Rattle.heap_state.specs.Memory.Table.{Table}
 use Rattle.gc_worker.specs.declared.task.Task.{Task}
-use Rattle.gc_worker.specs.Held.{Held, making_for}
-use Rattle.gc_worker.specs.Turned.{told_effect, told_place, turned_place, with_record}
+use Rattle.gc_worker.specs.Workers.Held.{Held, making_for}
+use Rattle.gc_worker.specs.Steps.Turned.{told_effect, told_place, turned_place, with_record}
 use Rattle.lone_mutator.specs.Law.{IsAlone, Lowers, LowersWhereTold, StepsLower}
 use Rattle.lone_mutator.specs.Potential.{due_in}
 use Rattle.lone_mutator.proofs.Stages.Gate.Counts.{present}

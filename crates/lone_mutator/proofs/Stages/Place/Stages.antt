@@ -8,7 +8,7 @@ use Rattle.alloc_end.specs.declared.run.Run.{Run}
 use Rattle.alloc_end.specs.Place.{Placing}
 use Rattle.heap_state.specs.Configuration.{Configuration, Stands}
 use Rattle.gc_worker.specs.declared.stage.Stage.TheVariants.{Places}
-use Rattle.gc_worker.specs.Held.{Held, at_stage}
+use Rattle.gc_worker.specs.Workers.Held.{Held, at_stage}
 use Rattle.lone_mutator.specs.Law.{IsAlone, StepsLower}
 use Rattle.lone_mutator.proofs.Stages.Place.Claiming.{at, loads_traced, loads_area, exchanges_area}
 use Rattle.lone_mutator.proofs.Stages.Place.Clearing.{stores_zero, opens_page, stores_header}

@@ -11,7 +11,7 @@ use Rattle.page_slots.specs.Claim as claim
 use Rattle.fault_duty.specs.declared.duty_stage.DutyStage.TheVariants.{Claims}
 use Rattle.fault_duty.specs.Duty
 use Rattle.fault_duty.specs.Duty.{Round, at_stage}
-use Rattle.heap_state.specs.Era.{Era, Memory}
+use Rattle.heap_state.specs.Memory.Era.{Era, Memory}
 use Rattle.lone_mutator.proofs.Stages.Rounds.Rounds.{RoundIsAlone, RoundGoes}
 
 module _ (E : Era) (m : Memory) (d : Round) (a : RoundIsAlone E m d) (q : Claiming) (same : q.found ≡ m.page q.page) (own : q.epoch ≡ d.epoch) where

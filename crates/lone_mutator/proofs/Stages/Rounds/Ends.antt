@@ -18,7 +18,7 @@ use Rattle.fault_duty.specs.declared.duty_stage.DutyStage.TheVariants.{EndGate, 
 use Rattle.fault_duty.specs.Duty
 use Rattle.fault_duty.specs.Duty.{Round, at_stage, front_of, page_after, is_full}
 use Rattle.fault_duty.specs.Soundness.{IsChoice}
-use Rattle.heap_state.specs.Era.{Era, Memory}
+use Rattle.heap_state.specs.Memory.Era.{Era, Memory}
 use Rattle.lone_mutator.specs.Rounds.{IsQuiet, LookedAt}
 use Rattle.lone_mutator.proofs.Stages.Rounds.Rounds.{RoundIsAlone, RoundGoes}
 use Rattle.lone_mutator.proofs.Stages.Rounds.Looks.{by_page, waits_early, opened_now}

@@ -14,15 +14,15 @@ use Rattle.fault_duty.specs.Duty as duty
 use Rattle.fault_duty.specs.Duty.{Round}
 use Rattle.fault_duty.proofs.Lowering as lowering
 use Rattle.heap_state.specs.Configuration.{Configuration, Stands, table, era, memory, team}
-use Rattle.heap_state.specs.Era.{Era, Memory}
-use Rattle.heap_state.specs.Table.{word_in}
+use Rattle.heap_state.specs.Memory.Era.{Era, Memory}
+use Rattle.heap_state.specs.Memory.Table.{word_in}
 use Rattle.heap_state.specs.Worker.{Worker, is_running}
 use Rattle.gc_worker.specs.declared.back.Back.{Back}
 use Rattle.gc_worker.specs.declared.back.Back.TheVariants.{ToAccess, ToPlace, ToScanner}
-use Rattle.gc_worker.specs.Fits.{IsCallerOf}
-use Rattle.gc_worker.specs.Held.{Held}
-use Rattle.gc_worker.specs.Knows.{epoch_at}
-use Rattle.gc_worker.specs.Turned.{turned, turned_round}
+use Rattle.gc_worker.specs.Workers.Fits.{IsCallerOf}
+use Rattle.gc_worker.specs.Workers.Held.{Held}
+use Rattle.gc_worker.specs.Workers.Knows.{epoch_at}
+use Rattle.gc_worker.specs.Steps.Turned.{turned, turned_round}
 use Rattle.gc_worker.proofs.Words.Eras.{board_is, start_is}
 use Rattle.gc_worker.proofs.Stages.Rounds.Going.{round, at, same_pages}
 use Rattle.lone_mutator.specs.Law.{Lowers, IsAlone, StepsLower}

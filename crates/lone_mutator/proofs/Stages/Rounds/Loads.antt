@@ -22,8 +22,8 @@ use Rattle.fault_duty.specs.Duty.{Round}
 use Rattle.fault_duty.specs.Soundness.{FitsCaller}
 use Rattle.heap_state.specs.Configuration.{Configuration, Stands, table, era, memory}
 use Rattle.gc_worker.specs.declared.back.Back.{Back}
-use Rattle.gc_worker.specs.Held.{Held}
-use Rattle.gc_worker.specs.Knows.{knows}
+use Rattle.gc_worker.specs.Workers.Held.{Held}
+use Rattle.gc_worker.specs.Workers.Knows.{knows}
 use Rattle.gc_worker.proofs.Words.Areas.{area_now, area_says, is_space}
 use Rattle.gc_worker.proofs.Stages.Gate.Words.{gate_now, gate_says}
 use Rattle.fault_duty.proofs.Lowering.{to_start-le}

@@ -7,7 +7,7 @@ use Rattle.space_map.specs.PageWord.{age_of}
 use Rattle.fault_duty.specs.declared.caller.Caller.TheVariants.{Scans}
 use Rattle.fault_duty.specs.declared.duty_stage.DutyStage.{DutyStage}
 use Rattle.fault_duty.specs.Duty.{Round, at_stage, taken_at, told_at, advances_at, to_start}
-use Rattle.heap_state.specs.Era.{Era, Memory}
+use Rattle.heap_state.specs.Memory.Era.{Era, Memory}
 use Rattle.lone_mutator.specs.Rounds.{FoundAt}
 
 -- The round is one of the gate's epoch by a mutator; nobody is behind, scans a page, or announces a place.

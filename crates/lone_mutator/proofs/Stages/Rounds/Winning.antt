@@ -18,15 +18,15 @@ use Rattle.fault_duty.specs.declared.round_end.RoundEnd.TheVariants.{ScanPage, S
 use Rattle.fault_duty.specs.Duty.{Round}
 use Rattle.fault_duty.specs.Soundness.{IsOwnClaim}
 use Rattle.heap_state.specs.Configuration.{Configuration, Stands, table, era, memory, team}
-use Rattle.heap_state.specs.Entries.{Entry, PageIs, with_entry}
-use Rattle.heap_state.specs.Table.{Table}
-use Rattle.heap_state.specs.Parts.Scanning.{Claims}
+use Rattle.heap_state.specs.Memory.Entries.{Entry, PageIs, with_entry}
+use Rattle.heap_state.specs.Memory.Table.{Table}
+use Rattle.heap_state.specs.Invariant.Parts.Scanning.{Claims}
 use Rattle.heap_state.specs.Worker.{Claim, Worker}
 use Rattle.gc_worker.specs.declared.back.Back.{Back}
 use Rattle.gc_worker.specs.declared.stage.Stage.TheVariants.{Scans}
-use Rattle.gc_worker.specs.Held.{Held}
-use Rattle.gc_worker.specs.Knows.{claim_with, looked_all}
-use Rattle.gc_worker.specs.Turned.{served_by, turned}
+use Rattle.gc_worker.specs.Workers.Held.{Held}
+use Rattle.gc_worker.specs.Workers.Knows.{claim_with, looked_all}
+use Rattle.gc_worker.specs.Steps.Turned.{served_by, turned}
 use Rattle.gc_worker.proofs.Words.Eras.{board_is, start_is, span_is}
 use Rattle.gc_worker.proofs.Stages.Rounds.Going.{round, at, same_pages}
 use Rattle.gc_worker.proofs.Stages.Rounds.Words.{page_now, page_says}

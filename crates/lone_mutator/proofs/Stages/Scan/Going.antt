@@ -10,11 +10,11 @@ use Rattle.page_scan.specs.Scanning.{Scanning}
 use Rattle.page_scan.specs.Soundness.{FitsStage}
 use Rattle.page_scan.specs.Taken.{scan_end, stage_after}
 use Rattle.heap_state.specs.Configuration.{Configuration, Stands, table}
-use Rattle.heap_state.specs.Table.{Table}
+use Rattle.heap_state.specs.Memory.Table.{Table}
 use Rattle.gc_worker.specs.declared.back.Back.{Back}
 use Rattle.gc_worker.specs.declared.stage.Stage.TheVariants.{Scans}
-use Rattle.gc_worker.specs.Held.{Held}
-use Rattle.gc_worker.specs.Wanted.{wanted}
+use Rattle.gc_worker.specs.Workers.Held.{Held}
+use Rattle.gc_worker.specs.Steps.Wanted.{wanted}
 use Rattle.gc_worker.proofs.Stages.Scan.GoingOn.{scans_to}
 use Rattle.gc_worker.proofs.Stages.Scan.Stages.{scans}
 use Rattle.lone_mutator.specs.Law.{Lowers, IsAlone, StepsLower}

@@ -7,8 +7,8 @@ use Rattle.atom_store.specs.declared.reply.Reply.{Reply}
 use Rattle.atom_store.specs.declared.reply.Reply.TheVariants.{Value, Done}
 use Rattle.heap_words.specs.declared.kind.Kind.{Kind}
 use Rattle.heap_words.specs.declared.kind.Kind.TheVariants.{Fields, Raw}
-use Rattle.heap_state.specs.FieldSpan.{first_field}
-use Rattle.heap_state.specs.Ghost.{said_kind}
+use Rattle.heap_state.specs.Memory.FieldSpan.{first_field}
+use Rattle.heap_state.specs.Invariant.Ghost.{said_kind}
 use Rattle.heap_words.specs.FirstWords.{is_header}
 use Rattle.heap_words.specs.Decoded.{Decoded, NumberWord, PointerWord, HeaderWord, ForwardWord, BusyWord, Malformed, decode}
 use Rattle.space_map.specs.declared.area_word.AreaWord.{AreaWord}

@@ -20,8 +20,8 @@ use Rattle.page_scan.specs.Left.{advances}
 use Rattle.page_scan.specs.Scanning.{Scanning, address_of}
 use Rattle.page_scan.specs.Soundness.{IsOnPage}
 use Rattle.heap_state.specs.Configuration.{Configuration, Stands, table, era, memory, team}
-use Rattle.heap_state.specs.Entries.{WordIs, with_entry}
-use Rattle.heap_state.specs.Table.{word_in}
+use Rattle.heap_state.specs.Memory.Entries.{WordIs, with_entry}
+use Rattle.heap_state.specs.Memory.Table.{word_in}
 use Rattle.heap_state.specs.Worker.{Worker, Scan}
 use Rattle.heap_laws.specs.Answers.{MeetsHeader, ScanAnswers}
 use Rattle.heap_laws.specs.Scanning.Words.{IsScanning}
@@ -29,9 +29,9 @@ use Rattle.heap_laws.proofs.Lifting.Configurations.{board_at, ready}
 use Rattle.heap_laws.proofs.Steps.Answers.{scans_are_answered}
 use Rattle.gc_worker.specs.declared.back.Back.{Back}
 use Rattle.gc_worker.specs.declared.stage.Stage.TheVariants.{Scans}
-use Rattle.gc_worker.specs.Held.{Held, at_stage}
-use Rattle.gc_worker.specs.Knows.{quest_at, scan_of, seen_record}
-use Rattle.gc_worker.specs.Wanted.{wanted}
+use Rattle.gc_worker.specs.Workers.Held.{Held, at_stage}
+use Rattle.gc_worker.specs.Workers.Knows.{quest_at, scan_of, seen_record}
+use Rattle.gc_worker.specs.Steps.Wanted.{wanted}
 use Rattle.gc_worker.proofs.Words.Areas.{area_says, is_space}
 use Rattle.gc_worker.proofs.Stages.Scan.Headers.{heap_word}
 use Rattle.lone_mutator.specs.Law.{IsAlone, StepsLower}

@@ -1,8 +1,8 @@
 use Rattle.std.proofs.Common.{◌≡◌, ℕ, None, refl, ◌∙◌, ap}
 use Rattle.gc_worker.specs.declared.stepped.Stepped.TheVariants as stepped
-use Rattle.gc_worker.specs.Held.{Held}
-use Rattle.gc_worker.specs.Stepped.{stepped_by}
-use Rattle.gc_worker.specs.Turned.{Told, Silent, Answers, Marks, told}
+use Rattle.gc_worker.specs.Workers.Held.{Held}
+use Rattle.gc_worker.specs.Steps.Stepped.{stepped_by}
+use Rattle.gc_worker.specs.Steps.Turned.{Told, Silent, Answers, Marks, told}
 use Rattle.ael_threads.specs.Seats.{Acts, Seated}
 use Rattle.thread_tests.proofs.turns.turn.Goals as goal
 

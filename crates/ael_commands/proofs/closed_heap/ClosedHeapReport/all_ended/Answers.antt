@@ -1,7 +1,7 @@
 use Rattle.std.proofs.Common.{ap, ◌∙◌}
 use Rattle.std.specs.List.{list_all}
-use Rattle.ael_commands.specs.Seen.{has_ended}
-use Rattle.ael_commands.specs.Told.{RunReport}
+use Rattle.ael_commands.specs.Runs.Verdict.{has_ended}
+use Rattle.ael_commands.specs.Runs.Told.{RunReport}
 use Rattle.ael_commands.proofs.Threading.{all_ended}
 use Rattle.ael_commands.proofs.closed_heap.ClosedHeapReport.all_ended.Goals as goal
 

@@ -1,5 +1,5 @@
 use Rattle.std.proofs.Common.{ap, slice_get, sym, ◌∙◌}
-use Rattle.ael_commands.specs.Told.{RunReport}
+use Rattle.ael_commands.specs.Runs.Told.{RunReport}
 use Rattle.ael_commands.proofs.Threading.{word_there}
 use Rattle.ael_commands.proofs.closed_heap.ClosedHeapReport.word.Goals as goal
 

@@ -1,5 +1,5 @@
 use Rattle.std.proofs.Common.{◌≡◌, ◌∙◌, sym, subst}
-use Rattle.gc_worker.specs.Held.{Held}
+use Rattle.gc_worker.specs.Workers.Held.{Held}
 use Rattle.ael_threads.specs.Seats.{Acts, Heads, Seated, ShowsSeen}
 use Rattle.ael_threads.proofs.WholeCalls.Acts.{acts}
 use Rattle.ael_threads.proofs.WholeCalls.BetweenSteps.{moved_heads, still_live}

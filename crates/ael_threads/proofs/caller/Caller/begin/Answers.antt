@@ -1,9 +1,9 @@
 use Rattle.std.proofs.Common.{Some, ◌∙◌, sym, ap, subst}
 use Rattle.crossbeam_utils.specs.Padded.{padded_value}
 use Rattle.gc_worker.specs.declared.task.Task.TheVariants.{Calls}
-use Rattle.gc_worker.specs.Between.{IsIdle, with_task}
-use Rattle.gc_worker.specs.Held.{Held}
-use Rattle.gc_worker.specs.Fits.{MayBegin}
+use Rattle.gc_worker.specs.Laws.Between.{IsIdle, with_task}
+use Rattle.gc_worker.specs.Workers.Held.{Held}
+use Rattle.gc_worker.specs.Workers.Fits.{MayBegin}
 use Rattle.ael_threads.specs.Seats.{Seated, first_number}
 use Rattle.ael_threads.proofs.WholeCalls.Acts.{heads_fit}
 use Rattle.ael_threads.proofs.WholeCalls.Began.{given_none}

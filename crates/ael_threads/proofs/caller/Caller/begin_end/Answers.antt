@@ -1,8 +1,8 @@
 use Rattle.std.proofs.Common.{◌∙◌, sym, ap, subst}
 use Rattle.crossbeam_utils.specs.Padded.{padded_value}
 use Rattle.gc_worker.specs.declared.task.Task.TheVariants.{Stops}
-use Rattle.gc_worker.specs.Between.{IsIdle, with_task}
-use Rattle.gc_worker.specs.Held.{Held}
+use Rattle.gc_worker.specs.Laws.Between.{IsIdle, with_task}
+use Rattle.gc_worker.specs.Workers.Held.{Held}
 use Rattle.ael_threads.specs.Seats.{Seated, first_number}
 use Rattle.ael_threads.proofs.WholeCalls.Acts.{heads_fit}
 use Rattle.ael_threads.proofs.WholeCalls.Began.{given_none}

@@ -1,5 +1,5 @@
 use Rattle.std.proofs.Common.{◌≡◌, ◌∙◌, ◌<◌, Some, ap, subst, sym}
-use Rattle.gc_worker.specs.Held.{Held}
+use Rattle.gc_worker.specs.Workers.Held.{Held}
 use Rattle.ael_threads.specs.Seats.{Seated}
 use Rattle.ael_threads.specs.declared.mutator.Mutator.TheInside.{Inside}
 use Rattle.ael_threads.proofs.WholeCalls.Acts.{heads_of, is_there, no_task}

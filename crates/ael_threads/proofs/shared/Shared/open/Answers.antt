@@ -4,7 +4,7 @@ use Rattle.std.proofs.lemmas.Bool.{le-leb}
 use Rattle.std.proofs.lemmas.List.{length-replicate}
 use Rattle.std.proofs.Math.ListN.{length-set}
 use Rattle.heap_laws.specs.Opening.{opening_entries}
-use Rattle.heap_state.specs.Entries.{written}
+use Rattle.heap_state.specs.Memory.Entries.{written}
 use Rattle.space_map.specs.Table.{table_length}
 use Rattle.gc_worker.specs.declared.open_error.OpenError.{OpenError}
 use Rattle.gc_worker.specs.declared.open_error.OpenError.TheVariants.{BadPages, NoMemory}

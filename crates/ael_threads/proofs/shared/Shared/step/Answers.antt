@@ -8,8 +8,8 @@ use Rattle.atom_store.specs.declared.step.Step.TheVariants.{Load, Store, Exchang
 use Rattle.atom_store.specs.declared.reply.Reply.TheVariants.{Won, Lost}
 use Rattle.atom_store.specs.Step.{place_in}
 use Rattle.space_map.specs.Table.{table_length}
-use Rattle.gc_worker.specs.Held.{Held}
-use Rattle.gc_worker.specs.Wanted.{wanted}
+use Rattle.gc_worker.specs.Workers.Held.{Held}
+use Rattle.gc_worker.specs.Steps.Wanted.{wanted}
 use Rattle.gc_worker.proofs.Words.Rows.{places_fit}
 use Rattle.ael_threads.specs.declared.view.Hand.{Hand}
 use Rattle.ael_threads.specs.declared.view.Plan.{Plan}

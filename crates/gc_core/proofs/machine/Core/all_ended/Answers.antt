@@ -2,7 +2,7 @@ use Rattle.std.proofs.Common.{ℕ, List, Bool, length, ap, ◌∙◌}
 use Rattle.std.specs.Prelude.{take}
 use Rattle.std.specs.List.{list_all}
 use Rattle.std.specs.Option.{is_some}
-use Rattle.gc_worker.specs.Held.{Held}
+use Rattle.gc_worker.specs.Workers.Held.{Held}
 use Rattle.gc_core.specs.Inside.{core_in}
 use Rattle.gc_core.specs.Run.{all_ended}
 use Rattle.gc_core.proofs.Told.Readers.{ends_seen}

@@ -3,8 +3,8 @@ use Rattle.std.specs.Prelude.{IsTrue, IfSome}
 use Rattle.mutator_asm.specs.declared.instr.Instr.{Instr}
 use Rattle.mutator_asm.specs.Program.{is_valid}
 use Rattle.mutator_asm.proofs.Programs.Instructions.{valid_at}
-use Rattle.gc_worker.specs.Held.{Held}
-use Rattle.gc_worker.specs.Stepped.{IsSound, awaits}
+use Rattle.gc_worker.specs.Workers.Held.{Held}
+use Rattle.gc_worker.specs.Steps.Stepped.{IsSound, awaits}
 use Rattle.gc_core.proofs.Events.Tasks.{idle_by, call_by, sound_apart}
 use Rattle.gc_core.proofs.slot.Slot.ready.Goals as goal
 

@@ -1,9 +1,9 @@
 use Rattle.std.proofs.Common.{◌≡◌, ℕ, ◌+◌, ◌<◌, sym, ap, subst, ◌∙◌, arith}
 use Rattle.gc_worker.specs.declared.stepped.Stepped.TheVariants.{Effect}
-use Rattle.gc_worker.specs.Counted.{counted}
-use Rattle.gc_worker.specs.Held.{Held}
-use Rattle.gc_worker.specs.Made.{MayMake, step_made}
-use Rattle.gc_worker.specs.Stepped.{IsSound}
+use Rattle.gc_worker.specs.Workers.Counted.{counted}
+use Rattle.gc_worker.specs.Workers.Held.{Held}
+use Rattle.gc_worker.specs.Steps.Made.{MayMake, step_made}
+use Rattle.gc_worker.specs.Steps.Stepped.{IsSound}
 use Rattle.gc_core.proofs.Events.Tasks.{may_apart, words_apart, told_apart, made_effect, made_other}
 use Rattle.gc_core.proofs.slot.Slot.step.Goals as goal
 

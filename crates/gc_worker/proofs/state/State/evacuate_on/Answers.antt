@@ -1,5 +1,5 @@
 use Rattle.std.proofs.Common.{sym, ap, ◌∙◌}
-use Rattle.gc_worker.specs.Wanted.{wanted, wanted_at}
+use Rattle.gc_worker.specs.Steps.Wanted.{wanted, wanted_at}
 use Rattle.gc_worker.specs.contracts.state.State.{the_view}
 use Rattle.gc_worker.proofs.Workers.Made.{sound_after}
 use Rattle.gc_worker.proofs.state.State.evacuate_on.Goals as goal

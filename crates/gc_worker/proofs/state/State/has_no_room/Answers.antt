@@ -1,6 +1,6 @@
 use Rattle.std.proofs.Common.{◌≡◌, Bool, true, false, not, refl, sym, arith}
 use Rattle.std.proofs.lemmas.Bool.Decides.{nat_tests}
-use Rattle.gc_worker.specs.Turned.{finds_full}
+use Rattle.gc_worker.specs.Steps.Turned.{finds_full}
 use Rattle.gc_worker.proofs.state.State.has_no_room.Goals as goal
 
 is_false : (b : Bool) → not b ≡ true → b ≡ false

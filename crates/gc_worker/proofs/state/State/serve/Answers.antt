@@ -1,8 +1,8 @@
 use Rattle.std.proofs.Common.{sym, ap, ◌∙◌, subst}
-use Rattle.gc_worker.specs.Fits.{FitsStage}
-use Rattle.gc_worker.specs.Held.{Held}
-use Rattle.gc_worker.specs.Stepped.{uncounted}
-use Rattle.gc_worker.specs.Turned.{turned}
+use Rattle.gc_worker.specs.Workers.Fits.{FitsStage}
+use Rattle.gc_worker.specs.Workers.Held.{Held}
+use Rattle.gc_worker.specs.Steps.Stepped.{uncounted}
+use Rattle.gc_worker.specs.Steps.Turned.{turned}
 use Rattle.gc_worker.specs.contracts.state.State.{the_view}
 use Rattle.gc_worker.specs.declared.stage.Stage.TheVariants.{Serves}
 use Rattle.gc_worker.proofs.Words.Read.{round_turned, served_after, served_fits, served_uncounted}

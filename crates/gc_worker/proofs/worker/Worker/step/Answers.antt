@@ -1,6 +1,6 @@
 use Rattle.std.proofs.Common.{sym, subst}
-use Rattle.gc_worker.specs.Held.{Held}
-use Rattle.gc_worker.specs.Made.{MayMake}
+use Rattle.gc_worker.specs.Workers.Held.{Held}
+use Rattle.gc_worker.specs.Steps.Made.{MayMake}
 use Rattle.gc_worker.proofs.Workers.Sound.{made_are_sound}
 use Rattle.gc_worker.proofs.worker.Worker.step.Goals as goal
 

@@ -1,0 +1,4 @@
+pub mod CommandLine
+pub mod Jobs
+pub mod Options
+pub mod Words

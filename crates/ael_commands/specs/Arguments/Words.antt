@@ -1,0 +1,38 @@
+-- What the words of the command line ask for.
+use Rattle.std.specs.Prelude.{◌≡◌, ◌⊎◌, ⊤, List, Option, None, codes, option_map, if◌then◌else◌}
+use Rattle.std.specs.Str.{bytes_eq}
+use Rattle.clap.specs.Walk.{Row, Text}
+use Rattle.clap.specs.Simple.{subcommand_of}
+use Rattle.clap.specs.Takes.{takes}
+use Rattle.simple_commands.specs.Options.{HoldOptions}
+use Rattle.ael_commands.specs.declared.job.Job.{Job}
+use Rattle.ael_commands.specs.declared.job.Job.TheVariants.{Asm, Bench, Run, Sim}
+use Rattle.ael_commands.specs.Arguments.CommandLine.{ael_app}
+use Rattle.ael_commands.specs.Arguments.Options.{AreInRange, IsDepth, bench_numbers, bench_wide, operands_of, run_numbers, run_options_of, run_wide, sim_numbers, sim_options_of, sim_wide}
+
+-- the job of a subcommand, by its name and its rows; there are `asm`, `sim`, `run` and `bench`
+abbrev pub job_from : Text × List Row → Job
+job_from p =
+    if bytes_eq p.0 (codes "asm") then Asm
+    else (if bytes_eq p.0 (codes "sim") then Sim (sim_options_of p.1)
+    else (if bytes_eq p.0 (codes "run") then Run (run_options_of p.1)
+    else Bench (operands_of p.1)))
+
+-- the job that the words ask for: `clap` takes them as a command line of `ael`, and they name a subcommand
+abbrev pub job_of : List Text → Option Job
+job_of words = if takes ael_app words then option_map job_from (subcommand_of ael_app words) else None
+
+-- a subcommand of the command line, with rows whose values can be read
+abbrev pub IsKnown : Text × List Row → Type 0
+IsKnown p =
+    (p.0 ≡ codes "asm")
+    ⊎ (((p.0 ≡ codes "sim") × HoldOptions sim_numbers sim_wide p.1)
+    ⊎ (((p.0 ≡ codes "run") × HoldOptions run_numbers run_wide p.1)
+    ⊎ ((p.0 ≡ codes "bench") × HoldOptions bench_numbers bench_wide p.1)))
+
+-- the numbers of a job are in their ranges
+abbrev pub NumbersAreInRange : Job → Type 0
+NumbersAreInRange Asm = ⊤
+NumbersAreInRange (Bench operands) = IsDepth operands.depth
+NumbersAreInRange (Sim options) = AreInRange options.run
+NumbersAreInRange (Run options) = AreInRange options

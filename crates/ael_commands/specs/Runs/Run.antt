@@ -1,0 +1,79 @@
+-- The run of a program in whatever manner, and what is printed of it.
+use Rattle.std.specs.Prelude.{◌≡◌, ℕ, Bool, true, false, List, [], ◌++◌, if◌then◌else◌}
+use Rattle.mutator_asm.specs.declared.instr.Instr.{Instr}
+use Rattle.mutator_asm.specs.declared.item.Item.{Item}
+use Rattle.plain_heap.specs.Order.{opening, plain, story}
+use Rattle.plain_heap.specs.Print.{print_of, order_line, plain_seen}
+use Rattle.gc_worker.specs.Plain.Marks.{EachActs}
+use Rattle.gc_core.specs.Cycles.{KeepsWhatIsLive}
+use Rattle.gc_core.specs.Run.{Ran}
+use Rattle.ael_commands.specs.declared.options.RunOptions.{RunOptions}
+use Rattle.ael_commands.specs.declared.options.SimOptions.{SimOptions}
+use Rattle.ael_commands.specs.declared.status.Status.{Status}
+use Rattle.ael_commands.specs.Tasks.ProgramTask.{program_task}
+use Rattle.ael_commands.specs.Runs.Verdict.{status_seen}
+use Rattle.ael_commands.specs.Runs.Simulation.{IsSimulated}
+use Rattle.ael_commands.specs.Tasks.Task.{Task}
+use Rattle.ael_commands.specs.Runs.Threads.{IsThreaded}
+use Rattle.ael_commands.specs.Runs.Told.{IsTrueDump, heap_lines, told_of}
+
+-- how a program is run: by a schedule, or on threads
+pub data Manner : Type 0 where
+  Scheduled : (options : SimOptions) → Manner
+  Threaded : (options : RunOptions) → Manner
+
+abbrev pub options_by : Manner → RunOptions
+options_by (Scheduled options) = options.run
+options_by (Threaded options) = options
+
+-- whether the order is printed
+abbrev pub tells_order : Manner → Bool
+tells_order (Scheduled options) = options.order
+tells_order (Threaded options) = false
+
+-- ---- what it comes to
+
+-- it was made in this manner
+abbrev pub IsMadeInManner : Manner → List (List Instr) → List Item → Ran → Type 0
+IsMadeInManner (Scheduled options) program items ran = IsSimulated options program items ran
+IsMadeInManner (Threaded options) program items ran = IsThreaded options program ran
+
+-- This is what a run of the program came to. Each mark of its order acts: each mutator's marks execute its program from the start, none
+-- skipped and none twice. A dump represents what the plain machine comes to that executes the order. What was copied in a traced epoch,
+-- and is told as live, was live at the last exchange of the spaces.
+pub record IsRunOf (manner : Manner) (program : List (List Instr)) (items : List Item) (ran : Ran) : Type 0 where
+  pub made : IsMadeInManner manner program items ran
+  pub acts : EachActs program (options_by manner).turns (opening program) ran.order
+  pub dump : IsTrueDump ran.last (plain program (options_by manner).turns ran.order)
+  pub live : KeepsWhatIsLive ran.last (story program (options_by manner).turns ran.order).flip
+
+-- ---- what is printed
+
+-- the lines of the flags
+abbrev pub flag_lines : Manner → Ran → List ℕ
+flag_lines manner ran = (if tells_order manner then order_line ran.order else []) ++ heap_lines (options_by manner) (told_of ran.last)
+
+-- all that is printed: the lines of the plain machine that executes the order, and then those of the flags
+abbrev pub output_of : Manner → List (List Instr) → Ran → List ℕ
+output_of manner program ran = print_of (plain program (options_by manner).turns ran.order) ++ flag_lines manner ran
+
+-- how it goes, by the ends of the plain machine
+abbrev pub status_of : Manner → List (List Instr) → Ran → Status
+status_of manner program ran = status_seen (plain_seen (plain program (options_by manner).turns ran.order))
+
+-- the output is what is printed of a run of the program
+pub record IsRun (manner : Manner) (program : List (List Instr)) (items : List Item) (output : List ℕ) (status : Status) : Type 0 where
+  pub ran : Ran
+  pub is : IsRunOf manner program items ran
+  pub prints : output ≡ output_of manner program ran
+  pub went : status ≡ status_of manner program ran
+
+-- ---- the tasks
+
+-- `sim`: a program is run by a schedule
+abbrev pub sim_task : SimOptions → Task
+sim_task options = program_task false (IsRun (Scheduled options))
+
+-- `run`: a program is run on threads
+abbrev pub run_task : RunOptions → Task
+run_task options = program_task true (IsRun (Threaded options))

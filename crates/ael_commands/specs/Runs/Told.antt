@@ -1,0 +1,39 @@
+-- What is told of a heap and its workers once a run is over, and the lines of it. The text of a dump is that of `dump_text`.
+use Rattle.std.specs.Prelude.{ℕ, List, [], ◌++◌, Option, Some, None, codes, decimal, if◌then◌else◌}
+use Rattle.plain_state.specs.State.{Plain}
+use Rattle.plain_heap.specs.Print.{Seen}
+use Rattle.heap_state.specs.Meaning.Represents.{DumpRepresents}
+use Rattle.gc_core.specs.Core.{CoreState}
+use Rattle.gc_core.specs.Dumped.{dump_said, dumped}
+use Rattle.gc_core.specs.Readers.{cycles_of, live_of, seen_of}
+use Rattle.dump_text.specs.Text.{Dumped, dump_text}
+use Rattle.ael_commands.specs.declared.options.RunOptions.{RunOptions}
+
+-- what is seen of each mutator; how often the spaces were exchanged, and the words that were copied since, where all are; and what a dump
+-- tells
+pub record RunReport : Type 0 where
+  pub seen : List Seen
+  pub cycles : ℕ
+  pub live : Option ℕ
+  pub dump : Dumped
+
+-- of a core
+abbrev pub told_of : CoreState → RunReport
+told_of s = record { seen = seen_of s; cycles = cycles_of s; live = live_of s; dump = dumped s }
+
+-- what the dump of a core tells, read by itself, represents a plain state
+abbrev pub IsTrueDump : CoreState → Plain → Type 0
+IsTrueDump s p = DumpRepresents (dump_said (dumped s)) p
+
+-- ---- the lines
+
+abbrev pub live_text : Option ℕ → List ℕ
+live_text None = codes "-"
+live_text (Some words) = decimal words
+
+abbrev pub cycles_line : RunReport → List ℕ
+cycles_line told = codes "cycles " ++ decimal told.cycles ++ codes " live " ++ live_text told.live ++ codes "\n"
+
+-- the lines that are asked for of the heap
+abbrev pub heap_lines : RunOptions → RunReport → List ℕ
+heap_lines options told = (if options.cycles then cycles_line told else []) ++ (if options.dump then dump_text told.dump else [])

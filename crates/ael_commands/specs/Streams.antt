@@ -1,0 +1,6 @@
+pub mod Ends
+pub mod Input
+pub mod Memory
+pub mod Standard
+pub mod Stream
+pub mod Sure

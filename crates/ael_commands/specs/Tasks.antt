@@ -1,0 +1,4 @@
+pub mod Asm
+pub mod Bench
+pub mod ProgramTask
+pub mod Task

@@ -1,0 +1,9 @@
+pub mod Step
+pub mod Between
+pub mod Gone
+pub mod Copied
+pub mod Claims
+pub mod PastEpochs
+pub mod Cycles
+pub mod Represented
+pub mod FullTold

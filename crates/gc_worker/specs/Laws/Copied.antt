@@ -1,0 +1,22 @@
+-- What the collector has copied, once an epoch is traced, and what a mutator that finds the heap full says of it.
+use Rattle.std.specs.Prelude.{◌≡◌, ℕ, ◌+◌}
+use Rattle.plain_state.specs.State.{Plain}
+use Rattle.space_map.specs.Table.{Traced}
+use Rattle.heap_state.specs.Cycles.Copies.{CopiedIsLive}
+use Rattle.heap_state.specs.Meaning.Reachable.{IsLive}
+use Rattle.heap_state.specs.Memory.Table.{word_in}
+use Rattle.gc_worker.specs.Plain.Full.{FindsNoRoom}
+use Rattle.gc_worker.specs.Workers.Held.{Held}
+use Rattle.gc_worker.specs.Laws.Step.{Heap, read, WorkersStand, epoch_of}
+
+-- the gate's epoch is traced
+abbrev pub IsTraced : Heap → Type 0
+IsTraced h = word_in h.pages h.words Traced ≡ epoch_of h.pages h.words + 1
+
+-- what was copied in it is what was live at its flip, of which o is the plain state
+abbrev pub CopiedWasLive : Type 0
+CopiedWasLive = (h : Heap) (p o : Plain) → WorkersStand h p o → IsTraced h → CopiedIsLive (read h) o
+
+-- so are the words that the end of a mutator which finds the heap full tells as live
+abbrev pub FullTellsLive : Type 0
+FullTellsLive = (h : Heap) (p o : Plain) (x : Held) (asked room live : ℕ) → WorkersStand h p o → FindsNoRoom h.pages h.words x asked room live → IsLive o live

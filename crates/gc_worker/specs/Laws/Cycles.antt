@@ -1,0 +1,162 @@
+-- The words that allocations claim within an epoch, for which records they do, and which instruction asks for a flip.
+use Rattle.std.specs.Prelude.{◌≡◌, ℕ, ◌+◌, ◌*◌, ◌<◌, ◌≤◌, ⊤, List, length, Option, Some, None, slice_get}
+use Rattle.std.specs.Option.{option_map}
+use Rattle.plain_state.specs.State.{Mutator, Plain}
+use Rattle.mutator_asm.specs.declared.instr.Instr.{Instr}
+use Rattle.plain_heap.specs.Step.{new_record, pages_of}
+use Rattle.atom_store.specs.declared.reply.Reply.{Reply}
+use Rattle.atom_store.specs.declared.reply.Reply.TheVariants as replies
+use Rattle.atom_store.specs.declared.step.Step.{Step}
+use Rattle.atom_store.specs.Step.{words_after, reply_of}
+use Rattle.space_map.specs.declared.area_word.AreaWord.{AreaWord}
+use Rattle.space_map.specs.declared.spaces.TheConstants.{PAGE_WORDS}
+use Rattle.space_map.specs.AreaWord.{decode_area}
+use Rattle.space_map.specs.Spaces.{to_space}
+use Rattle.space_map.specs.Table.{Area}
+use Rattle.alloc_end.specs.declared.place_stage.PlaceStage.{PlaceStage}
+use Rattle.alloc_end.specs.declared.place_stage.PlaceStage.TheVariants.{ExchangesArea, StoresZero, OpensPage, StoresHeader}
+use Rattle.alloc_end.specs.Place.{Placing, words_for}
+use Rattle.gate_core.specs.declared.passage.Passage.{Passage}
+use Rattle.gate_core.specs.declared.passage.Passage.TheVariants.{Look, Attach, Park, Request, Resume, Forwarded, Leave}
+use Rattle.heap_state.specs.Memory.Table.{word_in}
+use Rattle.gc_worker.specs.declared.after.After.{After}
+use Rattle.gc_worker.specs.declared.stage.Stage.{Stage}
+use Rattle.gc_worker.specs.declared.stage.Stage.TheVariants.{Looks, Passes, Flips, Forwards, Accesses, Places, Serves, Scans, Evacuates, Opens, Gone}
+use Rattle.gc_worker.specs.declared.task.Task.TheVariants.{Calls}
+use Rattle.gc_worker.specs.Workers.Begun.{IsPastAfter, IsPastBack}
+use Rattle.gc_worker.specs.Laws.Between.{IsNoAnswer}
+use Rattle.gc_worker.specs.Workers.Fits.{Fits}
+use Rattle.gc_worker.specs.Workers.Held.{Held, pages_needed}
+use Rattle.gc_worker.specs.Laws.Step.{Heap, WorkersStand, held_at, epoch_of}
+use Rattle.gc_worker.specs.declared.did.Did.TheVariants.{Done, Trap}
+use Rattle.gc_worker.specs.Steps.Turned.{Told, Silent, Answers, Marks, turned, told}
+use Rattle.gc_worker.specs.Steps.Wanted.{wanted}
+
+-- ---- claims of pages for records
+
+abbrev pub claimed_by_placing : Placing → PlaceStage → Reply → ℕ
+claimed_by_placing p (ExchangesArea f) replies.Won = words_for p.header
+claimed_by_placing p stage reply = 0
+
+abbrev pub claimed_at : Stage → Reply → ℕ
+claimed_at (Places p) reply = claimed_by_placing p p.stage reply
+claimed_at stage reply = 0
+
+-- the words of the pages that this step claims for a record
+abbrev pub words_claimed : Held → Reply → ℕ
+words_claimed x reply = claimed_at x.stage reply
+
+abbrev pub low_said : Option AreaWord → ℕ
+low_said (Some area) = area.low
+low_said None = 0
+
+-- LOW of a space, counted from its first word
+abbrev pub low_at : (n : ℕ) → List ℕ → (space : ℕ) → ℕ
+low_at n words space = low_said (decode_area (word_in n words (Area space)))
+
+-- LOW of the space of the gate's epoch
+abbrev pub low_of : (n : ℕ) → List ℕ → ℕ
+low_of n words = low_at n words (to_space (epoch_of n words))
+
+-- within an epoch LOW falls by the words claimed, and after a flip it is the end of the space
+abbrev pub LowGoes : (n : ℕ) → (words later : List ℕ) → (claims : ℕ) → Told → Type 0
+LowGoes n words later claims Silent = low_of n later + claims ≡ low_of n words
+LowGoes n words later claims (Answers task outcome) = low_of n later + claims ≡ low_of n words
+LowGoes n words later claims (Marks asked) = low_of n later ≡ PAGE_WORDS * n
+
+abbrev pub LowFallsByClaims : Type 0
+LowFallsByClaims = (h : Heap) (p o : Plain) (k : ℕ) (x : Held) (q : Step) → WorkersStand h p o → k < length h.workers → held_at h k ≡ x → wanted x ≡ Some q
+    → LowGoes h.pages h.words (words_after q h.words) (words_claimed x (reply_of q h.words)) (told x (reply_of q h.words))
+
+-- ---- what a claim is for
+
+abbrev pub set_aside_by : Placing → PlaceStage → ℕ
+set_aside_by p (StoresZero new) = words_for p.header
+set_aside_by p (OpensPage new) = words_for p.header
+set_aside_by p StoresHeader = words_for p.header
+set_aside_by p stage = 0
+
+abbrev pub set_aside_at : Stage → ℕ
+set_aside_at (Places p) = set_aside_by p p.stage
+set_aside_at stage = 0
+
+-- the words of the pages that a record needs for which room was found, and which doesn't stand yet
+abbrev pub set_aside : Held → ℕ
+set_aside x = set_aside_at x.stage
+
+-- What is claimed is set aside, until the record stands for which it was claimed; who ends has nothing set aside.
+abbrev pub SetsAside : (was : Held) → (claims : ℕ) → (now : Held) → Told → Type 0
+SetsAside was claims now Silent = claims + set_aside was ≤ set_aside now
+SetsAside was claims now (Answers task Done) = claims ≡ 0
+SetsAside was claims now (Answers task (Trap end)) = claims + set_aside was ≡ 0
+SetsAside was claims now (Marks asked) = ⊤
+
+abbrev pub ClaimsAreSetAside : Type 0
+ClaimsAreSetAside = (n mutators k : ℕ) (x : Held) (reply : Reply) → Fits n mutators k x → SetsAside x (words_claimed x reply) (turned x reply) (told x reply)
+
+-- The mutator's plain one has no end, and the record that its task makes takes so many pages.
+pub record MakesRecord (p : Plain) (k : ℕ) (x : Held) (pages : ℕ) : Type 0 where
+  pub mutator : Mutator
+  pub is : slice_get p.mutators k ≡ Some mutator
+  pub no_end : mutator.end ≡ None
+  pub instr : Instr
+  pub task : x.task ≡ Some (Calls instr)
+  pub pages_are : option_map pages_of (new_record mutator instr) ≡ Some pages
+
+-- it is set aside for the record that the plain mutator's next instruction makes
+pub record IsForRecord (p : Plain) (k : ℕ) (x : Held) : Type 0 where
+  pub few : set_aside x ≤ PAGE_WORDS * pages_needed x
+  pub makes : 0 < set_aside x → MakesRecord p k x (pages_needed x)
+
+abbrev pub SetAsideIsForRecords : Type 0
+SetAsideIsForRecords = (h : Heap) (p o : Plain) (k : ℕ) (x : Held) → WorkersStand h p o → k < length h.workers → held_at h k ≡ x → IsForRecord p k x
+
+-- ---- who asks for a flip
+
+abbrev pub IsFirstBy : Held → Passage → Type 0
+IsFirstBy x Request = x.epoch ≤ x.begun
+IsFirstBy x passage = ⊤
+
+abbrev pub IsFirstAt : Held → Stage → Type 0
+IsFirstAt x (Passes g after) = IsFirstBy x g.passage
+IsFirstAt x (Flips f) = x.epoch ≤ x.begun
+IsFirstAt x stage = ⊤
+
+-- a mutator that asks for a flip has seen none since it began its instruction
+abbrev pub IsFirst : Held → Type 0
+IsFirst x = IsFirstAt x x.stage
+
+abbrev pub FlipsStayFirst : Type 0
+FlipsStayFirst = (x : Held) (reply : Reply) → IsFirst x → IsFirst (turned x reply)
+
+abbrev pub FlipsAreFirst : Type 0
+FlipsAreFirst = (x : Held) (reply : Reply) (asked : ℕ) → IsFirst x → told x reply ≡ Marks asked → x.epoch ≤ x.begun
+
+-- ---- an instruction that is not answered yet
+
+abbrev pub IsInPassage : Passage → After → Type 0
+IsInPassage Look after = ⊥
+IsInPassage Attach after = ⊥
+IsInPassage Park after = IsPastAfter after
+IsInPassage Request after = IsPastAfter after
+IsInPassage (Resume epoch) after = IsPastAfter after
+IsInPassage Forwarded after = IsPastAfter after
+IsInPassage Leave after = ⊥
+
+-- a mutator at this stage has begun an instruction, and has not answered it
+abbrev pub IsInCall : Stage → Type 0
+IsInCall Looks = ⊥
+IsInCall (Passes g after) = IsInPassage g.passage after
+IsInCall (Flips f) = ⊤
+IsInCall (Forwards w) = IsPastAfter w.after
+IsInCall (Accesses a) = ⊤
+IsInCall (Places p) = ⊤
+IsInCall (Serves d back) = IsPastBack back
+IsInCall (Scans s back) = IsPastBack back
+IsInCall (Evacuates v s back) = IsPastBack back
+IsInCall (Opens o s back) = IsPastBack back
+IsInCall Gone = ⊥
+
+-- it is in its call until it answers
+abbrev pub CallsGoOn : Type 0
+CallsGoOn = (n mutators k : ℕ) (x : Held) (reply : Reply) → Fits n mutators k x → Fits n mutators k (turned x reply) → IsInCall x.stage → IsNoAnswer (told x reply) → IsInCall (turned x reply).stage

@@ -1,0 +1,32 @@
+-- That a mutator tells the heap to be full where it is.
+use Rattle.std.specs.Prelude.{◌≡◌, ℕ, true, List, Some}
+use Rattle.plain_state.specs.declared.end.End.TheVariants.{HeapFull}
+use Rattle.atom_store.specs.declared.reply.Reply.TheVariants.{Value}
+use Rattle.space_map.specs.Spaces.{to_space}
+use Rattle.space_map.specs.Table.{Area}
+use Rattle.alloc_end.specs.declared.place_stage.PlaceStage.TheVariants.{LoadsArea}
+use Rattle.alloc_end.specs.Place.{Placing}
+use Rattle.heap_state.specs.Memory.Table.{word_in}
+use Rattle.gc_worker.specs.declared.stage.Stage.{Stage}
+use Rattle.gc_worker.specs.declared.stage.Stage.TheVariants.{Places}
+use Rattle.gc_worker.specs.declared.task.Task.{Task}
+use Rattle.gc_worker.specs.Workers.Fits.{Fits}
+use Rattle.gc_worker.specs.Plain.Full.{FindsNoRoom}
+use Rattle.gc_worker.specs.Workers.Held.{Held, at_stage, pages_needed}
+use Rattle.gc_worker.specs.declared.did.Did.TheVariants.{Trap}
+use Rattle.gc_worker.specs.Steps.Turned.{Answers, told}
+
+-- an allocation that found its epoch traced, and reads the area next
+abbrev pub found_traced : Placing → Stage
+found_traced z = Places (record z { stage = LoadsArea true })
+
+-- it answers its task by this end
+pub record TellsFull (words : List ℕ) (n : ℕ) (x : Held) (z : Placing) (room live : ℕ) : Type 0 where
+  pub task : Task
+  pub is : x.task ≡ Some task
+  pub tells : told (at_stage x (found_traced z)) (Value (word_in n words (Area (to_space x.epoch)))) ≡ Answers task (Trap (HeapFull (pages_needed x) room live))
+
+-- a mutator that found its epoch traced tells that the heap is full where it finds no room for the pages that its task asks for
+abbrev pub FullIsTold : Type 0
+FullIsTold = (n mutators k : ℕ) (words : List ℕ) (x : Held) (z : Placing) (room live : ℕ) → Fits n mutators k (at_stage x (found_traced z))
+    → FindsNoRoom n words x (pages_needed x) room live → TellsFull words n x z room live

@@ -1,0 +1,133 @@
+-- The law of a step, over the words, what all workers hold, and the plain state: in these alone a caller that steps one worker speaks.
+use Rattle.std.specs.Prelude.{◌≡◌, ℕ, ◌+◌, ◌*◌, ◌<◌, ◌≤◌, ⊤, List, [], length, map, Option, Some, None, slice_index_or, slice_set}
+use Rattle.plain_state.specs.State.{Plain}
+use Rattle.atom_store.specs.declared.step.Step.{Step}
+use Rattle.atom_store.specs.Step.{place_in, words_after, reply_of}
+use Rattle.space_map.specs.PageWord.{age_of}
+use Rattle.space_map.specs.Table.{Gate, Page, table_length}
+use Rattle.atom_store.specs.declared.reply.Reply.TheVariants.{Won}
+use Rattle.gate_core.specs.declared.flip_stage.FlipStage.TheVariants.{Exchanges}
+use Rattle.gate_core.specs.declared.reset.Reset.{Reset}
+use Rattle.gate_core.specs.Flip.{Flipping}
+use Rattle.heap_state.specs.Configuration.{Configuration, Stands, era, memory, team}
+use Rattle.heap_state.specs.Cycles.Cycle.{Cycle}
+use Rattle.heap_state.specs.Memory.Table.{word_in, page_in}
+use Rattle.space_map.specs.Spaces.{IsInSpace, to_space}
+use Rattle.gc_worker.specs.declared.forwarding_register.ForwardingRegister.{ForwardingRegister}
+use Rattle.gc_worker.specs.declared.stage.Stage.TheVariants.{Flips, Forwards, Gone}
+use Rattle.gc_worker.specs.Workers.Fits.{Fits, Takes}
+use Rattle.gc_worker.specs.Plain.Answer.{IsAnswered, after_told}
+use Rattle.gc_worker.specs.Plain.Full.{FullWhereTold}
+use Rattle.gc_worker.specs.Workers.Held.{Held, pages_needed}
+use Rattle.gc_worker.specs.Workers.Knows.{knows}
+use Rattle.gc_worker.specs.Steps.Turned.{Told, Silent, Answers, Marks, PageWon, epoch_said, turned, told, won}
+use Rattle.gc_worker.specs.Steps.Wanted.{wanted}
+
+-- ---- a heap with its workers
+
+-- the pages of a space, the words of the table, the number of mutators, and what each worker holds: the mutators first
+pub record Heap : Type 0 where
+  pub pages : ℕ
+  pub words : List ℕ
+  pub mutators : ℕ
+  pub workers : List Held
+
+-- the configuration that it is to the proofs of the heap
+abbrev pub read : Heap → Configuration
+read h = record { pages = h.pages; words = h.words; mutators = h.mutators; workers = map knows h.workers }
+
+abbrev pub nobody : Held
+nobody = record {
+  number = 0;
+  layout = record { pages = 0 };
+  mutators = 0;
+  epoch = 0;
+  begun = 0;
+  account = record { counter = 0; printed = []; executed = 0; serial = 0; end = None };
+  registers = [];
+  run = None;
+  task = None;
+  stage = Gone;
+}
+
+abbrev pub held_at : Heap → ℕ → Held
+held_at h k = slice_index_or h.workers k nobody
+
+-- The heap stands for the plain state p, and keeps what a cycle keeps that began at o. Each worker is sound, and at its own number.
+pub record WorkersStand (h : Heap) (p o : Plain) : Type 0 where
+  pub stands : Stands (read h) p
+  pub cycle : Cycle (era (read h)) (memory (read h)) (team (read h)) stands.ghost o
+  pub fit : (k : ℕ) → k < length h.workers → Fits h.pages h.mutators k (held_at h k)
+
+-- ---- a step
+
+-- worker k, which holds x, makes the step
+abbrev pub moved : Heap → (k : ℕ) → Held → Step → Heap
+moved h k x q = record h { words = words_after q h.words; workers = slice_set h.workers k (turned x (reply_of q h.words)) }
+
+-- the plain state at the last flip, after a step that is this to the plain machine
+abbrev pub at_flip : (p o : Plain) → Told → Plain
+at_flip p o Silent = o
+at_flip p o (Answers task outcome) = o
+at_flip p o (Marks asked) = p
+
+-- the epoch that the gate says
+abbrev pub epoch_of : ℕ → List ℕ → ℕ
+epoch_of n words = epoch_said 0 (word_in n words Gate)
+
+-- the epoch that a page's word says, and one more, or 0
+abbrev pub age : ℕ → List ℕ → (page : ℕ) → ℕ
+age n words page = age_of (page_in (word_in n words (Page page)))
+
+-- somebody won the page in this epoch, or it is too late to
+pub record IsOut (n : ℕ) (words : List ℕ) (w : PageWon) : Type 0 where
+  pub page : w.page ≤ 2 * n
+  pub epoch : w.epoch < age n words w.page
+
+abbrev pub WinsOne : ℕ → List ℕ → List ℕ → Option PageWon → Type 0
+WinsOne n words later None = ⊤
+WinsOne n words later (Some w) = ¬ (IsOut n words w) × IsOut n later w
+
+-- A flip is for the pages that the flipper's task asks for, and is the gate's step into the next epoch.
+pub record FlipsOnce (n : ℕ) (words later : List ℕ) (x : Held) (asked : ℕ) : Type 0 where
+  pub asked_is : asked ≡ pages_needed x
+  pub epoch : epoch_of n words ≡ x.epoch
+  pub next : epoch_of n later ≡ x.epoch + 1
+
+abbrev pub FlipsWhereTold : (n : ℕ) → (words later : List ℕ) → Held → Told → Type 0
+FlipsWhereTold n words later x Silent = epoch_of n later ≡ epoch_of n words
+FlipsWhereTold n words later x (Answers task outcome) = epoch_of n later ≡ epoch_of n words
+FlipsWhereTold n words later x (Marks asked) = FlipsOnce n words later x asked
+
+-- The step is of a word of the table, and the worker may take the reply, after which it is sound. Where it answers the task, the plain
+-- machine's mutator may come to that, and the heap stands for the plain state after it; else for the same plain state. What a cycle keeps
+-- it keeps, and a cycle begins at a flip. What is out stays out, and a page that is won was not out before and is out after. Where the
+-- heap is said to be full, it is; a flip, and nothing else, raises the epoch by one.
+pub record StepKeeps (h : Heap) (p o : Plain) (k : ℕ) (x : Held) (q : Step) : Type 0 where
+  pub place : place_in q < length h.words
+  pub takes : Takes x (reply_of q h.words)
+  pub fits : Fits h.pages h.mutators k (turned x (reply_of q h.words))
+  pub answered : IsAnswered p k (told x (reply_of q h.words))
+  pub stands : WorkersStand (moved h k x q) (after_told p k (told x (reply_of q h.words))) (at_flip p o (told x (reply_of q h.words)))
+  pub kept : (w : PageWon) → IsOut h.pages h.words w → IsOut h.pages (words_after q h.words) w
+  pub wins : WinsOne h.pages h.words (words_after q h.words) (won x (reply_of q h.words))
+  pub full : FullWhereTold h.pages h.words x (told x (reply_of q h.words))
+  pub flips : FlipsWhereTold h.pages h.words (words_after q h.words) x (told x (reply_of q h.words))
+
+abbrev pub StepsKeep : Type 0
+StepsKeep = (h : Heap) (p o : Plain) (k : ℕ) (x : Held) (q : Step) → WorkersStand h p o → k < length h.workers → held_at h k ≡ x → wanted x ≡ Some q
+    → StepKeeps h p o k x q
+
+-- the exchange of a flip is never lost
+abbrev pub FlipsAreWon : Type 0
+FlipsAreWon = (h : Heap) (p o : Plain) (k : ℕ) (x : Held) (f : Flipping) (r : Reset) (q : Step) → WorkersStand h p o → k < length h.workers → held_at h k ≡ x
+    → x.stage ≡ Flips (record f { stage = Exchanges r }) → wanted x ≡ Some q → reply_of q h.words ≡ Won
+
+-- The place of a step is in the table by what the worker holds alone: a caller asks for it before it knows any word.
+abbrev pub PlacesFit : Type 0
+PlacesFit = (n mutators k : ℕ) (x : Held) (q : Step) → Fits n mutators k x → wanted x ≡ Some q → place_in q < table_length n
+
+-- a register whose record is being copied leads into the space that was copied into in the mutator's own epoch
+abbrev pub RegistersLeadBack : Type 0
+RegistersLeadBack = (h : Heap) (p o : Plain) (k : ℕ) (x : Held) (w : ForwardingRegister) → WorkersStand h p o → k < length h.workers → held_at h k ≡ x
+    → x.stage ≡ Forwards w → IsInSpace h.pages w.evac.addr (to_space x.epoch)

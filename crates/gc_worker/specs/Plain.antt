@@ -1,0 +1,4 @@
+pub mod Seen
+pub mod Answer
+pub mod Full
+pub mod Marks

@@ -1,0 +1,142 @@
+-- What a worker's code keeps and tells of what it holds.
+use Rattle.std.specs.Prelude.{◌≡◌, ℕ, ◌^◌, ◌<◌, ◌≤◌, ⊤, Bool, Option, Some, None, true, false, nat_lt}
+use Rattle.plain_state.specs.declared.end.End.{End}
+use Rattle.plain_state.specs.declared.sizes.TheConstants.{MOST_PRINTED, NUMBERS}
+use Rattle.plain_state.specs.declared.value.Value.{Value}
+use Rattle.plain_state.specs.declared.value.Value.TheVariants.{Number, Reference}
+use Rattle.plain_state.specs.State.{Mutator}
+use Rattle.mutator_asm.specs.declared.instr.Instr.{Instr}
+use Rattle.gc_worker.specs.declared.stage.Stage.{Stage}
+use Rattle.gc_worker.specs.declared.stage.Stage.TheVariants.{Looks, Passes, Flips, Forwards, Accesses, Places, Serves, Scans, Evacuates, Opens, Gone}
+use Rattle.gc_worker.specs.declared.did.Did.TheVariants.{Done, Trap}
+use Rattle.gc_worker.specs.declared.due.Due.{Due}
+use Rattle.gc_worker.specs.declared.due.Due.TheVariants as due
+use Rattle.gc_worker.specs.declared.stepped.Stepped.{Stepped}
+use Rattle.gc_worker.specs.declared.stepped.Stepped.TheVariants.{Moved, Effect, Flipped, Ended}
+use Rattle.gc_worker.specs.declared.task.Task.{Task}
+use Rattle.gc_worker.specs.declared.task.Task.TheVariants.{Calls, Stops}
+use Rattle.gc_worker.specs.Workers.Counted.{counted}
+use Rattle.gc_worker.specs.Workers.Fits.{Fits}
+use Rattle.forwarding.specs.Keeping as keeping
+use Rattle.forwarding.specs.Keeping.{kept_word, reserved_word}
+use Rattle.fault_duty.specs.declared.round_end.RoundEnd.{RoundEnd}
+use Rattle.fault_duty.specs.declared.round_end.RoundEnd.TheVariants.{ScanPage, ScanInPlace, Marked, AllLeft, NothingNow}
+use Rattle.gc_worker.specs.declared.back.Back.{Back}
+use Rattle.gc_worker.specs.declared.back.Back.TheVariants.{ToScanner}
+use Rattle.gc_worker.specs.Workers.Held.{Held, at_stage}
+use Rattle.gc_worker.specs.Plain.Seen.{seen}
+use Rattle.gc_worker.specs.Steps.Turned as turned
+
+-- the task, kept flat: which kind it is, and beside it an instruction and an end
+abbrev pub task_due : Due → Instr → End → Option Task
+task_due due.Nothing instr end = None
+task_due due.Call instr end = Some (Calls instr)
+task_due due.Stop instr end = Some (Stops end)
+
+-- The instructions that a mutator has executed are not counted by its code: on threads no number bounds them, and nobody reads
+-- them there. So it holds this.
+abbrev pub uncounted : Held → Held
+uncounted x = counted 0 x
+
+-- it looks at the gate, and has no task
+abbrev pub awaits_at : Stage → Option Task → Bool
+awaits_at Looks None = true
+awaits_at stage task = false
+
+abbrev pub awaits : Held → Bool
+awaits x = awaits_at x.stage x.task
+
+-- a worker fits a heap of its own layout
+abbrev pub IsSound : Held → Type 0
+IsSound x = Fits x.layout.pages x.mutators x.number x
+
+-- a mutator has room for all that it may print
+abbrev pub HasRoomToPrint : (number mutators capacity : ℕ) → Type 0
+HasRoomToPrint number mutators capacity = nat_lt number mutators ≡ true → MOST_PRINTED ≤ capacity
+
+-- what is told of a step of worker k
+abbrev pub stepped_by : (k : ℕ) → turned.Told → Stepped
+stepped_by k turned.Silent = Moved
+stepped_by k (turned.Answers task Done) = Effect k
+stepped_by k (turned.Answers task (Trap end)) = Ended k end
+stepped_by k (turned.Marks asked) = Flipped asked
+
+-- ---- what is seen
+
+-- the mutator that a worker sees in itself
+abbrev pub seen_by : Held → Mutator
+seen_by x = seen x.account x.registers
+
+-- the number or address of a value that is seen fits a word
+abbrev pub FitsValue : Value → Type 0
+FitsValue (Number n) = n < NUMBERS
+FitsValue (Reference i) = i.serial < 2 ^ 32
+
+-- ---- which machine is at work
+
+abbrev pub IsAtGate : Stage → Type 0
+IsAtGate (Passes g after) = ⊤
+IsAtGate _ = ⊥
+
+abbrev pub IsFlipping : Stage → Type 0
+IsFlipping (Flips f) = ⊤
+IsFlipping _ = ⊥
+
+abbrev pub IsForwarding : Stage → Type 0
+IsForwarding (Forwards w) = ⊤
+IsForwarding _ = ⊥
+
+abbrev pub IsAtAccess : Stage → Type 0
+IsAtAccess (Accesses a) = ⊤
+IsAtAccess _ = ⊥
+
+abbrev pub IsPlacing : Stage → Type 0
+IsPlacing (Places p) = ⊤
+IsPlacing _ = ⊥
+
+abbrev pub IsServing : Stage → Type 0
+IsServing (Serves d back) = ⊤
+IsServing _ = ⊥
+
+abbrev pub IsAtScan : Stage → Type 0
+IsAtScan (Scans s back) = ⊤
+IsAtScan _ = ⊥
+
+abbrev pub IsEvacuating : Stage → Type 0
+IsEvacuating (Evacuates v s back) = ⊤
+IsEvacuating _ = ⊥
+
+abbrev pub IsOpening : Stage → Type 0
+IsOpening (Opens o s back) = ⊤
+IsOpening _ = ⊥
+
+-- a register and where it leads
+abbrev pub pointed : ℕ × ℕ → turned.Pointed
+pointed p = record { register = p.0; addr = p.1 }
+
+-- what the worker goes back to after its round
+abbrev pub back_at : Stage → Back
+back_at (Serves d back) = back
+back_at _ = ToScanner
+
+-- what a round of this epoch comes to
+abbrev pub served_in : Held → (epoch : ℕ) → Back → RoundEnd → Held
+served_in x epoch back (ScanPage page) = turned.scans (record x { epoch = epoch }) page false back
+served_in x epoch back (ScanInPlace page) = turned.scans (record x { epoch = epoch }) page true back
+served_in x epoch back Marked = turned.back_from (record x { epoch = epoch }) back
+served_in x epoch back (NothingNow word) = turned.back_from (record x { epoch = epoch }) back
+served_in x epoch back (AllLeft word) = at_stage x Gone
+
+-- ---- what a worker keeps of a copy
+
+-- the header that it keeps, as a word, or 0
+abbrev pub header_kept : Stage → ℕ
+header_kept (Forwards w) = kept_word (keeping.header_kept w.evac.stage)
+header_kept (Evacuates v s back) = kept_word (keeping.header_kept v.stage)
+header_kept _ = 0
+
+-- the address that it has reserved and one more, or 0
+abbrev pub place_kept : Stage → ℕ
+place_kept (Forwards w) = reserved_word (keeping.address_reserved w.evac.stage)
+place_kept (Evacuates v s back) = reserved_word (keeping.address_reserved v.stage)
+place_kept _ = 0

@@ -1,0 +1,5 @@
+pub mod Held
+pub mod Knows
+pub mod Fits
+pub mod Begun
+pub mod Counted

@@ -1,0 +1,68 @@
+-- What a worker holds between two steps, and what its task asks for.
+use Rattle.std.specs.Prelude.{ℕ, ◌+◌, List, Option, Some, None}
+use Rattle.std.specs.Option.{option_and_then}
+use Rattle.heap_words.specs.Decoded.{HeaderWord}
+use Rattle.record_layout.specs.declared.header.Header.{Header}
+use Rattle.record_layout.specs.Layout.{header_in}
+use Rattle.space_map.specs.Spaces.{Layout}
+use Rattle.plain_heap.specs.Action.{action}
+use Rattle.alloc_end.specs.declared.run.Run.{Run}
+use Rattle.alloc_end.specs.Place.{size_of, pages_for}
+use Rattle.heap_state.specs.Invariant.Ghost.{header_kind}
+use Rattle.heap_state.specs.Worker.{Account}
+use Rattle.gc_worker.specs.Plain.Seen.{Making, making_in, seen}
+use Rattle.gc_worker.specs.declared.stage.Stage.{Stage}
+use Rattle.gc_worker.specs.declared.task.Task.{Task}
+use Rattle.gc_worker.specs.declared.task.Task.TheVariants.{Calls, Stops}
+
+-- A worker: its number, the layout of the heap and the number of mutators, which never change; its epoch, and that at the look which
+-- began its instruction; its account, its eight registers, and its run; the task that it was given and has not answered; and
+-- what it is about to do.
+pub record Held : Type 0 where
+  pub number : ℕ
+  pub layout : Layout
+  pub mutators : ℕ
+  pub epoch : ℕ
+  pub begun : ℕ
+  pub account : Account
+  pub registers : List ℕ
+  pub run : Option Run
+  pub task : Option Task
+  pub stage : Stage
+
+abbrev pub at_stage : Held → Stage → Held
+at_stage x stage = record x { stage = stage }
+
+-- ---- the record that the task asks for
+
+-- the record that an instruction makes of these registers
+abbrev pub making_for : Held → Option Task → Option Making
+making_for x (Some (Calls instr)) = making_in (action (seen x.account x.registers) instr)
+making_for x (Some (Stops end)) = None
+making_for x None = None
+
+-- the header of the worker's next record, which is this
+abbrev pub header_of : Held → Making → Option Header
+header_of x m = header_in (HeaderWord (header_kind m.kind) m.len (x.account.serial + 1) x.number)
+
+-- the header of the record that the task makes, if it does
+abbrev pub header_for : Held → Option Header
+header_for x = option_and_then (header_of x) (making_for x x.task)
+
+abbrev pub pages_asked : Option Header → ℕ
+pages_asked (Some header) = pages_for (size_of header)
+pages_asked None = 0
+
+-- the pages that it needs
+abbrev pub pages_needed : Held → ℕ
+pages_needed x = pages_asked (header_for x)
+
+-- ---- the run
+
+-- a mutator that has no run has one without words
+abbrev pub run_in : Option Run → Run
+run_in (Some run) = run
+run_in None = record { at = 0; end = 0 }
+
+abbrev pub run_held : Held → Run
+run_held x = run_in x.run

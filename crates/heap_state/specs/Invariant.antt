@@ -1,0 +1,4 @@
+pub mod Ghost
+pub mod Parts
+pub mod Inductive
+pub mod Holds

@@ -1,0 +1,5 @@
+pub mod Values
+pub mod Denotes
+pub mod Dump
+pub mod Represents
+pub mod Reachable

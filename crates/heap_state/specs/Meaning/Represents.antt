@@ -1,0 +1,101 @@
+-- What it means that a dump or a configuration represents a state of the plain machine.
+use Rattle.std.specs.Prelude.{◌≡◌, ◌≢◌, ℕ, ◌+◌, ◌<◌, ◌≤◌, ◌⊎◌, true, length, Contains, Option, Some, None, slice_get}
+use Rattle.heap_words.specs.declared.kind.Kind.{Kind as HeaderKind}
+use Rattle.heap_words.specs.Decoded.{Decoded, PointerWord, HeaderWord, decode}
+use Rattle.plain_state.specs.declared.kind.Kind.{Kind}
+use Rattle.plain_state.specs.State as plain
+use Rattle.plain_state.specs.Layout.{is_field}
+use Rattle.plain_state.specs.declared.value.Value.{Value}
+use Rattle.heap_state.specs.Configuration.{Configuration, team}
+use Rattle.heap_state.specs.Meaning.Denotes.{denoted_in, own_header_in}
+use Rattle.heap_state.specs.Meaning.Dump.{Dump, dump_of}
+use Rattle.heap_state.specs.Memory.Era.{era_of}
+use Rattle.heap_state.specs.Invariant.Ghost.{said_kind}
+use Rattle.heap_state.specs.Memory.Table.{Table}
+use Rattle.heap_state.specs.Meaning.Values.{Shows, Accounts}
+use Rattle.heap_state.specs.Memory.Walk.{Walked, walk_in, old_walk_in, IsWalkable, IsOldReadable}
+
+-- ---- the heap's records
+
+-- the epoch is not traced, and the old space has records of the heap too
+abbrev pub IsCopying : Table → Type 0
+IsCopying t = t.traced ≢ t.gate.epoch + 1
+
+-- a record in the walk of the epoch's space; or, while the epoch is not traced, in that of the old space
+abbrev pub IsInHeap : Dump → Walked → Type 0
+IsInHeap d w = Contains (walk_in d.table d.kept) w ⊎ (IsCopying d.table × Contains (old_walk_in d.table d.kept) w)
+
+-- the header of a record that stands at an address
+abbrev pub own_header : Dump → ℕ → Decoded
+own_header d a = own_header_in d.kept (decode (d.table.heap a))
+
+-- the value that a word denotes
+abbrev pub denoted_in_dump : Dump → ℕ → Option Value
+denoted_in_dump d = denoted_in d.table.heap d.kept
+
+-- a record whose own header, with the word after it, says its kind, length, serial and mutator
+pub record IsOwn (d : Dump) (w : Walked) (kind : Kind) (len serial mutator : ℕ) : Type 0 where
+  pub walked : IsInHeap d w
+  pub head : HeaderKind
+  pub header : own_header d w.at ≡ HeaderWord head len serial mutator
+  pub said : kind ≡ said_kind head (d.table.heap (w.at + 1))
+
+-- the record has a header of its own, in its place or kept by a worker
+pub record HasOwn (d : Dump) (w : Walked) : Type 0 where
+  pub kind : Kind
+  pub len : ℕ
+  pub serial : ℕ
+  pub mutator : ℕ
+  pub own : IsOwn d w kind len serial mutator
+
+-- the word of the record is a field
+pub record IsFieldOf (w : Walked) (kind : Kind) (i : ℕ) : Type 0 where
+  pub inside : (0 < i) × (i < w.size)
+  pub field : is_field kind i ≡ true
+
+-- where the word is a pointer, it leads to a record in the heap
+abbrev pub LeadsToRecord : Dump → ℕ → Type 0
+LeadsToRecord d word = (a : ℕ) → decode word ≡ PointerWord a → (size : ℕ) × IsInHeap d (record { at = a; size = size })
+
+-- ---- place by place
+
+-- register j of mutator m, where this has no end, denotes the plain value, and leads to a record if it is a pointer
+pub record RegisterShows (d : Dump) (p : plain.Plain) (m j : ℕ) : Type 0 where
+  pub shows : (q : plain.Mutator) → slice_get p.mutators m ≡ Some q → q.end ≡ None → denoted_in_dump d (d.registers m j) ≡ slice_get q.registers j
+  pub leads : (q : plain.Mutator) → slice_get p.mutators m ≡ Some q → q.end ≡ None → LeadsToRecord d (d.registers m j)
+
+-- word x of the board denotes the plain value, and leads to a record if it is a pointer
+pub record BoardWordShows (d : Dump) (p : plain.Plain) (x : ℕ) : Type 0 where
+  pub shows : denoted_in_dump d (d.table.heap ((era_of d.table).board + x)) ≡ slice_get p.heap.board x
+  pub leads : LeadsToRecord d (d.table.heap ((era_of d.table).board + x))
+
+-- A record in the walk of the epoch's space has its own header. One that has its own header has that many words,
+-- and shows the plain record of its identity. Its fields lead to records if they are pointers. No record before it
+-- that has its own header is of its identity, so that of two it is the later one that is wrong.
+pub record RecordShows (d : Dump) (p : plain.Plain) (w : Walked) : Type 0 where
+  pub owns : Contains (walk_in d.table d.kept) w → HasOwn d w
+  pub shows : (kind : Kind) (len serial mutator : ℕ) → IsOwn d w kind len serial mutator
+      → (w.size ≡ len + 1)
+      × ((r : plain.Record) × (plain.record_of p.heap (record { mutator = mutator; serial = serial }) ≡ Some r) × Shows (denoted_in_dump d) d.table.heap w.at kind w.size r)
+  pub leads : (kind : Kind) (len serial mutator i : ℕ) → IsOwn d w kind len serial mutator → IsFieldOf w kind i → LeadsToRecord d (d.table.heap (w.at + i))
+  pub once : (v : Walked) (kind other : Kind) (len longer serial mutator : ℕ) → IsOwn d w kind len serial mutator → IsOwn d v other longer serial mutator → w.at ≤ v.at
+
+-- ---- the whole
+
+-- The dump represents the plain state: this has as many mutators, of eight registers each, and a board of sixteen words; each
+-- register, each board word and each record in the heap shows what is in its place; and no walk stops at a word that it can't
+-- read.
+pub record DumpRepresents (d : Dump) (p : plain.Plain) : Type 0 where
+  pub as_many : (length p.mutators ≡ d.mutators) × (length p.heap.records ≡ d.mutators)
+  pub eight : (m : ℕ) (q : plain.Mutator) → slice_get p.mutators m ≡ Some q → length q.registers ≡ 8
+  pub sixteen : length p.heap.board ≡ 16
+  pub registers : (m j : ℕ) → j < 8 → RegisterShows d p m j
+  pub board : (x : ℕ) → x < 16 → BoardWordShows d p x
+  pub readable : IsWalkable d.table d.kept
+  pub old_readable : IsCopying d.table → IsOldReadable d.table d.kept
+  pub records : (w : Walked) → IsInHeap d w → RecordShows d p w
+
+-- The configuration represents the plain state: its dump does, and mutators have what their plain mutators have.
+pub record Represents (c : Configuration) (p : plain.Plain) : Type 0 where
+  pub accounts : (k : ℕ) (q : plain.Mutator) → slice_get p.mutators k ≡ Some q → Accounts p.heap k ((team c).worker k).account q
+  pub dump : DumpRepresents (dump_of c) p

@@ -1,0 +1,96 @@
+-- Rows of the table with what they say, and tables written from a list of these.
+use Rattle.std.specs.Prelude.{ℕ, ◌*◌, ◌<◌, ◌≤◌, ⊤, false, List, [], ◌∷◌, replicate, slice_set}
+use Rattle.space_map.specs.declared.area_word.AreaWord.{AreaWord}
+use Rattle.space_map.specs.declared.gate_word.GateWord.{GateWord}
+use Rattle.space_map.specs.declared.page_word.PageWord.{PageWord}
+use Rattle.space_map.specs.declared.page_word.PageWord.TheVariants.{Unset}
+use Rattle.space_map.specs.AreaWord.{AreaFits, encode_area}
+use Rattle.space_map.specs.GateWord.{GateFits, encode_gate}
+use Rattle.space_map.specs.PageWord.{PageFits, encode_page}
+use Rattle.space_map.specs.Table.{Row, Gate, Traced, Area, Page, Cross, HeapWord, Announce, IsRow, place_of, table_length}
+use Rattle.heap_state.specs.Functions.{put}
+use Rattle.heap_state.specs.Memory.Table.{Table}
+
+-- a row and what it says
+pub data Entry : Type 0 where
+  GateIs : GateWord → Entry
+  TracedIs : ℕ → Entry
+  AreaIs : (space : ℕ) → AreaWord → Entry
+  PageIs : (page : ℕ) → PageWord → Entry
+  CrossIs : (page place : ℕ) → Entry
+  WordIs : (addr word : ℕ) → Entry
+  AnnounceIs : (worker place : ℕ) → Entry
+
+abbrev pub row_of : Entry → Row
+row_of (GateIs gate) = Gate
+row_of (TracedIs word) = Traced
+row_of (AreaIs space area) = Area space
+row_of (PageIs page word) = Page page
+row_of (CrossIs page place) = Cross page
+row_of (WordIs addr word) = HeapWord addr
+row_of (AnnounceIs worker place) = Announce worker
+
+-- the word that says it
+abbrev pub word_of : Entry → ℕ
+word_of (GateIs gate) = encode_gate gate
+word_of (TracedIs word) = word
+word_of (AreaIs space area) = encode_area area
+word_of (PageIs page word) = encode_page word
+word_of (CrossIs page place) = place
+word_of (WordIs addr word) = word
+word_of (AnnounceIs worker place) = place
+
+-- its parts fit the word, and the table has the row
+abbrev pub EntryFits : ℕ → Entry → Type 0
+EntryFits n (GateIs gate) = GateFits gate
+EntryFits n (TracedIs word) = ⊤
+EntryFits n (AreaIs space area) = (space < 2) × AreaFits area
+EntryFits n (PageIs page word) = (page ≤ 2 * n) × PageFits word
+EntryFits n (CrossIs page place) = IsRow n (Cross page)
+EntryFits n (WordIs addr word) = IsRow n (HeapWord addr)
+EntryFits n (AnnounceIs worker place) = IsRow n (Announce worker)
+
+-- the table where the row says it
+abbrev pub with_entry : Entry → Table → Table
+with_entry (GateIs gate) t = record t { gate = gate }
+with_entry (TracedIs word) t = record t { traced = word }
+with_entry (AreaIs space area) t = record t { area = put t.area space area }
+with_entry (PageIs page word) t = record t { page = put t.page page word }
+with_entry (CrossIs page place) t = record t { cross = put t.cross page place }
+with_entry (WordIs addr word) t = record t { heap = put t.heap addr word }
+with_entry (AnnounceIs worker place) t = record t { announced = put t.announced worker place }
+
+-- ---- whole tables
+
+-- the words of a table, all 0
+abbrev pub blank_words : ℕ → List ℕ
+blank_words n = replicate (table_length n) 0
+
+-- what they say
+abbrev pub blank_table : ℕ → Table
+blank_table n = record {
+  pages = n;
+  in_use = λ space. n;
+  gate = record { epoch = 0; live = 0; running = 0; behind = 0; request = false; left = 0 };
+  traced = 0;
+  area = λ space. record { front = 0; low = 0; owed = 0 };
+  page = λ page. Unset;
+  cross = λ page. 0;
+  heap = λ addr. 0;
+  announced = λ worker. 0;
+}
+
+-- the words after these rows were written, the last of the list first
+abbrev pub written : ℕ → List Entry → List ℕ
+written n [] = blank_words n
+written n (e ∷ entries) = slice_set (written n entries) (place_of n (row_of e)) (word_of e)
+
+-- the table after that
+abbrev pub table_with : ℕ → List Entry → Table
+table_with n [] = blank_table n
+table_with n (e ∷ entries) = with_entry e (table_with n entries)
+
+-- each entry fits
+abbrev pub EachFits : ℕ → List Entry → Type 0
+EachFits n [] = ⊤
+EachFits n (e ∷ entries) = EntryFits n e × EachFits n entries
