@@ -1,10 +1,10 @@
 -- How a call goes whose ends never fail.
 use Rattle.std.proofs.Common.{◌≡◌, ◌≤◌, ℕ, List, [], length, Some, refl, inl, inr}
 use Rattle.std.specs.Prelude.{◌⊎◌}
-use Rattle.ael_commands.specs.declared.job.Job.{Job}
-use Rattle.ael_commands.specs.declared.job.Job.TheVariants.{Asm, Bench, Run, Sim}
-use Rattle.ael_commands.specs.declared.operands.BenchOperands.{BenchOperands}
-use Rattle.ael_commands.specs.declared.reading.TheConstants.{LONGEST_INPUT}
+use Rattle.ael_commands.specs.declared.arguments.job.Job.{Job}
+use Rattle.ael_commands.specs.declared.arguments.job.Job.TheVariants.{Asm, Bench, Run, Sim}
+use Rattle.ael_commands.specs.declared.arguments.operands.BenchOperands.{BenchOperands}
+use Rattle.ael_commands.specs.declared.streams.reading.TheConstants.{LONGEST_INPUT}
 use Rattle.ael_commands.specs.Calls.Call.{Call}
 use Rattle.ael_commands.specs.Streams.Ends.{IsFaultless}
 use Rattle.ael_commands.specs.Calls.Headline.{IsComplete, IsDone}

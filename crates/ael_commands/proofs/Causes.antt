@@ -7,11 +7,11 @@ use Rattle.mutator_asm.specs.declared.instr.Instr.{Instr}
 use Rattle.mutator_asm.specs.declared.item.Item.{Item}
 use Rattle.mutator_asm.specs.Text.{IsText}
 use Rattle.benchmark.specs.Text.{bench_text}
-use Rattle.ael_commands.specs.declared.job.Job.{Job}
-use Rattle.ael_commands.specs.declared.job.Job.TheVariants.{Asm, Bench, Run, Sim}
-use Rattle.ael_commands.specs.declared.operands.BenchOperands.{BenchOperands}
-use Rattle.ael_commands.specs.declared.options.RunOptions.{RunOptions}
-use Rattle.ael_commands.specs.declared.options.SimOptions.{SimOptions}
+use Rattle.ael_commands.specs.declared.arguments.job.Job.{Job}
+use Rattle.ael_commands.specs.declared.arguments.job.Job.TheVariants.{Asm, Bench, Run, Sim}
+use Rattle.ael_commands.specs.declared.arguments.operands.BenchOperands.{BenchOperands}
+use Rattle.ael_commands.specs.declared.arguments.options.RunOptions.{RunOptions}
+use Rattle.ael_commands.specs.declared.arguments.options.SimOptions.{SimOptions}
 use Rattle.ael_commands.specs.declared.status.Status.{Status}
 use Rattle.ael_commands.specs.declared.status.Status.TheVariants.{Done, Text, Usage, Ended, StepsOut, ReadFault, WriteFault, NoMemory, TooLong}
 use Rattle.ael_commands.specs.Calls.Answer.{IsCaused, IsDrawnFor, Made, Refused, Unread, OutOfMemory}

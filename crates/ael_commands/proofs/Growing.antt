@@ -3,7 +3,7 @@ use Rattle.std.proofs.Common.{◌≤◌, ◌+◌, ◌≡◌, ℕ, List, ◌++◌
 use Rattle.std.specs.Prelude.{◌<◌, IfSome, Option, Some, None}
 use Rattle.std.proofs.lemmas.List.{take-append-drop, length-append, length-take}
 use Rattle.std.proofs.Math.Seq.{take-append_seam}
-use Rattle.ael_commands.specs.declared.reading.TheConstants.{LONGEST_INPUT}
+use Rattle.ael_commands.specs.declared.streams.reading.TheConstants.{LONGEST_INPUT}
 use Rattle.ael_commands.specs.Streams.Input.{IsPastLimit, IsReadToEnd}
 use Rattle.ael_commands.specs.Streams.Stream.{Gives, Grows, GrowsByPrefix, IsFront}
 

@@ -5,8 +5,8 @@ use Rattle.std.specs.Io.KnownBytes.{Appends, Consumes, IsAtEnd, Keeps, ReadConsu
 use Rattle.std.proofs.lemmas.Grind.{common_steps}
 use Rattle.std.proofs.lemmas.Result.{MatchResult-at_ok}
 use Rattle.ael_commands.specs.Streams.Stream.{ReadsKnown, WritesKnown}
-use Rattle.ael_commands.specs.declared.sink.Put.TheVariants as put
-use Rattle.ael_commands.specs.declared.source.Got.TheVariants as got
+use Rattle.ael_commands.specs.declared.streams.sink.Put.TheVariants as put
+use Rattle.ael_commands.specs.declared.streams.source.Got.TheVariants as got
 
 -- what stays over two tries
 pub stays : (old mid new : Option (List ℕ)) → Keeps old mid → Keeps mid new → Keeps old new

@@ -8,7 +8,7 @@ use Rattle.plain_heap.specs.Print.{lines_seen, order_line, plain_seen}
 use Rattle.gc_core.specs.Core.{CoreState}
 use Rattle.gc_core.specs.Readers.{seen_of}
 use Rattle.gc_core.specs.Run.{Ran}
-use Rattle.ael_commands.specs.declared.options.SimOptions.{SimOptions}
+use Rattle.ael_commands.specs.declared.arguments.options.SimOptions.{SimOptions}
 use Rattle.ael_commands.specs.declared.status.Status.{Status}
 use Rattle.ael_commands.specs.Runs.Run.{IsRun, IsRunOf, Scheduled}
 use Rattle.ael_commands.specs.Runs.Verdict.{status_seen}

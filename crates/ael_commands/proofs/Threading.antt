@@ -18,13 +18,13 @@ use Rattle.gc_worker.specs.Laws.Step.{Heap, WorkersStand}
 use Rattle.gc_core.specs.Readers.{mutators_in}
 use Rattle.gc_core.specs.Run.{Ran}
 use Rattle.gc_core.specs.Told.{IsToldOf, WhatStandsIsTold}
-use Rattle.ael_threads.specs.declared.outputs.Outputs.{Outputs}
-use Rattle.ael_threads.specs.declared.outputs.Printed.{Printed}
+use Rattle.ael_threads.specs.declared.programs.outputs.Outputs.{Outputs}
+use Rattle.ael_threads.specs.declared.programs.outputs.Printed.{Printed}
 use Rattle.ael_threads.specs.Opened.{plan_of}
 use Rattle.ael_threads.specs.Outputs.{Runs, as_kept, printed_by}
 use Rattle.gc_worker.specs.History.Order.{order_of}
 use Rattle.ael_threads.specs.Rule.{heap_of}
-use Rattle.ael_commands.specs.declared.options.RunOptions.{RunOptions}
+use Rattle.ael_commands.specs.declared.arguments.options.RunOptions.{RunOptions}
 use Rattle.ael_commands.specs.declared.status.Status.{Status}
 use Rattle.ael_commands.specs.Runs.ClosedHeap.{HasClosed, IsWholeHeap, told_by}
 use Rattle.ael_commands.specs.Runs.Run.{IsRun, Threaded}

@@ -9,8 +9,8 @@ ghost use Rattle.ael_commands.specs.Runs.Run.{IsRun, Scheduled};
 ghost use Rattle.mutator_asm.specs.Text.{IsText};
 
 use crate::answer::Answer;
-use crate::operands::BenchOperands;
-use crate::sim::sim;
+use crate::arguments::operands::BenchOperands;
+use crate::runs::sim::sim;
 use benchmark::{bench_text, benchmarks_are_texts};
 use mutator_asm::{AsmError, Program, assemble, never_both};
 use plain_heap::NoMemory;

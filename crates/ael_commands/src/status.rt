@@ -2,7 +2,7 @@
 
 ghost use Rattle.std.specs.Prelude.{◌≡◌};
 
-use crate::reading::ReadError;
+use crate::streams::reading::ReadError;
 use gc_core::OpenError;
 use mutator_asm::AsmError;
 use plain_heap::NoMemory;

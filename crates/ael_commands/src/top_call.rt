@@ -11,10 +11,10 @@ ghost use Rattle.ael_commands.specs.Arguments.Words.{job_of};
 
 use crate::answer::Answer;
 use crate::answering::{answer, answer_still};
-use crate::sink::Sink;
-use crate::source::Source;
-use crate::words::read_words;
-use crate::writing::emit;
+use crate::streams::sink::Sink;
+use crate::streams::source::Source;
+use crate::arguments::words::read_words;
+use crate::streams::writing::emit;
 use mutator_asm::{listing_is_a_text, never_both, one_program};
 use plain_heap::alone_mutators_are_independent;
 use std::alloc::Global;

@@ -21,12 +21,12 @@ use Rattle.gc_worker.specs.Laws.Step.{Heap, WorkersStand, epoch_of, read}
 use Rattle.gc_worker.specs.Plain.Marks.{EachActs}
 use Rattle.gc_worker.specs.Readers.{cycles_in, kept_in, live_in, live_said, registers_in, seen_in}
 use Rattle.gc_worker.specs.Steps.Stepped.{header_kept, place_kept}
-use Rattle.gc_worker.specs.declared.entry.Entry.{Entry}
+use Rattle.gc_worker.specs.declared.calls.entry.Entry.{Entry}
 use Rattle.ael_threads.specs.declared.view.Plan.{Plan}
-use Rattle.ael_threads.specs.declared.outputs.Outputs.{Outputs}
-use Rattle.ael_threads.specs.declared.outputs.Printed.{Printed}
-use Rattle.ael_threads.specs.declared.outputs.RunError.{RunError}
-use Rattle.ael_threads.specs.declared.outputs.RunError.TheVariants as runs
+use Rattle.ael_threads.specs.declared.programs.outputs.Outputs.{Outputs}
+use Rattle.ael_threads.specs.declared.programs.outputs.Printed.{Printed}
+use Rattle.ael_threads.specs.declared.programs.outputs.RunError.{RunError}
+use Rattle.ael_threads.specs.declared.programs.outputs.RunError.TheVariants as runs
 use Rattle.gc_worker.specs.History.Needs.{EachFullIs, EachMayCome, HasNoFull, IsEnoughForOne, IsLargeEnough, flips_in}
 use Rattle.gc_worker.specs.History.Needs as needs
 use Rattle.gc_worker.specs.History.Tally.{EachEntry, EntryIs, tasks_held, tally}

@@ -6,9 +6,9 @@ use Rattle.plain_state.specs.declared.end.End.TheVariants.{JumpOut, TurnsOut}
 use Rattle.plain_state.specs.State.{Mutator, Plain, serial_of}
 use Rattle.mutator_asm.specs.declared.instr.Instr.{Instr}
 use Rattle.mutator_asm.specs.Program.{instr_at}
-use Rattle.gc_worker.specs.declared.did.Did.{Did}
-use Rattle.gc_worker.specs.declared.did.Did.TheVariants.{Done, Trap}
-use Rattle.gc_worker.specs.declared.entry.Entry.{Entry}
+use Rattle.gc_worker.specs.declared.calls.did.Did.{Did}
+use Rattle.gc_worker.specs.declared.calls.did.Did.TheVariants.{Done, Trap}
+use Rattle.gc_worker.specs.declared.calls.entry.Entry.{Entry}
 use Rattle.gc_worker.specs.History.Legal.{after_all}
 use Rattle.gc_worker.specs.History.Order.{AreFetched, AreShort}
 use Rattle.ael_threads.specs.Histories.{first_plain}

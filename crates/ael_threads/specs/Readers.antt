@@ -1,8 +1,8 @@
 -- What a caller shows.
 use Rattle.std.specs.Prelude.{◌≡◌, ℕ, ◌+◌, ◌-◌, ◌^◌, ◌<◌, length, min}
 use Rattle.heap_words.specs.Decoded.{NumberWord, PointerWord, decode}
-use Rattle.gc_worker.specs.declared.stepped.Stepped.{Stepped}
-use Rattle.gc_worker.specs.declared.stepped.Stepped.TheVariants.{Idle}
+use Rattle.gc_worker.specs.declared.steps.stepped.Stepped.{Stepped}
+use Rattle.gc_worker.specs.declared.steps.stepped.Stepped.TheVariants.{Idle}
 use Rattle.ael_threads.specs.Seats.{Seated, first_number, plain_after_seen}
 use Rattle.ael_threads.specs.declared.mutator.Reg.{Reg}
 use Rattle.ael_threads.specs.declared.mutator.Reg.TheVariants.{Number, Pointer}

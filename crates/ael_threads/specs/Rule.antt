@@ -9,7 +9,7 @@ use Rattle.gc_worker.specs.Laws.Cycles.{IsInCall}
 use Rattle.gc_worker.specs.Laws.Step.{IsOut, WorkersStand}
 use Rattle.gc_worker.specs.Steps.Turned.{PageWon}
 use Rattle.ael_threads.specs.declared.view.WonClaim.{WonClaim}
-use Rattle.gc_worker.specs.declared.entry.Entry.{Entry}
+use Rattle.gc_worker.specs.declared.calls.entry.Entry.{Entry}
 use Rattle.ael_threads.specs.declared.view.Hand.{Hand}
 use Rattle.ael_threads.specs.declared.view.Plan.{Plan}
 use Rattle.ael_threads.specs.declared.view.View.{View}

@@ -6,14 +6,11 @@
 mod caller;
 mod calls;
 mod closing;
-mod executing;
-mod job;
 mod laws;
 mod mutator;
 mod opening;
-mod outputs;
 mod pace;
-mod running;
+mod programs;
 mod scanner;
 mod shared;
 mod view;
@@ -23,9 +20,9 @@ pub use gc_worker::{Call, Did, Entry, loads_get_the_last_store, records_keep_the
 pub use laws::lone_calls_come_to_the_same;
 pub use mutator::{Mutator, Reg};
 pub use opening::Seats;
-pub use outputs::{Outputs, Printed, RunError};
+pub use programs::outputs::{Outputs, Printed, RunError};
 pub use pace::{NoPace, Pace};
-pub use running::run;
+pub use programs::running::run;
 pub use scanner::Scanner;
 pub use shared::{Rule, Shared};
 pub use view::{WonClaim, Hand, Plan, View};

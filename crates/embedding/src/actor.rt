@@ -3,7 +3,7 @@
 ghost use Rattle.std.specs.Prelude.{◌≡◌, ◌<◌, None, IsTrue, OnOk};
 ghost use Rattle.ael_threads.specs.Calls.{Called};
 ghost use Rattle.ael_threads.specs.Histories.{Each};
-ghost use Rattle.gc_worker.specs.declared.did.Did.TheVariants.{Done};
+ghost use Rattle.gc_worker.specs.declared.calls.did.Did.TheVariants.{Done};
 ghost use Rattle.gc_worker.specs.declared.task.Task.TheVariants.{Calls};
 ghost use Rattle.plain_state.specs.declared.sizes.TheConstants.{REGISTERS};
 ghost use Rattle.mutator_asm.specs.Program.{is_valid};

@@ -14,8 +14,8 @@ use Rattle.gc_worker.specs.Laws.Cycles.{words_claimed}
 use Rattle.gc_worker.specs.Laws.Step.{read}
 use Rattle.gc_worker.specs.Steps.Wanted.{wanted}
 use Rattle.gc_worker.specs.declared.config.Config.{Config}
-use Rattle.gc_worker.specs.declared.stepped.Stepped.{Stepped}
-use Rattle.gc_worker.specs.declared.stepped.Stepped.TheVariants.{Idle, Moved, Effect, Flipped, Ended}
+use Rattle.gc_worker.specs.declared.steps.stepped.Stepped.{Stepped}
+use Rattle.gc_worker.specs.declared.steps.stepped.Stepped.TheVariants.{Idle, Moved, Effect, Flipped, Ended}
 use Rattle.gc_core.specs.Core.{CoreState, opening_core}
 use Rattle.gc_core.specs.Event.{core_after, event_of, ready}
 use Rattle.gc_core.specs.Readers.{live_of}

@@ -16,8 +16,8 @@ use Rattle.gc_worker.specs.Steps.Stepped.{stepped_by}
 use Rattle.gc_worker.specs.Steps.Turned.{told}
 use Rattle.gc_worker.specs.Steps.Wanted.{wanted}
 use Rattle.gc_core.specs.Core.{CoreState}
-use Rattle.gc_worker.specs.declared.stepped.Stepped.{Stepped}
-use Rattle.gc_worker.specs.declared.stepped.Stepped.TheVariants.{Idle}
+use Rattle.gc_worker.specs.declared.steps.stepped.Stepped.{Stepped}
+use Rattle.gc_worker.specs.declared.steps.stepped.Stepped.TheVariants.{Idle}
 
 -- ---- the next task
 

@@ -7,7 +7,7 @@ use Rattle.plain_heap.specs.declared.mark.Mark.{Mark}
 use Rattle.plain_heap.specs.declared.mark.Mark.TheVariants.{Full}
 use Rattle.plain_heap.specs.Order.{story}
 use Rattle.gc_worker.specs.declared.config.Config.{Config}
-use Rattle.gc_worker.specs.declared.stepped.Stepped.TheVariants.{Ended}
+use Rattle.gc_worker.specs.declared.steps.stepped.Stepped.TheVariants.{Ended}
 use Rattle.gc_worker.specs.History.Needs.{EachFullIs, EndsWithFlip, HasNoFull, IsEnoughForOne, IsLargeEnough, being_made, flips_in, made_since, first_story}
 use Rattle.gc_worker.specs.History.Tally.{aside_in}
 use Rattle.gc_core.specs.Cycles.{FillsTheSpace, story_of, claims_of}

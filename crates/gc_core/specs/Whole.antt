@@ -10,7 +10,7 @@ use Rattle.gc_worker.specs.Laws.Copied.{IsTraced}
 use Rattle.gc_worker.specs.Plain.Full.{FindsNoRoom}
 use Rattle.gc_worker.specs.Laws.Step.{read}
 use Rattle.gc_worker.specs.Plain.Marks.{EachActs}
-use Rattle.gc_worker.specs.declared.stepped.Stepped.TheVariants.{Idle, Flipped, Ended}
+use Rattle.gc_worker.specs.declared.steps.stepped.Stepped.TheVariants.{Idle, Flipped, Ended}
 use Rattle.gc_core.specs.Core.{CoreState, opening_core, workers_of}
 use Rattle.gc_core.specs.Dumped.{dump_said, dumped}
 use Rattle.gc_core.specs.Event.{core_after, event_of, ready}

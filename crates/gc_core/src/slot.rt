@@ -7,7 +7,7 @@ ghost use Rattle.gc_worker.specs.declared.config.TheConstants.{MOST_TURNS};
 ghost use Rattle.gc_worker.specs.Workers.Counted.{counted};
 ghost use Rattle.gc_worker.specs.Steps.Made.{MayMake, step_made};
 ghost use Rattle.gc_worker.specs.Steps.Stepped.{IsSound, awaits};
-ghost use Rattle.gc_worker.specs.declared.stepped.Stepped.TheVariants.{Effect};
+ghost use Rattle.gc_worker.specs.declared.steps.stepped.Stepped.TheVariants.{Effect};
 ghost use Rattle.gc_worker.specs.Steps.Wanted.{wanted};
 ghost use Rattle.gc_core.specs.Event.{readied};
 

@@ -18,7 +18,7 @@ use Rattle.heap_state.specs.Memory.Entries.{Entry, GateIs}
 use Rattle.space_map.specs.PageWord.{age_of}
 use Rattle.heap_state.specs.Invariant.Ghost.{Ghost}
 use Rattle.heap_laws.specs.Lifting.{StandsWith, configuration_after, LeavesConfiguration, Flipped}
-use Rattle.gc_worker.specs.declared.after.After.{After}
+use Rattle.gc_worker.specs.declared.stage.after.After.{After}
 use Rattle.gc_worker.specs.declared.stage.Stage.{Stage}
 use Rattle.gc_worker.specs.declared.stage.Stage.TheVariants.{Looks, Passes, Flips, Forwards, Accesses, Places, Serves, Scans, Evacuates, Opens, Gone}
 use Rattle.gc_worker.specs.Plain.Answer.{after_told}
@@ -47,7 +47,7 @@ use Rattle.page_scan.specs.Scanning.{Scanning}
 use Rattle.page_slots.specs.declared.open_stage.OpenStage.{OpenStage}
 use Rattle.page_slots.specs.declared.open_stage.OpenStage.TheVariants as open_stage
 use Rattle.page_slots.specs.Open.{Opening}
-use Rattle.gc_worker.specs.declared.back.Back.{Back}
+use Rattle.gc_worker.specs.declared.stage.back.Back.{Back}
 
 -- ---- each stage
 

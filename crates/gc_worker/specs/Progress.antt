@@ -28,7 +28,7 @@ use Rattle.gc_worker.specs.Workers.Held.{Held}
 use Rattle.gc_worker.specs.Laws.Step.{Heap, WorkersStand, held_at}
 use Rattle.gc_worker.specs.Steps.Turned.{turned}
 use Rattle.gc_worker.specs.Steps.Wanted.{wanted}
-use Rattle.gc_worker.specs.declared.back.Back.TheVariants.{ToScanner}
+use Rattle.gc_worker.specs.declared.stage.back.Back.TheVariants.{ToScanner}
 use Rattle.gc_worker.specs.declared.stage.Stage.{Stage}
 use Rattle.gc_worker.specs.declared.stage.Stage.TheVariants.{Looks, Passes, Flips, Forwards, Accesses, Places, Serves, Scans, Evacuates, Opens, Gone}
 

@@ -1,3 +1,10 @@
+pub mod access_stage;
+pub mod access_words;
+pub mod accessed;
+pub mod board_access;
+pub mod field_access;
+pub mod record_access;
+
 ghost use Rattle.std.specs.Prelude.{◌≡◌, ◌≢◌, ◌^◌, ◌<◌, ◌≤◌, ℕ, IsTrue};
 ghost use Rattle.atom_store.specs.Step.{place_in};
 ghost use Rattle.heap_words.specs.Decoded.{decode};
@@ -8,11 +15,11 @@ ghost use Rattle.plain_heap.specs.Action.{in_record};
 ghost use Rattle.gc_worker.specs.Steps.Access.{FitsRecordUse, IsHeapAddress, IsSoundAccess, AccessTakes, advances_at, at_stage, board_at, field_at, goes_by, goes_to_field, left, let_through, loading, looked, may_store, read_header, role_in, storing, taken, told, turn_by, used_by, uses_board, uses_field, wanted};
 ghost use Rattle.gc_worker.specs.Plain.Seen.{IsValueWord};
 
-use crate::access_stage::AccessStage;
-use crate::access_words::{field, held, on_board, role_of, stored, using_board, using_field};
-use crate::accessed::Accessed;
-use crate::field_access::{FieldAccess, FieldUse, Role};
-use crate::record_access::{RecordAccess, RecordUse};
+use crate::access::access_stage::AccessStage;
+use crate::access::access_words::{field, held, on_board, role_of, stored, using_board, using_field};
+use crate::access::accessed::Accessed;
+use crate::access::field_access::{FieldAccess, FieldUse, Role};
+use crate::access::record_access::{RecordAccess, RecordUse};
 use atom_store::{Reply, Step, Turn};
 use heap_words::Word;
 use mmu_model::{Access as Protection, check};

@@ -6,53 +6,32 @@
 #![tactic(auto)]
 
 mod access;
-mod access_stage;
-mod access_words;
-mod accessed;
-mod acting;
-mod after;
-mod allocating;
-mod back;
-mod board_access;
-mod call;
+mod calls;
 mod config;
-mod did;
-mod due;
-mod entry;
-mod field_access;
-mod forwarding_register;
 mod history_laws;
-mod instructions;
 mod laws;
-mod looking;
-mod on_words;
 mod open_error;
-mod passing;
 mod readers;
-mod record_access;
 mod registers;
-mod seen_value;
-mod serving;
 mod stage;
 mod state;
-mod stepped;
-mod stepping;
+mod steps;
 mod task;
 mod worker;
 
 pub use access::Access;
-pub use access_stage::AccessStage;
-pub use accessed::Accessed;
-pub use after::After;
-pub use allocating::Making;
-pub use back::Back;
-pub use board_access::{BoardAccess, BoardSwap, BoardUse};
-pub use call::Call;
+pub use access::access_stage::AccessStage;
+pub use access::accessed::Accessed;
+pub use stage::after::After;
+pub use steps::allocating::Making;
+pub use stage::back::Back;
+pub use access::board_access::{BoardAccess, BoardSwap, BoardUse};
+pub use calls::call::Call;
 pub use config::{Config, MOST_TURNS};
-pub use did::Did;
-pub use entry::Entry;
-pub use field_access::{FieldAccess, FieldUse, Role};
-pub use forwarding_register::ForwardingRegister;
+pub use calls::did::Did;
+pub use calls::entry::Entry;
+pub use access::field_access::{FieldAccess, FieldUse, Role};
+pub use stage::forwarding_register::ForwardingRegister;
 pub use history_laws::{loads_get_the_last_store, records_keep_their_shape};
 pub use laws::{
     accesses_are_worked_out, accesses_go_on, answers_leave_the_others, beginnings_are_kept,
@@ -64,8 +43,8 @@ pub use laws::{
 };
 pub use open_error::OpenError;
 pub use readers::{epoch_said, live_said};
-pub use record_access::{RecordAccess, RecordUse};
+pub use access::record_access::{RecordAccess, RecordUse};
 pub use stage::Stage;
-pub use stepped::Stepped;
+pub use steps::stepped::Stepped;
 pub use task::Task;
 pub use worker::Worker;

@@ -1,5 +1,7 @@
 //! What a mutator reads in its registers.
 
+pub mod seen_value;
+
 ghost use Rattle.std.specs.Prelude.{◌≡◌, ◌^◌, ◌<◌, IfOk, if◌then◌else◌};
 ghost use Rattle.plain_state.specs.declared.value.Value.TheVariants.{Number};
 ghost use Rattle.plain_state.specs.Operation.{one_if};
@@ -7,7 +9,7 @@ ghost use Rattle.plain_heap.specs.Action.{are_same, board_place, is_reference, i
 ghost use Rattle.gc_worker.specs.Plain.Seen.{length_named};
 ghost use Rattle.gc_worker.specs.Steps.Stepped.{FitsValue, seen_by};
 
-use crate::seen_value::value_in;
+use crate::registers::seen_value::value_in;
 use crate::state::State;
 use mutator_asm::Operand;
 use plain_state::{BOARD_WORDS, End, Identity, LONGEST_RECORD, NUMBERS, Value};

@@ -1,7 +1,11 @@
+pub mod after;
+pub mod back;
+pub mod forwarding_register;
+
 use crate::access::Access;
-use crate::after::After;
-use crate::back::Back;
-use crate::forwarding_register::ForwardingRegister;
+use crate::stage::after::After;
+use crate::stage::back::Back;
+use crate::stage::forwarding_register::ForwardingRegister;
 use alloc_end::Place;
 use fault_duty::Duty;
 use forwarding::Evac;

@@ -1,7 +1,7 @@
 ghost use Rattle.std.specs.Prelude.{◌≡◌};
 ghost use Rattle.gc_worker.specs.Steps.Stepped.{uncounted};
 
-use crate::due::Due;
+use crate::task::due::Due;
 use crate::stage::Stage;
 use alloc_end::Run;
 use mutator_asm::Instr;

@@ -1,3 +1,5 @@
+pub mod due;
+
 use mutator_asm::Instr;
 use plain_state::End;
 

@@ -1,7 +1,7 @@
 -- The text of an error.
 use Rattle.std.specs.Prelude.{ℕ, List, ◌++◌, ◌==◌, if◌then◌else◌, codes, decimal}
-use Rattle.mutator_asm.specs.declared.asm_error.AsmError.{AsmError}
-use Rattle.mutator_asm.specs.declared.asm_error.AsmError.TheVariants.{Text, NoMemory}
+use Rattle.mutator_asm.specs.declared.errors.asm_error.AsmError.{AsmError}
+use Rattle.mutator_asm.specs.declared.errors.asm_error.AsmError.TheVariants.{Text, NoMemory}
 
 -- the text of an error's number
 abbrev pub text_of_number : ℕ → List ℕ

@@ -5,8 +5,8 @@ use Rattle.std.specs.HashMap.{HashMap, get_by}
 use Rattle.std.specs.Str.{bytes_eq}
 use denote.Ref.{Bor}
 use Rattle.mutator_asm.specs.declared.instr.Instr.{Instr}
-use Rattle.mutator_asm.specs.declared.labels.Place.{Place}
-use Rattle.mutator_asm.specs.declared.before.Before.{Before}
+use Rattle.mutator_asm.specs.declared.text.labels.Place.{Place}
+use Rattle.mutator_asm.specs.declared.text.before.Before.{Before}
 use Rattle.mutator_asm.specs.Line.{Line}
 use Rattle.mutator_asm.specs.Listing.{is_target_in}
 use Rattle.mutator_asm.specs.Text.{begins_section, counts, defines, items_on, has_label, schedule_of}

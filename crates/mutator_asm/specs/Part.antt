@@ -1,6 +1,6 @@
 -- The sections that the code keeps, without their labels.
 use Rattle.std.specs.Prelude.{List, map}
-use Rattle.mutator_asm.specs.declared.part.Part.{Part}
+use Rattle.mutator_asm.specs.declared.text.part.Part.{Part}
 use Rattle.mutator_asm.specs.Line.{Line}
 use Rattle.mutator_asm.specs.Read.{lines_view}
 

@@ -1,9 +1,9 @@
 -- What the code keeps of a text, without where it lies in memory.
 use Rattle.std.specs.Prelude.{ℕ, List, Option, Some, None, map}
 use denote.Ref.{Bor}
-use Rattle.mutator_asm.specs.declared.line.Line.{Line as Read}
-use Rattle.mutator_asm.specs.declared.line.Word.{Word as ReadWord}
-use Rattle.mutator_asm.specs.declared.line.Word.TheVariants as read
+use Rattle.mutator_asm.specs.declared.text.line.Line.{Line as Read}
+use Rattle.mutator_asm.specs.declared.text.line.Word.{Word as ReadWord}
+use Rattle.mutator_asm.specs.declared.text.line.Word.TheVariants as read
 use Rattle.mutator_asm.specs.Line.{Line, Word, Nothing, Begins, Schedules, Does, Jumps, Bad}
 
 -- the bytes of tokens or lines

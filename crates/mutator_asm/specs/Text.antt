@@ -3,12 +3,12 @@ use Rattle.std.specs.Prelude.{◌≡◌, ℕ, ◌+◌, ◌<◌, ◌≤◌, ◌�
 use Rattle.std.specs.Option.{is_some}
 use Rattle.std.specs.List.{filter_map, flat_map, list_any, before_first, slice_split}
 use Rattle.std.specs.Str.{bytes_eq}
-use Rattle.mutator_asm.specs.declared.asm_error.AsmError.{AsmError}
-use Rattle.mutator_asm.specs.declared.asm_error.AsmError.TheVariants as errors
+use Rattle.mutator_asm.specs.declared.errors.asm_error.AsmError.{AsmError}
+use Rattle.mutator_asm.specs.declared.errors.asm_error.AsmError.TheVariants as errors
 use Rattle.mutator_asm.specs.declared.instr.Instr.{Instr}
 use Rattle.mutator_asm.specs.declared.item.Item.{Item}
-use Rattle.mutator_asm.specs.declared.mistake.Mistake.{Mistake}
-use Rattle.mutator_asm.specs.declared.mistake.Mistake.TheVariants.{UnknownInstr, BadOperand, UnknownLabel, LabelTwice, NoMutator, TooManyMutators, CodeTooLong, BadSchedule, NumberTooBig}
+use Rattle.mutator_asm.specs.declared.errors.mistake.Mistake.{Mistake}
+use Rattle.mutator_asm.specs.declared.errors.mistake.Mistake.TheVariants.{UnknownInstr, BadOperand, UnknownLabel, LabelTwice, NoMutator, TooManyMutators, CodeTooLong, BadSchedule, NumberTooBig}
 use Rattle.mutator_asm.specs.Mistake.{number_of_mistake}
 use Rattle.mutator_asm.specs.Instr.{jump_to}
 use Rattle.mutator_asm.specs.Line.{Word, Begins, Schedules, Does, Jumps, Bad, Line, lines_of}

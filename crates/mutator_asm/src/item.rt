@@ -4,8 +4,8 @@ ghost use Rattle.std.specs.Prelude.{◌≡◌};
 ghost use Rattle.std.specs.List.{position};
 ghost use Rattle.mutator_asm.specs.Item.{is_star, within, worker_item, times_of, item_from, item_of};
 
-use crate::mistake::Mistake;
-use crate::token::number;
+use crate::errors::mistake::Mistake;
+use crate::text::token::number;
 use std::fmt;
 
 /// The last worker that may be named.

@@ -1,31 +1,19 @@
 //! The assembler: the text of mutators, read to a program, and the listing of a program.
 #![tactic(auto)]
 
-mod asm_error;
-mod before;
 mod code;
-mod error;
-mod fault;
+mod errors;
 mod instr;
 mod item;
-mod jump;
-mod labels;
 mod laws;
-mod line;
 mod listing;
-mod mistake;
 mod operand;
-mod operands;
-mod part;
-mod parts;
 mod program;
 mod schedule;
 mod section;
-mod spelling;
 mod text;
-mod token;
 
-pub use asm_error::{AsmError, error_text};
+pub use errors::asm_error::{AsmError, error_text};
 pub use code::Code;
 pub use instr::Instr;
 pub use item::Item;

@@ -1,5 +1,8 @@
 //! The listing of a program.
 
+pub mod jump;
+pub mod spelling;
+
 ghost use Rattle.std.specs.Prelude.{◌≡◌, ◌<◌, ◌≤◌, ◌^◌, ◌||◌, ◌++◌, ℕ, IfOk, IfSome, IsTrue, OnOk, codes, length, option_map, slice_get};
 ghost use Rattle.std.specs.List.{flat_map};
 ghost use Rattle.std.specs.String.{string_bytes};

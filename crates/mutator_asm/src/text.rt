@@ -1,5 +1,13 @@
 //! A whole text.
 
+pub mod before;
+pub mod labels;
+pub mod line;
+pub mod operands;
+pub mod part;
+pub mod parts;
+pub mod token;
+
 ghost use Rattle.std.specs.Prelude.{◌≡◌, ◌<◌, ◌≤◌, ◌^◌, [], ◌∷◌, List, ℕ, length, map, drop, IfOk, IfErr, OnOk, count_by};
 ghost use Rattle.mutator_asm.specs.Line.{lines_of};
 ghost use Rattle.mutator_asm.specs.Part.{part_view, parts_view};
@@ -7,15 +15,15 @@ ghost use Rattle.mutator_asm.specs.Program.{IsWellFormed};
 ghost use Rattle.mutator_asm.specs.Read.{lines_view};
 ghost use Rattle.mutator_asm.specs.Text.{begins_section, sections_in, section_of, code_of, schedule_of, IsCleanUpTo, IsFaultIn, IsText, NamesFault};
 
-use crate::asm_error::AsmError;
-use crate::before::Before;
+use crate::errors::asm_error::AsmError;
+use crate::text::before::Before;
 use crate::code::Code;
-use crate::error::error;
-use crate::fault::Fault;
-use crate::line::{Line, lines};
-use crate::mistake::Mistake;
-use crate::part::Part;
-use crate::parts::parts;
+use crate::errors::error::error;
+use crate::errors::fault::Fault;
+use crate::text::line::{Line, lines};
+use crate::errors::mistake::Mistake;
+use crate::text::part::Part;
+use crate::text::parts::parts;
 use crate::program::Program;
 use crate::schedule::Schedule;
 use crate::section::Section;

@@ -1,10 +1,13 @@
 //! The plain heap, which never moves or frees a record.
 
+pub mod record;
+pub mod record_list;
+
 ghost use Rattle.std.specs.Prelude.{◌≡◌, ◌<◌, ◌+◌, [], length, IfOk, IfSome, MatchResult, OnOk, OnErr, option_copied, replicate};
 ghost use Rattle.plain_state.specs.declared.value.Value.TheVariants.{Number};
 
-use crate::record::PlainRecord;
-use crate::record_list::RecordList;
+use crate::heap::record::PlainRecord;
+use crate::heap::record_list::RecordList;
 use plain_state::{BOARD_WORDS, End, Identity, Kind, NoMemory, Value};
 use std::alloc::Global;
 use std::marker::Model;

@@ -1,5 +1,9 @@
 //! The instructions, as a mutator executes them on the plain heap.
 
+pub mod numbers;
+pub mod places;
+pub mod values;
+
 ghost use Rattle.std.specs.Prelude.{◌≡◌, ◌<◌, ◌+◌, ◌^◌, Err, length, IsTrue};
 ghost use Rattle.plain_heap.specs.declared.stop.Stop.TheVariants.{OutOfMemory};
 ghost use Rattle.plain_heap.specs.Action.{action};
@@ -11,10 +15,10 @@ use crate::action::Action;
 use crate::effects::perform;
 use crate::heap::PlainHeap;
 use crate::mutator::PlainMutator;
-use crate::numbers::{compute, jump_to, print};
-use crate::places::{allocate, get, load, measure, put, store, swap};
+use crate::instructions::numbers::{compute, jump_to, print};
+use crate::instructions::places::{allocate, get, load, measure, put, store, swap};
 use crate::stop::Stop;
-use crate::values::{are_same, is_reference, target_if_zero};
+use crate::instructions::values::{are_same, is_reference, target_if_zero};
 use mutator_asm::Instr;
 use plain_state::{End, Kind, Operation, Value};
 use std::alloc::Global;

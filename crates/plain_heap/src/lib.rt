@@ -9,16 +9,11 @@ mod instructions;
 mod laws;
 mod mark;
 mod mutator;
-mod numbers;
 mod order;
-mod places;
 mod printing;
-mod record;
-mod record_list;
 mod state;
 mod step;
 mod stop;
-mod values;
 
 pub use action::Action;
 pub use laws::{

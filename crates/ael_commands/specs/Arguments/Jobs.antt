@@ -2,8 +2,8 @@
 use Rattle.std.specs.Prelude.{◌≡◌, ℕ, Bool, false, List, Option, Some, None}
 use Rattle.std.specs.Option.{option_map_or}
 use Rattle.benchmark.specs.Text.{bench_text}
-use Rattle.ael_commands.specs.declared.job.Job.{Job}
-use Rattle.ael_commands.specs.declared.job.Job.TheVariants.{Asm, Bench, Run, Sim}
+use Rattle.ael_commands.specs.declared.arguments.job.Job.{Job}
+use Rattle.ael_commands.specs.declared.arguments.job.Job.TheVariants.{Asm, Bench, Run, Sim}
 use Rattle.ael_commands.specs.Tasks.Asm.{asm_task}
 use Rattle.ael_commands.specs.Tasks.Bench.{bench_options, bench_task}
 use Rattle.ael_commands.specs.Runs.Run.{Manner, Scheduled, Threaded, run_task, sim_task}

@@ -7,9 +7,9 @@ use Rattle.gc_worker.specs.declared.config.TheConstants.{MOST_TURNS}
 use Rattle.simple_commands.specs.Options.{number_given}
 use Rattle.simple_commands.specs.Readers.{number_of, was_given}
 use Rattle.simple_commands.specs.declared.options.Numbers.{Numbers}
-use Rattle.ael_commands.specs.declared.operands.BenchOperands.{BenchOperands}
-use Rattle.ael_commands.specs.declared.options.RunOptions.{RunOptions}
-use Rattle.ael_commands.specs.declared.options.SimOptions.{SimOptions}
+use Rattle.ael_commands.specs.declared.arguments.operands.BenchOperands.{BenchOperands}
+use Rattle.ael_commands.specs.declared.arguments.options.RunOptions.{RunOptions}
+use Rattle.ael_commands.specs.declared.arguments.options.SimOptions.{SimOptions}
 
 -- `--pages`
 abbrev pub pages_option : Text × Numbers

@@ -5,8 +5,8 @@ use Rattle.clap.specs.Walk.{Row, Text}
 use Rattle.clap.specs.Simple.{subcommand_of}
 use Rattle.clap.specs.Takes.{takes}
 use Rattle.simple_commands.specs.Options.{HoldOptions}
-use Rattle.ael_commands.specs.declared.job.Job.{Job}
-use Rattle.ael_commands.specs.declared.job.Job.TheVariants.{Asm, Bench, Run, Sim}
+use Rattle.ael_commands.specs.declared.arguments.job.Job.{Job}
+use Rattle.ael_commands.specs.declared.arguments.job.Job.TheVariants.{Asm, Bench, Run, Sim}
 use Rattle.ael_commands.specs.Arguments.CommandLine.{ael_app}
 use Rattle.ael_commands.specs.Arguments.Options.{AreInRange, IsDepth, bench_numbers, bench_wide, operands_of, run_numbers, run_options_of, run_wide, sim_numbers, sim_options_of, sim_wide}
 

@@ -2,7 +2,7 @@
 use Rattle.std.specs.Prelude.{◌≡◌, ◌≢◌, ◌⊎◌, ⊤, ℕ, List, [], Option, Some, None, Result, Ok, Err}
 use Rattle.simple_commands.specs.declared.parsing.WordsError.{WordsError}
 use Rattle.simple_commands.specs.declared.parsing.WordsError.TheVariants as words
-use Rattle.ael_commands.specs.declared.job.Job.{Job}
+use Rattle.ael_commands.specs.declared.arguments.job.Job.{Job}
 use Rattle.ael_commands.specs.declared.status.Status.{Status}
 use Rattle.ael_commands.specs.declared.status.Status.TheVariants.{NoMemory, ReadFault, Usage}
 use Rattle.ael_commands.specs.Streams.Ends.{Drawn}

@@ -1,8 +1,8 @@
 -- A call of the program: its words, what it drew from its source and filled into its sinks, and its exit status.
 use Rattle.std.specs.Prelude.{ℕ, List, String, map, string_bytes}
 use Rattle.std.specs.declared.alloc.Global.{Global}
-use Rattle.ael_commands.specs.declared.sink.Sink as sinks
-use Rattle.ael_commands.specs.declared.source.Source as sources
+use Rattle.ael_commands.specs.declared.streams.sink.Sink as sinks
+use Rattle.ael_commands.specs.declared.streams.source.Source as sources
 use Rattle.ael_commands.specs.Streams.Ends.{Drawn, Filled, drawn_and_filled, filled}
 
 pub record Call : Type 0 where

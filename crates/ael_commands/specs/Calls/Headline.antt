@@ -9,8 +9,8 @@ use Rattle.plain_heap.specs.Order.{plain}
 use Rattle.plain_heap.specs.Print.{lines_seen, print_of, seen_in}
 use Rattle.plain_heap.specs.Alone.{IsAsAlone, shares_nothing}
 use Rattle.gc_core.specs.Run.{Ran}
-use Rattle.ael_commands.specs.declared.job.Job.{Job}
-use Rattle.ael_commands.specs.declared.job.Job.TheVariants.{Asm}
+use Rattle.ael_commands.specs.declared.arguments.job.Job.{Job}
+use Rattle.ael_commands.specs.declared.arguments.job.Job.TheVariants.{Asm}
 use Rattle.ael_commands.specs.declared.status.Status.{Status}
 use Rattle.ael_commands.specs.declared.status.Status.TheVariants.{NoMemory}
 use Rattle.ael_commands.specs.Calls.Answer.{IsAnswerTo}

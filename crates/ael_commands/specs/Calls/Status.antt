@@ -1,10 +1,10 @@
 -- Exit statuses, and the lines of standard error.
 use Rattle.std.specs.Prelude.{ℕ, Bool, true, false, List, [], ◌++◌, codes}
 use Rattle.mutator_asm.specs.AsmError.{text_of_error}
-use Rattle.mutator_asm.specs.declared.asm_error.AsmError.{AsmError}
-use Rattle.mutator_asm.specs.declared.asm_error.AsmError.TheVariants as asm
-use Rattle.ael_commands.specs.declared.reading.ReadError.{ReadError}
-use Rattle.ael_commands.specs.declared.reading.ReadError.TheVariants as reads
+use Rattle.mutator_asm.specs.declared.errors.asm_error.AsmError.{AsmError}
+use Rattle.mutator_asm.specs.declared.errors.asm_error.AsmError.TheVariants as asm
+use Rattle.ael_commands.specs.declared.streams.reading.ReadError.{ReadError}
+use Rattle.ael_commands.specs.declared.streams.reading.ReadError.TheVariants as reads
 use Rattle.ael_commands.specs.declared.status.Status.{Status}
 use Rattle.ael_commands.specs.declared.status.Status.TheVariants.{Done, Text, Usage, Ended, StepsOut, ReadFault, WriteFault, NoMemory, TooLong}
 

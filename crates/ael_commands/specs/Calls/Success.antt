@@ -3,7 +3,7 @@ use Rattle.std.specs.Prelude.{◌≡◌, ◌≢◌, ℕ, List, Some}
 use Rattle.mutator_asm.specs.declared.instr.Instr.{Instr}
 use Rattle.mutator_asm.specs.declared.item.Item.{Item}
 use Rattle.mutator_asm.specs.Text.{IsText}
-use Rattle.ael_commands.specs.declared.job.Job.{Job}
+use Rattle.ael_commands.specs.declared.arguments.job.Job.{Job}
 use Rattle.ael_commands.specs.Calls.Call.{Call}
 use Rattle.ael_commands.specs.Streams.Ends.{IsFaultless}
 use Rattle.ael_commands.specs.Arguments.Jobs.{job_task, job_text}

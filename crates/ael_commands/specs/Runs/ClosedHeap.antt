@@ -6,9 +6,9 @@ use Rattle.plain_heap.specs.Order.{plain}
 use Rattle.plain_heap.specs.Print.{plain_seen}
 use Rattle.space_map.specs.Table.{table_length}
 use Rattle.gc_core.specs.Run.{Ran}
-use Rattle.ael_threads.specs.declared.outputs.Outputs.{Outputs}
+use Rattle.ael_threads.specs.declared.programs.outputs.Outputs.{Outputs}
 use Rattle.ael_threads.specs.Outputs.{as_kept, printed_by}
-use Rattle.ael_commands.specs.declared.options.RunOptions.{RunOptions}
+use Rattle.ael_commands.specs.declared.arguments.options.RunOptions.{RunOptions}
 use Rattle.ael_commands.specs.Runs.Run.{IsRunOf, Threaded}
 use Rattle.ael_commands.specs.Runs.Told.{RunReport, told_of}
 

@@ -7,8 +7,8 @@ use Rattle.plain_heap.specs.Print.{print_of, order_line, plain_seen}
 use Rattle.gc_worker.specs.Plain.Marks.{EachActs}
 use Rattle.gc_core.specs.Cycles.{KeepsWhatIsLive}
 use Rattle.gc_core.specs.Run.{Ran}
-use Rattle.ael_commands.specs.declared.options.RunOptions.{RunOptions}
-use Rattle.ael_commands.specs.declared.options.SimOptions.{SimOptions}
+use Rattle.ael_commands.specs.declared.arguments.options.RunOptions.{RunOptions}
+use Rattle.ael_commands.specs.declared.arguments.options.SimOptions.{SimOptions}
 use Rattle.ael_commands.specs.declared.status.Status.{Status}
 use Rattle.ael_commands.specs.Tasks.ProgramTask.{program_task}
 use Rattle.ael_commands.specs.Runs.Verdict.{status_seen}

@@ -8,8 +8,8 @@ use Rattle.gc_worker.specs.History.Needs.{EachFullIs, HasNoFull, IsLargeEnough, 
 use Rattle.gc_core.specs.Needs.{AreFilledByClaims}
 use Rattle.gc_core.specs.Run.{Ran, run_from, EachEvent}
 use Rattle.gc_core.specs.Whole.{IsFull}
-use Rattle.ael_commands.specs.declared.options.RunOptions.{RunOptions}
-use Rattle.ael_commands.specs.declared.options.SimOptions.{SimOptions}
+use Rattle.ael_commands.specs.declared.arguments.options.RunOptions.{RunOptions}
+use Rattle.ael_commands.specs.declared.arguments.options.SimOptions.{SimOptions}
 use Rattle.ael_commands.specs.Runs.Schedule.{scheduled_by}
 
 -- the heap and the workers of a run

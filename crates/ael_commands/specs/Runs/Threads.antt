@@ -2,12 +2,12 @@
 use Rattle.std.specs.Prelude.{◌≡◌, List, length}
 use Rattle.mutator_asm.specs.declared.instr.Instr.{Instr}
 use Rattle.gc_core.specs.Run.{Ran}
-use Rattle.ael_threads.specs.declared.outputs.Outputs.{Outputs}
+use Rattle.ael_threads.specs.declared.programs.outputs.Outputs.{Outputs}
 use Rattle.ael_threads.specs.Opened.{plan_of}
 use Rattle.ael_threads.specs.Outputs.{Runs}
 use Rattle.gc_worker.specs.History.Order.{order_of}
 use Rattle.ael_threads.specs.Rule.{heap_of}
-use Rattle.ael_commands.specs.declared.options.RunOptions.{RunOptions}
+use Rattle.ael_commands.specs.declared.arguments.options.RunOptions.{RunOptions}
 use Rattle.ael_commands.specs.Runs.Simulation.{config}
 
 -- The program was run on threads, and this is what the run came to: its order is that of the legal history of all calls, in which every

@@ -7,7 +7,7 @@ use Rattle.gc_core.specs.Core.{CoreState}
 use Rattle.gc_core.specs.Dumped.{dump_said, dumped}
 use Rattle.gc_core.specs.Readers.{cycles_of, live_of, seen_of}
 use Rattle.dump_text.specs.Text.{Dumped, dump_text}
-use Rattle.ael_commands.specs.declared.options.RunOptions.{RunOptions}
+use Rattle.ael_commands.specs.declared.arguments.options.RunOptions.{RunOptions}
 
 -- what is seen of each mutator; how often the spaces were exchanged, and the words that were copied since, where all are; and what a dump
 -- tells

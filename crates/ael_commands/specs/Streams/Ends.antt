@@ -1,7 +1,7 @@
 -- The ends of the program over a call: a source, and the sinks.
 use Rattle.std.specs.Prelude.{◌≡◌, ℕ, List, Option}
-use Rattle.ael_commands.specs.declared.sink.Sink as sinks
-use Rattle.ael_commands.specs.declared.source.Source as sources
+use Rattle.ael_commands.specs.declared.streams.sink.Sink as sinks
+use Rattle.ael_commands.specs.declared.streams.source.Source as sources
 use Rattle.ael_commands.specs.Streams.Stream.{Rose, Grows, GrowsByPrefix}
 
 -- a source: what was to come and what is, and its counts of faults before and after

@@ -1,6 +1,6 @@
 -- What is read of an input.
 use Rattle.std.specs.Prelude.{◌≡◌, ℕ, ◌+◌, ◌<◌, ◌≤◌, List, [], length, Option, IfSome}
-use Rattle.ael_commands.specs.declared.reading.TheConstants.{LONGEST_INPUT}
+use Rattle.ael_commands.specs.declared.streams.reading.TheConstants.{LONGEST_INPUT}
 use Rattle.ael_commands.specs.Streams.Stream.{IsFront}
 
 -- the input was read to its end: nothing is left of it, where the source tells

@@ -1,10 +1,10 @@
 -- What sources give, what sinks take, and the counts of their faults.
 use Rattle.std.specs.Prelude.{◌≡◌, ℕ, ◌-◌, ◌^◌, ◌<◌, ◌≤◌, List, [], ◌++◌, length, take, drop, Option, Some, None, IfSome}
 use Rattle.std.specs.Option.{option_map}
-use Rattle.ael_commands.specs.declared.source.Got.{Got}
-use Rattle.ael_commands.specs.declared.source.Got.TheVariants as got
-use Rattle.ael_commands.specs.declared.sink.Put.{Put}
-use Rattle.ael_commands.specs.declared.sink.Put.TheVariants as put
+use Rattle.ael_commands.specs.declared.streams.source.Got.{Got}
+use Rattle.ael_commands.specs.declared.streams.source.Got.TheVariants as got
+use Rattle.ael_commands.specs.declared.streams.sink.Put.{Put}
+use Rattle.ael_commands.specs.declared.streams.sink.Put.TheVariants as put
 
 -- a count of faults rose; one that stands at its last value counts as risen
 abbrev pub Rose : ℕ → ℕ → Type 0

@@ -1,9 +1,9 @@
 -- The task `bench`: the text of the benchmark is run, and its cycles are told.
 use Rattle.std.specs.Prelude.{⊤, ◌+◌, ◌^◌, true, false, Some}
 use Rattle.benchmark.specs.Text.{bench_text, seed_behind}
-use Rattle.ael_commands.specs.declared.operands.BenchOperands.{BenchOperands}
-use Rattle.ael_commands.specs.declared.operands.TheConstants.{SPARE_PAGES}
-use Rattle.ael_commands.specs.declared.options.SimOptions.{SimOptions}
+use Rattle.ael_commands.specs.declared.arguments.operands.BenchOperands.{BenchOperands}
+use Rattle.ael_commands.specs.declared.arguments.operands.TheConstants.{SPARE_PAGES}
+use Rattle.ael_commands.specs.declared.arguments.options.SimOptions.{SimOptions}
 use Rattle.ael_commands.specs.Arguments.Options.{steps_option, turns_option}
 use Rattle.ael_commands.specs.Tasks.ProgramTask.{IsMadeOf}
 use Rattle.ael_commands.specs.Runs.Run.{IsRun, Scheduled}

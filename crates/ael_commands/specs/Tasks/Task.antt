@@ -1,6 +1,6 @@
 -- What a task is, whatever it does: what it reads, what makes its input right, and what it makes of it.
 use Rattle.std.specs.Prelude.{◌≡◌, ◌≤◌, ℕ, Bool, List, [], length, Some}
-use Rattle.ael_commands.specs.declared.reading.TheConstants.{LONGEST_INPUT}
+use Rattle.ael_commands.specs.declared.streams.reading.TheConstants.{LONGEST_INPUT}
 use Rattle.ael_commands.specs.declared.status.Status.{Status}
 use Rattle.ael_commands.specs.declared.status.Status.TheVariants.{ReadFault, TooLong}
 use Rattle.ael_commands.specs.Streams.Ends.{Drawn}

@@ -34,8 +34,8 @@ use Rattle.gc_worker.specs.Readers.{kept_in, live_said, mutators_in, registers_i
 use Rattle.gc_worker.specs.Steps.Stepped.{header_kept, place_kept, uncounted}
 use Rattle.gc_worker.proofs.Between.Standing.{what_stands_is_so}
 use Rattle.gc_worker.proofs.Plain.Outcomes.{opens_so}
-use Rattle.ael_threads.specs.declared.outputs.Outputs.{Outputs}
-use Rattle.gc_worker.specs.declared.entry.Entry.{Entry}
+use Rattle.ael_threads.specs.declared.programs.outputs.Outputs.{Outputs}
+use Rattle.gc_worker.specs.declared.calls.entry.Entry.{Entry}
 use Rattle.ael_threads.specs.declared.view.Hand.{Hand}
 use Rattle.ael_threads.specs.declared.view.Plan.{Plan}
 use Rattle.gc_worker.specs.History.Legal.{IsLegal, after_all, calls_of, last_flip}

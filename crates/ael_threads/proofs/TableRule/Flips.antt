@@ -21,9 +21,9 @@ use Rattle.gate_core.specs.declared.flipped.Flipped.TheVariants as flipped
 use Rattle.gate_core.specs.declared.passage.Passage.TheVariants.{Park}
 use Rattle.gate_core.specs.Flip as flip
 use Rattle.gc_worker.specs.declared.access.Access.{Access}
-use Rattle.gc_worker.specs.declared.accessed.Accessed.{Accessed}
-use Rattle.gc_worker.specs.declared.accessed.Accessed.TheVariants.{Faults, Brings, Stored, Fails}
-use Rattle.gc_worker.specs.declared.after.After.TheVariants as afters
+use Rattle.gc_worker.specs.declared.access.accessed.Accessed.{Accessed}
+use Rattle.gc_worker.specs.declared.access.accessed.Accessed.TheVariants.{Faults, Brings, Stored, Fails}
+use Rattle.gc_worker.specs.declared.stage.after.After.TheVariants as afters
 use Rattle.gc_worker.specs.declared.stage.Stage.{Stage}
 use Rattle.gc_worker.specs.declared.stage.Stage.TheVariants.{Looks, Passes, Flips, Forwards, Accesses, Places, Serves, Scans, Evacuates, Opens, Gone}
 use Rattle.gc_worker.specs.declared.task.Task.{Task}
@@ -33,9 +33,9 @@ use Rattle.gc_worker.specs.Workers.Counted.{counted}
 use Rattle.gc_worker.specs.Workers.Fits.{Fits, FitsTask}
 use Rattle.gc_worker.specs.Workers.Held.{Held, pages_needed, at_stage, making_for}
 use Rattle.gc_worker.specs.Laws.Step.{FlipsWhereTold}
-use Rattle.gc_worker.specs.declared.allocating.Making.{Making}
+use Rattle.gc_worker.specs.declared.steps.allocating.Making.{Making}
 use Rattle.gc_worker.specs.Plain.Seen.{seen}
-use Rattle.gc_worker.specs.declared.did.Did.{Did}
+use Rattle.gc_worker.specs.declared.calls.did.Did.{Did}
 use Rattle.gc_worker.specs.Steps.Turned.{Told, Silent, Answers, Marks, acted, acts, begins, end_by_shortage, ended, full_by, finds_full, looked_by, passes, started, told, told_access, told_acted, told_action, told_at, told_effect, told_end, told_flip, told_full, told_gate, told_look, told_place, told_start, turned, turned_access, turned_at, turned_flip, turned_look, turned_place, with_record}
 use Rattle.gc_worker.proofs.Between.Pages.Claims.{flips_at}
 use Rattle.gc_worker.proofs.Workers.ApartFromCount.{counted_fit}

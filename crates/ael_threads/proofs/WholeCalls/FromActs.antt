@@ -16,8 +16,8 @@ use Rattle.gc_worker.proofs.History.Tallies.{entry_at}
 use Rattle.plain_state.specs.declared.end.End.{End}
 use Rattle.heap_state.specs.Worker.{Account}
 use Rattle.mutator_asm.specs.declared.instr.Instr.TheVariants.{Halt}
-use Rattle.gc_worker.specs.declared.stepped.Stepped.{Stepped}
-use Rattle.gc_worker.specs.declared.stepped.Stepped.TheVariants as stepped
+use Rattle.gc_worker.specs.declared.steps.stepped.Stepped.{Stepped}
+use Rattle.gc_worker.specs.declared.steps.stepped.Stepped.TheVariants as stepped
 use Rattle.gc_worker.specs.declared.task.Task.{Task}
 use Rattle.gc_worker.specs.declared.task.Task.TheVariants.{Calls}
 use Rattle.gc_worker.specs.Workers.Fits.{FitsCall, Fits, FitsEnd}
@@ -28,12 +28,12 @@ use Rattle.gc_worker.specs.Plain.Full.{FullWhereTold}
 use Rattle.gc_worker.specs.Workers.Held.{Held}
 use Rattle.gc_worker.specs.Steps.Stepped.{stepped_by, uncounted}
 use Rattle.gc_worker.specs.Steps.Turned.{Told, Silent, Answers, Marks, told, turned, PageWon, won}
-use Rattle.gc_worker.specs.declared.call.Call.{Call}
+use Rattle.gc_worker.specs.declared.calls.call.Call.{Call}
 use Rattle.ael_threads.specs.declared.view.WonClaim.{WonClaim}
-use Rattle.gc_worker.specs.declared.did.Did.{Did}
-use Rattle.gc_worker.specs.declared.did.Did.TheVariants.{Done, Trap}
-use Rattle.gc_worker.specs.declared.entry.Entry.{Entry}
-use Rattle.gc_worker.specs.declared.entry.Entry.TheVariants.{Made}
+use Rattle.gc_worker.specs.declared.calls.did.Did.{Did}
+use Rattle.gc_worker.specs.declared.calls.did.Did.TheVariants.{Done, Trap}
+use Rattle.gc_worker.specs.declared.calls.entry.Entry.{Entry}
+use Rattle.gc_worker.specs.declared.calls.entry.Entry.TheVariants.{Made}
 use Rattle.ael_threads.specs.declared.view.Hand.{Hand}
 use Rattle.ael_threads.specs.declared.view.Plan.{Plan}
 use Rattle.ael_threads.specs.declared.view.View.{View}

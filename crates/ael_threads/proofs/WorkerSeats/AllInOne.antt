@@ -5,7 +5,7 @@ use Rattle.atomic_table.specs.Table as table
 use Rattle.atomic_table.specs.Seated.{TableId}
 use Rattle.std.proofs.lemmas.List.{length-map, length-replicate}
 use Rattle.heap_laws.specs.Opening.{opening_mutator}
-use Rattle.gc_worker.specs.declared.entry.Entry.{Entry}
+use Rattle.gc_worker.specs.declared.calls.entry.Entry.{Entry}
 use Rattle.gc_worker.specs.Workers.Held.{Held}
 use Rattle.gc_worker.specs.Laws.Step.{WorkersStand, epoch_of}
 use Rattle.gc_worker.proofs.Between.Pages.Copied.{copied_was_live}

@@ -8,8 +8,8 @@ use Rattle.plain_state.proofs.Lists.{slice_get-set_same}
 use Rattle.std.proofs.lemmas.Option.{same_Some, slice_get_within}
 use Rattle.heap_state.specs.Worker.{is_running}
 use Rattle.gc_worker.specs.declared.stage.Stage.{Stage}
-use Rattle.gc_worker.specs.declared.back.Back.{Back}
-use Rattle.gc_worker.specs.declared.back.Back.TheVariants.{ToAccess, ToPlace, ToScanner}
+use Rattle.gc_worker.specs.declared.stage.back.Back.{Back}
+use Rattle.gc_worker.specs.declared.stage.back.Back.TheVariants.{ToAccess, ToPlace, ToScanner}
 use Rattle.gc_worker.specs.declared.stage.Stage.TheVariants.{Accesses, Evacuates, Flips, Forwards, Gone, Looks, Opens, Passes, Places, Scans, Serves}
 use Rattle.gc_worker.specs.declared.task.Task.{Task}
 use Rattle.gc_worker.specs.declared.task.Task.TheVariants.{Calls, Stops}
@@ -23,7 +23,7 @@ use Rattle.gc_worker.specs.Workers.Knows.{post_back, post_gone, post_in}
 use Rattle.gc_worker.specs.Laws.Step.{Heap, WorkersStand}
 use Rattle.gc_worker.proofs.Between.Pages.Copied.{full_tells_live}
 use Rattle.gc_worker.specs.Steps.Stepped.{uncounted}
-use Rattle.gc_worker.specs.declared.did.Did.TheVariants.{Done, Trap}
+use Rattle.gc_worker.specs.declared.calls.did.Did.TheVariants.{Done, Trap}
 use Rattle.gc_worker.specs.Steps.Turned.{Told, Silent, Answers, Marks}
 use Rattle.ael_threads.specs.Seats.{IsRunning, IsShown, LiveByEnd, LiveWhereTold}
 

@@ -7,8 +7,8 @@ use Rattle.plain_state.specs.State.{Plain}
 use Rattle.atom_store.specs.declared.step.Step.{Step}
 use Rattle.atom_store.specs.Step.{words_after, reply_of}
 use Rattle.space_map.specs.Spaces.{to_space}
-use Rattle.gc_worker.specs.declared.did.Did.TheVariants.{Done, Trap}
-use Rattle.gc_worker.specs.declared.entry.Entry.{Entry}
+use Rattle.gc_worker.specs.declared.calls.did.Did.TheVariants.{Done, Trap}
+use Rattle.gc_worker.specs.declared.calls.entry.Entry.{Entry}
 use Rattle.gc_worker.specs.Laws.Cycles.{LowGoes, words_claimed, low_of, low_at, low_said}
 use Rattle.gc_worker.specs.Plain.Full.{FindsNoRoom}
 use Rattle.gc_worker.specs.Workers.Held.{Held}

@@ -12,9 +12,9 @@ use Rattle.plain_heap.specs.declared.mark.Mark.{Mark}
 use Rattle.plain_heap.specs.declared.mark.Mark.TheVariants.{Full}
 use Rattle.plain_heap.specs.Order.{Story, opening, story}
 use Rattle.gc_worker.specs.declared.config.Config.{Config}
-use Rattle.gc_worker.specs.declared.entry.Entry.{Entry}
-use Rattle.gc_worker.specs.declared.stepped.Stepped.{Stepped}
-use Rattle.gc_worker.specs.declared.stepped.Stepped.TheVariants.{Idle, Moved, Effect, Flipped, Ended}
+use Rattle.gc_worker.specs.declared.calls.entry.Entry.{Entry}
+use Rattle.gc_worker.specs.declared.steps.stepped.Stepped.{Stepped}
+use Rattle.gc_worker.specs.declared.steps.stepped.Stepped.TheVariants.{Idle, Moved, Effect, Flipped, Ended}
 use Rattle.gc_worker.specs.History.Needs.{EachFullIs, EachMayCome, IsFullAt, being_made, made_since, first_story}
 use Rattle.gc_worker.specs.History.Order.{entry_mark, order_of}
 use Rattle.gc_worker.specs.History.Tally.{aside_in, tally}

@@ -21,7 +21,7 @@ use Rattle.heap_state.specs.Worker.{Account}
 use Rattle.gc_worker.specs.Laws.Step.{StepKeeps, held_at, nobody}
 use Rattle.gc_worker.specs.Steps.Made.{AllowsStep, MayMake, step_made, step_made_by}
 use Rattle.gc_worker.specs.Steps.Stepped.{IsSound, awaits, stepped_by}
-use Rattle.gc_worker.specs.declared.did.Did.TheVariants.{Done, Trap}
+use Rattle.gc_worker.specs.declared.calls.did.Did.TheVariants.{Done, Trap}
 use Rattle.gc_worker.specs.Steps.Turned.{Told, Silent, Answers, Marks, told, turned}
 use Rattle.gc_worker.specs.Steps.Wanted.{wanted, wanted_at}
 use Rattle.gc_worker.proofs.Between.Beginning.{tasks_may_begin}
@@ -29,7 +29,7 @@ use Rattle.gc_worker.proofs.Between.GoingOn.{workers_go_on}
 use Rattle.gc_worker.proofs.Between.Readying.{readying_stands}
 use Rattle.gc_worker.proofs.Between.Standing.{what_stands_is_so}
 use Rattle.gc_worker.proofs.StepKeeps.{steps_keep}
-use Rattle.gc_worker.specs.declared.stepped.Stepped.TheVariants as tells
+use Rattle.gc_worker.specs.declared.steps.stepped.Stepped.TheVariants as tells
 use Rattle.gc_worker.specs.Plain.Marks.{task_of}
 use Rattle.gc_core.specs.Core.{CoreState, workers_of}
 use Rattle.gc_core.specs.Event.{Event, core_after, event_of, fetched_task, readied, ready}

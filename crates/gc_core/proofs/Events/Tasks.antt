@@ -14,8 +14,8 @@ use Rattle.gc_worker.specs.Workers.Fits.{FitsCall, FitsEnd, IsOnSide}
 use Rattle.gc_worker.specs.Workers.Held.{Held}
 use Rattle.gc_worker.specs.Workers.Counted.{CountsApart, counted, count_after}
 use Rattle.gc_worker.specs.Steps.Stepped.{IsSound, awaits, awaits_at, stepped_by, uncounted}
-use Rattle.gc_worker.specs.declared.stepped.Stepped.TheVariants as steps
-use Rattle.gc_worker.specs.declared.did.Did.TheVariants.{Done, Trap}
+use Rattle.gc_worker.specs.declared.steps.stepped.Stepped.TheVariants as steps
+use Rattle.gc_worker.specs.declared.calls.did.Did.TheVariants.{Done, Trap}
 use Rattle.gc_worker.specs.Steps.Turned.{Told, Silent, Answers, Marks, told, turned}
 use Rattle.atom_store.specs.declared.reply.Reply.{Reply}
 use Rattle.atom_store.specs.declared.step.Step.{Step}

@@ -18,10 +18,10 @@ use Rattle.gc_worker.specs.Laws.Claims.{CopiedPagesAreBelowLow, FlipsAreOfTraced
 use Rattle.gc_worker.specs.Laws.Copied.{IsTraced}
 use Rattle.gc_worker.specs.Workers.Held.{Held}
 use Rattle.gc_worker.specs.Laws.Step.{Heap, WorkersStand, nobody}
-use Rattle.gc_worker.specs.declared.did.Did.TheVariants.{Done, Trap}
+use Rattle.gc_worker.specs.declared.calls.did.Did.TheVariants.{Done, Trap}
 use Rattle.gc_worker.specs.Steps.Turned.{PageWon, Told, Silent, Answers, Marks, told}
 use Rattle.gc_worker.specs.Steps.Wanted.{wanted}
-use Rattle.gc_worker.specs.declared.stepped.Stepped.TheVariants as tells
+use Rattle.gc_worker.specs.declared.steps.stepped.Stepped.TheVariants as tells
 use Rattle.gc_worker.specs.Plain.Marks.{mark_of}
 use Rattle.gc_core.specs.Claims.{AreApart, IsWonOnce, PagesAreWon, won_of, wins_from}
 use Rattle.gc_core.specs.Core.{CoreState}

@@ -55,13 +55,13 @@ use Rattle.plain_heap.specs.declared.action.Action.{Action}
 use Rattle.plain_heap.specs.declared.action.Action.TheVariants.{Sets, Jumps, Links, Prints, Makes, Measures, Loads, Stores, Gets, Puts, Swaps}
 use Rattle.plain_heap.specs.Action.{action}
 use Rattle.gc_worker.specs.declared.access.Access.{Access}
-use Rattle.gc_worker.specs.declared.accessed.Accessed.{Accessed}
-use Rattle.gc_worker.specs.declared.accessed.Accessed.TheVariants.{Faults, Brings, Stored, Fails}
-use Rattle.gc_worker.specs.declared.after.After.{After}
-use Rattle.gc_worker.specs.declared.after.After.TheVariants as afters
-use Rattle.gc_worker.specs.declared.back.Back.{Back}
-use Rattle.gc_worker.specs.declared.back.Back.TheVariants.{ToAccess, ToPlace, ToScanner}
-use Rattle.gc_worker.specs.declared.forwarding_register.ForwardingRegister.{ForwardingRegister}
+use Rattle.gc_worker.specs.declared.access.accessed.Accessed.{Accessed}
+use Rattle.gc_worker.specs.declared.access.accessed.Accessed.TheVariants.{Faults, Brings, Stored, Fails}
+use Rattle.gc_worker.specs.declared.stage.after.After.{After}
+use Rattle.gc_worker.specs.declared.stage.after.After.TheVariants as afters
+use Rattle.gc_worker.specs.declared.stage.back.Back.{Back}
+use Rattle.gc_worker.specs.declared.stage.back.Back.TheVariants.{ToAccess, ToPlace, ToScanner}
+use Rattle.gc_worker.specs.declared.stage.forwarding_register.ForwardingRegister.{ForwardingRegister}
 use Rattle.gc_worker.specs.declared.stage.Stage.{Stage}
 use Rattle.gc_worker.specs.declared.stage.Stage.TheVariants.{Looks, Passes, Flips, Forwards, Accesses, Places, Serves, Scans, Evacuates, Opens, Gone}
 use Rattle.gc_worker.specs.declared.task.Task.{Task}

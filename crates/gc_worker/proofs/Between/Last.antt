@@ -19,8 +19,8 @@ use Rattle.heap_state.specs.Worker.{Worker, Post, is_gone, is_mutator}
 use Rattle.heap_state.specs.Worker as workers
 use Rattle.heap_state.proofs.Table.Places.{word_in-row}
 use Rattle.heap_laws.proofs.Gate.Counts.{ones}
-use Rattle.gc_worker.specs.declared.back.Back.{Back}
-use Rattle.gc_worker.specs.declared.back.Back.TheVariants.{ToAccess, ToPlace, ToScanner}
+use Rattle.gc_worker.specs.declared.stage.back.Back.{Back}
+use Rattle.gc_worker.specs.declared.stage.back.Back.TheVariants.{ToAccess, ToPlace, ToScanner}
 use Rattle.gc_worker.specs.declared.stage.Stage.{Stage}
 use Rattle.gc_worker.specs.declared.stage.Stage.TheVariants.{Looks, Passes, Flips, Forwards, Accesses, Places, Serves, Scans, Evacuates, Opens, Gone}
 use Rattle.gc_worker.specs.Laws.Between.{fresh_mutator, fresh_scanner, opening_heap, with_worker}

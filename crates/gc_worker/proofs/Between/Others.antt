@@ -13,8 +13,8 @@ use Rattle.gc_worker.specs.declared.task.Task.{Task}
 use Rattle.gc_worker.specs.declared.task.Task.TheVariants.{Calls, Stops}
 use Rattle.gc_worker.specs.Plain.Answer.{after_answer, after_outcome}
 use Rattle.gc_worker.specs.Laws.Between.{AnswersLeaveTheOthers, LeavesTheOthers}
-use Rattle.gc_worker.specs.declared.did.Did.{Did}
-use Rattle.gc_worker.specs.declared.did.Did.TheVariants.{Done, Trap}
+use Rattle.gc_worker.specs.declared.calls.did.Did.{Did}
+use Rattle.gc_worker.specs.declared.calls.did.Did.TheVariants.{Done, Trap}
 use Rattle.gc_worker.specs.Steps.Turned.{Silent, Answers, Marks}
 
 module _ (p : Plain) (k : ℕ) where

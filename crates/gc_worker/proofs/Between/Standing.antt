@@ -26,7 +26,7 @@ use Rattle.heap_laws.proofs.Fields.SameWords.{same_words}
 use Rattle.heap_laws.proofs.Fields.Shown.{headers_are_read, registers_are_held}
 use Rattle.heap_laws.proofs.Frames.Values.{value_from_pointer}
 use Rattle.heap_laws.proofs.Lifting.Configurations.{ready}
-use Rattle.gc_worker.specs.declared.back.Back.TheVariants.{ToAccess, ToPlace, ToScanner}
+use Rattle.gc_worker.specs.declared.stage.back.Back.TheVariants.{ToAccess, ToPlace, ToScanner}
 use Rattle.gc_worker.specs.declared.stage.Stage.{Stage}
 use Rattle.gc_worker.specs.declared.stage.Stage.TheVariants.{Looks, Passes, Flips, Forwards, Accesses, Places, Serves, Scans, Evacuates, Opens, Gone}
 use Rattle.gc_worker.specs.Laws.Between.{ShowsRegisters, RegistersLand, AreAlike, IsAsPlain, WhatStandsIsSo}

@@ -33,13 +33,13 @@ use Rattle.gc_worker.specs.Workers.Begun.{IsPastAfter, IsPastBack}
 use Rattle.gc_worker.specs.Laws.Between.{IsNoAnswer}
 use Rattle.gc_worker.specs.Laws.Cycles.{CallsGoOn, IsInCall, IsInPassage}
 use Rattle.gc_worker.specs.declared.access.Access.{Access}
-use Rattle.gc_worker.specs.declared.accessed.Accessed.{Accessed}
-use Rattle.gc_worker.specs.declared.accessed.Accessed.TheVariants.{Faults, Brings, Stored, Fails}
-use Rattle.gc_worker.specs.declared.after.After.{After}
-use Rattle.gc_worker.specs.declared.after.After.TheVariants as afters
-use Rattle.gc_worker.specs.declared.back.Back.{Back}
-use Rattle.gc_worker.specs.declared.back.Back.TheVariants.{ToAccess, ToPlace, ToScanner}
-use Rattle.gc_worker.specs.declared.forwarding_register.ForwardingRegister.{ForwardingRegister}
+use Rattle.gc_worker.specs.declared.access.accessed.Accessed.{Accessed}
+use Rattle.gc_worker.specs.declared.access.accessed.Accessed.TheVariants.{Faults, Brings, Stored, Fails}
+use Rattle.gc_worker.specs.declared.stage.after.After.{After}
+use Rattle.gc_worker.specs.declared.stage.after.After.TheVariants as afters
+use Rattle.gc_worker.specs.declared.stage.back.Back.{Back}
+use Rattle.gc_worker.specs.declared.stage.back.Back.TheVariants.{ToAccess, ToPlace, ToScanner}
+use Rattle.gc_worker.specs.declared.stage.forwarding_register.ForwardingRegister.{ForwardingRegister}
 use Rattle.gc_worker.specs.declared.stage.Stage.{Stage}
 use Rattle.gc_worker.specs.declared.stage.Stage.TheVariants.{Looks, Passes, Flips, Forwards, Accesses, Places, Serves, Scans, Evacuates, Opens, Gone}
 use Rattle.gc_worker.specs.declared.task.Task.{Task}

@@ -24,7 +24,7 @@ use Rattle.gc_worker.specs.Workers.Fits.{Fits, FitsStage, FitsTask, IsMaking}
 use Rattle.gc_worker.specs.Steps.Goes.{Is}
 use Rattle.gc_worker.specs.Workers.Held.{Held, at_stage, pages_needed, header_for, pages_asked}
 use Rattle.gc_worker.specs.Laws.Step.{Heap, WorkersStand, read}
-use Rattle.gc_worker.specs.declared.did.Did.TheVariants.{Done, Trap}
+use Rattle.gc_worker.specs.declared.calls.did.Did.TheVariants.{Done, Trap}
 use Rattle.gc_worker.specs.Steps.Turned.{Told, Silent, Answers, Marks, told, told_effect, told_place, turned, turned_place}
 use Rattle.gc_worker.proofs.Plain.AnswerSteps.{its_mutator}
 use Rattle.gc_worker.proofs.Stages.Gate.Resuming.{end_none}

@@ -18,7 +18,7 @@ use Rattle.gc_worker.specs.Workers.Fits.{Fits}
 use Rattle.gc_worker.specs.Plain.Full.{FindsNoRoom}
 use Rattle.gc_worker.specs.Laws.FullTold.{FullIsTold, TellsFull, found_traced}
 use Rattle.gc_worker.specs.Workers.Held.{Held, at_stage, pages_needed, pages_asked}
-use Rattle.gc_worker.specs.declared.did.Did.TheVariants.{Trap}
+use Rattle.gc_worker.specs.declared.calls.did.Did.TheVariants.{Trap}
 use Rattle.gc_worker.specs.Steps.Turned.{Silent, Answers, finds_full, end_by_shortage, told_end, told_place}
 
 module _ (n mutators k : ℕ) (words : List ℕ) (x : Held) (z : Placing) (room live : ℕ) (f : Fits n mutators k (at_stage x (found_traced z))) (finds : FindsNoRoom n words x (pages_needed x) room live) where

@@ -26,7 +26,7 @@ use Rattle.heap_state.specs.Memory.Table.{page_in, word_in}
 use Rattle.heap_state.specs.Worker.{Worker}
 use Rattle.heap_state.proofs.Puts.{none≢some}
 use Rattle.heap_state.proofs.Table.Places.{word_in-row}
-use Rattle.gc_worker.specs.declared.back.Back.{Back}
+use Rattle.gc_worker.specs.declared.stage.back.Back.{Back}
 use Rattle.gc_worker.specs.declared.stage.Stage.{Stage}
 use Rattle.gc_worker.specs.declared.stage.Stage.TheVariants.{Serves}
 use Rattle.gc_worker.specs.Laws.Claims.{epoch_of_heap}

@@ -6,13 +6,13 @@ use mathlib.Core.List.{IsPrefix}
 use Rattle.plain_state.specs.State.{Plain, serial_of}
 use Rattle.gc_worker.specs.Plain.Answer.{ComesTo, IsAnswered, after_told}
 use Rattle.gc_worker.specs.Laws.Step.{at_flip}
-use Rattle.gc_worker.specs.declared.did.Did.TheVariants.{Done, Trap}
+use Rattle.gc_worker.specs.declared.calls.did.Did.TheVariants.{Done, Trap}
 use Rattle.gc_worker.specs.Steps.Turned.{Told, Silent, Answers, Marks}
 use Rattle.gc_worker.specs.Laws.Between.{LeavesTheOthers}
 use Rattle.gc_worker.proofs.Between.Others.{answers_leave_the_others}
-use Rattle.gc_worker.specs.declared.call.Call.{Call}
-use Rattle.gc_worker.specs.declared.entry.Entry.{Entry}
-use Rattle.gc_worker.specs.declared.entry.Entry.TheVariants.{Made, Exchanged}
+use Rattle.gc_worker.specs.declared.calls.call.Call.{Call}
+use Rattle.gc_worker.specs.declared.calls.entry.Entry.{Entry}
+use Rattle.gc_worker.specs.declared.calls.entry.Entry.TheVariants.{Made, Exchanged}
 use Rattle.gc_worker.specs.History.Legal.{IsLegal, after_all, after_call, worker_call, calls_of, extra, flip_from, own_after}
 
 pub legal_more : (p : Plain) (log : List Entry) (m : ℕ) (t : Told) → IsLegal p log → IsAnswered (after_all p log) m t → IsLegal p (log ++ extra m t)

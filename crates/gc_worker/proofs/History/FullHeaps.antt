@@ -7,7 +7,7 @@ use Rattle.mutator_asm.specs.declared.instr.Instr.{Instr}
 use Rattle.atom_store.specs.declared.reply.Reply.{Reply}
 use Rattle.gate_core.specs.declared.passage.Passage.{Passage}
 use Rattle.gate_core.specs.declared.passage.Passage.TheVariants.{Look, Attach, Park, Request, Resume, Forwarded, Leave}
-use Rattle.gc_worker.specs.declared.after.After.{After}
+use Rattle.gc_worker.specs.declared.stage.after.After.{After}
 use Rattle.gc_worker.specs.declared.stage.Stage.{Stage}
 use Rattle.gc_worker.specs.declared.stage.Stage.TheVariants.{Looks, Passes, Flips, Forwards, Accesses, Places, Serves, Scans, Evacuates, Opens, Gone}
 use Rattle.gc_worker.specs.declared.task.Task.{Task}
@@ -17,7 +17,7 @@ use Rattle.gc_worker.specs.Workers.Begun.{IsPastAfter, IsPastLook}
 use Rattle.gc_worker.specs.Laws.Cycles.{IsInCall, IsInPassage}
 use Rattle.gc_worker.specs.Workers.Fits.{Fits, FitsTask}
 use Rattle.gc_worker.specs.Workers.Held.{Held}
-use Rattle.gc_worker.specs.declared.did.Did.TheVariants.{Trap}
+use Rattle.gc_worker.specs.declared.calls.did.Did.TheVariants.{Trap}
 use Rattle.gc_worker.specs.Steps.Turned.{Answers, told, told_at}
 use Rattle.gc_worker.proofs.Between.Begun.{full_is_found_later}
 use Rattle.gc_worker.proofs.Between.GoingOn.{workers_go_on}

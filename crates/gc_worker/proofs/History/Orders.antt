@@ -13,11 +13,11 @@ use Rattle.gc_worker.specs.declared.task.Task.{Task}
 use Rattle.gc_worker.specs.Plain.Answer.{ComesTo, MayCome}
 use Rattle.gc_worker.specs.Plain.Marks.{MarkActs, EachActs, task_of}
 use Rattle.gc_worker.proofs.Plain.Outcomes.{Sort, IsFull, IsStep, sort, comes, asks_then, opens_so, was_running}
-use Rattle.gc_worker.specs.declared.call.Call.{Call}
-use Rattle.gc_worker.specs.declared.did.Did.{Did}
-use Rattle.gc_worker.specs.declared.did.Did.TheVariants.{Done, Trap}
-use Rattle.gc_worker.specs.declared.entry.Entry.{Entry}
-use Rattle.gc_worker.specs.declared.entry.Entry.TheVariants.{Made, Exchanged}
+use Rattle.gc_worker.specs.declared.calls.call.Call.{Call}
+use Rattle.gc_worker.specs.declared.calls.did.Did.{Did}
+use Rattle.gc_worker.specs.declared.calls.did.Did.TheVariants.{Done, Trap}
+use Rattle.gc_worker.specs.declared.calls.entry.Entry.{Entry}
+use Rattle.gc_worker.specs.declared.calls.entry.Entry.TheVariants.{Made, Exchanged}
 use Rattle.gc_worker.specs.History.Legal.{IsLegal, after_all, after_call, calls_of, flip_from, last_flip}
 use Rattle.gc_worker.specs.History.Order.{AreFetched, AreShort, IsShort, mark_by, order_of}
 use Rattle.gc_worker.proofs.History.Extensions.{as_many, none_first, none_past}

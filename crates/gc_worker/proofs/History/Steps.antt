@@ -25,7 +25,7 @@ use Rattle.gc_worker.specs.Plain.Full.{FindsNoRoom, FullWhereTold}
 use Rattle.gc_worker.specs.Workers.Held.{Held}
 use Rattle.gc_worker.specs.Workers.Knows.{post_in}
 use Rattle.gc_worker.specs.Laws.Step.{FlipsOnce, FlipsWhereTold, Heap, StepKeeps, WorkersStand, epoch_of, held_at, moved, nobody}
-use Rattle.gc_worker.specs.declared.did.Did.TheVariants.{Done, Trap}
+use Rattle.gc_worker.specs.declared.calls.did.Did.TheVariants.{Done, Trap}
 use Rattle.gc_worker.specs.Steps.Turned.{Told, Silent, Answers, Marks, epoch_in_gate, told, turned}
 use Rattle.gc_worker.specs.Steps.Wanted.{wanted}
 use Rattle.gc_worker.proofs.Between.Begun.{beginnings_are_kept, full_is_found_later}
@@ -40,7 +40,7 @@ use Rattle.gc_worker.proofs.Cycles.SetAside.{claims_are_set_aside}
 use Rattle.gc_worker.proofs.Stages.Gate.Resuming.{end_none}
 use Rattle.gc_worker.proofs.Plain.NewRecords.{asked_is, plain_pages}
 use Rattle.gc_worker.proofs.StepKeeps.{steps_keep}
-use Rattle.gc_worker.specs.declared.entry.Entry.{Entry}
+use Rattle.gc_worker.specs.declared.calls.entry.Entry.{Entry}
 use Rattle.gc_worker.specs.History.Tally.{FitsTally, EachEntry, EntryIs, IsAskedFor, IsFilled, IsFilledByEnd, IsTallied, Tally, Tasks, aside_in, asked_by_task, made_next, next_task, pages_by_task, tally, tasks_held}
 use Rattle.gc_worker.specs.History.Legal.{worker_call, extra}
 use Rattle.gc_worker.proofs.History.Aside.{aside_changes, aside_most, aside_of_others}

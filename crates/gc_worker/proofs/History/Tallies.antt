@@ -8,10 +8,10 @@ use Rattle.mutator_asm.specs.declared.instr.Instr.{Instr}
 use Rattle.plain_heap.specs.Step.{new_record, pages_of}
 use Rattle.gc_worker.specs.declared.task.Task.{Task}
 use Rattle.gc_worker.specs.declared.task.Task.TheVariants.{Calls}
-use Rattle.gc_worker.specs.declared.did.Did.{Did}
-use Rattle.gc_worker.specs.declared.did.Did.TheVariants.{Done, Trap}
-use Rattle.gc_worker.specs.declared.entry.Entry.{Entry}
-use Rattle.gc_worker.specs.declared.entry.Entry.TheVariants.{Made, Exchanged}
+use Rattle.gc_worker.specs.declared.calls.did.Did.{Did}
+use Rattle.gc_worker.specs.declared.calls.did.Did.TheVariants.{Done, Trap}
+use Rattle.gc_worker.specs.declared.calls.entry.Entry.{Entry}
+use Rattle.gc_worker.specs.declared.calls.entry.Entry.TheVariants.{Made, Exchanged}
 use Rattle.gc_worker.proofs.History.Sums.{sum_below-most}
 use Rattle.gc_worker.specs.History.Tally.{EachEntry, EntryIs, IsFilled, IsFilledBy, IsFilledByEnd, Tally, Tasks, after_entry, asked_by_task, asked_unless_ended, made_next, next_task, pages_by_task, tally}
 use Rattle.gc_worker.specs.Plain.Answer.{after_told}

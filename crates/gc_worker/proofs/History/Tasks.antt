@@ -14,7 +14,7 @@ use Rattle.gc_worker.specs.Laws.Cycles.{IsFirst, IsFirstAt, IsFirstBy, IsInCall,
 use Rattle.gc_worker.specs.Workers.Held.{Held}
 use Rattle.gc_worker.specs.Laws.Step.{Heap, held_at, nobody}
 use Rattle.heap_state.specs.Worker.{Account}
-use Rattle.gc_worker.specs.declared.entry.Entry.{Entry}
+use Rattle.gc_worker.specs.declared.calls.entry.Entry.{Entry}
 use Rattle.gc_worker.specs.History.Tally.{EachEntry, EntryIs, IsTallied, Tally, aside_in, tally, tasks_held}
 use Rattle.gc_worker.proofs.History.Tallies.{entries_on}
 

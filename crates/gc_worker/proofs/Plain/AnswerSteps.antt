@@ -23,7 +23,7 @@ use Rattle.gc_worker.specs.Plain.Full.{FullByOutcome}
 use Rattle.gc_worker.specs.Steps.Goes.{Is, Goes, Wins}
 use Rattle.gc_worker.specs.Workers.Held.{Held}
 use Rattle.gc_worker.specs.Workers.Knows.{knows, post_in}
-use Rattle.gc_worker.specs.declared.did.Did.{Did}
+use Rattle.gc_worker.specs.declared.calls.did.Did.{Did}
 use Rattle.gc_worker.specs.Steps.Turned.{Answers, PageWon, turned, told, won}
 use Rattle.gc_worker.proofs.Words.RowSteps.{prepared}
 use Rattle.heap_state.proofs.Table.Stores.{entry_has_row}

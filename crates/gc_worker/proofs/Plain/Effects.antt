@@ -29,7 +29,7 @@ use Rattle.gc_worker.specs.Steps.Goes.{Is, Goes}
 use Rattle.gc_worker.specs.Workers.Held.{Held}
 use Rattle.gc_worker.specs.Workers.Knows.{knows, post_in}
 use Rattle.gc_worker.specs.Plain.Seen.{IsValueWord}
-use Rattle.gc_worker.specs.declared.did.Did.TheVariants.{Done, Trap}
+use Rattle.gc_worker.specs.declared.calls.did.Did.TheVariants.{Done, Trap}
 use Rattle.gc_worker.specs.Steps.Turned.{turned, told, won, told_effect, told_end, next_of, loads, went_on, ended}
 use Rattle.gc_worker.proofs.Plain.AnswerSteps.{LawTo, IsIts, answers, may_hold, going, next_as}
 use Rattle.gc_worker.proofs.Workers.Answered.{values_set, settled_fits}

@@ -6,7 +6,7 @@ use Rattle.space_map.specs.Spaces.{IsInSpace, to_space, space_start}
 use Rattle.heap_state.specs.Configuration.{era, team}
 use Rattle.heap_state.specs.Memory.Era.{from_space}
 use Rattle.heap_state.specs.Worker.{Worker, Register, is_late}
-use Rattle.gc_worker.specs.declared.forwarding_register.ForwardingRegister.{ForwardingRegister}
+use Rattle.gc_worker.specs.declared.stage.forwarding_register.ForwardingRegister.{ForwardingRegister}
 use Rattle.gc_worker.specs.declared.stage.Stage.TheVariants.{Forwards}
 use Rattle.gc_worker.specs.Steps.Goes.{Is}
 use Rattle.gc_worker.specs.Workers.Held.{Held, at_stage}

@@ -27,8 +27,8 @@ use Rattle.plain_heap.proofs.Calls.Outcomes.{if_ok-bind}
 use Rattle.heap_laws.specs.Opening.{opening_plain}
 use Rattle.plain_heap.specs.Order as order
 use Rattle.gc_worker.specs.Plain.Answer.{MayEnd, MayCome, after_outcome}
-use Rattle.gc_worker.specs.declared.did.Did.{Did}
-use Rattle.gc_worker.specs.declared.did.Did.TheVariants.{Done, Trap}
+use Rattle.gc_worker.specs.declared.calls.did.Did.{Did}
+use Rattle.gc_worker.specs.declared.calls.did.Did.TheVariants.{Done, Trap}
 use Rattle.gc_worker.specs.Steps.Turned.{Answers}
 use Rattle.gc_worker.specs.Steps.Stepped.{stepped_by}
 use Rattle.gc_worker.specs.Plain.Marks.{end_mark, mark_of, task_of}

@@ -13,8 +13,8 @@ use Rattle.plain_state.specs.State.{Mutator}
 use Rattle.plain_heap.specs.declared.action.Action.{Action}
 use Rattle.plain_heap.specs.declared.action.Action.TheVariants.{Prints}
 use Rattle.plain_heap.specs.Action.{◌>>=◌, action, allocates, board_place, computes, as_number, operand, reference_in, register}
-use Rattle.gc_worker.specs.declared.due.Due.{Due}
-use Rattle.gc_worker.specs.declared.due.Due.TheVariants as dues
+use Rattle.gc_worker.specs.declared.task.due.Due.{Due}
+use Rattle.gc_worker.specs.declared.task.due.Due.TheVariants as dues
 use Rattle.gc_worker.specs.declared.task.Task.{Task}
 use Rattle.gc_worker.specs.declared.task.Task.TheVariants.{Calls}
 use Rattle.gc_worker.specs.Workers.Fits.{IsMaking}

@@ -19,8 +19,8 @@ use Rattle.plain_heap.specs.declared.action.Action.TheVariants.{Makes}
 use Rattle.plain_heap.specs.Action.{◌>>=◌, action, allocates, length_of, operand, register, as_number}
 use Rattle.heap_state.specs.Worker.{Account}
 use Rattle.gc_worker.proofs.Plain.RecordsMade.{makes_of, made_of}
-use Rattle.gc_worker.specs.declared.after.After.{After}
-use Rattle.gc_worker.specs.declared.after.After.TheVariants as afters
+use Rattle.gc_worker.specs.declared.stage.after.After.{After}
+use Rattle.gc_worker.specs.declared.stage.after.After.TheVariants as afters
 use Rattle.gc_worker.specs.declared.task.Task.{Task}
 use Rattle.gc_worker.specs.declared.task.Task.TheVariants.{Calls, Stops}
 use Rattle.gc_worker.specs.Workers.Fits.{FitsCall, MayBegin, IsMaking}

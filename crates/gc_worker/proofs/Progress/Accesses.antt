@@ -13,17 +13,17 @@ use Rattle.plain_state.specs.declared.value.Value.{Value as PlainValue}
 use Rattle.space_map.specs.PageWord.{decode_page}
 use Rattle.space_map.specs.Spaces.{board_page, page_of}
 use Rattle.gc_worker.specs.declared.access.Access.{Access}
-use Rattle.gc_worker.specs.declared.access_stage.AccessStage.{AccessStage}
-use Rattle.gc_worker.specs.declared.access_stage.AccessStage.TheVariants.{LooksAtRecord, LoadsHeader, LooksAtField, LooksAtBoard, LoadsForSwap}
-use Rattle.gc_worker.specs.declared.board_access.BoardUse.{BoardUse}
-use Rattle.gc_worker.specs.declared.board_access.BoardUse.TheVariants as board_uses
-use Rattle.gc_worker.specs.declared.field_access.FieldAccess.{FieldAccess}
-use Rattle.gc_worker.specs.declared.field_access.FieldUse.{FieldUse}
-use Rattle.gc_worker.specs.declared.field_access.FieldUse.TheVariants as field_uses
-use Rattle.gc_worker.specs.declared.field_access.Role.{Role}
-use Rattle.gc_worker.specs.declared.record_access.RecordAccess.{RecordAccess}
-use Rattle.gc_worker.specs.declared.record_access.RecordUse.{RecordUse}
-use Rattle.gc_worker.specs.declared.record_access.RecordUse.TheVariants as record_uses
+use Rattle.gc_worker.specs.declared.access.access_stage.AccessStage.{AccessStage}
+use Rattle.gc_worker.specs.declared.access.access_stage.AccessStage.TheVariants.{LooksAtRecord, LoadsHeader, LooksAtField, LooksAtBoard, LoadsForSwap}
+use Rattle.gc_worker.specs.declared.access.board_access.BoardUse.{BoardUse}
+use Rattle.gc_worker.specs.declared.access.board_access.BoardUse.TheVariants as board_uses
+use Rattle.gc_worker.specs.declared.access.field_access.FieldAccess.{FieldAccess}
+use Rattle.gc_worker.specs.declared.access.field_access.FieldUse.{FieldUse}
+use Rattle.gc_worker.specs.declared.access.field_access.FieldUse.TheVariants as field_uses
+use Rattle.gc_worker.specs.declared.access.field_access.Role.{Role}
+use Rattle.gc_worker.specs.declared.access.record_access.RecordAccess.{RecordAccess}
+use Rattle.gc_worker.specs.declared.access.record_access.RecordUse.{RecordUse}
+use Rattle.gc_worker.specs.declared.access.record_access.RecordUse.TheVariants as record_uses
 use Rattle.gc_worker.specs.Steps.Access.{Answered, advances_at, at_stage, field_at, field_of, goes_by, goes_to_field, is_header, left, left_at, let_through, loading, looked, may_store, read_header, role_in, storing, taken, told, turn_by, used_by, uses_board, uses_field, word_as}
 
 by_use : (f : FieldAccess) (usage : FieldUse) → left_at (uses_field f usage) < 2

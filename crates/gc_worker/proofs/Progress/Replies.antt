@@ -51,10 +51,10 @@ use Rattle.heap_state.proofs.Table.Places.{word_in-row}
 use Rattle.heap_laws.specs.Answers.{OldHeader, InPlace, KeptBy, Forwards}
 use Rattle.page_scan.specs.declared.scanned_record.ScannedRecord.{ScannedRecord}
 use Rattle.gc_worker.specs.declared.access.Access.{Access}
-use Rattle.gc_worker.specs.declared.access_stage.AccessStage.{AccessStage}
-use Rattle.gc_worker.specs.declared.access_stage.AccessStage.TheVariants.{LooksAtRecord, LoadsHeader, LooksAtField, LoadsField, StoresField, LooksAtBoard, LoadsBoard, StoresBoard, LoadsForSwap, SwapsBoard}
-use Rattle.gc_worker.specs.declared.board_access.BoardSwap.{BoardSwap}
-use Rattle.gc_worker.specs.declared.record_access.RecordAccess.{RecordAccess}
+use Rattle.gc_worker.specs.declared.access.access_stage.AccessStage.{AccessStage}
+use Rattle.gc_worker.specs.declared.access.access_stage.AccessStage.TheVariants.{LooksAtRecord, LoadsHeader, LooksAtField, LoadsField, StoresField, LooksAtBoard, LoadsBoard, StoresBoard, LoadsForSwap, SwapsBoard}
+use Rattle.gc_worker.specs.declared.access.board_access.BoardSwap.{BoardSwap}
+use Rattle.gc_worker.specs.declared.access.record_access.RecordAccess.{RecordAccess}
 use Rattle.gc_worker.specs.Steps.Access as access
 use Rattle.gc_worker.proofs.Words.Areas.{area_says, is_space}
 use Rattle.gc_worker.proofs.Stages.Copies.Words.{heap_word}

@@ -38,14 +38,14 @@ use Rattle.page_slots.specs.declared.opened.Opened.{Opened}
 use Rattle.page_slots.specs.Open as open_page
 use Rattle.heap_state.specs.Configuration.{Configuration, Stands}
 use Rattle.gc_worker.specs.declared.access.Access.{Access}
-use Rattle.gc_worker.specs.declared.access_stage.AccessStage.{AccessStage}
-use Rattle.gc_worker.specs.declared.access_stage.AccessStage.TheVariants.{LoadsHeader}
-use Rattle.gc_worker.specs.declared.accessed.Accessed.{Accessed}
-use Rattle.gc_worker.specs.declared.after.After.{After}
-use Rattle.gc_worker.specs.declared.back.Back.{Back}
-use Rattle.gc_worker.specs.declared.back.Back.TheVariants.{ToAccess, ToPlace, ToScanner}
-use Rattle.gc_worker.specs.declared.forwarding_register.ForwardingRegister.{ForwardingRegister}
-use Rattle.gc_worker.specs.declared.record_access.RecordAccess.{RecordAccess}
+use Rattle.gc_worker.specs.declared.access.access_stage.AccessStage.{AccessStage}
+use Rattle.gc_worker.specs.declared.access.access_stage.AccessStage.TheVariants.{LoadsHeader}
+use Rattle.gc_worker.specs.declared.access.accessed.Accessed.{Accessed}
+use Rattle.gc_worker.specs.declared.stage.after.After.{After}
+use Rattle.gc_worker.specs.declared.stage.back.Back.{Back}
+use Rattle.gc_worker.specs.declared.stage.back.Back.TheVariants.{ToAccess, ToPlace, ToScanner}
+use Rattle.gc_worker.specs.declared.stage.forwarding_register.ForwardingRegister.{ForwardingRegister}
+use Rattle.gc_worker.specs.declared.access.record_access.RecordAccess.{RecordAccess}
 use Rattle.gc_worker.specs.declared.stage.Stage.{Stage}
 use Rattle.gc_worker.specs.declared.stage.Stage.TheVariants.{Looks, Passes, Flips, Forwards, Accesses, Places, Serves, Scans, Evacuates, Opens, Gone}
 use Rattle.gc_worker.specs.Steps.Access as access

@@ -16,8 +16,8 @@ use Rattle.heap_state.specs.Memory.Entries.{Entry, PageIs}
 use Rattle.heap_state.specs.Worker.{Worker}
 use Rattle.heap_laws.specs.Scanning.Claims.{ends_scan}
 use Rattle.heap_laws.proofs.Scanning.Opened as opened
-use Rattle.gc_worker.specs.declared.back.Back.{Back}
-use Rattle.gc_worker.specs.declared.back.Back.TheVariants.{ToAccess, ToPlace, ToScanner}
+use Rattle.gc_worker.specs.declared.stage.back.Back.{Back}
+use Rattle.gc_worker.specs.declared.stage.back.Back.TheVariants.{ToAccess, ToPlace, ToScanner}
 use Rattle.gc_worker.specs.declared.stage.Stage.TheVariants.{Opens}
 use Rattle.gc_worker.specs.Workers.Fits.{HasEnded}
 use Rattle.gc_worker.specs.Steps.Goes.{Is, Goes, StepsSo}

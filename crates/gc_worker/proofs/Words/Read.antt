@@ -8,8 +8,8 @@ use Rattle.record_layout.specs.Layout.{header_in, header_says, header_with}
 use Rattle.heap_words.specs.declared.kind.Kind.{Kind}
 use Rattle.std.proofs.Math.Decide.{dec_le, dec_lt}
 use Rattle.record_layout.proofs.Rereading.{header_in-said, header_in-header_says}
-use Rattle.gc_worker.specs.declared.access_stage.AccessStage.TheVariants.{LoadsHeader}
-use Rattle.gc_worker.specs.declared.record_access.RecordAccess.{RecordAccess}
+use Rattle.gc_worker.specs.declared.access.access_stage.AccessStage.TheVariants.{LoadsHeader}
+use Rattle.gc_worker.specs.declared.access.record_access.RecordAccess.{RecordAccess}
 use Rattle.gc_worker.specs.Steps.Access.{GoesTo, read_header, role_in, used_by}
 use Rattle.gc_worker.specs.Plain.Seen.{IsValueAs, IsValueWord, by_address, making_in, seen, seen_as, value_seen, word_for}
 use Rattle.heap_state.specs.Worker.{Account}
@@ -20,10 +20,10 @@ use Rattle.gc_worker.specs.declared.stage.Stage.{Stage}
 use Rattle.gc_worker.specs.declared.stage.Stage.TheVariants.{Forwards, Serves}
 use Rattle.gc_worker.specs.Steps.Turned.{Pointed, back_from, first_pointer, forwarded_to, forwards_from, forwards_it, places, scans, served_by, turned, turned_at, turned_register, turned_round, with_evac}
 use Rattle.gc_worker.specs.Steps.Stepped.{served_in, uncounted}
-use Rattle.gc_worker.specs.declared.after.After.{After}
-use Rattle.gc_worker.specs.declared.forwarding_register.ForwardingRegister.{ForwardingRegister}
-use Rattle.gc_worker.specs.declared.back.Back.{Back}
-use Rattle.gc_worker.specs.declared.back.Back.TheVariants.{ToAccess, ToPlace, ToScanner}
+use Rattle.gc_worker.specs.declared.stage.after.After.{After}
+use Rattle.gc_worker.specs.declared.stage.forwarding_register.ForwardingRegister.{ForwardingRegister}
+use Rattle.gc_worker.specs.declared.stage.back.Back.{Back}
+use Rattle.gc_worker.specs.declared.stage.back.Back.TheVariants.{ToAccess, ToPlace, ToScanner}
 use Rattle.fault_duty.specs.Duty.{Round}
 use Rattle.fault_duty.specs.Duty as duty
 use Rattle.forwarding.specs.declared.to.To.{To}

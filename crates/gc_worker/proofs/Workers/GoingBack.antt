@@ -1,7 +1,7 @@
 -- After a round of the duty a worker goes back to its access, its allocation or the next round.
 use Rattle.std.proofs.Common.{◌≡◌, ℕ, false, is_some, nat_lt, refl, arith}
-use Rattle.gc_worker.specs.declared.back.Back.{Back}
-use Rattle.gc_worker.specs.declared.back.Back.TheVariants.{ToAccess, ToPlace, ToScanner}
+use Rattle.gc_worker.specs.declared.stage.back.Back.{Back}
+use Rattle.gc_worker.specs.declared.stage.back.Back.TheVariants.{ToAccess, ToPlace, ToScanner}
 use Rattle.gc_worker.specs.Workers.Fits.{Fits, FitsBack, FitsTaskBack, IsOnSideBack}
 use Rattle.gc_worker.specs.Workers.Held.{Held}
 use Rattle.gc_worker.specs.Steps.Turned.{goes_back, back_from}

@@ -7,8 +7,8 @@ use Rattle.alloc_end.specs.declared.run.Run.{Run}
 use Rattle.alloc_end.specs.Place as place
 use Rattle.alloc_end.specs.Soundness.{RunLiesInSpaces, IsPlacingGoing, FitsPlaceStage}
 use Rattle.record_layout.specs.declared.header.Header.{Header}
-use Rattle.gc_worker.specs.declared.after.After.{After}
-use Rattle.gc_worker.specs.declared.after.After.TheVariants as afters
+use Rattle.gc_worker.specs.declared.stage.after.After.{After}
+use Rattle.gc_worker.specs.declared.stage.after.After.TheVariants as afters
 use Rattle.gc_worker.specs.declared.stage.Stage.TheVariants.{Looks, Places}
 use Rattle.gc_worker.specs.Workers.Fits.{Fits, FitsRun, FitsTaskAfter, IsMaking}
 use Rattle.gc_worker.specs.Workers.Held.{Held, at_stage, header_for, run_held, run_in}

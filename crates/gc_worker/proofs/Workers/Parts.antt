@@ -4,7 +4,7 @@ use Rattle.plain_state.specs.declared.sizes.TheConstants.{REGISTERS, MOST_PRINTE
 use Rattle.space_map.specs.Spaces.{IsPageCount}
 use Rattle.alloc_end.specs.declared.run.Run.{Run}
 use Rattle.gate_core.specs.declared.passage.Passage.{Passage}
-use Rattle.gc_worker.specs.declared.after.After.{After}
+use Rattle.gc_worker.specs.declared.stage.after.After.{After}
 use Rattle.gc_worker.specs.declared.stage.Stage.{Stage}
 use Rattle.gc_worker.specs.Workers.Fits.{IsWorkerOf, AreValues, Fits, FitsRun, FitsStage, FitsEnd, FitsTask, FitsTaskBefore, IsOnSide, IsOwnPassage, IsEndBefore}
 use Rattle.gc_worker.specs.Workers.Held.{Held, at_stage}

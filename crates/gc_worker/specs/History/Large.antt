@@ -3,9 +3,9 @@ use Rattle.std.specs.Prelude.{◌≡◌, ◌≢◌, ℕ, ◌+◌, ◌-◌, ◌*�
 use Rattle.plain_state.specs.declared.end.End.TheVariants.{HeapFull}
 use Rattle.plain_state.specs.declared.sizes.TheConstants.{PAGE_WORDS}
 use Rattle.heap_state.specs.Meaning.Reachable.{IsLive}
-use Rattle.gc_worker.specs.declared.did.Did.TheVariants.{Trap}
-use Rattle.gc_worker.specs.declared.entry.Entry.{Entry}
-use Rattle.gc_worker.specs.declared.entry.Entry.TheVariants.{Made}
+use Rattle.gc_worker.specs.declared.calls.did.Did.TheVariants.{Trap}
+use Rattle.gc_worker.specs.declared.calls.entry.Entry.{Entry}
+use Rattle.gc_worker.specs.declared.calls.entry.Entry.TheVariants.{Made}
 use Rattle.gc_worker.specs.declared.task.Task.{Task}
 use Rattle.gc_worker.specs.History.Legal.{worker_call}
 use Rattle.gc_worker.specs.History.Tally.{Tally, Tasks, asked_by_task, made_next, next_task, tally}

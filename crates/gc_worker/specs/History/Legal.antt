@@ -1,10 +1,10 @@
 -- Histories: which are legal, and whose calls they have.
 use Rattle.std.specs.Prelude.{ℕ, ◌==◌, ⊤, cond, List, [], ◌∷◌, ◌++◌}
 use Rattle.plain_state.specs.State.{Plain}
-use Rattle.gc_worker.specs.declared.did.Did.{Did}
-use Rattle.gc_worker.specs.declared.call.Call.{Call}
-use Rattle.gc_worker.specs.declared.entry.Entry.{Entry}
-use Rattle.gc_worker.specs.declared.entry.Entry.TheVariants.{Made, Exchanged}
+use Rattle.gc_worker.specs.declared.calls.did.Did.{Did}
+use Rattle.gc_worker.specs.declared.calls.call.Call.{Call}
+use Rattle.gc_worker.specs.declared.calls.entry.Entry.{Entry}
+use Rattle.gc_worker.specs.declared.calls.entry.Entry.TheVariants.{Made, Exchanged}
 use Rattle.gc_worker.specs.declared.task.Task.{Task}
 use Rattle.gc_worker.specs.Plain.Answer.{ComesTo, after_told}
 use Rattle.gc_worker.specs.Steps.Turned.{Told, Silent, Answers, Marks}

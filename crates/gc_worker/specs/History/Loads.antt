@@ -10,11 +10,11 @@ use Rattle.plain_heap.specs.Action.{action}
 use Rattle.plain_heap.specs.Call.{set_register, went_on}
 use Rattle.plain_heap.specs.Records.{RecordShape, record_word, shape_of, word_after}
 use Rattle.heap_laws.specs.Opening.{opening_plain}
-use Rattle.gc_worker.specs.declared.call.Call.{Call}
-use Rattle.gc_worker.specs.declared.did.Did.{Did}
-use Rattle.gc_worker.specs.declared.did.Did.TheVariants.{Done}
-use Rattle.gc_worker.specs.declared.entry.Entry.{Entry}
-use Rattle.gc_worker.specs.declared.entry.Entry.TheVariants.{Made, Exchanged}
+use Rattle.gc_worker.specs.declared.calls.call.Call.{Call}
+use Rattle.gc_worker.specs.declared.calls.did.Did.{Did}
+use Rattle.gc_worker.specs.declared.calls.did.Did.TheVariants.{Done}
+use Rattle.gc_worker.specs.declared.calls.entry.Entry.{Entry}
+use Rattle.gc_worker.specs.declared.calls.entry.Entry.TheVariants.{Made, Exchanged}
 use Rattle.gc_worker.specs.declared.task.Task.{Task}
 use Rattle.gc_worker.specs.declared.task.Task.TheVariants.{Calls}
 use Rattle.gc_worker.specs.History.Legal.{IsLegal, after_all, after_call}

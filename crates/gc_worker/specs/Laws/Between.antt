@@ -19,8 +19,8 @@ use Rattle.heap_state.specs.Theorems.Standing.{IsSound}
 use Rattle.heap_state.specs.Meaning.Values.{Accounts}
 use Rattle.heap_state.specs.Worker.{is_running}
 use Rattle.heap_laws.specs.Opening.{opening_entries, opening_plain}
-use Rattle.gc_worker.specs.declared.after.After.TheVariants as afters
-use Rattle.gc_worker.specs.declared.back.Back.TheVariants.{ToScanner}
+use Rattle.gc_worker.specs.declared.stage.after.After.TheVariants as afters
+use Rattle.gc_worker.specs.declared.stage.back.Back.TheVariants.{ToScanner}
 use Rattle.gc_worker.specs.declared.stage.Stage.TheVariants.{Looks, Serves, Gone}
 use Rattle.gc_worker.specs.declared.task.Task.{Task}
 use Rattle.gc_worker.specs.Plain.Answer.{after_told}
@@ -28,8 +28,8 @@ use Rattle.gc_worker.specs.Workers.Fits.{Fits, MayBegin}
 use Rattle.gc_worker.specs.Workers.Held.{Held}
 use Rattle.gc_worker.specs.Workers.Knows.{knows, post_in}
 use Rattle.gc_worker.specs.Laws.Step.{Heap, read, held_at, WorkersStand, epoch_of}
-use Rattle.gc_worker.specs.declared.did.Did.{Did}
-use Rattle.gc_worker.specs.declared.did.Did.TheVariants.{Done, Trap}
+use Rattle.gc_worker.specs.declared.calls.did.Did.{Did}
+use Rattle.gc_worker.specs.declared.calls.did.Did.TheVariants.{Done, Trap}
 use Rattle.gc_worker.specs.Steps.Turned.{Told, Silent, Answers, Marks, passes, turned, told}
 use Rattle.gc_worker.specs.Steps.Wanted.{wanted}
 

@@ -19,7 +19,7 @@ use Rattle.alloc_end.specs.Place.{Placing, words_for}
 use Rattle.gate_core.specs.declared.passage.Passage.{Passage}
 use Rattle.gate_core.specs.declared.passage.Passage.TheVariants.{Look, Attach, Park, Request, Resume, Forwarded, Leave}
 use Rattle.heap_state.specs.Memory.Table.{word_in}
-use Rattle.gc_worker.specs.declared.after.After.{After}
+use Rattle.gc_worker.specs.declared.stage.after.After.{After}
 use Rattle.gc_worker.specs.declared.stage.Stage.{Stage}
 use Rattle.gc_worker.specs.declared.stage.Stage.TheVariants.{Looks, Passes, Flips, Forwards, Accesses, Places, Serves, Scans, Evacuates, Opens, Gone}
 use Rattle.gc_worker.specs.declared.task.Task.TheVariants.{Calls}
@@ -28,7 +28,7 @@ use Rattle.gc_worker.specs.Laws.Between.{IsNoAnswer}
 use Rattle.gc_worker.specs.Workers.Fits.{Fits}
 use Rattle.gc_worker.specs.Workers.Held.{Held, pages_needed}
 use Rattle.gc_worker.specs.Laws.Step.{Heap, WorkersStand, held_at, epoch_of}
-use Rattle.gc_worker.specs.declared.did.Did.TheVariants.{Done, Trap}
+use Rattle.gc_worker.specs.declared.calls.did.Did.TheVariants.{Done, Trap}
 use Rattle.gc_worker.specs.Steps.Turned.{Told, Silent, Answers, Marks, turned, told}
 use Rattle.gc_worker.specs.Steps.Wanted.{wanted}
 

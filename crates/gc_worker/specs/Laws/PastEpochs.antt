@@ -18,7 +18,7 @@ use Rattle.gc_worker.specs.Workers.Held.{Held}
 use Rattle.gc_worker.specs.Laws.Step.{Heap, IsOut, WorkersStand, held_at}
 use Rattle.gc_worker.specs.Steps.Turned.{PageWon, Silent, back_from, of_round, told, turned, won}
 use Rattle.gc_worker.specs.Steps.Wanted.{wanted}
-use Rattle.gc_worker.specs.declared.back.Back.{Back}
+use Rattle.gc_worker.specs.declared.stage.back.Back.{Back}
 use Rattle.gc_worker.specs.declared.stage.Stage.TheVariants.{Serves}
 
 -- The exchange of a round is lost, by the word that stands there: no word changes, no page is won, the plain machine sees nothing, and the

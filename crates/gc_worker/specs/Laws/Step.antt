@@ -13,7 +13,7 @@ use Rattle.heap_state.specs.Configuration.{Configuration, Stands, era, memory, t
 use Rattle.heap_state.specs.Cycles.Cycle.{Cycle}
 use Rattle.heap_state.specs.Memory.Table.{word_in, page_in}
 use Rattle.space_map.specs.Spaces.{IsInSpace, to_space}
-use Rattle.gc_worker.specs.declared.forwarding_register.ForwardingRegister.{ForwardingRegister}
+use Rattle.gc_worker.specs.declared.stage.forwarding_register.ForwardingRegister.{ForwardingRegister}
 use Rattle.gc_worker.specs.declared.stage.Stage.TheVariants.{Flips, Forwards, Gone}
 use Rattle.gc_worker.specs.Workers.Fits.{Fits, Takes}
 use Rattle.gc_worker.specs.Plain.Answer.{IsAnswered, after_told}

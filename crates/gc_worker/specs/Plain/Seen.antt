@@ -13,7 +13,7 @@ use Rattle.plain_heap.specs.declared.action.Action.{Action}
 use Rattle.plain_heap.specs.declared.action.Action.TheVariants.{Makes}
 use Rattle.plain_heap.specs.Action.{◌>>=◌, length_of, operand}
 use Rattle.heap_state.specs.Worker.{Account}
-pub use Rattle.gc_worker.specs.declared.allocating.Making.{Making}
+pub use Rattle.gc_worker.specs.declared.steps.allocating.Making.{Making}
 
 abbrev pub by_address : ℕ → Identity
 by_address address = record { mutator = 0; serial = address }

@@ -31,20 +31,20 @@ use Rattle.mmu_model.specs.Access.{access_of}
 use Rattle.heap_state.specs.Worker as workers
 use Rattle.heap_laws.specs.Fields.Effects.{word_held, FitsRole}
 use Rattle.gc_worker.specs.declared.access.Access.{Access}
-use Rattle.gc_worker.specs.declared.access_stage.AccessStage.{AccessStage}
-use Rattle.gc_worker.specs.declared.access_stage.AccessStage.TheVariants.{LooksAtRecord, LoadsHeader, LooksAtField, LoadsField, StoresField, LooksAtBoard, LoadsBoard, StoresBoard, LoadsForSwap, SwapsBoard}
-use Rattle.gc_worker.specs.declared.accessed.Accessed.{Accessed}
-use Rattle.gc_worker.specs.declared.accessed.Accessed.TheVariants.{Faults, Brings, Stored, Fails}
-use Rattle.gc_worker.specs.declared.board_access.BoardUse.{BoardUse}
-use Rattle.gc_worker.specs.declared.board_access.BoardUse.TheVariants as board_uses
-use Rattle.gc_worker.specs.declared.field_access.FieldAccess.{FieldAccess}
-use Rattle.gc_worker.specs.declared.field_access.FieldUse.{FieldUse}
-use Rattle.gc_worker.specs.declared.field_access.FieldUse.TheVariants as field_uses
-use Rattle.gc_worker.specs.declared.field_access.Role.{Role}
-use Rattle.gc_worker.specs.declared.field_access.Role.TheVariants as roles
-use Rattle.gc_worker.specs.declared.record_access.RecordAccess.{RecordAccess}
-use Rattle.gc_worker.specs.declared.record_access.RecordUse.{RecordUse}
-use Rattle.gc_worker.specs.declared.record_access.RecordUse.TheVariants as record_uses
+use Rattle.gc_worker.specs.declared.access.access_stage.AccessStage.{AccessStage}
+use Rattle.gc_worker.specs.declared.access.access_stage.AccessStage.TheVariants.{LooksAtRecord, LoadsHeader, LooksAtField, LoadsField, StoresField, LooksAtBoard, LoadsBoard, StoresBoard, LoadsForSwap, SwapsBoard}
+use Rattle.gc_worker.specs.declared.access.accessed.Accessed.{Accessed}
+use Rattle.gc_worker.specs.declared.access.accessed.Accessed.TheVariants.{Faults, Brings, Stored, Fails}
+use Rattle.gc_worker.specs.declared.access.board_access.BoardUse.{BoardUse}
+use Rattle.gc_worker.specs.declared.access.board_access.BoardUse.TheVariants as board_uses
+use Rattle.gc_worker.specs.declared.access.field_access.FieldAccess.{FieldAccess}
+use Rattle.gc_worker.specs.declared.access.field_access.FieldUse.{FieldUse}
+use Rattle.gc_worker.specs.declared.access.field_access.FieldUse.TheVariants as field_uses
+use Rattle.gc_worker.specs.declared.access.field_access.Role.{Role}
+use Rattle.gc_worker.specs.declared.access.field_access.Role.TheVariants as roles
+use Rattle.gc_worker.specs.declared.access.record_access.RecordAccess.{RecordAccess}
+use Rattle.gc_worker.specs.declared.access.record_access.RecordUse.{RecordUse}
+use Rattle.gc_worker.specs.declared.access.record_access.RecordUse.TheVariants as record_uses
 use Rattle.gc_worker.specs.Plain.Seen.{IsValueWord, value_seen, word_for}
 
 -- ---- where it lies

@@ -9,12 +9,12 @@ use Rattle.atom_store.specs.Machine.{Machine, RunsTo}
 use Rattle.plain_state.specs.declared.end.End.TheVariants.{OutOfRange}
 use Rattle.space_map.specs.Worked.{four_pages}
 use Rattle.gc_worker.specs.declared.access.Access.{Access}
-use Rattle.gc_worker.specs.declared.access_stage.AccessStage.{AccessStage}
-use Rattle.gc_worker.specs.declared.access_stage.AccessStage.TheVariants.{LooksAtRecord, LooksAtBoard}
-use Rattle.gc_worker.specs.declared.accessed.Accessed.{Accessed}
-use Rattle.gc_worker.specs.declared.accessed.Accessed.TheVariants.{Faults, Brings, Stored, Fails}
-use Rattle.gc_worker.specs.declared.board_access.BoardUse.TheVariants.{Swaps}
-use Rattle.gc_worker.specs.declared.record_access.RecordUse.TheVariants.{Loads, Stores}
+use Rattle.gc_worker.specs.declared.access.access_stage.AccessStage.{AccessStage}
+use Rattle.gc_worker.specs.declared.access.access_stage.AccessStage.TheVariants.{LooksAtRecord, LooksAtBoard}
+use Rattle.gc_worker.specs.declared.access.accessed.Accessed.{Accessed}
+use Rattle.gc_worker.specs.declared.access.accessed.Accessed.TheVariants.{Faults, Brings, Stored, Fails}
+use Rattle.gc_worker.specs.declared.access.board_access.BoardUse.TheVariants.{Swaps}
+use Rattle.gc_worker.specs.declared.access.record_access.RecordUse.TheVariants.{Loads, Stores}
 use Rattle.gc_worker.specs.Steps.Access.{taken, told, wanted}
 
 -- an access, and what it told last

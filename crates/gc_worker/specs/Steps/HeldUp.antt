@@ -8,9 +8,9 @@ use Rattle.atom_store.specs.Step.{reply_of}
 use Rattle.heap_words.specs.Decoded.{decode}
 use Rattle.space_map.specs.Table.{HeapWord, place_of}
 use Rattle.gc_worker.specs.declared.access.Access.{Access}
-use Rattle.gc_worker.specs.declared.access_stage.AccessStage.{AccessStage}
-use Rattle.gc_worker.specs.declared.access_stage.AccessStage.TheVariants.{LoadsHeader, LoadsForSwap, SwapsBoard}
-use Rattle.gc_worker.specs.declared.board_access.BoardSwap.{BoardSwap}
+use Rattle.gc_worker.specs.declared.access.access_stage.AccessStage.{AccessStage}
+use Rattle.gc_worker.specs.declared.access.access_stage.AccessStage.TheVariants.{LoadsHeader, LoadsForSwap, SwapsBoard}
+use Rattle.gc_worker.specs.declared.access.board_access.BoardSwap.{BoardSwap}
 use Rattle.gc_worker.specs.Steps.Access.{advances_at, at_stage, board_at, is_header, taken, told, wanted}
 
 abbrev pub IsHeldUp : AccessStage → Reply → Type 0

@@ -15,7 +15,7 @@ use Rattle.gc_worker.specs.declared.task.Task.TheVariants.{Calls, Stops}
 use Rattle.gc_worker.specs.Plain.Answer.{ComesTo, after_answer, after_told}
 use Rattle.gc_worker.specs.Laws.Between.{IsSo}
 use Rattle.gc_worker.specs.Laws.Step.{Heap, held_at}
-use Rattle.gc_worker.specs.declared.did.Did.TheVariants.{Done}
+use Rattle.gc_worker.specs.declared.calls.did.Did.TheVariants.{Done}
 use Rattle.gc_worker.specs.Steps.Turned.{Answers}
 
 -- its plain mutator, with the same account

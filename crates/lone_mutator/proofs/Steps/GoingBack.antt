@@ -1,8 +1,8 @@
 -- What a round goes back to, by what its worker holds.
 use Rattle.std.proofs.Common.{◌≡◌, ℕ, true, refl}
 use Rattle.heap_state.specs.Worker.{is_running}
-use Rattle.gc_worker.specs.declared.back.Back.{Back}
-use Rattle.gc_worker.specs.declared.back.Back.TheVariants.{ToAccess, ToPlace, ToScanner}
+use Rattle.gc_worker.specs.declared.stage.back.Back.{Back}
+use Rattle.gc_worker.specs.declared.stage.back.Back.TheVariants.{ToAccess, ToPlace, ToScanner}
 use Rattle.gc_worker.specs.Workers.Begun.{IsPastBack}
 use Rattle.gc_worker.specs.Workers.Fits.{IsEpochOf}
 use Rattle.gc_worker.specs.Workers.Held.{Held}

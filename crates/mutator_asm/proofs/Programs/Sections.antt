@@ -6,7 +6,7 @@ use Rattle.std.specs.Vec.{vec_items}
 use Rattle.std.proofs.lemmas.List.{drop-map, length-map, length-drop, get_or-map, map-id}
 use Rattle.std.proofs.lemmas.Grind.{get_or_after_one}
 use denote.Ref.{Bor}
-use Rattle.mutator_asm.specs.declared.line.Line.{Line as Read}
+use Rattle.mutator_asm.specs.declared.text.line.Line.{Line as Read}
 use Rattle.mutator_asm.specs.Line.{Line}
 use Rattle.mutator_asm.specs.Read.{line_view, lines_view}
 use Rattle.mutator_asm.specs.Text.{begins_section, sections_in}

@@ -10,9 +10,9 @@ use Rattle.std.proofs.lemmas.List.Sums.{sum_by-cons, sum_by-take-le, count_by-le
 use Rattle.mutator_asm.specs.declared.instr.Instr.{Instr}
 use Rattle.mutator_asm.specs.declared.instr.Instr.TheVariants.{Jmp, Jz, Jal}
 use Rattle.mutator_asm.specs.declared.item.Item.{Item}
-use Rattle.mutator_asm.specs.declared.jump.Jump.{Jump}
-use Rattle.mutator_asm.specs.declared.jump.Jump.TheVariants.{Always, IfZero, Link}
-use Rattle.mutator_asm.specs.declared.line.Line.{Line as Read}
+use Rattle.mutator_asm.specs.declared.listing.jump.Jump.{Jump}
+use Rattle.mutator_asm.specs.declared.listing.jump.Jump.TheVariants.{Always, IfZero, Link}
+use Rattle.mutator_asm.specs.declared.text.line.Line.{Line as Read}
 use Rattle.mutator_asm.specs.Instr.{jump_to}
 use Rattle.mutator_asm.specs.Labels.{before_of}
 use Rattle.mutator_asm.specs.Line.{Word, Nothing, Begins, Schedules, Does, Jumps, Line, line_of, lines_of}

@@ -8,10 +8,10 @@ use Rattle.std.proofs.lemmas.List.{append-nil, length-append, length-map, length
 use Rattle.std.proofs.lemmas.List.Concat.{flat_map-append}
 use Rattle.std.proofs.lemmas.List.Splits.{length-slice_split}
 use Rattle.std.proofs.lemmas.List.Sums.{count_by-le-length, sum_by_push, sum_by-take-le}
-use Rattle.mutator_asm.specs.declared.before.Before.{Before}
-use Rattle.mutator_asm.specs.declared.mistake.Mistake.{Mistake}
-use Rattle.mutator_asm.specs.declared.line.Line.{Line as Read}
-use Rattle.mutator_asm.specs.declared.part.Part.{Part}
+use Rattle.mutator_asm.specs.declared.text.before.Before.{Before}
+use Rattle.mutator_asm.specs.declared.errors.mistake.Mistake.{Mistake}
+use Rattle.mutator_asm.specs.declared.text.line.Line.{Line as Read}
+use Rattle.mutator_asm.specs.declared.text.part.Part.{Part}
 use Rattle.mutator_asm.specs.Labels.{lines_since, before_of, and_line}
 use Rattle.mutator_asm.specs.Line.{Line}
 use Rattle.mutator_asm.specs.Part.{part_view, parts_view}

@@ -8,8 +8,8 @@ use Rattle.std.specs.Str.{bytes_eq}
 use Rattle.std.proofs.Math.ListN.{drop_of_length-le}
 use Rattle.std.proofs.lemmas.Slice.Eq.{bytes_eq-Decides}
 use denote.Ref.{Bor}
-use Rattle.mutator_asm.specs.declared.labels.Place.{Place}
-use Rattle.mutator_asm.specs.declared.line.Line.{Line as Read}
+use Rattle.mutator_asm.specs.declared.text.labels.Place.{Place}
+use Rattle.mutator_asm.specs.declared.text.line.Line.{Line as Read}
 use Rattle.mutator_asm.specs.Labels.{label_place, get_place}
 use Rattle.mutator_asm.specs.Line.{Line}
 use Rattle.mutator_asm.specs.Read.{label_view, line_view, lines_view}

@@ -3,9 +3,9 @@ use Rattle.std.proofs.Common.{◌≡◌, ℕ, zero, suc, ◌+◌, ◌<◌, ◌�
 use Rattle.std.specs.Option.{is_some}
 use Rattle.std.proofs.lemmas.Bool.{or_parts, leb-false, ltb-false}
 use Rattle.std.proofs.lemmas.List.{get_or_default}
-use Rattle.mutator_asm.specs.declared.before.Before.{Before}
-use Rattle.mutator_asm.specs.declared.mistake.Mistake.{Mistake}
-use Rattle.mutator_asm.specs.declared.mistake.Mistake.TheVariants.{UnknownInstr, BadOperand, UnknownLabel, LabelTwice, NoMutator, TooManyMutators, CodeTooLong, BadSchedule, NumberTooBig}
+use Rattle.mutator_asm.specs.declared.text.before.Before.{Before}
+use Rattle.mutator_asm.specs.declared.errors.mistake.Mistake.{Mistake}
+use Rattle.mutator_asm.specs.declared.errors.mistake.Mistake.TheVariants.{UnknownInstr, BadOperand, UnknownLabel, LabelTwice, NoMutator, TooManyMutators, CodeTooLong, BadSchedule, NumberTooBig}
 use Rattle.mutator_asm.specs.Labels.{before_of, and_line}
 use Rattle.mutator_asm.specs.Line.{Word, Nothing, Schedules, Line, unlabelled}
 use Rattle.mutator_asm.specs.Text.{items_in, is_begin, has_instr, is_instr, is_bad, is_begin_with_more, is_lost, is_again, is_overlong, error_by, section_no, has_label, IsCleanUpTo}

@@ -7,11 +7,11 @@ use Rattle.std.specs.Prelude.{codes}
 use Rattle.std.proofs.lemmas.Bool.{and_parts, and_from, cond_both, lt-ltb, leb-true}
 use Rattle.mutator_asm.specs.declared.instr.Instr.{Instr}
 use Rattle.mutator_asm.specs.declared.instr.Instr.TheVariants.{Li, Mov, Add, Sub, Mul, Div, Rem, Lt, Eq, Jmp, Jz, Jal, Jr, New, Raw, Ld, St, Len, Isp, Get, Put, Swap, Out, Halt}
-use Rattle.mutator_asm.specs.declared.jump.Jump.{Jump}
-use Rattle.mutator_asm.specs.declared.jump.Jump.TheVariants.{Always, IfZero, Link}
+use Rattle.mutator_asm.specs.declared.listing.jump.Jump.{Jump}
+use Rattle.mutator_asm.specs.declared.listing.jump.Jump.TheVariants.{Always, IfZero, Link}
 use Rattle.mutator_asm.specs.declared.item.Item.{Item}
-use Rattle.mutator_asm.specs.declared.mistake.Mistake.{Mistake}
-use Rattle.mutator_asm.specs.declared.mistake.Mistake.TheVariants.{BadOperand, BadSchedule, NumberTooBig}
+use Rattle.mutator_asm.specs.declared.errors.mistake.Mistake.{Mistake}
+use Rattle.mutator_asm.specs.declared.errors.mistake.Mistake.TheVariants.{BadOperand, BadSchedule, NumberTooBig}
 use Rattle.mutator_asm.specs.declared.operand.Operand.{Operand}
 use Rattle.mutator_asm.specs.Program.{is_register, is_number, is_operand, is_valid, is_item}
 use Rattle.mutator_asm.specs.Token.{is_register_name, is_numeral, register_of, number_of, number_or, operand_of, is_name, label_of, tokens_of}

@@ -1,6 +1,6 @@
 -- Names by their letters.
 use Rattle.std.proofs.Common.{◌≡◌, ℕ, List, [], ◌∷◌, length, get_or, refl, ap, arith, Result, Ok, Err, MatchResult, IsOkAnd}
-use Rattle.mutator_asm.specs.declared.mistake.Mistake.{Mistake}
+use Rattle.mutator_asm.specs.declared.errors.mistake.Mistake.{Mistake}
 use Rattle.mutator_asm.specs.Instr.{made}
 
 -- a name of two letters

@@ -1,5 +1,5 @@
 use Rattle.std.proofs.Common.{◌≡◌, subst}
-use Rattle.ael_commands.specs.declared.job.Job.TheVariants.{Run}
+use Rattle.ael_commands.specs.declared.arguments.job.Job.TheVariants.{Run}
 use Rattle.ael_commands.specs.Arguments.Words.{NumbersAreInRange}
 use Rattle.ael_commands.proofs.Causes.{failed_counts}
 use Rattle.ael_commands.proofs.answering.answer.Goals as goal

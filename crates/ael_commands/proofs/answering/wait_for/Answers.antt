@@ -1,6 +1,6 @@
 use Rattle.std.proofs.Common.{refl}
 use Rattle.ael_commands.proofs.Causes.{kept_ok, none_made, passed_on, threaded, unfit}
-use Rattle.ael_commands.specs.declared.job.Job.TheVariants.{Run}
+use Rattle.ael_commands.specs.declared.arguments.job.Job.TheVariants.{Run}
 use Rattle.ael_commands.proofs.answering.wait_for.Goals as goal
 
 pub returns-in_err-read_program-clause-err : goal.returns-in_err-read_program-clause-err

@@ -22,7 +22,7 @@ use Rattle.heap_state.specs.Meaning.Values.{value_of, value_said}
 use Rattle.heap_laws.specs.Fields.Held.{HoldsValue}
 use Rattle.heap_laws.specs.Fields.Words.{IsLedTo}
 use Rattle.heap_laws.proofs.Fields.Shown.{headers_are_read, numbers_are_held}
-use Rattle.gc_worker.specs.declared.access_stage.AccessStage.{AccessStage}
+use Rattle.gc_worker.specs.declared.access.access_stage.AccessStage.{AccessStage}
 use Rattle.gc_worker.specs.Steps.Access.{IsHeapAddress}
 use Rattle.gc_worker.specs.Workers.Fits.{ExecutesAction}
 use Rattle.gc_worker.specs.Steps.Goes.{Is}

@@ -23,11 +23,11 @@ use Rattle.heap_laws.specs.Fields.Held.{MutatorGoesOn, HoldsValue}
 use Rattle.heap_laws.specs.Fields.Stores.{IsAs}
 use Rattle.heap_laws.proofs.Fields.Effects.{board_words_are_values}
 use Rattle.heap_laws.proofs.Fields.Laws.{mutators_store_on_board}
-use Rattle.gc_worker.specs.declared.access_stage.AccessStage.{AccessStage}
-use Rattle.gc_worker.specs.declared.access_stage.AccessStage.TheVariants.{LooksAtBoard, LoadsBoard, StoresBoard, LoadsForSwap, SwapsBoard}
-use Rattle.gc_worker.specs.declared.board_access.BoardAccess.{BoardAccess}
-use Rattle.gc_worker.specs.declared.board_access.BoardSwap.{BoardSwap}
-use Rattle.gc_worker.specs.declared.board_access.BoardUse.TheVariants as board_uses
+use Rattle.gc_worker.specs.declared.access.access_stage.AccessStage.{AccessStage}
+use Rattle.gc_worker.specs.declared.access.access_stage.AccessStage.TheVariants.{LooksAtBoard, LoadsBoard, StoresBoard, LoadsForSwap, SwapsBoard}
+use Rattle.gc_worker.specs.declared.access.board_access.BoardAccess.{BoardAccess}
+use Rattle.gc_worker.specs.declared.access.board_access.BoardSwap.{BoardSwap}
+use Rattle.gc_worker.specs.declared.access.board_access.BoardUse.TheVariants as board_uses
 use Rattle.gc_worker.specs.Steps.Access.{begun, board_at}
 use Rattle.gc_worker.specs.Workers.Fits.{ExecutesAction}
 use Rattle.gc_worker.specs.Steps.Goes.{Is, Goes, StepsSo}

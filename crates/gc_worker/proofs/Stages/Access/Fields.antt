@@ -34,12 +34,12 @@ use Rattle.heap_laws.specs.Fields.Words.{MayStore, StandsFor}
 use Rattle.heap_laws.proofs.Fields.Effects.{accesses_are_values}
 use Rattle.heap_laws.proofs.Fields.Laws.{mutators_store}
 use Rattle.heap_laws.proofs.Fields.Stored.{words_are_loaded}
-use Rattle.gc_worker.specs.declared.access_stage.AccessStage.{AccessStage}
-use Rattle.gc_worker.specs.declared.access_stage.AccessStage.TheVariants.{LoadsField, StoresField}
-use Rattle.gc_worker.specs.declared.field_access.FieldAccess.{FieldAccess}
-use Rattle.gc_worker.specs.declared.field_access.FieldUse.TheVariants as field_uses
-use Rattle.gc_worker.specs.declared.field_access.Role.{Role}
-use Rattle.gc_worker.specs.declared.field_access.Role.TheVariants as roles
+use Rattle.gc_worker.specs.declared.access.access_stage.AccessStage.{AccessStage}
+use Rattle.gc_worker.specs.declared.access.access_stage.AccessStage.TheVariants.{LoadsField, StoresField}
+use Rattle.gc_worker.specs.declared.access.field_access.FieldAccess.{FieldAccess}
+use Rattle.gc_worker.specs.declared.access.field_access.FieldUse.TheVariants as field_uses
+use Rattle.gc_worker.specs.declared.access.field_access.Role.{Role}
+use Rattle.gc_worker.specs.declared.access.field_access.Role.TheVariants as roles
 use Rattle.gc_worker.specs.Steps.Access.{IsFieldOfAction, IsHeapAddress, field_at, field_of, kind_of, role_of, word_as}
 use Rattle.gc_worker.specs.Workers.Fits.{ExecutesAction}
 use Rattle.gc_worker.specs.Steps.Goes.{Is, Goes, StepsSo}

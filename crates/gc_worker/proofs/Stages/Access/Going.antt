@@ -18,9 +18,9 @@ use Rattle.heap_laws.proofs.Fields.GoingOn.{runs, timely}
 use Rattle.heap_laws.proofs.Fields.Laws.{goes_on_so, mutators_learn}
 use Rattle.heap_laws.proofs.Fields.Shown.{registers_are_held}
 use Rattle.gc_worker.specs.declared.access.Access.{Access}
-use Rattle.gc_worker.specs.declared.access_stage.AccessStage.{AccessStage}
-use Rattle.gc_worker.specs.declared.accessed.Accessed.TheVariants.{Faults}
-use Rattle.gc_worker.specs.declared.back.Back.TheVariants.{ToAccess}
+use Rattle.gc_worker.specs.declared.access.access_stage.AccessStage.{AccessStage}
+use Rattle.gc_worker.specs.declared.access.accessed.Accessed.TheVariants.{Faults}
+use Rattle.gc_worker.specs.declared.stage.back.Back.TheVariants.{ToAccess}
 use Rattle.gc_worker.specs.declared.stage.Stage.TheVariants.{Accesses, Serves}
 use Rattle.gc_worker.specs.Steps.Access.{Answered, GoesTo, Comes, answered, turn_by, goes_by, FitsStage}
 use Rattle.gc_worker.specs.Steps.Access as access

@@ -5,8 +5,8 @@ use Rattle.atom_store.specs.declared.reply.Reply.TheVariants.{Won, Lost}
 use Rattle.atom_store.specs.declared.turn.Turn.TheVariants.{More}
 use Rattle.atom_store.specs.Step.{reply_of}
 use Rattle.gc_worker.specs.declared.access.Access.{Access}
-use Rattle.gc_worker.specs.declared.access_stage.AccessStage.{AccessStage}
-use Rattle.gc_worker.specs.declared.access_stage.AccessStage.TheVariants.{LooksAtRecord, LoadsHeader, LooksAtField, LoadsField, StoresField, LooksAtBoard, LoadsBoard, StoresBoard, LoadsForSwap, SwapsBoard}
+use Rattle.gc_worker.specs.declared.access.access_stage.AccessStage.{AccessStage}
+use Rattle.gc_worker.specs.declared.access.access_stage.AccessStage.TheVariants.{LooksAtRecord, LoadsHeader, LooksAtField, LoadsField, StoresField, LooksAtBoard, LoadsBoard, StoresBoard, LoadsForSwap, SwapsBoard}
 use Rattle.gc_worker.specs.Steps.Access.{advances_at, at_stage, told, wanted}
 use Rattle.gc_worker.specs.Steps.HeldUp.{AccessesGoOn, IsHeldUp, LostSwapsLoadAgain}
 

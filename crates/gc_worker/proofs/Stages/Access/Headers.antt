@@ -36,16 +36,16 @@ use Rattle.heap_laws.specs.Fields.Held.{HoldsValue}
 use Rattle.heap_laws.specs.Fields.Words.{IsLedTo}
 use Rattle.heap_laws.proofs.Fields.Effects.{headers_say}
 use Rattle.heap_laws.proofs.Lifting.Configurations.{below_board}
-use Rattle.gc_worker.specs.declared.access_stage.AccessStage.{AccessStage}
-use Rattle.gc_worker.specs.declared.access_stage.AccessStage.TheVariants.{LooksAtRecord, LoadsHeader, LooksAtField, LoadsField, StoresField}
-use Rattle.gc_worker.specs.declared.accessed.Accessed.TheVariants.{Fails}
-use Rattle.gc_worker.specs.declared.field_access.FieldAccess.{FieldAccess}
-use Rattle.gc_worker.specs.declared.field_access.FieldUse.{FieldUse}
-use Rattle.gc_worker.specs.declared.field_access.FieldUse.TheVariants as field_uses
-use Rattle.gc_worker.specs.declared.field_access.Role.{Role}
-use Rattle.gc_worker.specs.declared.field_access.Role.TheVariants as roles
-use Rattle.gc_worker.specs.declared.record_access.RecordAccess.{RecordAccess}
-use Rattle.gc_worker.specs.declared.record_access.RecordUse.TheVariants as record_uses
+use Rattle.gc_worker.specs.declared.access.access_stage.AccessStage.{AccessStage}
+use Rattle.gc_worker.specs.declared.access.access_stage.AccessStage.TheVariants.{LooksAtRecord, LoadsHeader, LooksAtField, LoadsField, StoresField}
+use Rattle.gc_worker.specs.declared.access.accessed.Accessed.TheVariants.{Fails}
+use Rattle.gc_worker.specs.declared.access.field_access.FieldAccess.{FieldAccess}
+use Rattle.gc_worker.specs.declared.access.field_access.FieldUse.{FieldUse}
+use Rattle.gc_worker.specs.declared.access.field_access.FieldUse.TheVariants as field_uses
+use Rattle.gc_worker.specs.declared.access.field_access.Role.{Role}
+use Rattle.gc_worker.specs.declared.access.field_access.Role.TheVariants as roles
+use Rattle.gc_worker.specs.declared.access.record_access.RecordAccess.{RecordAccess}
+use Rattle.gc_worker.specs.declared.access.record_access.RecordUse.TheVariants as record_uses
 use Rattle.gc_worker.specs.Steps.Access.{GoesTo, Comes, IsHeapAddress, begun, IsFieldOfAction, FitsFieldUse, answered, field_at, field_of, kind_of, role_in, role_of, read_header, used_by, to_field, uses_field, loading, storing, may_store, word_as}
 use Rattle.gc_worker.specs.Workers.Fits.{ExecutesAction}
 use Rattle.gc_worker.specs.Steps.Goes.{Is, Goes, StepsSo}

@@ -11,8 +11,8 @@ use Rattle.heap_state.specs.Configuration.{Configuration, Stands, era, memory, t
 use Rattle.heap_state.specs.Memory.Entries.{Entry}
 use Rattle.heap_laws.specs.Fields.Held.{HoldsValue}
 use Rattle.heap_laws.proofs.Fields.Laws.{mutators_step}
-use Rattle.gc_worker.specs.declared.access_stage.AccessStage.{AccessStage}
-use Rattle.gc_worker.specs.declared.accessed.Accessed.TheVariants.{Brings, Stored, Fails}
+use Rattle.gc_worker.specs.declared.access.access_stage.AccessStage.{AccessStage}
+use Rattle.gc_worker.specs.declared.access.accessed.Accessed.TheVariants.{Brings, Stored, Fails}
 use Rattle.gc_worker.specs.Steps.Access.{Answered, Comes, answered, turn_by, goes_by}
 use Rattle.gc_worker.specs.Steps.Access as access
 use Rattle.gc_worker.specs.Plain.Answer.{MayEnd}

@@ -3,8 +3,8 @@ use Rattle.std.proofs.Common.{ℕ, Some, arith}
 use Rattle.atom_store.specs.StepOn.{IsOn, WritesOnly}
 use Rattle.space_map.specs.Spaces.{Layout}
 use Rattle.space_map.specs.Table.{Row, HeapWord, IsRow}
-use Rattle.gc_worker.specs.declared.access_stage.AccessStage.{AccessStage}
-use Rattle.gc_worker.specs.declared.access_stage.AccessStage.TheVariants.{LooksAtRecord, LoadsHeader, LooksAtField, LoadsField, StoresField, LooksAtBoard, LoadsBoard, StoresBoard, LoadsForSwap, SwapsBoard}
+use Rattle.gc_worker.specs.declared.access.access_stage.AccessStage.{AccessStage}
+use Rattle.gc_worker.specs.declared.access.access_stage.AccessStage.TheVariants.{LooksAtRecord, LoadsHeader, LooksAtField, LoadsField, StoresField, LooksAtBoard, LoadsBoard, StoresBoard, LoadsForSwap, SwapsBoard}
 use Rattle.gc_worker.specs.Steps.Access.{FitsStage, board_at, field_at, wants_at}
 
 pub rows_fit : (l : Layout) (stage : AccessStage) → FitsStage l.pages stage → IsOn (IsRow l.pages) (Some (wants_at l stage))

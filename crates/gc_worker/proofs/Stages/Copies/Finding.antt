@@ -26,8 +26,8 @@ use Rattle.heap_state.specs.Worker.{Worker, Copy}
 use Rattle.heap_laws.specs.Answers.{OldHeader, OldHeaderAnswers, InPlace, KeptBy, Forwards}
 use Rattle.heap_laws.proofs.Copying.Laws.{announces_are_cleared, forwards_are_found}
 use Rattle.heap_laws.proofs.Steps.Answers.{old_headers_are_read}
-use Rattle.gc_worker.specs.declared.back.Back.{Back}
-use Rattle.gc_worker.specs.declared.back.Back.TheVariants.{ToAccess, ToPlace, ToScanner}
+use Rattle.gc_worker.specs.declared.stage.back.Back.{Back}
+use Rattle.gc_worker.specs.declared.stage.back.Back.TheVariants.{ToAccess, ToPlace, ToScanner}
 use Rattle.gc_worker.specs.declared.stage.Stage.TheVariants.{Evacuates, Scans}
 use Rattle.gc_worker.specs.Workers.Fits.{Fits, FitsBack, HasAsked}
 use Rattle.gc_worker.specs.Steps.Goes.{Is, Goes, StepsSo}

@@ -9,9 +9,9 @@ use Rattle.forwarding.specs.Soundness as sound
 use Rattle.forwarding.specs.Taken as taken
 use Rattle.page_scan.specs.Scanning.{Scanning}
 use Rattle.heap_state.specs.Worker.{Copy, Quest, Origin, Register, Scanned}
-use Rattle.gc_worker.specs.declared.after.After.{After}
-use Rattle.gc_worker.specs.declared.back.Back.{Back}
-use Rattle.gc_worker.specs.declared.back.Back.TheVariants.{ToAccess, ToPlace, ToScanner}
+use Rattle.gc_worker.specs.declared.stage.after.After.{After}
+use Rattle.gc_worker.specs.declared.stage.back.Back.{Back}
+use Rattle.gc_worker.specs.declared.stage.back.Back.TheVariants.{ToAccess, ToPlace, ToScanner}
 use Rattle.gc_worker.specs.declared.stage.Stage.{Stage}
 use Rattle.gc_worker.specs.declared.stage.Stage.TheVariants.{Forwards, Evacuates}
 use Rattle.gc_worker.specs.Workers.Fits.{Fits, FitsBack, Takes}

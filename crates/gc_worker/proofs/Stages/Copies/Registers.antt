@@ -28,7 +28,7 @@ use Rattle.heap_laws.proofs.Steps.Composites.{registers_find_forwards, registers
 use Rattle.gc_worker.proofs.Workers.Answered.{registers_put, values_set}
 use Rattle.gc_worker.proofs.Plain.Tasks.{task_stays}
 use Rattle.gc_worker.specs.Plain.Seen.{IsValueAs}
-use Rattle.gc_worker.specs.declared.after.After.{After}
+use Rattle.gc_worker.specs.declared.stage.after.After.{After}
 use Rattle.gc_worker.specs.declared.stage.Stage.{Stage}
 use Rattle.gc_worker.specs.declared.stage.Stage.TheVariants.{Forwards}
 use Rattle.gc_worker.specs.Workers.Fits.{AreValues, Fits, FitsEnd, FitsStage, FitsTask, FitsTaskAfter, IsOnSide}

@@ -6,8 +6,8 @@ use Rattle.forwarding.specs.declared.evac_stage.EvacStage.TheVariants.{LoadsHead
 use Rattle.forwarding.specs.Evacuation.{Evacuation}
 use Rattle.page_scan.specs.Scanning.{Scanning}
 use Rattle.heap_state.specs.Configuration.{Configuration, Stands}
-use Rattle.gc_worker.specs.declared.back.Back.{Back}
-use Rattle.gc_worker.specs.declared.forwarding_register.ForwardingRegister.{ForwardingRegister}
+use Rattle.gc_worker.specs.declared.stage.back.Back.{Back}
+use Rattle.gc_worker.specs.declared.stage.forwarding_register.ForwardingRegister.{ForwardingRegister}
 use Rattle.gc_worker.specs.declared.stage.Stage.TheVariants.{Forwards, Evacuates}
 use Rattle.gc_worker.specs.Steps.Goes.{Is, StepsSo}
 use Rattle.gc_worker.specs.Workers.Held.{Held, at_stage}

@@ -17,7 +17,7 @@ use Rattle.heap_laws.specs.Flipping.Flip.{Flips, after_flip, flipped_gate, next_
 use Rattle.heap_laws.specs.Lifting.{Flipped}
 use Rattle.heap_laws.proofs.Flipping.Flipped.{flip_keeps}
 use Rattle.heap_laws.proofs.Lifting.Laws.{flips_are_lifted}
-use Rattle.gc_worker.specs.declared.after.After.TheVariants as afters
+use Rattle.gc_worker.specs.declared.stage.after.After.TheVariants as afters
 use Rattle.gc_worker.specs.Steps.Goes.{Is, Goes, StepsSo}
 use Rattle.gc_worker.specs.Workers.Held.{Held, at_stage}
 use Rattle.gc_worker.specs.Workers.Knows.{knows}

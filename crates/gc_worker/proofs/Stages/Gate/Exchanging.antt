@@ -22,7 +22,7 @@ use Rattle.heap_state.specs.Worker as workers
 use Rattle.heap_laws.specs.Gate as laws
 use Rattle.heap_laws.proofs.Gate.Passages.{passes_gate}
 use Rattle.heap_laws.proofs.Steps.Forgotten.{reads_are_forgotten}
-use Rattle.gc_worker.specs.declared.after.After.{After}
+use Rattle.gc_worker.specs.declared.stage.after.After.{After}
 use Rattle.gc_worker.specs.declared.stage.Stage.TheVariants.{Passes, Flips, Looks, Gone}
 use Rattle.gc_worker.specs.Workers.Fits.{Fits, IsGoneBy}
 use Rattle.gc_worker.specs.Steps.Goes.{Is, Goes, StepsSo}

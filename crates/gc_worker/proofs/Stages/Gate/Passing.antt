@@ -25,8 +25,8 @@ use Rattle.heap_laws.specs.Answers.{GateAnswers}
 use Rattle.heap_laws.proofs.Gate.Reading.{reads_gate}
 use Rattle.heap_laws.proofs.Steps.Answers.{passages_fit}
 use Rattle.heap_laws.proofs.Steps.Forgotten.{traced_is_forgotten}
-use Rattle.gc_worker.specs.declared.after.After.{After}
-use Rattle.gc_worker.specs.declared.after.After.TheVariants as afters
+use Rattle.gc_worker.specs.declared.stage.after.After.{After}
+use Rattle.gc_worker.specs.declared.stage.after.After.TheVariants as afters
 use Rattle.gc_worker.specs.declared.stage.Stage.TheVariants.{Passes}
 use Rattle.gc_worker.specs.Workers.Fits.{Fits, FitsTaskAfter, IsMaking}
 use Rattle.gc_worker.specs.Steps.Goes.{Is, Goes, StepsSo}

@@ -10,7 +10,7 @@ use Rattle.heap_state.specs.Configuration.{Configuration, Stands, era, memory, t
 use Rattle.heap_state.specs.Worker.{Worker, Register, Quest, is_late}
 use Rattle.heap_laws.specs.Composites.{AsksAt, AllDone, AsksNext, LeadNowhere, come_to}
 use Rattle.heap_laws.proofs.Steps.Composites.{registers_are_passed}
-use Rattle.gc_worker.specs.declared.after.After.{After}
+use Rattle.gc_worker.specs.declared.stage.after.After.{After}
 use Rattle.gc_worker.specs.declared.stage.Stage.TheVariants.{Forwards}
 use Rattle.gc_worker.specs.Workers.Fits.{Fits, FitsTaskAfter}
 use Rattle.gc_worker.specs.Steps.Goes.{Is}

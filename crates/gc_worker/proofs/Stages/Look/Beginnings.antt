@@ -14,7 +14,7 @@ use Rattle.plain_heap.specs.Action.{action}
 use Rattle.plain_heap.proofs.Calls.Named.{Names}
 use Rattle.atom_store.specs.declared.reply.Reply.{Reply}
 use Rattle.heap_state.specs.Configuration.{Configuration, Stands, era, memory, team}
-use Rattle.gc_worker.specs.declared.access_stage.AccessStage.{AccessStage}
+use Rattle.gc_worker.specs.declared.access.access_stage.AccessStage.{AccessStage}
 use Rattle.gc_worker.specs.declared.stage.Stage.TheVariants.{Looks, Accesses}
 use Rattle.gc_worker.specs.declared.task.Task.TheVariants.{Calls}
 use Rattle.gc_worker.specs.Steps.Access.{FitsStage, IsHeapAddress, IsAccessOf}

@@ -29,7 +29,7 @@ use Rattle.gc_worker.specs.Steps.Goes.{Is, Goes}
 use Rattle.gc_worker.specs.Workers.Held.{Held, at_stage}
 use Rattle.gc_worker.specs.Workers.Knows.{knows}
 use Rattle.gc_worker.specs.Plain.Seen.{word_for}
-use Rattle.gc_worker.specs.declared.did.Did.TheVariants.{Done}
+use Rattle.gc_worker.specs.declared.calls.did.Did.TheVariants.{Done}
 use Rattle.gc_worker.specs.Steps.Turned.{Answers, begins, acts, turned, told, told_effect}
 use Rattle.gc_worker.specs.Steps.Turned as turn
 use Rattle.gc_worker.proofs.Plain.Actions.{plain_value, plain_action, plain_outcome}

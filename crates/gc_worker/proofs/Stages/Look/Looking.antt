@@ -21,7 +21,7 @@ use Rattle.heap_state.specs.Worker.{Worker, is_running}
 use Rattle.heap_laws.specs.Fields.Held.{with_mutator}
 use Rattle.heap_laws.specs.Fields.Stores as stores
 use Rattle.heap_laws.proofs.Fields.Laws.{mutators_end}
-use Rattle.gc_worker.specs.declared.after.After.TheVariants as afters
+use Rattle.gc_worker.specs.declared.stage.after.After.TheVariants as afters
 use Rattle.gc_worker.specs.declared.stage.Stage.TheVariants.{Looks}
 use Rattle.gc_worker.specs.declared.task.Task.{Task}
 use Rattle.gc_worker.specs.declared.task.Task.TheVariants.{Calls, Stops}
@@ -32,7 +32,7 @@ use Rattle.gc_worker.specs.Steps.Goes.{Is, Goes, StepsSo}
 use Rattle.gc_worker.specs.Workers.Held.{Held, at_stage}
 use Rattle.gc_worker.specs.Workers.Knows.{knows}
 use Rattle.gc_worker.specs.Plain.Seen.{seen}
-use Rattle.gc_worker.specs.declared.did.Did.TheVariants.{Trap}
+use Rattle.gc_worker.specs.declared.calls.did.Did.TheVariants.{Trap}
 use Rattle.gc_worker.specs.Steps.Turned.{Told, Silent, Answers, begins, passes, ended, acted, started, looked_by, turned, told, told_acted, told_start, told_gate}
 use Rattle.gc_worker.proofs.Plain.Actions.{plain_outcome}
 use Rattle.gc_worker.proofs.Plain.AnswerSteps.{LawTo, IsIts, answers, its_mutator}

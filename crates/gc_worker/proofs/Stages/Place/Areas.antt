@@ -19,7 +19,7 @@ use Rattle.fault_duty.specs.declared.caller.Caller.TheVariants as callers
 use Rattle.fault_duty.specs.Duty as duty
 use Rattle.heap_state.specs.Configuration.{Configuration, Stands, table}
 use Rattle.heap_laws.proofs.Steps.Answers.{areas_are_read}
-use Rattle.gc_worker.specs.declared.back.Back.TheVariants.{ToPlace}
+use Rattle.gc_worker.specs.declared.stage.back.Back.TheVariants.{ToPlace}
 use Rattle.gc_worker.specs.declared.stage.Stage.TheVariants.{Serves}
 use Rattle.gc_worker.specs.Workers.Fits.{Fits}
 use Rattle.gc_worker.specs.Steps.Goes.{Is, Goes, StepsSo}

@@ -27,7 +27,7 @@ use Rattle.heap_laws.proofs.Steps.Answers.{areas_are_read}
 use Rattle.heap_laws.proofs.Steps.Composing.{plain_steps_forget}
 use Rattle.heap_laws.proofs.Steps.Forgotten.{traced_is_forgotten}
 use Rattle.gate_core.specs.declared.passage.Passage.TheVariants.{Request}
-use Rattle.gc_worker.specs.declared.after.After.TheVariants as afters
+use Rattle.gc_worker.specs.declared.stage.after.After.TheVariants as afters
 use Rattle.gc_worker.specs.declared.task.Task.{Task}
 use Rattle.gc_worker.specs.declared.task.Task.TheVariants.{Calls}
 use Rattle.gc_worker.specs.Plain.Answer.{after_outcome}
@@ -36,7 +36,7 @@ use Rattle.gc_worker.specs.Plain.Full.{FindsNoRoom}
 use Rattle.gc_worker.specs.Steps.Goes.{Is, Goes}
 use Rattle.gc_worker.specs.Workers.Held.{Held, at_stage}
 use Rattle.gc_worker.specs.Workers.Knows.{knows}
-use Rattle.gc_worker.specs.declared.did.Did.TheVariants.{Trap}
+use Rattle.gc_worker.specs.declared.calls.did.Did.TheVariants.{Trap}
 use Rattle.gc_worker.specs.Steps.Turned.{Silent, Answers, finds_full, passes, ended, end_by_shortage, told_end, turned_place, told_place}
 use Rattle.gc_worker.specs.Steps.Turned as turning
 use Rattle.gc_worker.proofs.Plain.AnswerSteps.{LawTo, IsIts, answers}

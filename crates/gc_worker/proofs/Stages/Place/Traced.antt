@@ -20,7 +20,7 @@ use Rattle.alloc_end.specs.Soundness.{FitsPlaceStage}
 use Rattle.gate_core.specs.declared.passage.Passage.TheVariants.{Request}
 use Rattle.heap_state.specs.Configuration.{Configuration, Stands, table}
 use Rattle.heap_laws.proofs.Steps.Answers.{areas_are_read}
-use Rattle.gc_worker.specs.declared.after.After.TheVariants as afters
+use Rattle.gc_worker.specs.declared.stage.after.After.TheVariants as afters
 use Rattle.gc_worker.specs.Workers.Fits.{Fits, IsMaking}
 use Rattle.gc_worker.specs.Steps.Goes.{Is, Goes, StepsSo}
 use Rattle.gc_worker.specs.Workers.Held.{Held, at_stage}

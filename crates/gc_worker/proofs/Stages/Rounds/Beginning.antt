@@ -21,8 +21,8 @@ use Rattle.heap_laws.specs.Gate as gate_laws
 use Rattle.heap_laws.specs.Tracing.{in_round}
 use Rattle.heap_laws.proofs.Gate.Scanner.{takes_epoch_of_gate}
 use Rattle.heap_laws.proofs.Tracing.Looks.{reads_traced}
-use Rattle.gc_worker.specs.declared.back.Back.{Back}
-use Rattle.gc_worker.specs.declared.back.Back.TheVariants.{ToAccess, ToPlace, ToScanner}
+use Rattle.gc_worker.specs.declared.stage.back.Back.{Back}
+use Rattle.gc_worker.specs.declared.stage.back.Back.TheVariants.{ToAccess, ToPlace, ToScanner}
 use Rattle.gc_worker.specs.declared.stage.Stage.TheVariants.{Serves, Gone}
 use Rattle.gc_worker.specs.Steps.Goes.{Is, Goes, StepsSo}
 use Rattle.gc_worker.specs.Workers.Held.{Held, at_stage}

@@ -31,7 +31,7 @@ use Rattle.heap_laws.specs.Tracing.{IsFrontFor, in_round}
 use Rattle.heap_laws.proofs.Steps.Answers.{areas_are_read}
 use Rattle.heap_laws.proofs.Steps.Forgotten.{round_fronts_are_forgotten}
 use Rattle.heap_laws.proofs.Tracing.Looks.{reads_front}
-use Rattle.gc_worker.specs.declared.back.Back.{Back}
+use Rattle.gc_worker.specs.declared.stage.back.Back.{Back}
 use Rattle.gc_worker.specs.Steps.Goes.{Is, Goes, StepsSo}
 use Rattle.gc_worker.specs.Workers.Held.{Held}
 use Rattle.gc_worker.specs.Workers.Knows.{knows}

@@ -22,7 +22,7 @@ use Rattle.heap_state.specs.Worker.{Worker}
 use Rattle.heap_laws.specs.Composing.{ends_round}
 use Rattle.heap_laws.specs.Scanning.Claims.{MayClaim, claiming, claim_by_word}
 use Rattle.heap_laws.proofs.Steps.Composites.{claims_begin}
-use Rattle.gc_worker.specs.declared.back.Back.{Back}
+use Rattle.gc_worker.specs.declared.stage.back.Back.{Back}
 use Rattle.gc_worker.specs.Steps.Goes.{Is, Goes}
 use Rattle.gc_worker.specs.Workers.Held.{Held}
 use Rattle.gc_worker.specs.Workers.Knows.{knows, claim_at, epoch_at}

@@ -22,7 +22,7 @@ use Rattle.heap_state.specs.Configuration.{Configuration, Stands, table, era, me
 use Rattle.heap_state.specs.Worker.{Worker, Look}
 use Rattle.heap_laws.specs.Tracing.{LooksAgain, IsFrontFor, about_to_trace, about_to_fill}
 use Rattle.heap_laws.proofs.Tracing.Looks.{looks_again, claims_filling}
-use Rattle.gc_worker.specs.declared.back.Back.{Back}
+use Rattle.gc_worker.specs.declared.stage.back.Back.{Back}
 use Rattle.gc_worker.specs.Steps.Goes.{Is, Goes, StepsSo}
 use Rattle.gc_worker.specs.Workers.Held.{Held}
 use Rattle.gc_worker.specs.Workers.Knows.{look_with, upto_all, is_open_state}

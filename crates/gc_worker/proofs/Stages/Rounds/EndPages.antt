@@ -25,7 +25,7 @@ use Rattle.heap_laws.specs.Tracing.{looking}
 use Rattle.heap_state.proofs.Puts.{put_same}
 use Rattle.heap_laws.proofs.Steps.Composing.{steps_follow, steps_are_ready}
 use Rattle.heap_laws.proofs.Tracing.Looks.{looks_at_board, looks_at_page, looks_at_filling}
-use Rattle.gc_worker.specs.declared.back.Back.{Back}
+use Rattle.gc_worker.specs.declared.stage.back.Back.{Back}
 use Rattle.gc_worker.specs.Steps.Goes.{Is, Goes, StepsSo}
 use Rattle.gc_worker.specs.Workers.Held.{Held}
 use Rattle.gc_worker.specs.Workers.Knows.{knows, look_with, is_past_board, upto_before, upto_all}

@@ -31,7 +31,7 @@ use Rattle.heap_laws.proofs.Steps.Composing.{steps_forget}
 use Rattle.heap_laws.proofs.Steps.Forgotten.{of_round}
 use Rattle.heap_laws.proofs.Tracing.Looks.{begins_look, looks_at_front, looks_at_filling}
 use Rattle.heap_laws.proofs.Tracing.Traced as tracing
-use Rattle.gc_worker.specs.declared.back.Back.{Back}
+use Rattle.gc_worker.specs.declared.stage.back.Back.{Back}
 use Rattle.gc_worker.specs.Steps.Goes.{Is, Goes, StepsSo}
 use Rattle.gc_worker.specs.Workers.Held.{Held}
 use Rattle.gc_worker.specs.Workers.Knows.{knows, look_with, upto_all, is_open_state}

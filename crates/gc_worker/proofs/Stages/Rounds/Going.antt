@@ -23,8 +23,8 @@ use Rattle.atom_store.specs.declared.reply.Reply.TheVariants.{Value}
 use Rattle.heap_state.specs.Worker.{Worker}
 use Rattle.heap_laws.specs.Composing.{ends_round}
 use Rattle.heap_laws.proofs.Steps.Composites.{rounds_end}
-use Rattle.gc_worker.specs.declared.back.Back.{Back}
-use Rattle.gc_worker.specs.declared.back.Back.TheVariants.{ToAccess, ToPlace, ToScanner}
+use Rattle.gc_worker.specs.declared.stage.back.Back.{Back}
+use Rattle.gc_worker.specs.declared.stage.back.Back.TheVariants.{ToAccess, ToPlace, ToScanner}
 use Rattle.gc_worker.specs.declared.stage.Stage.TheVariants.{Serves}
 use Rattle.gc_worker.specs.Workers.Fits.{Fits, FitsBack, IsCallerOf, IsEpochOf}
 use Rattle.gc_worker.specs.Steps.Goes.{Is, Goes, StepsSo}

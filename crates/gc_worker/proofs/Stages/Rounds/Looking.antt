@@ -22,7 +22,7 @@ use Rattle.heap_state.specs.Configuration.{Configuration, Stands, table, era, me
 use Rattle.heap_state.specs.Worker.{Worker}
 use Rattle.heap_laws.specs.Scanning.Claims.{claiming}
 use Rattle.heap_laws.proofs.Scanning.Claims.{looks_at_place, looks_at_gate}
-use Rattle.gc_worker.specs.declared.back.Back.{Back}
+use Rattle.gc_worker.specs.declared.stage.back.Back.{Back}
 use Rattle.gc_worker.specs.Steps.Goes.{Is, Goes, StepsSo}
 use Rattle.gc_worker.specs.Workers.Held.{Held}
 use Rattle.gc_worker.specs.Workers.Knows.{knows, claim_with, looked_all}

@@ -23,8 +23,8 @@ use Rattle.heap_state.specs.Worker.{Worker}
 use Rattle.heap_state.specs.Worker as workers
 use Rattle.heap_laws.specs.Scanning.Claims.{MayClaim}
 use Rattle.heap_laws.proofs.Steps.Answers.{areas_are_read}
-use Rattle.gc_worker.specs.declared.back.Back.{Back}
-use Rattle.gc_worker.specs.declared.back.Back.TheVariants.{ToAccess, ToPlace, ToScanner}
+use Rattle.gc_worker.specs.declared.stage.back.Back.{Back}
+use Rattle.gc_worker.specs.declared.stage.back.Back.TheVariants.{ToAccess, ToPlace, ToScanner}
 use Rattle.gc_worker.specs.Workers.Fits.{IsCallerOf, IsEpochOf}
 use Rattle.gc_worker.specs.Steps.Goes.{Is, Goes, StepsSo}
 use Rattle.gc_worker.specs.Workers.Held.{Held}

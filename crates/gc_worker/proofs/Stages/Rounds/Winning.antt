@@ -29,7 +29,7 @@ use Rattle.heap_laws.specs.Lifting.{configuration_after}
 use Rattle.heap_laws.specs.Scanning.Claims.{ClaimsPage, begins_scan, scan_from}
 use Rattle.heap_laws.proofs.Scanning.Claimed as claimed_laws
 use Rattle.heap_laws.proofs.Lifting.Configurations.{seen}
-use Rattle.gc_worker.specs.declared.back.Back.{Back}
+use Rattle.gc_worker.specs.declared.stage.back.Back.{Back}
 use Rattle.gc_worker.specs.declared.stage.Stage.TheVariants.{Scans}
 use Rattle.gc_worker.specs.Workers.Fits.{Fits}
 use Rattle.gc_worker.specs.Steps.Goes.{Is, Goes, StepsSo}

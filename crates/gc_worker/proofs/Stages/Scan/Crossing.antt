@@ -14,7 +14,7 @@ use Rattle.heap_laws.specs.Scanning.Words.{IsScanning}
 use Rattle.heap_laws.proofs.Lifting.Configurations.{board_at}
 use Rattle.heap_laws.proofs.Scanning.Records.{reads_crossing}
 use Rattle.heap_laws.proofs.Steps.Answers.{scans_are_answered}
-use Rattle.gc_worker.specs.declared.back.Back.{Back}
+use Rattle.gc_worker.specs.declared.stage.back.Back.{Back}
 use Rattle.gc_worker.specs.declared.stage.Stage.TheVariants.{Scans}
 use Rattle.gc_worker.specs.Steps.Goes.{Is, Goes, StepsSo}
 use Rattle.gc_worker.specs.Workers.Held.{Held}

@@ -22,7 +22,7 @@ use Rattle.heap_laws.specs.Scanning.Words.{scanning, IsScanning}
 use Rattle.heap_laws.proofs.Lifting.Configurations.{board_at}
 use Rattle.heap_laws.proofs.Scanning.Records.{reads_front}
 use Rattle.heap_laws.proofs.Steps.Composing.{steps_forget}
-use Rattle.gc_worker.specs.declared.back.Back.{Back}
+use Rattle.gc_worker.specs.declared.stage.back.Back.{Back}
 use Rattle.gc_worker.specs.declared.stage.Stage.TheVariants.{Scans}
 use Rattle.gc_worker.specs.Steps.Goes.{Is, Goes, StepsSo}
 use Rattle.gc_worker.specs.Workers.Held.{Held}

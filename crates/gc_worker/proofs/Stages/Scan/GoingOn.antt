@@ -7,8 +7,8 @@ use Rattle.page_scan.specs.Taken.{told}
 use Rattle.page_scan.specs.declared.ending.Ending.{Ending}
 use Rattle.page_scan.specs.declared.scan_stage.ScanStage.{ScanStage}
 use Rattle.page_scan.specs.declared.scan_stage.ScanStage.TheVariants as scan_stage
-use Rattle.gc_worker.specs.declared.back.Back.{Back}
-use Rattle.gc_worker.specs.declared.back.Back.TheVariants.{ToAccess, ToPlace, ToScanner}
+use Rattle.gc_worker.specs.declared.stage.back.Back.{Back}
+use Rattle.gc_worker.specs.declared.stage.back.Back.TheVariants.{ToAccess, ToPlace, ToScanner}
 use Rattle.gc_worker.specs.declared.stage.Stage.{Stage}
 use Rattle.gc_worker.specs.declared.stage.Stage.TheVariants.{Scans, Opens}
 use Rattle.gc_worker.specs.Workers.Fits.{Fits, FitsScan, FitsBack, FitsTaskBack, IsOnSideBack}

@@ -27,7 +27,7 @@ use Rattle.heap_laws.proofs.Lifting.Configurations.{board_at}
 use Rattle.heap_laws.proofs.Scanning.Records.{reads_first_header, reads_next_header}
 use Rattle.heap_laws.proofs.Steps.Answers.{scans_are_answered}
 use Rattle.heap_laws.proofs.Steps.Composing.{steps_forget}
-use Rattle.gc_worker.specs.declared.back.Back.{Back}
+use Rattle.gc_worker.specs.declared.stage.back.Back.{Back}
 use Rattle.gc_worker.specs.declared.stage.Stage.TheVariants.{Scans}
 use Rattle.gc_worker.specs.Workers.Fits.{Fits, Takes}
 use Rattle.gc_worker.specs.Steps.Goes.{Is, Goes, StepsSo}

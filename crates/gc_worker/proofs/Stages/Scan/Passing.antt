@@ -15,7 +15,7 @@ use Rattle.heap_state.specs.Memory.FieldSpan.{next_scanned}
 use Rattle.heap_state.specs.Worker.{Scan}
 use Rattle.heap_laws.specs.Composing.{IsAtMost}
 use Rattle.heap_laws.specs.Scanning.Words.{scanning, is_past}
-use Rattle.gc_worker.specs.declared.back.Back.{Back}
+use Rattle.gc_worker.specs.declared.stage.back.Back.{Back}
 use Rattle.gc_worker.specs.declared.stage.Stage.TheVariants.{Scans}
 use Rattle.gc_worker.specs.Workers.Fits.{Fits, FitsScan, FitsBack, FitsTaskBack, IsOnSideBack}
 use Rattle.gc_worker.specs.Workers.Held.{Held}

@@ -5,7 +5,7 @@ use Rattle.page_scan.specs.Scanning.{Scanning}
 use Rattle.page_scan.specs.declared.scan_stage.ScanStage.{ScanStage}
 use Rattle.page_scan.specs.declared.scan_stage.ScanStage.TheVariants as scan_stage
 use Rattle.heap_state.specs.Configuration.{Configuration, Stands}
-use Rattle.gc_worker.specs.declared.back.Back.{Back}
+use Rattle.gc_worker.specs.declared.stage.back.Back.{Back}
 use Rattle.gc_worker.specs.declared.stage.Stage.TheVariants.{Scans}
 use Rattle.gc_worker.specs.Steps.Goes.{Is, StepsSo}
 use Rattle.gc_worker.specs.Workers.Held.{Held, at_stage}

@@ -25,7 +25,7 @@ use Rattle.heap_laws.specs.Scanning.Words.{scanning, asking, past_word, IsScanni
 use Rattle.heap_laws.proofs.Lifting.Configurations.{board_at}
 use Rattle.heap_laws.proofs.Scanning.Fields as fields
 use Rattle.heap_laws.proofs.Steps.Composing.{steps_forget}
-use Rattle.gc_worker.specs.declared.back.Back.{Back}
+use Rattle.gc_worker.specs.declared.stage.back.Back.{Back}
 use Rattle.gc_worker.specs.declared.stage.Stage.{Stage}
 use Rattle.gc_worker.specs.declared.stage.Stage.TheVariants.{Scans, Evacuates}
 use Rattle.forwarding.specs.Evacuation as evac

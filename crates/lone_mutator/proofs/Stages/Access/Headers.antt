@@ -13,14 +13,14 @@ use Rattle.space_map.specs.Table.{HeapWord, place_of}
 use Rattle.heap_state.specs.Configuration.{Configuration, Stands, table}
 use Rattle.heap_state.specs.Invariant.Ghost.{header_kind}
 use Rattle.heap_state.specs.Memory.Table.{word_in}
-use Rattle.gc_worker.specs.declared.access_stage.AccessStage.TheVariants.{LoadsHeader, LooksAtField, LoadsField, StoresField}
-use Rattle.gc_worker.specs.declared.field_access.FieldAccess.{FieldAccess}
-use Rattle.gc_worker.specs.declared.field_access.FieldUse.{FieldUse}
-use Rattle.gc_worker.specs.declared.field_access.FieldUse.TheVariants as field_uses
-use Rattle.gc_worker.specs.declared.field_access.Role.{Role}
-use Rattle.gc_worker.specs.declared.record_access.RecordAccess.{RecordAccess}
-use Rattle.gc_worker.specs.declared.record_access.RecordUse.{RecordUse}
-use Rattle.gc_worker.specs.declared.record_access.RecordUse.TheVariants as record_uses
+use Rattle.gc_worker.specs.declared.access.access_stage.AccessStage.TheVariants.{LoadsHeader, LooksAtField, LoadsField, StoresField}
+use Rattle.gc_worker.specs.declared.access.field_access.FieldAccess.{FieldAccess}
+use Rattle.gc_worker.specs.declared.access.field_access.FieldUse.{FieldUse}
+use Rattle.gc_worker.specs.declared.access.field_access.FieldUse.TheVariants as field_uses
+use Rattle.gc_worker.specs.declared.access.field_access.Role.{Role}
+use Rattle.gc_worker.specs.declared.access.record_access.RecordAccess.{RecordAccess}
+use Rattle.gc_worker.specs.declared.access.record_access.RecordUse.{RecordUse}
+use Rattle.gc_worker.specs.declared.access.record_access.RecordUse.TheVariants as record_uses
 use Rattle.gc_worker.specs.Steps.Access.{Answered, GoesTo, answered, field_at, field_of, loading, may_store, read_header, role_in, storing, to_field, used_by, uses_field, word_as}
 use Rattle.gc_worker.specs.Workers.Held.{Held}
 use Rattle.gc_worker.proofs.Stages.Access.Going.{own, at}

@@ -18,15 +18,15 @@ use Rattle.heap_state.specs.Worker.{Worker}
 use Rattle.heap_state.specs.Invariant.Parts.Knowledge as parts
 use Rattle.heap_state.proofs.Table.LaidOut.{laid_out}
 use Rattle.heap_laws.specs.Fields.Words.{IsLedTo}
-use Rattle.gc_worker.specs.declared.access_stage.AccessStage.{AccessStage}
-use Rattle.gc_worker.specs.declared.access_stage.AccessStage.TheVariants.{LooksAtRecord, LoadsHeader, LooksAtField, LoadsField, StoresField, LooksAtBoard, LoadsBoard, StoresBoard, LoadsForSwap}
-use Rattle.gc_worker.specs.declared.accessed.Accessed.TheVariants.{Faults}
-use Rattle.gc_worker.specs.declared.board_access.BoardUse.{BoardUse}
-use Rattle.gc_worker.specs.declared.board_access.BoardUse.TheVariants as board_uses
-use Rattle.gc_worker.specs.declared.field_access.FieldAccess.{FieldAccess}
-use Rattle.gc_worker.specs.declared.field_access.FieldUse.{FieldUse}
-use Rattle.gc_worker.specs.declared.field_access.FieldUse.TheVariants as field_uses
-use Rattle.gc_worker.specs.declared.record_access.RecordAccess.{RecordAccess}
+use Rattle.gc_worker.specs.declared.access.access_stage.AccessStage.{AccessStage}
+use Rattle.gc_worker.specs.declared.access.access_stage.AccessStage.TheVariants.{LooksAtRecord, LoadsHeader, LooksAtField, LoadsField, StoresField, LooksAtBoard, LoadsBoard, StoresBoard, LoadsForSwap}
+use Rattle.gc_worker.specs.declared.access.accessed.Accessed.TheVariants.{Faults}
+use Rattle.gc_worker.specs.declared.access.board_access.BoardUse.{BoardUse}
+use Rattle.gc_worker.specs.declared.access.board_access.BoardUse.TheVariants as board_uses
+use Rattle.gc_worker.specs.declared.access.field_access.FieldAccess.{FieldAccess}
+use Rattle.gc_worker.specs.declared.access.field_access.FieldUse.{FieldUse}
+use Rattle.gc_worker.specs.declared.access.field_access.FieldUse.TheVariants as field_uses
+use Rattle.gc_worker.specs.declared.access.record_access.RecordAccess.{RecordAccess}
 use Rattle.gc_worker.specs.Steps.Access.{GoesTo, Comes, IsHeapAddress, answered, begun, field_at, left_at, let_through, looked, page_step}
 use Rattle.gc_worker.specs.Steps.Access as access
 use Rattle.gc_worker.specs.Workers.Fits.{ExecutesAction}

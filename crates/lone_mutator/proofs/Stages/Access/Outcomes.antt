@@ -4,8 +4,8 @@ use Rattle.plain_state.specs.declared.end.End.{End}
 use Rattle.plain_state.specs.State.{Plain}
 use Rattle.heap_state.specs.Configuration.{Configuration, Stands, table}
 use Rattle.heap_state.specs.Memory.Table.{Table}
-use Rattle.gc_worker.specs.declared.access_stage.AccessStage.{AccessStage}
-use Rattle.gc_worker.specs.declared.accessed.Accessed.TheVariants.{Brings, Stored, Fails}
+use Rattle.gc_worker.specs.declared.access.access_stage.AccessStage.{AccessStage}
+use Rattle.gc_worker.specs.declared.access.accessed.Accessed.TheVariants.{Brings, Stored, Fails}
 use Rattle.gc_worker.specs.declared.task.Task.{Task}
 use Rattle.gc_worker.specs.Steps.Access.{Answered, GoesTo, Comes, goes_by, left_at, turn_by}
 use Rattle.gc_worker.specs.Workers.Held.{Held}

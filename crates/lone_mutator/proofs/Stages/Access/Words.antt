@@ -8,9 +8,9 @@ use Rattle.heap_state.specs.Memory.Entries.{WordIs}
 use Rattle.heap_state.specs.Functions.{put}
 use Rattle.heap_state.specs.Memory.Table.{word_in}
 use Rattle.heap_laws.specs.Fields.Effects.{word_held}
-use Rattle.gc_worker.specs.declared.access_stage.AccessStage.TheVariants.{LoadsField, StoresField, LoadsBoard, StoresBoard, LoadsForSwap, SwapsBoard}
-use Rattle.gc_worker.specs.declared.board_access.BoardSwap.{BoardSwap}
-use Rattle.gc_worker.specs.declared.field_access.FieldAccess.{FieldAccess}
+use Rattle.gc_worker.specs.declared.access.access_stage.AccessStage.TheVariants.{LoadsField, StoresField, LoadsBoard, StoresBoard, LoadsForSwap, SwapsBoard}
+use Rattle.gc_worker.specs.declared.access.board_access.BoardSwap.{BoardSwap}
+use Rattle.gc_worker.specs.declared.access.field_access.FieldAccess.{FieldAccess}
 use Rattle.gc_worker.specs.Steps.Access.{board_at, field_at, role_of}
 use Rattle.gc_worker.specs.Workers.Held.{Held}
 use Rattle.gc_worker.proofs.Stages.Access.Going.{at}

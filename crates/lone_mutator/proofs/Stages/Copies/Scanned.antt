@@ -15,7 +15,7 @@ use Rattle.page_scan.specs.Taken as scan_taken
 use Rattle.heap_state.specs.Configuration.{Configuration, Stands, table, era, memory, team}
 use Rattle.heap_state.specs.Memory.Table.{Table, table_of}
 use Rattle.heap_state.specs.Worker.{Worker, Quest, Scanned}
-use Rattle.gc_worker.specs.declared.back.Back.{Back}
+use Rattle.gc_worker.specs.declared.stage.back.Back.{Back}
 use Rattle.gc_worker.specs.declared.stage.Stage.TheVariants.{Evacuates}
 use Rattle.gc_worker.specs.Workers.Fits.{HasAsked}
 use Rattle.gc_worker.specs.Workers.Held.{Held, at_stage}

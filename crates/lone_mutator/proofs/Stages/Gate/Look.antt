@@ -12,7 +12,7 @@ use Rattle.atom_store.specs.declared.step.Step.TheVariants.{Load}
 use Rattle.space_map.specs.declared.gate_word.GateWord.{GateWord}
 use Rattle.space_map.specs.Table.{Gate, place_of}
 use Rattle.heap_state.specs.Configuration.{Configuration, Stands, table}
-use Rattle.gc_worker.specs.declared.after.After.TheVariants as afters
+use Rattle.gc_worker.specs.declared.stage.after.After.TheVariants as afters
 use Rattle.gate_core.specs.declared.passage.Passage.TheVariants.{Park}
 use Rattle.gc_worker.specs.declared.stage.Stage.TheVariants.{Looks}
 use Rattle.gc_worker.specs.declared.task.Task.{Task}

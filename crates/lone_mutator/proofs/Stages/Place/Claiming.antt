@@ -23,7 +23,7 @@ use Rattle.heap_state.specs.Functions.{put}
 use Rattle.heap_state.specs.Memory.Table.{Table}
 use Rattle.heap_state.proofs.Puts.{put_at}
 use Rattle.heap_state.proofs.Table.Spelled.{spelled}
-use Rattle.gc_worker.specs.declared.after.After.TheVariants as afters
+use Rattle.gc_worker.specs.declared.stage.after.After.TheVariants as afters
 use Rattle.gc_worker.specs.declared.stage.Stage.TheVariants.{Places}
 use Rattle.gc_worker.specs.declared.task.Task.{Task}
 use Rattle.gc_worker.specs.Workers.Held.{Held, at_stage}

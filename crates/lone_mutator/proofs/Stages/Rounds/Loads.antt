@@ -21,7 +21,7 @@ use Rattle.fault_duty.specs.Duty as duty
 use Rattle.fault_duty.specs.Duty.{Round}
 use Rattle.fault_duty.specs.Soundness.{FitsCaller}
 use Rattle.heap_state.specs.Configuration.{Configuration, Stands, table, era, memory}
-use Rattle.gc_worker.specs.declared.back.Back.{Back}
+use Rattle.gc_worker.specs.declared.stage.back.Back.{Back}
 use Rattle.gc_worker.specs.Workers.Held.{Held}
 use Rattle.gc_worker.specs.Workers.Knows.{knows}
 use Rattle.gc_worker.proofs.Words.Areas.{area_now, area_says, is_space}

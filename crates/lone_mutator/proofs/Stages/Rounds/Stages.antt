@@ -13,7 +13,7 @@ use Rattle.fault_duty.specs.Duty.{Round}
 use Rattle.heap_state.specs.Configuration.{Configuration, Stands, table}
 use Rattle.heap_state.specs.Memory.Entries.{Entry, TracedIs, with_entry}
 use Rattle.heap_state.specs.Memory.Table.{Table}
-use Rattle.gc_worker.specs.declared.back.Back.{Back}
+use Rattle.gc_worker.specs.declared.stage.back.Back.{Back}
 use Rattle.gc_worker.specs.declared.stage.Stage.TheVariants.{Serves}
 use Rattle.gc_worker.specs.Workers.Held.{Held, at_stage}
 use Rattle.gc_worker.specs.Steps.Turned.{back_from}

@@ -22,7 +22,7 @@ use Rattle.heap_state.specs.Memory.Entries.{Entry, PageIs, with_entry}
 use Rattle.heap_state.specs.Memory.Table.{Table}
 use Rattle.heap_state.specs.Invariant.Parts.Scanning.{Claims}
 use Rattle.heap_state.specs.Worker.{Claim, Worker}
-use Rattle.gc_worker.specs.declared.back.Back.{Back}
+use Rattle.gc_worker.specs.declared.stage.back.Back.{Back}
 use Rattle.gc_worker.specs.declared.stage.Stage.TheVariants.{Scans}
 use Rattle.gc_worker.specs.Workers.Held.{Held}
 use Rattle.gc_worker.specs.Workers.Knows.{claim_with, looked_all}

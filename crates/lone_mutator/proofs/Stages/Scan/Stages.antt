@@ -27,7 +27,7 @@ use Rattle.heap_laws.specs.Answers.{MeetsHeader, ScanAnswers}
 use Rattle.heap_laws.specs.Scanning.Words.{IsScanning}
 use Rattle.heap_laws.proofs.Lifting.Configurations.{board_at, ready}
 use Rattle.heap_laws.proofs.Steps.Answers.{scans_are_answered}
-use Rattle.gc_worker.specs.declared.back.Back.{Back}
+use Rattle.gc_worker.specs.declared.stage.back.Back.{Back}
 use Rattle.gc_worker.specs.declared.stage.Stage.TheVariants.{Scans}
 use Rattle.gc_worker.specs.Workers.Held.{Held, at_stage}
 use Rattle.gc_worker.specs.Workers.Knows.{quest_at, scan_of, seen_record}

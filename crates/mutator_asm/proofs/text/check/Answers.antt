@@ -1,6 +1,6 @@
 use Rattle.std.proofs.Common.{arith, inl, inr, refl, sym, ap, ◌∙◌}
 use Rattle.std.proofs.lemmas.List.{length-map}
-use Rattle.mutator_asm.specs.declared.before.Before.{Before}
+use Rattle.mutator_asm.specs.declared.text.before.Before.{Before}
 use Rattle.mutator_asm.specs.Labels.{and_line}
 use Rattle.mutator_asm.specs.Read.{line_view, lines_view}
 use Rattle.mutator_asm.proofs.Texts.Clean.{first_error, clean_more}

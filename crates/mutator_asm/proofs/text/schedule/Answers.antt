@@ -1,6 +1,6 @@
 use Rattle.std.proofs.lemmas.Grind.{common_steps}
 use Rattle.std.proofs.Common.{arith, ap, ◌∙◌}
-use Rattle.mutator_asm.specs.declared.line.Line.{Line as Read}
+use Rattle.mutator_asm.specs.declared.text.line.Line.{Line as Read}
 use Rattle.mutator_asm.specs.Read.{line_view}
 use Rattle.mutator_asm.specs.Text.{items_on}
 use Rattle.mutator_asm.proofs.Lists.Views.{gathered_more}

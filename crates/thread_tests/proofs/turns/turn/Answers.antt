@@ -1,5 +1,5 @@
 use Rattle.std.proofs.Common.{◌≡◌, ℕ, None, refl, ◌∙◌, ap}
-use Rattle.gc_worker.specs.declared.stepped.Stepped.TheVariants as stepped
+use Rattle.gc_worker.specs.declared.steps.stepped.Stepped.TheVariants as stepped
 use Rattle.gc_worker.specs.Workers.Held.{Held}
 use Rattle.gc_worker.specs.Steps.Stepped.{stepped_by}
 use Rattle.gc_worker.specs.Steps.Turned.{Told, Silent, Answers, Marks, told}

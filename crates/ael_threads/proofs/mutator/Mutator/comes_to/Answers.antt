@@ -1,5 +1,5 @@
 use Rattle.std.proofs.Common.{Option, ◌∙◌, subst}
-use Rattle.gc_worker.specs.declared.did.Did.{Did}
+use Rattle.gc_worker.specs.declared.calls.did.Did.{Did}
 use Rattle.ael_threads.specs.Calls.{Tries}
 use Rattle.ael_threads.proofs.mutator.Mutator.comes_to.Goals as goal
 

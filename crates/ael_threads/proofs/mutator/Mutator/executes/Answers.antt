@@ -2,7 +2,7 @@ use Rattle.std.proofs.Common.{◌<◌, ◌≤◌, ◌∙◌, ap, subst, arith}
 use Rattle.plain_state.specs.declared.end.End.TheVariants.{JumpOut, TurnsOut}
 use Rattle.mutator_asm.specs.Program.{instr_at}
 use Rattle.gc_worker.specs.declared.task.Task.TheVariants.{Calls, Stops}
-use Rattle.gc_worker.specs.declared.did.Did.{Did}
+use Rattle.gc_worker.specs.declared.calls.did.Did.{Did}
 use Rattle.ael_threads.specs.Calls.{Called}
 use Rattle.ael_threads.specs.Running.{Work}
 use Rattle.ael_threads.proofs.ProgramRuns.Executions.{executing_ends, executing_more, is_done, next_call, next_jumps, out_of_turns, read_off}

@@ -1,6 +1,6 @@
 use Rattle.std.proofs.Common.{subst}
 use Rattle.gc_worker.specs.declared.task.Task.TheVariants.{Stops}
-use Rattle.gc_worker.specs.declared.did.Did.{Did}
+use Rattle.gc_worker.specs.declared.calls.did.Did.{Did}
 use Rattle.ael_threads.specs.Calls.{Called}
 use Rattle.ael_threads.proofs.ProgramRuns.Executions.{stops}
 use Rattle.ael_threads.proofs.WholeCalls.FromActs.{under_way}

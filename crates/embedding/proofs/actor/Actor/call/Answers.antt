@@ -1,7 +1,7 @@
 -- an executed call is told as such
 use Rattle.std.proofs.Common.{subst}
 use Rattle.gc_worker.specs.declared.task.Task.TheVariants.{Calls}
-use Rattle.gc_worker.specs.declared.did.Did.{Did}
+use Rattle.gc_worker.specs.declared.calls.did.Did.{Did}
 use Rattle.ael_threads.specs.Calls.{Called}
 use Rattle.embedding.proofs.actor.Actor.call.Goals.{in-Done, in-Trap}
 use Rattle.embedding.proofs.actor.Actor.call.Goals as goal

@@ -1,5 +1,5 @@
 use Rattle.std.proofs.Common.{◌≡◌, ℕ, ◌+◌, ◌<◌, sym, ap, subst, ◌∙◌, arith}
-use Rattle.gc_worker.specs.declared.stepped.Stepped.TheVariants.{Effect}
+use Rattle.gc_worker.specs.declared.steps.stepped.Stepped.TheVariants.{Effect}
 use Rattle.gc_worker.specs.Workers.Counted.{counted}
 use Rattle.gc_worker.specs.Workers.Held.{Held}
 use Rattle.gc_worker.specs.Steps.Made.{MayMake, step_made}

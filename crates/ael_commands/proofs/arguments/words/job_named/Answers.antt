@@ -1,0 +1,17 @@
+use Rattle.ael_commands.proofs.Parsed.{never_another}
+use Rattle.ael_commands.proofs.arguments.words.job_named.Goals as goal
+
+pub returns-in-asm-clause-value : goal.returns-in-asm-clause-value
+returns-in-asm-clause-value c = rw c.in-asm.is
+
+pub returns-in-sim-clause-value : goal.returns-in-sim-clause-value
+returns-in-sim-clause-value c = rw (c.in-sim.is, c.given.ensures.value)
+
+pub returns-in-run-clause-value : goal.returns-in-run-clause-value
+returns-in-run-clause-value c = rw (c.in-run.is, c.given-in-run.ensures.value)
+
+pub returns-in-bench-clause-value : goal.returns-in-bench-clause-value
+returns-in-bench-clause-value c = rw (c.in-bench.is, c.given-in-bench.ensures.value)
+
+pub returns-in_default-clause-value : goal.returns-in_default-clause-value
+returns-in_default-clause-value c = absurd (never_another _ c.requires c.in_default.not-asm c.in_default.not-sim c.in_default.not-run c.in_default.not-bench)

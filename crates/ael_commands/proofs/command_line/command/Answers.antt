@@ -1,9 +1,0 @@
-use Rattle.std.proofs.Common.{[], ◌∷◌}
-use Rattle.ael_commands.specs.Arguments.CommandLine.{ael_with, asm_app, bench_app, run_app, sim_app}
-use Rattle.ael_commands.proofs.command_line.command.Goals as goal
-
-pub returns : goal.returns
-returns c =
-    let two = c.add-two.ensures (ael_with (asm_app.top ∷ [])) sim_app c.with_asm.ensures c.sim.ensures.app in
-    let three = c.add-three.ensures (ael_with (asm_app.top ∷ sim_app.top ∷ [])) run_app two c.run.ensures.app in
-    c.add.ensures (ael_with (asm_app.top ∷ sim_app.top ∷ run_app.top ∷ [])) bench_app three c.bench.ensures.app

@@ -1,0 +1,34 @@
+use Rattle.std.proofs.Common.{◌≡◌, ◌+◌, sym, ap, ◌∙◌, arith}
+use Rattle.gc_core.proofs.Runs.EventByEvent.{comes_on, came_over, came_out}
+use Rattle.ael_commands.proofs.Noting.{comes_on_noted, came_over_noted, came_out_noted}
+use Rattle.ael_commands.proofs.runs.scheduled.run_noting.Goals as goal
+use Rattle.ael_commands.proofs.runs.scheduled.run_noting.Goals.{else-loop-test, then-loop-test+then-over}
+
+pub loop-preserved : goal.loop-preserved
+loop-preserved g c =
+    let schedule = g.S.Scheduler.to_come c.args.scheduler in
+    let running = sym c.loop.invariant.over ∙ c.if-over.false in
+    let at = c.loop-test.true in
+    let now : c.loop.counter + 0 ≡ c.loop.counter = omega arith in
+    let worker : c.next.result ≡ schedule c.loop.counter = c.next.ensures.names ∙ c.loop.invariant.names 0 ∙ ap schedule now in
+    record {
+      names = λ at.
+          let later : c.loop.counter + (at + 1) ≡ c.loop.counter + 1 + at = omega arith in
+          c.next.ensures.later at ∙ c.loop.invariant.names (at + 1) ∙ ap schedule later;
+      over = c.is_over-over.ensures;
+      core = rw (c.step-stepped.ensures.after, worker) (comes_on _ _ _ _ _ at running c.loop.invariant.core);
+      order = rw (c.step-stepped.ensures.after, worker)
+          (comes_on_noted _ _ _ _ _ _ _ at running (rw (← worker, ← c.step-stepped.ensures.told) c.in_ok-note.ensures) c.loop.invariant.order);
+    }
+
+pub returns-clause-core : goal.returns-clause-core
+returns-clause-core g c = elim c.loop-test.branch [
+  | else-loop-test w ↦ came_out _ _ _ _ _ (omega arith) c.loop.invariant.core
+  | then-loop-test+then-over w ↦ came_over _ _ _ _ _ (sym c.loop.invariant.over ∙ w.if-over.true) c.loop.invariant.core
+]
+
+pub returns-clause-order : goal.returns-clause-order
+returns-clause-order g c = elim c.loop-test.branch [
+  | else-loop-test w ↦ came_out_noted _ _ _ _ _ _ (omega arith) c.loop.invariant.order
+  | then-loop-test+then-over w ↦ came_over_noted _ _ _ _ _ _ (sym c.loop.invariant.over ∙ w.if-over.true) c.loop.invariant.order
+]

@@ -1,0 +1,34 @@
+use Rattle.std.proofs.Common.{refl, ◌∙◌}
+use Rattle.std.proofs.lemmas.Result.{IfOk-weaker}
+use Rattle.ael_commands.specs.Runs.Run.{IsRunOf, Scheduled}
+use Rattle.ael_commands.specs.Runs.Simulation.{config, simulated_run, scheduled}
+use Rattle.ael_commands.proofs.Simulating.{simulated}
+use Rattle.ael_commands.proofs.runs.sim.sim.Goals as goal
+
+pub returns : goal.returns
+returns c =
+    let options = c.args.options in
+    let program = c.args.program.now.code in
+    let items = c.args.program.now.schedule in
+    let schedule = scheduled options program items in
+    let formed = c.args.program.now.well_formed in
+    let pages = c.requires.pages in
+    let turns = c.requires.turns.1 in
+    let scanners = c.requires.scanners in
+    let follows = c.runs_follow.ensures program items (config options.run) schedule options.steps formed pages turns scanners in
+    let is : IsRunOf (Scheduled options) program items (simulated_run options program items) = record {
+      made = record {
+        is = refl;
+        full = follows.full;
+        filled = c.full_heaps_are_filled.ensures.orders program items (config options.run) schedule options.steps formed pages turns scanners;
+        claimed = c.full_heaps_are_filled.ensures.by_claims program items (config options.run) schedule options.steps formed pages turns scanners;
+        large = c.large_heaps_are_never_full.ensures.large program items (config options.run) schedule options.steps formed pages turns scanners;
+      };
+      acts = follows.acts;
+      dump = follows.dump;
+      live = c.cycles_keep_what_is_live.ensures program items (config options.run) schedule options.steps formed pages turns scanners;
+    } in
+    IfOk-weaker c.told.result _ _ (λ answer told. simulated options program items _ c.in_ok-order.order.items _ _ is follows.seen
+    (rw (c.in_ok-core.ensures.opened, c.as_slice.ensures) at c.in_ok-order.ensures.core)
+    (rw (c.in_ok-core.ensures.opened, c.as_slice.ensures) at c.in_ok-order.ensures.order)
+    (told.1 ∙ rw c.deref.ensures.value) told.0) c.told.ensures

@@ -1,0 +1,11 @@
+use Rattle.std.proofs.Common.{◌∙◌, ap, ℕ}
+use Rattle.std.specs.Global.{Vec}
+use Rattle.std.proofs.lemmas.Result.{IfOk-weaker}
+use Rattle.ael_commands.proofs.runs.sim.told.Goals as goal
+
+pub returns : goal.returns
+returns c = IfOk-weaker c.new.result _ _ (λ answer new. (
+  new.1 ∙ c.verdict.ensures,
+  new.0 ∙ ap (λ (v : Vec ℕ). v.items) c.into_bytes.ensures.value
+      ∙ rw (c.in_ok-push_heap.ensures, c.in_ok-push_order_if.ensures, c.in_ok-push_mutators.ensures, c.new-output.ensures.bytes),
+)) c.new.ensures.whole

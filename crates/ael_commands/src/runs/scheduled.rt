@@ -1,0 +1,115 @@
+//! A run of a core by a schedule.
+
+ghost use Rattle.std.specs.Prelude.{◌≡◌, ◌≢◌, ◌<◌, ℕ, [], IfOk, IsTrue, OnOk, true, false};
+ghost use Rattle.std.specs.List.{list_all};
+ghost use Rattle.plain_state.specs.declared.end.End.{End};
+ghost use Rattle.mutator_asm.specs.Program.{is_item};
+ghost use Rattle.gc_core.specs.Core.{workers_of};
+ghost use Rattle.gc_core.specs.Event.{event_of, core_after};
+ghost use Rattle.gc_core.specs.Run.{all_ended, run_from};
+ghost use Rattle.ael_commands.specs.Runs.Schedule.{scheduled_by};
+
+use crate::runs::notes::{Notes, Unnoted};
+use crate::arguments::options::SimOptions;
+use crate::runs::scheduler::Scheduler;
+use crate::runs::scheduler::draws::Draws;
+use crate::runs::scheduler::listing::Listing;
+use crate::runs::scheduler::turns::Turns;
+use gc_core::{Core, Stepped, missing_workers_are_idle};
+use mutator_asm::Item;
+use plain_heap::Mark;
+use std::alloc::{AllocError, Global};
+
+/// The step of a worker, which is idle where there is no such worker.
+#[inline(always)]
+fn step(core: &mut Core, worker: u8) -> Stepped
+    ensures told { result ≡ (event_of core.old worker).told }
+    ensures after { core.new ≡ core_after core.old worker }
+    ensures ends_are_told { ((m : ℕ) (why : End) → result ≢ Stepped.Ended m why) → all_ended core.new ≡ all_ended core.old }
+    ensures workers { workers_of core.new ≡ workers_of core.old }
+{
+    // The theorem that the proof takes.
+    missing_workers_are_idle();
+
+    if worker < core.workers() {
+        core.step(worker)
+    } else {
+        Stepped::Idle
+    }
+}
+
+/// Whether every mutator has its end after a step of which this is told: before it one had none.
+fn is_over(core: &Core, told: Stepped) -> bool
+    requires { ((m : ℕ) (why : End) → told ≢ Stepped.Ended m why) → all_ended core.now ≡ false }
+    ensures { result ≡ all_ended core.now }
+{
+    match told {
+        Stepped::Ended(..) => core.all_ended(),
+        Stepped::Idle | Stepped::Moved | Stepped::Effect(_) | Stepped::Flipped(_) => false,
+    }
+}
+
+/// Steps the workers that the scheduler names until every mutator has its end, or for so many steps, each of which is noted.
+#[inline(never)]
+fn run_noting<S: Scheduler, N: Notes>(
+    core: &mut Core,
+    mut scheduler: S,
+    notes: &mut N,
+    steps: u32,
+) -> Result<(), AllocError>
+    requires fresh { N.HasNoted notes.old [] }
+    ensures core { OnOk result (core.new ≡ (run_from (S.to_come scheduler) 0 steps core.old).last) }
+    ensures order { OnOk result (N.HasNoted notes.new (run_from (S.to_come scheduler) 0 steps core.old).order) }
+{
+    let mut over = core.all_ended();
+    for _ in 0..steps {
+        if over {
+            break;
+        }
+        let stepped = step(core, scheduler.next());
+        notes.note(stepped)?;
+        over = is_over(core, stepped);
+    }
+    Ok(())
+}
+
+/// Makes such a run, and answers its order where that is asked for; else nothing is noted.
+fn run_with<S: Scheduler>(
+    alloc: Global,
+    core: &mut Core,
+    scheduler: S,
+    options: SimOptions,
+) -> Result<Vec<Mark>, AllocError>
+    ensures core { OnOk result (core.new ≡ (run_from (S.to_come scheduler) 0 options.steps core.old).last) }
+    ensures order { IfOk result (λ order. options.order ≡ true → order.items ≡ (run_from (S.to_come scheduler) 0 options.steps core.old).order) }
+{
+    let mut order = Vec::new(alloc);
+    if options.order {
+        run_noting(core, scheduler, &mut order, options.steps)?;
+    } else {
+        run_noting(core, scheduler, &mut Unnoted, options.steps)?;
+    }
+    Ok(order)
+}
+
+/// Steps the workers that the schedule names until every mutator has its end, or for so many steps.
+/// Each position of the schedule counts as a step. The order is kept only where it is asked for.
+pub fn run_by_schedule(
+    alloc: Global,
+    core: &mut Core,
+    items: &[Item],
+    options: SimOptions,
+) -> Result<Vec<Mark>, AllocError>
+    requires some { 0 < workers_of core.old }
+    requires items { IsTrue (list_all is_item items.now) }
+    ensures core { OnOk result (core.new ≡ (run_from (scheduled_by options.seed items.now (workers_of core.old)) 0 options.steps core.old).last) }
+    ensures order { IfOk result (λ order. options.order ≡ true
+        → order.items ≡ (run_from (scheduled_by options.seed items.now (workers_of core.old)) 0 options.steps core.old).order) }
+{
+    let workers = core.workers();
+    match options.seed {
+        Some(seed) => run_with(alloc, core, Draws::new(seed, workers), options),
+        None if items.is_empty() => run_with(alloc, core, Turns::new(workers), options),
+        None => run_with(alloc, core, Listing::new(items), options),
+    }
+}

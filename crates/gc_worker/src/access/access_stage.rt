@@ -1,0 +1,28 @@
+use crate::access::board_access::{BoardAccess, BoardSwap};
+use crate::access::field_access::{FieldAccess, FieldUse};
+use crate::access::record_access::RecordAccess;
+
+/// What an access is about to do.
+#[derive(Clone, Copy)]
+pub enum AccessStage {
+    /// Load the word of the header's page: it must be open.
+    LooksAtRecord(RecordAccess),
+    /// Load the header.
+    LoadsHeader(RecordAccess),
+    /// Load the word of the field's page, which is another: it must be open.
+    LooksAtField(FieldAccess, FieldUse),
+    /// Load the field into this register.
+    LoadsField(FieldAccess, u8),
+    /// Store this in the field.
+    StoresField(FieldAccess, u64),
+    /// Load the word of the board's page: it must be open.
+    LooksAtBoard(BoardAccess),
+    /// Load this word of the board into this register.
+    LoadsBoard(u32, u8),
+    /// Store in this word of the board.
+    StoresBoard(u32, u64),
+    /// Load the word of the board that is to be exchanged.
+    LoadsForSwap(BoardSwap),
+    /// Exchange the word of the board, from this one.
+    SwapsBoard(BoardSwap, u64),
+}

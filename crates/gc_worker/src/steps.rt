@@ -1,0 +1,11 @@
+//! The steps of a worker.
+
+pub mod acting;
+pub mod allocating;
+pub mod instructions;
+pub mod looking;
+pub mod on_words;
+pub mod passing;
+pub mod serving;
+pub mod stepped;
+pub mod stepping;

@@ -1,0 +1,205 @@
+//! The allocation of the record that an instruction makes.
+
+ghost use Rattle.std.specs.Prelude.{◌≡◌, ◌+◌, ◌^◌, ◌<◌};
+ghost use Rattle.heap_words.specs.Decoded.{HeaderWord};
+ghost use Rattle.record_layout.specs.Layout.{header_in};
+ghost use Rattle.heap_state.specs.Invariant.Ghost.{header_kind};
+ghost use Rattle.plain_heap.specs.Action.{action, allocates};
+ghost use Rattle.gc_worker.specs.Workers.Fits.{FitsStage, IsMaking, Takes};
+ghost use Rattle.gc_worker.specs.Workers.Held.{pages_needed, at_stage, header_for, making_for};
+ghost use Rattle.gc_worker.specs.Plain.Seen.{making_in};
+ghost use Rattle.gc_worker.specs.Steps.Stepped.{IsPlacing, IsSound, seen_by, stepped_by, uncounted};
+ghost use Rattle.gc_worker.specs.Steps.Turned.{full_by, places, told, told_effect, told_full, turned, with_record};
+
+use crate::stage::after::After;
+use crate::stage::back::Back;
+use crate::task::due::Due;
+use crate::stage::Stage;
+use crate::state::State;
+use crate::steps::stepped::Stepped;
+use alloc_end::{Allocated, Place, Run, Shortage};
+use atom_store::{Reply, Turn};
+use fault_duty::Duty;
+use gate_core::Gate;
+use heap_words::{Kind as HeaderKind, Word};
+use mutator_asm::{Instr, Operand};
+use plain_state::{End, Kind, LONGEST_RECORD};
+use record_layout::Header;
+use space_map::PAGE_WORDS;
+
+/// The greatest serial that a header can have.
+const LAST_SERIAL: u64 = 0xff_ffff_ffff;
+
+/// The record that an instruction makes.
+#[derive(Clone, Copy)]
+pub struct Making {
+    pub kind: Kind,
+    /// The register that is to lead to it.
+    pub into: u8,
+    pub len: u16,
+}
+
+impl State {
+    /// The header of the next record, which has this kind and length, if a header can say that.
+    fn next_header(&self, kind: Kind, len: u16) -> Option<Header>
+        ensures { result ≡ header_in (HeaderWord (header_kind kind) len (self.now.account.serial + 1) self.now.number) }
+    {
+        header_after(self.serial, header_kind(kind), len, self.number)
+    }
+
+    /// The header of the record that the task makes, if it makes one.
+    fn header(&self) -> Option<Header>
+        ensures { result ≡ header_for self.now }
+    {
+        match self.due {
+            Due::Call => {
+                let making = self.making(self.instr)?;
+                self.next_header(making.kind, making.len)
+            }
+            Due::Stop | Due::Nothing => None,
+        }
+    }
+
+    /// The record that an instruction makes, if it makes one.
+    #[tactic(auto, using(crate::proofs::Plain::RecordsMade::made_of))]
+    fn making(&self, instr: Instr) -> Option<Making>
+        ensures { result ≡ making_in (action (seen_by self.now) instr) }
+    {
+        let (kind, into, len) = match instr {
+            Instr::New(into, len) => (Kind::Fields, into, len),
+            Instr::Raw(into, len) => (Kind::Raw, into, len),
+            _ => return None,
+        };
+        match self.length(len) {
+            Ok(len) => Some(Making { kind, into, len }),
+            Err(_) => None,
+        }
+    }
+
+    /// The pages that it needs.
+    pub fn asked(&self) -> u32
+        ensures { result ≡ pages_needed self.now }
+    {
+        match self.header() {
+            Some(header) => (u32::from(header.len) + 1).div_ceil(PAGE_WORDS),
+            None => 0,
+        }
+    }
+
+    /// Its allocation begins.
+    pub fn begin_placing(&mut self) -> Stepped
+        requires { FitsStage self.old (places self.old (header_for self.old)) }
+        ensures state { self.new ≡ uncounted (at_stage self.old (places self.old (header_for self.old))) }
+        ensures tells { result ≡ Stepped.Moved }
+    {
+        self.stage = self.placing();
+        Stepped::Moved
+    }
+
+    /// The beginning of its allocation.
+    pub fn placing(&self) -> Stage
+        requires { FitsStage self.now (places self.now (header_for self.now)) }
+        ensures { result ≡ places self.now (header_for self.now) }
+    {
+        match self.header() {
+            Some(header) => {
+                let run = self.run.unwrap_or(Run { at: 0, end: 0 });
+                Stage::Places(Place::new(self.spaces, run, header, self.epoch))
+            }
+            None => Stage::Looks,
+        }
+    }
+
+    /// A step of the allocation.
+    #[tactic(auto, using(crate::proofs::Words::Read::serial_fits))]
+    #[inline(always)]
+    pub fn place(&mut self, reply: Reply) -> Stepped
+        requires at { IsPlacing self.old.stage }
+        requires fits { IsSound self.old }
+        requires takes { Takes self.old reply }
+        requires after { IsSound (turned self.old reply) }
+        ensures state { self.new ≡ uncounted (turned self.old reply) }
+        ensures tells { result ≡ stepped_by self.old.number (told self.old reply) }
+    {
+        let Stage::Places(place) = &mut self.stage else {
+            unreachable!()
+        };
+        let Turn::Finished(allocated) = place.take(reply) else {
+            return Stepped::Moved;
+        };
+        let run = place.run();
+        match allocated {
+            Allocated::Placed(at) => self.has_placed(run, at),
+            Allocated::Full(shortage) => self.has_no_room(shortage),
+        }
+    }
+
+    /// The record stands, and the register that the task names leads to it.
+    #[inline(always)]
+    fn has_placed(&mut self, run: Run, at: u32) -> Stepped
+        requires serial { self.old.account.serial + 1 < 2 ^ 40 }
+        requires making { IsMaking self.old.account self.old.registers self.old.task }
+        ensures state { self.new ≡ uncounted (with_record self.old run at (making_for self.old self.old.task)) }
+        ensures tells { result ≡ stepped_by self.old.number (told_effect self.old.task) }
+    {
+        match self.making(self.instr) {
+            Some(made) => {
+                self.run = Some(run);
+                self.stage = Stage::Looks;
+                self.serial += 1;
+                self.load(made.into, Word::pointer(at).0)
+            }
+            None => unreachable!(),
+        }
+    }
+
+    /// The heap is full where the epoch is traced, and no flip can help.
+    fn has_no_room(&mut self, s: Shortage) -> Stepped
+        requires making { IsMaking self.old.account self.old.registers self.old.task }
+        requires after { FitsStage (full_by self.old s s.traced) (full_by self.old s s.traced).stage }
+        ensures state { self.new ≡ uncounted (full_by self.old s s.traced) }
+        ensures tells { result ≡ stepped_by self.old.number (told_full self.old s s.traced) }
+    {
+        if !s.traced {
+            let duty = Duty::new(self.spaces, None, self.epoch, self.number);
+            self.stage = Stage::Serves(duty, Back::ToPlace);
+            return Stepped::Moved;
+        }
+        if self.begun < self.epoch || self.epoch == u32::MAX {
+            let Shortage {
+                asked,
+                room,
+                live,
+                ..
+            } = s;
+            return self.end_with(End::HeapFull { asked, room, live });
+        }
+        self.stage = Stage::Passes(Gate::request(self.spaces), After::Places);
+        Stepped::Moved
+    }
+}
+
+/// The header of the record after the one with this serial, if a header can say that.
+#[tactic(auto, using(crate::proofs::Words::Read::header_made, crate::proofs::Words::Read::no_header_long, crate::proofs::Words::Read::no_header_late))]
+fn header_after(serial: u64, kind: HeaderKind, len: u16, mutator: u8) -> Option<Header>
+    ensures { result ≡ header_in (HeaderWord kind len (serial + 1) mutator) }
+{
+    if u64::from(len) > LONGEST_RECORD || serial >= LAST_SERIAL {
+        return None;
+    }
+    Some(Header {
+        kind,
+        len,
+        serial: serial + 1,
+        mutator,
+    })
+}
+
+fn header_kind(kind: Kind) -> HeaderKind
+    ensures { result ≡ header_kind kind }
+{
+    match kind {
+        Kind::Fields => HeaderKind::Fields,
+        Kind::Raw => HeaderKind::Raw,
+    }
+}

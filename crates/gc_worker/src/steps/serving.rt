@@ -1,0 +1,234 @@
+//! Accesses, and the duty: rounds, scans, copies and openings of pages.
+
+ghost use Rattle.std.specs.Prelude.{◌≡◌, ◌≤◌};
+ghost use Rattle.space_map.specs.declared.spaces.TheConstants.{LAST_WORKER};
+ghost use Rattle.space_map.specs.Spaces.{board_page};
+ghost use Rattle.gc_worker.specs.declared.access.access_stage.AccessStage.{AccessStage};
+ghost use Rattle.gc_worker.specs.Workers.Fits.{FitsStage, IsAccessing, Takes};
+ghost use Rattle.gc_worker.specs.Steps.Stepped.{IsAtAccess, IsEvacuating, IsOpening, IsAtScan, IsServing, IsSound, back_at, served_in, stepped_by, uncounted};
+ghost use Rattle.gc_worker.specs.Steps.Turned.{accessed_by, back_from, goes_back, scans, told, told_access, turned};
+
+use crate::access::Access;
+use crate::access::accessed::Accessed;
+use crate::stage::back::Back;
+use crate::stage::Stage;
+use crate::state::State;
+use crate::steps::stepped::Stepped;
+use atom_store::{Reply, Turn};
+use fault_duty::{Duty, RoundEnd};
+use forwarding::Evac;
+use page_scan::{Scan, Scanned};
+use page_slots::Open;
+
+impl State {
+    /// A step of an access.
+    #[inline(always)]
+    pub fn access(&mut self, reply: Reply) -> Stepped
+        requires at { IsAtAccess self.old.stage }
+        requires fits { IsSound self.old }
+        requires takes { Takes self.old reply }
+        requires after { IsSound (turned self.old reply) }
+        ensures state { self.new ≡ uncounted (turned self.old reply) }
+        ensures tells { result ≡ stepped_by self.old.number (told self.old reply) }
+    {
+        let Stage::Accesses(access) = &mut self.stage else {
+            unreachable!()
+        };
+        match access.take(reply) {
+            Turn::More => Stepped::Moved,
+            Turn::Finished(accessed) => {
+                let access = *access;
+                self.has_accessed(access, accessed)
+            }
+        }
+    }
+
+    /// What an access comes to. It stands apart, also where it is inlined, so that the room of the stages that it may begin is
+    /// cleared only here, and not at each step of an access.
+    #[inline(always)]
+    fn has_accessed(&mut self, access: Access, accessed: Accessed) -> Stepped
+        requires calls { (stage : AccessStage) × IsAccessing self.old.account self.old.registers self.old.task stage }
+        requires fits { FitsStage (accessed_by self.old access accessed) (accessed_by self.old access accessed).stage }
+        ensures state { self.new ≡ uncounted (accessed_by self.old access accessed) }
+        ensures tells { result ≡ stepped_by self.old.number (told_access self.old.task (Turn.Finished accessed)) }
+    {
+        match accessed {
+            Accessed::Faults(page) => {
+                let duty = Duty::new(self.spaces, Some(page), self.epoch, self.number);
+                self.stage = Stage::Serves(duty, Back::ToAccess(access));
+                Stepped::Moved
+            }
+            Accessed::Brings(into, word) => {
+                self.stage = Stage::Looks;
+                self.load(into, word)
+            }
+            Accessed::Stored => {
+                self.stage = Stage::Looks;
+                self.go_on()
+            }
+            Accessed::Fails(why) => self.end_with(why),
+        }
+    }
+
+    /// A step of a round.
+    #[tactic(auto, using(crate::proofs::Words::Read::served_after, crate::proofs::Words::Read::served_fits))]
+    #[inline(always)]
+    pub fn serve(&mut self, reply: Reply)
+        requires at { IsServing self.old.stage }
+        requires fits { IsSound self.old }
+        requires takes { Takes self.old reply }
+        requires after { IsSound (turned self.old reply) }
+        ensures { self.new ≡ uncounted (turned self.old reply) }
+    {
+        let Stage::Serves(duty, _) = &mut self.stage else {
+            unreachable!()
+        };
+        if let Turn::Finished(end) = duty.take(reply) {
+            let epoch = duty.epoch();
+            self.has_served(epoch, end);
+        }
+    }
+
+    /// What a round of an epoch comes to.
+    #[inline(always)]
+    fn has_served(&mut self, epoch: u32, end: RoundEnd)
+        requires at { IsServing self.old.stage }
+        requires fits { FitsStage (served_in self.old epoch (back_at self.old.stage) end) (served_in self.old epoch (back_at self.old.stage) end).stage }
+        ensures { self.new ≡ served_in self.old epoch (back_at self.old.stage) end }
+    {
+        match end {
+            RoundEnd::ScanPage(page) => self.scan_page(epoch, page, false),
+            RoundEnd::ScanInPlace(page) => self.scan_page(epoch, page, true),
+            RoundEnd::Marked | RoundEnd::NothingNow(_) => self.go_back(epoch),
+            RoundEnd::AllLeft(_) => self.stage = Stage::Gone,
+        }
+    }
+
+    /// A page was claimed: its scan begins, in the epoch of the round.
+    #[inline(always)]
+    fn scan_page(&mut self, epoch: u32, page: u32, in_place: bool)
+        requires at { IsServing self.old.stage }
+        requires page { page ≤ board_page self.old.layout.pages }
+        ensures { self.new ≡ scans (record self.old { epoch = epoch }) page in_place (back_at self.old.stage) }
+    {
+        let Stage::Serves(_, back) = self.stage else {
+            unreachable!()
+        };
+        self.epoch = epoch;
+        let scan = Scan::new(self.spaces, page, epoch, in_place);
+        self.stage = Stage::Scans(scan, back);
+    }
+
+    /// The worker goes on where it was before the round, in this epoch.
+    ///
+    /// It has the arms of `return_to` itself: if it hands on to that, each step of a run takes two machine instructions more.
+    #[tactic(auto, using(crate::proofs::Words::Read::placing_fits))]
+    fn go_back(&mut self, epoch: u32)
+        requires at { IsServing self.old.stage }
+        requires fits { FitsStage (back_from (record self.old { epoch = epoch }) (back_at self.old.stage)) (goes_back (record self.old { epoch = epoch }) (back_at self.old.stage)) }
+        ensures { self.new ≡ back_from (record self.old { epoch = epoch }) (back_at self.old.stage) }
+    {
+        self.epoch = epoch;
+        let Stage::Serves(_, back) = self.stage else {
+            unreachable!()
+        };
+        match back {
+            Back::ToAccess(access) => self.stage = Stage::Accesses(access),
+            Back::ToPlace => self.stage = self.placing(),
+            Back::ToScanner => self.begin_next_round(),
+        }
+    }
+
+    /// A scanner's next round begins in the place of the one before.
+    fn begin_next_round(&mut self)
+        requires at { IsServing self.old.stage }
+        requires back { back_at self.old.stage ≡ Back.ToScanner }
+        requires few { self.old.number ≤ LAST_WORKER }
+        ensures { self.new ≡ back_from self.old Back.ToScanner }
+    {
+        let round = Duty::scanner(self.spaces, self.number, self.mutators);
+        let Stage::Serves(duty, _) = &mut self.stage else {
+            unreachable!()
+        };
+        *duty = round;
+    }
+
+    /// The worker goes on where it was before the round.
+    #[tactic(auto, using(crate::proofs::Words::Read::placing_fits))]
+    fn return_to(&mut self, back: Back)
+        requires { FitsStage (back_from self.old back) (goes_back self.old back) }
+        ensures { self.new ≡ back_from self.old back }
+    {
+        match back {
+            Back::ToAccess(access) => self.stage = Stage::Accesses(access),
+            Back::ToPlace => self.stage = self.placing(),
+            Back::ToScanner => {
+                let duty = Duty::scanner(self.spaces, self.number, self.mutators);
+                self.stage = Stage::Serves(duty, Back::ToScanner);
+            }
+        }
+    }
+
+    /// A step of a scan.
+    #[inline(always)]
+    pub fn scan(&mut self, reply: Reply)
+        requires at { IsAtScan self.old.stage }
+        requires fits { IsSound self.old }
+        requires takes { Takes self.old reply }
+        requires after { IsSound (turned self.old reply) }
+        ensures { self.new ≡ uncounted (turned self.old reply) }
+    {
+        let Stage::Scans(scan, back) = &mut self.stage else {
+            unreachable!()
+        };
+        match scan.take(reply) {
+            Turn::More => {}
+            Turn::Finished(Scanned::Ask(old)) => {
+                let evac = Evac::new(self.spaces, old, self.epoch, self.number);
+                self.stage = Stage::Evacuates(evac, *scan, *back);
+            }
+            Turn::Finished(Scanned::Ended { .. }) => {
+                let open = Open::new(self.spaces, scan.page(), self.epoch);
+                self.stage = Stage::Opens(open, *scan, *back);
+            }
+        }
+    }
+
+    /// A step of a copy for a scan.
+    #[inline(always)]
+    pub fn evacuate(&mut self, reply: Reply)
+        requires at { IsEvacuating self.old.stage }
+        requires fits { IsSound self.old }
+        requires takes { Takes self.old reply }
+        requires after { IsSound (turned self.old reply) }
+        ensures { self.new ≡ uncounted (turned self.old reply) }
+    {
+        let Stage::Evacuates(evac, scan, back) = &mut self.stage else {
+            unreachable!()
+        };
+        if let Turn::Finished(to) = evac.take(reply) {
+            scan.answer(to.0);
+            self.stage = Stage::Scans(*scan, *back);
+        }
+    }
+
+    /// A step of the opening of a page that was scanned.
+    #[inline(always)]
+    pub fn open(&mut self, reply: Reply)
+        requires at { IsOpening self.old.stage }
+        requires fits { IsSound self.old }
+        requires takes { Takes self.old reply }
+        requires after { IsSound (turned self.old reply) }
+        ensures { self.new ≡ uncounted (turned self.old reply) }
+    {
+        let before = self.stage;
+        let Stage::Opens(open, _, back) = &mut self.stage else {
+            unreachable!()
+        };
+        if let Turn::Finished(_) = open.take(reply) {
+            let back = *back;
+            self.stage = before;
+            self.return_to(back);
+        }
+    }
+}

@@ -1,0 +1,159 @@
+//! A worker's next step, and the reply to it.
+
+ghost use Rattle.std.specs.Prelude.{◌≡◌, ◌<◌, ◌≤◌, [], IfSome, IsSome, vec_capacity};
+ghost use Rattle.atom_store.specs.Step.{place_in};
+ghost use Rattle.space_map.specs.declared.spaces.TheConstants.{LAST_WORKER};
+ghost use Rattle.space_map.specs.Table.{table_length};
+ghost use Rattle.gc_worker.specs.declared.task.Task.TheVariants.{Calls, Stops};
+ghost use Rattle.gc_worker.specs.Laws.Between.{fresh, fresh_mutator, fresh_scanner, with_task};
+ghost use Rattle.gc_worker.specs.Workers.Fits.{Takes};
+ghost use Rattle.gc_worker.specs.Workers.Held.{at_stage};
+ghost use Rattle.gc_worker.specs.Steps.Stepped.{HasRoomToPrint, IsSound, stepped_by, uncounted};
+ghost use Rattle.gc_worker.specs.Steps.Turned.{told, turned};
+ghost use Rattle.gc_worker.specs.Steps.Wanted.{wanted};
+
+use crate::stage::after::After;
+use crate::stage::back::Back;
+use crate::task::due::Due;
+use crate::stage::Stage;
+use crate::state::State;
+use crate::steps::stepped::Stepped;
+use atom_store::{Reply, Step};
+use fault_duty::Duty;
+use gate_core::Gate;
+use mutator_asm::Instr;
+use plain_state::{End, REGISTERS};
+use space_map::Spaces;
+
+impl State {
+    /// A mutator that is about to come to a heap.
+    pub fn mutator(spaces: Spaces, number: u8, mutators: u8, printed: Vec<u64>) -> State
+        requires room { HasRoomToPrint number mutators (vec_capacity printed) }
+        requires empty { printed.items ≡ [] }
+        ensures { result ≡ fresh_mutator spaces.pages mutators number }
+    {
+        let stage = Stage::Passes(Gate::attach(spaces), After::Looks);
+        State::new(spaces, number, mutators, printed, stage)
+    }
+
+    /// A scanner before its first round.
+    pub fn scanner(spaces: Spaces, number: u8, mutators: u8, printed: Vec<u64>) -> State
+        requires few { number ≤ LAST_WORKER }
+        requires room { HasRoomToPrint number mutators (vec_capacity printed) }
+        requires empty { printed.items ≡ [] }
+        ensures { result ≡ fresh_scanner spaces.pages mutators number }
+    {
+        let duty = Duty::scanner(spaces, number, mutators);
+        State::new(
+            spaces,
+            number,
+            mutators,
+            printed,
+            Stage::Serves(duty, Back::ToScanner),
+        )
+    }
+
+    /// A worker before its first step, which is about to do this.
+    fn new(spaces: Spaces, number: u8, mutators: u8, printed: Vec<u64>, stage: Stage) -> State
+        requires room { HasRoomToPrint number mutators (vec_capacity printed) }
+        requires empty { printed.items ≡ [] }
+        ensures { result ≡ at_stage (fresh spaces.pages mutators number) stage }
+    {
+        State {
+            number,
+            spaces,
+            mutators,
+            epoch: 0,
+            begun: 0,
+            registers: [0; REGISTERS],
+            counter: 0,
+            serial: 0,
+            printed,
+            end: None,
+            run: None,
+            due: Due::Nothing,
+            instr: Instr::Halt,
+            stop: End::Halt,
+            stage,
+        }
+    }
+
+    /// The task is an instruction.
+    pub fn begin(&mut self, instr: Instr)
+        ensures { self.new ≡ with_task self.old (Calls instr) }
+    {
+        self.due = Due::Call;
+        self.instr = instr;
+    }
+
+    /// The task is an end.
+    pub fn begin_end(&mut self, end: End)
+        ensures { self.new ≡ with_task self.old (Stops end) }
+    {
+        self.due = Due::Stop;
+        self.stop = end;
+    }
+
+    /// The next step.
+    pub fn want(&self) -> Option<Step>
+        requires { IsSound self.now }
+        ensures wanted { result ≡ wanted self.now }
+        ensures in_table { IfSome result (λ step. place_in step < table_length self.now.layout.pages) }
+    {
+        match &self.stage {
+            Stage::Looks => Some(Step::Load(self.spaces.gate_place())),
+            Stage::Passes(gate, _) => Some(gate.want()),
+            Stage::Flips(flip) => Some(flip.want()),
+            Stage::Forwards(w) => Some(w.evac.want()),
+            Stage::Accesses(access) => Some(access.want()),
+            Stage::Places(place) => Some(place.want()),
+            Stage::Serves(duty, _) => Some(duty.want()),
+            Stage::Scans(scan, _) => Some(scan.want()),
+            Stage::Evacuates(evac, _, _) => Some(evac.want()),
+            Stage::Opens(open, _, _) => Some(open.want()),
+            Stage::Gone => None,
+        }
+    }
+
+    /// Takes the reply to it.
+    pub fn take(&mut self, reply: Reply) -> Stepped
+        requires wants { IsSome (wanted self.old) }
+        requires sound { IsSound self.old }
+        requires takes { Takes self.old reply }
+        requires fits { IsSound (turned self.old reply) }
+        ensures state { self.new ≡ uncounted (turned self.old reply) }
+        ensures tells { result ≡ stepped_by self.old.number (told self.old reply) }
+    {
+        match self.stage {
+            Stage::Looks => self.look(reply),
+            Stage::Passes(..) => {
+                self.pass(reply);
+                Stepped::Moved
+            }
+            Stage::Flips(_) => self.flip(reply),
+            Stage::Forwards(_) => {
+                self.forward(reply);
+                Stepped::Moved
+            }
+            Stage::Accesses(_) => self.access(reply),
+            Stage::Places(_) => self.place(reply),
+            Stage::Serves(..) => {
+                self.serve(reply);
+                Stepped::Moved
+            }
+            Stage::Scans(..) => {
+                self.scan(reply);
+                Stepped::Moved
+            }
+            Stage::Evacuates(..) => {
+                self.evacuate(reply);
+                Stepped::Moved
+            }
+            Stage::Opens(..) => {
+                self.open(reply);
+                Stepped::Moved
+            }
+            Stage::Gone => unreachable!(),
+        }
+    }
+}
