@@ -13,14 +13,14 @@ mod top_call;
 
 pub use answer::Answer;
 pub use arguments::job::Job;
-pub use streams::memory::{MemSink, MemSource};
 pub use arguments::operands::BenchOperands;
 pub use arguments::options::{RunOptions, SimOptions};
+pub use arguments::words::read_words;
+pub use status::Status;
+pub use streams::memory::{MemSink, MemSource};
 pub use streams::sink::{Put, Sink};
 pub use streams::source::{Got, Source};
 pub use streams::standard::{StdSink, StdSource};
-pub use status::Status;
 pub use streams::sure::{SureSink, SureSource, sure_status};
-pub use top_call::{ael, ael_still};
-pub use arguments::words::read_words;
 pub use streams::writing::emit;
+pub use top_call::{ael, ael_still};

@@ -11,9 +11,9 @@ ghost use Rattle.ael_commands.specs.Arguments.Words.{job_of};
 
 use crate::answer::Answer;
 use crate::answering::{answer, answer_still};
+use crate::arguments::words::read_words;
 use crate::streams::sink::Sink;
 use crate::streams::source::Source;
-use crate::arguments::words::read_words;
 use crate::streams::writing::emit;
 use mutator_asm::{listing_is_a_text, never_both, one_program};
 use plain_heap::alone_mutators_are_independent;

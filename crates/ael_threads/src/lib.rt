@@ -20,10 +20,10 @@ pub use gc_worker::{Call, Did, Entry, loads_get_the_last_store, records_keep_the
 pub use laws::lone_calls_come_to_the_same;
 pub use mutator::{Mutator, Reg};
 pub use opening::Seats;
-pub use programs::outputs::{Outputs, Printed, RunError};
 pub use pace::{NoPace, Pace};
+pub use programs::outputs::{Outputs, Printed, RunError};
 pub use programs::running::run;
 pub use scanner::Scanner;
 pub use shared::{Rule, Shared};
-pub use view::{WonClaim, Hand, Plan, View};
+pub use view::{Hand, Plan, View, WonClaim};
 pub use words::Words;

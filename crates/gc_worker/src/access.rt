@@ -16,7 +16,9 @@ ghost use Rattle.gc_worker.specs.Steps.Access.{FitsRecordUse, IsHeapAddress, IsS
 ghost use Rattle.gc_worker.specs.Plain.Seen.{IsValueWord};
 
 use crate::access::access_stage::AccessStage;
-use crate::access::access_words::{field, held, on_board, role_of, stored, using_board, using_field};
+use crate::access::access_words::{
+    field, held, on_board, role_of, stored, using_board, using_field,
+};
 use crate::access::accessed::Accessed;
 use crate::access::field_access::{FieldAccess, FieldUse, Role};
 use crate::access::record_access::{RecordAccess, RecordUse};

@@ -22,16 +22,13 @@ mod worker;
 pub use access::Access;
 pub use access::access_stage::AccessStage;
 pub use access::accessed::Accessed;
-pub use stage::after::After;
-pub use steps::allocating::Making;
-pub use stage::back::Back;
 pub use access::board_access::{BoardAccess, BoardSwap, BoardUse};
+pub use access::field_access::{FieldAccess, FieldUse, Role};
+pub use access::record_access::{RecordAccess, RecordUse};
 pub use calls::call::Call;
-pub use config::{Config, MOST_TURNS};
 pub use calls::did::Did;
 pub use calls::entry::Entry;
-pub use access::field_access::{FieldAccess, FieldUse, Role};
-pub use stage::forwarding_register::ForwardingRegister;
+pub use config::{Config, MOST_TURNS};
 pub use history_laws::{loads_get_the_last_store, records_keep_their_shape};
 pub use laws::{
     accesses_are_worked_out, accesses_go_on, answers_leave_the_others, beginnings_are_kept,
@@ -43,8 +40,11 @@ pub use laws::{
 };
 pub use open_error::OpenError;
 pub use readers::{epoch_said, live_said};
-pub use access::record_access::{RecordAccess, RecordUse};
 pub use stage::Stage;
+pub use stage::after::After;
+pub use stage::back::Back;
+pub use stage::forwarding_register::ForwardingRegister;
+pub use steps::allocating::Making;
 pub use steps::stepped::Stepped;
 pub use task::Task;
 pub use worker::Worker;

@@ -1,8 +1,8 @@
 ghost use Rattle.std.specs.Prelude.{◌≡◌};
 ghost use Rattle.gc_worker.specs.Steps.Stepped.{uncounted};
 
-use crate::task::due::Due;
 use crate::stage::Stage;
+use crate::task::due::Due;
 use alloc_end::Run;
 use mutator_asm::Instr;
 use plain_state::{End, MOST_PRINTED, REGISTERS};

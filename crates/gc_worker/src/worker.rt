@@ -10,10 +10,10 @@ ghost use Rattle.gc_worker.specs.Steps.Stepped.{IsSound, awaits, header_kept, pl
 ghost use Rattle.gc_worker.specs.Steps.Turned.{told, turned};
 ghost use Rattle.gc_worker.specs.Steps.Wanted.{wanted};
 
-use crate::task::due::Due;
 use crate::stage::Stage;
 use crate::state::State;
 use crate::steps::stepped::Stepped;
+use crate::task::due::Due;
 use atom_store::{NoMemory, PlainAtoms, Reply, Step};
 use mutator_asm::Instr;
 use plain_state::{End, MOST_PRINTED, REGISTERS};

@@ -13,8 +13,8 @@ mod schedule;
 mod section;
 mod text;
 
-pub use errors::asm_error::{AsmError, error_text};
 pub use code::Code;
+pub use errors::asm_error::{AsmError, error_text};
 pub use instr::Instr;
 pub use item::Item;
 pub use laws::{

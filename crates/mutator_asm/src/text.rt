@@ -15,18 +15,18 @@ ghost use Rattle.mutator_asm.specs.Program.{IsWellFormed};
 ghost use Rattle.mutator_asm.specs.Read.{lines_view};
 ghost use Rattle.mutator_asm.specs.Text.{begins_section, sections_in, section_of, code_of, schedule_of, IsCleanUpTo, IsFaultIn, IsText, NamesFault};
 
-use crate::errors::asm_error::AsmError;
-use crate::text::before::Before;
 use crate::code::Code;
+use crate::errors::asm_error::AsmError;
 use crate::errors::error::error;
 use crate::errors::fault::Fault;
-use crate::text::line::{Line, lines};
 use crate::errors::mistake::Mistake;
-use crate::text::part::Part;
-use crate::text::parts::parts;
 use crate::program::Program;
 use crate::schedule::Schedule;
 use crate::section::Section;
+use crate::text::before::Before;
+use crate::text::line::{Line, lines};
+use crate::text::part::Part;
+use crate::text::parts::parts;
 use std::alloc::{AllocError, Global};
 
 /// The first error of a text, where it has one.

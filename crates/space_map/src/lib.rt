@@ -23,5 +23,5 @@ pub use laws::{
 };
 pub use page_word::PageWord;
 pub use spaces::{
-    LAST_WORKER, MOST_PAGES, FEWEST_PAGES, MOST_MUTATORS, MOST_SCANNERS, PAGE_WORDS, Spaces,
+    FEWEST_PAGES, LAST_WORKER, MOST_MUTATORS, MOST_PAGES, MOST_SCANNERS, PAGE_WORDS, Spaces,
 };

@@ -6,7 +6,9 @@ ghost use Rattle.clap.specs.declared.builder.Command.TheViews.{out-Command};
 ghost use Rattle.ael_commands.specs.Arguments.CommandLine.{ael_app, ael_with, asm_app, bench_app, run_app, sim_app};
 
 use crate::arguments::operands::{BENCH_NUMBERS, BENCH_WIDE};
-use crate::arguments::options::{RUN_FLAGS, RUN_NUMBERS, RUN_WIDE, SIM_FLAGS, SIM_NUMBERS, SIM_WIDE};
+use crate::arguments::options::{
+    RUN_FLAGS, RUN_NUMBERS, RUN_WIDE, SIM_FLAGS, SIM_NUMBERS, SIM_WIDE,
+};
 use clap::Command;
 use simple_commands::{add_operands, add_options};
 use std::alloc::{AllocError, Global};

@@ -4,7 +4,7 @@ use clap::ArgMatches;
 use gc_core::Config;
 use gc_worker::MOST_TURNS;
 use simple_commands::{Numbers, is_given, number_of, wide_number};
-use space_map::{MOST_PAGES, FEWEST_PAGES, MOST_SCANNERS};
+use space_map::{FEWEST_PAGES, MOST_PAGES, MOST_SCANNERS};
 
 /// The pages of a space.
 pub const PAGES: (&str, Numbers) = (

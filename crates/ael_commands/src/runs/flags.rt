@@ -5,8 +5,8 @@ ghost use Rattle.plain_heap.specs.Print.{order_line};
 ghost use Rattle.dump_text.specs.Text.{dump_text};
 ghost use Rattle.ael_commands.specs.Runs.Told.{cycles_line, heap_lines, live_text};
 
-use crate::runs::dump::push_dump;
 use crate::arguments::options::RunOptions;
+use crate::runs::dump::push_dump;
 use crate::runs::report::Report;
 use plain_heap::{Mark, NoMemory, push_order};
 

@@ -6,10 +6,10 @@ ghost use Rattle.ael_commands.specs.Arguments.Options.{AreInRange};
 ghost use Rattle.ael_commands.specs.Runs.Run.{IsRun, Threaded};
 
 use crate::answer::Answer;
+use crate::arguments::options::RunOptions;
 use crate::runs::closed_heap::ClosedHeap;
 use crate::runs::flags::push_heap;
 use crate::runs::mutators::{push_mutators, verdict};
-use crate::arguments::options::RunOptions;
 use ael_threads::{NoPace, RunError};
 use gc_core::what_stands_is_told;
 use mutator_asm::Program;

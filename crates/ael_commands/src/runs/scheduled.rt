@@ -9,8 +9,8 @@ ghost use Rattle.gc_core.specs.Event.{event_of, core_after};
 ghost use Rattle.gc_core.specs.Run.{all_ended, run_from};
 ghost use Rattle.ael_commands.specs.Runs.Schedule.{scheduled_by};
 
-use crate::runs::notes::{Notes, Unnoted};
 use crate::arguments::options::SimOptions;
+use crate::runs::notes::{Notes, Unnoted};
 use crate::runs::scheduler::Scheduler;
 use crate::runs::scheduler::draws::Draws;
 use crate::runs::scheduler::listing::Listing;

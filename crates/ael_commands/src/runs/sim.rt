@@ -11,9 +11,9 @@ ghost use Rattle.ael_commands.specs.Runs.Verdict.{status_seen};
 ghost use Rattle.ael_commands.specs.Runs.Told.{heap_lines, told_of};
 
 use crate::answer::Answer;
+use crate::arguments::options::{RunOptions, SimOptions};
 use crate::runs::flags::{push_heap, push_order_if};
 use crate::runs::mutators::{push_mutators, verdict};
-use crate::arguments::options::{RunOptions, SimOptions};
 use crate::runs::scheduled::run_by_schedule;
 use gc_core::{
     Core, OpenError, cycles_keep_what_is_live, full_heaps_are_filled, large_heaps_are_never_full,

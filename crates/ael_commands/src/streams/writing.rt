@@ -5,8 +5,8 @@ ghost use Rattle.ael_commands.specs.Calls.Emits.{Emits};
 ghost use Rattle.ael_commands.specs.Streams.Ends.{filled, IsWritten, IsCutOff};
 
 use crate::answer::Answer;
-use crate::streams::sink::{Put, Sink};
 use crate::status::{Status, WRITE_FAULT};
+use crate::streams::sink::{Put, Sink};
 
 /// A sink failed.
 #[derive(Clone, Copy, Debug, PartialEq, Eq)]

@@ -7,9 +7,9 @@ ghost use Rattle.gc_worker.specs.Workers.Fits.{MayStop};
 ghost use Rattle.ael_threads.specs.Calls.{Called};
 ghost use Rattle.ael_threads.specs.Running.{Executed, Executing, HasRun, HasSeenAllLeave, RunsAsScanner};
 
-use crate::programs::job::Job;
 use crate::mutator::Mutator;
 use crate::pace::Pace;
+use crate::programs::job::Job;
 use crate::scanner::Scanner;
 use crate::shared::Shared;
 use gc_worker::{Did, Stepped};

@@ -12,11 +12,11 @@ ghost use Rattle.ael_threads.specs.Readers.{SeatedScanner};
 ghost use Rattle.ael_threads.specs.Running.{AreReady, AreScanning, Executing, HasRun, HasSeenAllLeave, HaveRun, HaveScanned, RunsAsScanner};
 ghost use Rattle.ael_threads.specs.Seats.{Seated};
 
-use crate::programs::job::Job;
 use crate::mutator::Mutator;
 use crate::opening::Seats;
-use crate::programs::outputs::{Outputs, RunError, all_kept, all_printed, all_registers};
 use crate::pace::Pace;
+use crate::programs::job::Job;
+use crate::programs::outputs::{Outputs, RunError, all_kept, all_printed, all_registers};
 use crate::scanner::Scanner;
 use crate::shared::Shared;
 use gc_worker::{Config, epoch_said, live_said};

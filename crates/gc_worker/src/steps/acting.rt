@@ -8,11 +8,11 @@ ghost use Rattle.gc_worker.specs.Steps.Turned.{accesses, ended, jumped, loads, n
 
 use crate::access::Access;
 use crate::access::access_stage::AccessStage;
-use crate::stage::after::After;
-use crate::task::due::Due;
 use crate::stage::Stage;
+use crate::stage::after::After;
 use crate::state::State;
 use crate::steps::stepped::Stepped;
+use crate::task::due::Due;
 use gate_core::Gate;
 use heap_words::Word;
 use plain_state::End;

@@ -11,12 +11,12 @@ ghost use Rattle.gc_worker.specs.Plain.Seen.{making_in};
 ghost use Rattle.gc_worker.specs.Steps.Stepped.{IsPlacing, IsSound, seen_by, stepped_by, uncounted};
 ghost use Rattle.gc_worker.specs.Steps.Turned.{full_by, places, told, told_effect, told_full, turned, with_record};
 
+use crate::stage::Stage;
 use crate::stage::after::After;
 use crate::stage::back::Back;
-use crate::task::due::Due;
-use crate::stage::Stage;
 use crate::state::State;
 use crate::steps::stepped::Stepped;
+use crate::task::due::Due;
 use alloc_end::{Allocated, Place, Run, Shortage};
 use atom_store::{Reply, Turn};
 use fault_duty::Duty;

@@ -6,11 +6,11 @@ ghost use Rattle.gc_worker.specs.Workers.Fits.{FitsStage, MayBegin};
 ghost use Rattle.gc_worker.specs.Steps.Stepped.{IsSound, stepped_by, uncounted};
 ghost use Rattle.gc_worker.specs.Steps.Turned.{looked_by, started, told, told_gate, told_start, turned};
 
-use crate::stage::after::After;
-use crate::task::due::Due;
 use crate::stage::Stage;
+use crate::stage::after::After;
 use crate::state::State;
 use crate::steps::stepped::Stepped;
+use crate::task::due::Due;
 use atom_store::Reply;
 use gate_core::Gate;
 use space_map::GateWord;

@@ -7,9 +7,9 @@ ghost use Rattle.gc_worker.specs.Workers.Fits.{FitsStage, Takes};
 ghost use Rattle.gc_worker.specs.Steps.Stepped.{IsAtGate, IsFlipping, IsForwarding, IsSound, pointed, stepped_by, uncounted};
 ghost use Rattle.gc_worker.specs.Steps.Turned.{epoch_said, first_pointer, forwards_from, goes_on, in_epoch, passed_by, passes, stopped, told, turned};
 
+use crate::stage::Stage;
 use crate::stage::after::After;
 use crate::stage::forwarding_register::ForwardingRegister;
-use crate::stage::Stage;
 use crate::state::State;
 use crate::steps::stepped::Stepped;
 use atom_store::{Reply, Turn};

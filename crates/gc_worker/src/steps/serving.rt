@@ -10,8 +10,8 @@ ghost use Rattle.gc_worker.specs.Steps.Turned.{accessed_by, back_from, goes_back
 
 use crate::access::Access;
 use crate::access::accessed::Accessed;
-use crate::stage::back::Back;
 use crate::stage::Stage;
+use crate::stage::back::Back;
 use crate::state::State;
 use crate::steps::stepped::Stepped;
 use atom_store::{Reply, Turn};

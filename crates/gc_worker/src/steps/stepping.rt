@@ -12,12 +12,12 @@ ghost use Rattle.gc_worker.specs.Steps.Stepped.{HasRoomToPrint, IsSound, stepped
 ghost use Rattle.gc_worker.specs.Steps.Turned.{told, turned};
 ghost use Rattle.gc_worker.specs.Steps.Wanted.{wanted};
 
+use crate::stage::Stage;
 use crate::stage::after::After;
 use crate::stage::back::Back;
-use crate::task::due::Due;
-use crate::stage::Stage;
 use crate::state::State;
 use crate::steps::stepped::Stepped;
+use crate::task::due::Due;
 use atom_store::{Reply, Step};
 use fault_duty::Duty;
 use gate_core::Gate;

@@ -6,9 +6,9 @@ ghost use Rattle.mutator_asm.specs.Part.{part_view};
 ghost use Rattle.mutator_asm.specs.Read.{line_view};
 ghost use Rattle.mutator_asm.specs.Text.{is_begin, has_label, is_bad, is_begin_with_more, is_lost, is_again, is_instr, is_overlong, error_by};
 
+use crate::errors::mistake::Mistake;
 use crate::text::before::Before;
 use crate::text::line::{Line, Word};
-use crate::errors::mistake::Mistake;
 use crate::text::part::Part;
 
 /// The sections that a text may have.

@@ -7,10 +7,10 @@ ghost use Rattle.mutator_asm.specs.Line.{jump_of, register_jump_of, jz_of, jal_o
 ghost use Rattle.mutator_asm.specs.Token.{label_of};
 ghost use Rattle.mutator_asm.specs.Read.{word_view, line_view, lines_view, tokens_view};
 
+use crate::errors::mistake::Mistake;
 use crate::instr::Instr;
 use crate::item::{Item, read_item};
 use crate::listing::jump::Jump;
-use crate::errors::mistake::Mistake;
 use crate::text::operands::{
     nothing, one_register, operand_register, register_number, register_operand,
     register_operand_register, three_registers, two_registers, two_registers_operand,

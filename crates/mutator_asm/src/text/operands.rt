@@ -6,8 +6,8 @@ ghost use Rattle.std.specs.Prelude.{◌≡◌, Err, IsOkAnd, MatchResult};
 ghost use Rattle.mutator_asm.specs.Instr.{made, nothing, one_register, two_registers, three_registers, register_number, register_operand, operand_register, two_registers_operand, register_operand_register};
 ghost use Rattle.mutator_asm.specs.Read.{tokens_view};
 
-use crate::instr::Instr;
 use crate::errors::mistake::Mistake;
+use crate::instr::Instr;
 use crate::operand::Operand;
 use crate::text::token::{number, operand, register};
 
