@@ -5,10 +5,10 @@ use Rattle.std.specs.Cmp.Lexicographic.{slice_cmp}
 use Rattle.std.specs.Map.{keys_of}
 use Rattle.std.specs.List.{AllByRecursion}
 use Rattle.std.specs.List.Sorted.{IsStrictlySortedBy}
-use Rattle.concordance.specs.Rows.{AreInOrder, Row, rows_of_entries}
+use Rattle.concordance.specs.Rows.{AreInOrder, WordRow, rows_of_entries}
 
 below : {Y : Type 0} (word : List ℕ) (es : List (Vec ℕ Y × Vec ℕ Y)) → AllByRecursion (λ (k : Vec ℕ Y). slice_cmp nat_cmp word k.items ≡ Less) (keys_of es)
-    → AllByRecursion (λ w. slice_cmp nat_cmp word w ≡ Less) (map (λ (r : Row). r.word) (rows_of_entries es))
+    → AllByRecursion (λ w. slice_cmp nat_cmp word w ≡ Less) (map (λ (r : WordRow). r.word) (rows_of_entries es))
 below word [] all = tt
 below word (e ∷ es) all = (all.0, below word es all.1)
 

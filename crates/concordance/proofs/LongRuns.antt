@@ -5,8 +5,8 @@ use borrow.Author.Tests.{lt-ltb, ltb-true}
 use Rattle.std.specs.List.{AllByRecursion, list_any, position_from}
 use Rattle.concordance.specs.declared.letters.TheConstants.{MOST_LETTERS}
 use Rattle.concordance.specs.Words.{IsFirstTooLong, Mention, has_long_word, is_too_long, lines_of, lower_cased, mention, mentions_from, mentions_of, words_in}
-use Rattle.concordance.specs.Rows.{IsIn}
-use Rattle.concordance.specs.Runs.{IsFirstLongRun, IsRun}
+use Rattle.concordance.specs.Rows.{IsElementOf}
+use Rattle.concordance.specs.Runs.{IsFirstLongRun, IsWordRun}
 use Rattle.concordance.proofs.LongWords.{none, number_found}
 use Rattle.concordance.proofs.Pieces.{At}
 use Rattle.concordance.proofs.WordRuns.{from_run, in_lines, in_map, of_lines, of_map, to_run}
@@ -15,7 +15,7 @@ use Rattle.concordance.proofs.WordRuns.{from_run, in_lines, in_map, of_lines, of
 
 record Passes {X : Type 0} (p : X → Bool) (xs : List X) : Type 0 where
   item : X
-  is : IsIn item xs
+  is : IsElementOf item xs
   passes : p item ≡ true
 
 passes_by : {X : Type 0} (p : X → Bool) (x : X) (xs : List X) (b : Bool) → p x ≡ b → (list_any p xs ≡ true → Passes p xs) → b || list_any p xs ≡ true → Passes p (x ∷ xs)
@@ -31,7 +31,7 @@ some_passes_by p x y ys true is passes h = refl
 some_passes_by p x y ys false is passes (inl e) = absurd (true≢false (sym passes ∙ ap p e ∙ is))
 some_passes_by p x y ys false is passes (inr h) = h
 
-passes_any : {X : Type 0} (p : X → Bool) (x : X) (xs : List X) → IsIn x xs → p x ≡ true → list_any p xs ≡ true
+passes_any : {X : Type 0} (p : X → Bool) (x : X) (xs : List X) → IsElementOf x xs → p x ≡ true → list_any p xs ≡ true
 passes_any p x [] h passes = absurd h
 passes_any p x (y ∷ ys) (inl e) passes = some_passes_by p x y ys (p y) refl passes (inl e)
 passes_any p x (y ∷ ys) (inr h) passes = some_passes_by p x y ys (p y) refl passes (inr (passes_any p x ys h passes))
@@ -63,7 +63,7 @@ record LongLine (text : List ℕ) (m : Mention) : Type 0 where
   number : m.line ≡ 1 + place
   long : has_long_word line ≡ true
 
-long_line : (text : List ℕ) (m : Mention) → IsRun text m → MOST_LETTERS < length m.word → LongLine text m
+long_line : (text : List ℕ) (m : Mention) → IsWordRun text m → MOST_LETTERS < length m.word → LongLine text m
 long_line text m r long =
     let l = of_lines 1 (lines_of text) m (from_run text m r) in
     let w = of_map (λ word. mention (lower_cased word) (1 + l.place)) m (words_in l.line) l.is in
@@ -85,7 +85,7 @@ pub to_long_run : (text : List ℕ) (number : ℕ) → IsFirstTooLong text numbe
 to_long_run text number f =
     let w = any_passes is_too_long (words_in f.line) f.long in
     let m = mention (lower_cased w.item) (1 + length f.before) in
-    let in_text : IsIn m (mentions_of text) = subst (λ ls. IsIn m (mentions_from 1 ls)) (sym f.lines)
+    let in_text : IsElementOf m (mentions_of text) = subst (λ ls. IsElementOf m (mentions_from 1 ls)) (sym f.lines)
     (in_lines 1 (f.before ++ f.line ∷ f.after) m (length f.before) f.line (at_here f.before f.line f.after) (in_map (λ word. mention (lower_cased word) (1 + length f.before)) w.item (words_in f.line) w.is)) in
     record {
       found = m;

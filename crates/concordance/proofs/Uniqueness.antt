@@ -7,12 +7,12 @@ use Rattle.std.specs.List.{AllByRecursion}
 use Rattle.std.specs.List.Sorted.{IsStrictlySortedBy}
 use Rattle.std.proofs.lemmas.Cmp.{nat_cmp_total, nat_list_cmp_total}
 use Rattle.concordance.specs.Words.{Mention, mention}
-use Rattle.concordance.specs.Rows.{AreInOrder, IsIn, IsRising, Row, Tells, row}
+use Rattle.concordance.specs.Rows.{AreInOrder, IsElementOf, IsRising, WordRow, TellsMention, row}
 
 pub never_below_itself : {K : Type 0} {R : K → K → Ordering} → IsTotalOrder R → (x : K) → R x x ≡ Less → ⊥
 never_below_itself {R = R} o x less = let e : R x x ≡ ordering_reverse (R x x) = o.antisymm x x in let f : Less ≡ Greater = sym less ∙ e ∙ ap ordering_reverse less in cc
 
-pub all_in : {K : Type 0} (P : K → Type 0) (x : K) (xs : List K) → AllByRecursion P xs → IsIn x xs → P x
+pub all_in : {K : Type 0} (P : K → Type 0) (x : K) (xs : List K) → AllByRecursion P xs → IsElementOf x xs → P x
 all_in P x [] all h = absurd h
 all_in P x (y ∷ ys) all (inl e) = subst P (sym e) all.0
 all_in P x (y ∷ ys) all (inr h) = all_in P x ys all.1 h
@@ -20,17 +20,17 @@ all_in P x (y ∷ ys) all (inr h) = all_in P x ys all.1 h
 -- ---- two lists in order, with the same elements
 
 heads : {K : Type 0} {R : K → K → Ordering} → IsTotalOrder R → (x y : K) (xs ys : List K) → AllByRecursion (λ z. R x z ≡ Less) xs → AllByRecursion (λ z. R y z ≡ Less) ys
-    → (x ≡ y) ⊎ IsIn x ys → (y ≡ x) ⊎ IsIn y xs → x ≡ y
+    → (x ≡ y) ⊎ IsElementOf x ys → (y ≡ x) ⊎ IsElementOf y xs → x ≡ y
 heads o x y xs ys ax ay (inl e) g = e
 heads o x y xs ys ax ay (inr h) (inl e) = sym e
 heads {R = R} o x y xs ys ax ay (inr h) (inr k) = absurd (never_below_itself o x (o.trans x y x (all_in (λ z. R x z ≡ Less) y xs ax k) (all_in (λ z. R y z ≡ Less) x ys ay h)))
 
-later_in : {K : Type 0} {R : K → K → Ordering} → IsTotalOrder R → (y z : K) (ys : List K) → R y z ≡ Less → (z ≡ y) ⊎ IsIn z ys → IsIn z ys
+later_in : {K : Type 0} {R : K → K → Ordering} → IsTotalOrder R → (y z : K) (ys : List K) → R y z ≡ Less → (z ≡ y) ⊎ IsElementOf z ys → IsElementOf z ys
 later_in {R = R} o y z ys less (inl e) = absurd (never_below_itself o y (subst (λ q. R y q ≡ Less) e less))
 later_in o y z ys less (inr h) = h
 
 pub same_lists : {K : Type 0} {R : K → K → Ordering} → IsTotalOrder R → (xs ys : List K) → IsStrictlySortedBy R xs → IsStrictlySortedBy R ys
-    → ((z : K) → IsIn z xs → IsIn z ys) → ((z : K) → IsIn z ys → IsIn z xs) → xs ≡ ys
+    → ((z : K) → IsElementOf z xs → IsElementOf z ys) → ((z : K) → IsElementOf z ys → IsElementOf z xs) → xs ≡ ys
 unfolding IsStrictlySortedBy
 same_lists o [] [] sx sy to back = refl
 same_lists o [] (y ∷ ys) sx sy to back = absurd (back y (inl refl))
@@ -46,39 +46,39 @@ same_lists {R = R} o (x ∷ xs) (y ∷ ys) sx sy to back =
 abbrev IsBelow : List ℕ → List ℕ → Type 0
 IsBelow v w = slice_cmp nat_cmp v w ≡ Less
 
-abbrev words : List Row → List (List ℕ)
-words rows = map (λ (r : Row). r.word) rows
+abbrev words : List WordRow → List (List ℕ)
+words rows = map (λ (r : WordRow). r.word) rows
 
 -- what later rows tell is of later words
-told_later : (v : List ℕ) (rs : List Row) (m : Mention) → AllByRecursion (IsBelow v) (words rs) → Tells rs m → IsBelow v m.word
+told_later : (v : List ℕ) (rs : List WordRow) (m : Mention) → AllByRecursion (IsBelow v) (words rs) → TellsMention rs m → IsBelow v m.word
 told_later v [] m below h = absurd h
 told_later v (r ∷ rs) m below (inl h) = subst (IsBelow v) (sym h.0) below.0
 told_later v (r ∷ rs) m below (inr h) = told_later v rs m below.1 h
 
 -- what a row tells of its word, no later row does
-told_here : (s : Row) (ss : List Row) (m : Mention) → AllByRecursion (IsBelow s.word) (words ss) → m.word ≡ s.word → Tells (s ∷ ss) m → IsIn m.line s.lines
+told_here : (s : WordRow) (ss : List WordRow) (m : Mention) → AllByRecursion (IsBelow s.word) (words ss) → m.word ≡ s.word → TellsMention (s ∷ ss) m → IsElementOf m.line s.lines
 told_here s ss m below e (inl h) = h.1
 told_here s ss m below e (inr h) = absurd (never_below_itself nat_list_cmp_total s.word (subst (IsBelow s.word) e (told_later s.word ss m below h)))
 
 -- what is told of a later word, later rows tell
-told_there : (s : Row) (ss : List Row) (m : Mention) → IsBelow s.word m.word → Tells (s ∷ ss) m → Tells ss m
+told_there : (s : WordRow) (ss : List WordRow) (m : Mention) → IsBelow s.word m.word → TellsMention (s ∷ ss) m → TellsMention ss m
 told_there s ss m less (inl h) = absurd (never_below_itself nat_list_cmp_total s.word (subst (IsBelow s.word) h.0 less))
 told_there s ss m less (inr h) = h
 
-some_line : (lines : List ℕ) → 0 < length lines → (n : ℕ) × IsIn n lines
+some_line : (lines : List ℕ) → 0 < length lines → (n : ℕ) × IsElementOf n lines
 some_line [] some = absurd (omega arith)
 some_line (n ∷ ns) some = (n, inl refl)
 
-same_words : (r s : Row) (rs ss : List Row) (n k : ℕ) → AllByRecursion (IsBelow r.word) (words rs) → AllByRecursion (IsBelow s.word) (words ss)
-    → Tells (s ∷ ss) (mention r.word n) → Tells (r ∷ rs) (mention s.word k) → r.word ≡ s.word
+same_words : (r s : WordRow) (rs ss : List WordRow) (n k : ℕ) → AllByRecursion (IsBelow r.word) (words rs) → AllByRecursion (IsBelow s.word) (words ss)
+    → TellsMention (s ∷ ss) (mention r.word n) → TellsMention (r ∷ rs) (mention s.word k) → r.word ≡ s.word
 same_words r s rs ss n k below after (inl h) g = h.0
 same_words r s rs ss n k below after (inr h) (inl g) = sym g.0
 same_words r s rs ss n k below after (inr h) (inr g) =
     absurd (never_below_itself nat_list_cmp_total r.word (nat_list_cmp_total.trans r.word s.word r.word (told_later r.word rs (mention s.word k) below g) (told_later s.word ss (mention r.word n) after h)))
 
-pub same_rows : (rs ss : List Row) → AreInOrder rs → AreInOrder ss → AllByRecursion (λ (r : Row). IsRising r.lines) rs → AllByRecursion (λ (s : Row). IsRising s.lines) ss
-    → AllByRecursion (λ (r : Row). 0 < length r.lines) rs → AllByRecursion (λ (s : Row). 0 < length s.lines) ss
-    → ((m : Mention) → Tells rs m → Tells ss m) → ((m : Mention) → Tells ss m → Tells rs m) → rs ≡ ss
+pub same_rows : (rs ss : List WordRow) → AreInOrder rs → AreInOrder ss → AllByRecursion (λ (r : WordRow). IsRising r.lines) rs → AllByRecursion (λ (s : WordRow). IsRising s.lines) ss
+    → AllByRecursion (λ (r : WordRow). 0 < length r.lines) rs → AllByRecursion (λ (s : WordRow). 0 < length s.lines) ss
+    → ((m : Mention) → TellsMention rs m → TellsMention ss m) → ((m : Mention) → TellsMention ss m → TellsMention rs m) → rs ≡ ss
 unfolding IsStrictlySortedBy
 same_rows [] [] or os rr rs_ lr ls to back = refl
 same_rows [] (s ∷ ss) or os rr rs_ lr ls to back = absurd (let n = some_line s.lines ls.0 in back (mention s.word n.0) (inl (refl, n.1)))

@@ -3,61 +3,61 @@ use Rattle.std.proofs.Common.{◌≡◌, ◌⊎◌, inl, inr, ⊎_elim, ℕ, zer
 use borrow.Author.Tests.{eqb-true, lt-ltb, ltb-true}
 use Rattle.std.specs.List.{AllByRecursion, slice_split}
 use Rattle.concordance.specs.Words.{Mention, ends_line, is_some_run, lines_of, lower_cased, mention, mentions_from, mentions_in, mentions_of, separates, words_in}
-use Rattle.concordance.specs.Rows.{IsIn}
-use Rattle.concordance.specs.Runs.{BeginsWith, EndsWith, IsRun}
+use Rattle.concordance.specs.Rows.{IsElementOf}
+use Rattle.concordance.specs.Runs.{BeginsWith, EndsWith, IsWordRun}
 use Rattle.concordance.proofs.Pieces.{At, at_first, at_last, at_piece, count_by-append, count_none, ends_cons, ends_tail, piece}
 
 -- ---- elements
 
-pub in_left : {X : Type 0} (x : X) (xs ys : List X) → IsIn x xs → IsIn x (xs ++ ys)
+pub in_left : {X : Type 0} (x : X) (xs ys : List X) → IsElementOf x xs → IsElementOf x (xs ++ ys)
 in_left x [] ys h = absurd h
 in_left x (y ∷ xs) ys (inl e) = inl e
 in_left x (y ∷ xs) ys (inr h) = inr (in_left x xs ys h)
 
-pub in_right : {X : Type 0} (x : X) (xs ys : List X) → IsIn x ys → IsIn x (xs ++ ys)
+pub in_right : {X : Type 0} (x : X) (xs ys : List X) → IsElementOf x ys → IsElementOf x (xs ++ ys)
 in_right x [] ys h = h
 in_right x (y ∷ xs) ys h = inr (in_right x xs ys h)
 
-pub in_either : {X : Type 0} (x : X) (xs ys : List X) → IsIn x (xs ++ ys) → IsIn x xs ⊎ IsIn x ys
+pub in_either : {X : Type 0} (x : X) (xs ys : List X) → IsElementOf x (xs ++ ys) → IsElementOf x xs ⊎ IsElementOf x ys
 in_either x [] ys h = inr h
 in_either x (y ∷ xs) ys (inl e) = inl (inl e)
 in_either x (y ∷ xs) ys (inr h) = ⊎_elim (λ k. inl (inr k)) (λ k. inr k) (in_either x xs ys h)
 
-pub in_map : {X Y : Type 0} (f : X → Y) (x : X) (xs : List X) → IsIn x xs → IsIn (f x) (map f xs)
+pub in_map : {X Y : Type 0} (f : X → Y) (x : X) (xs : List X) → IsElementOf x xs → IsElementOf (f x) (map f xs)
 in_map f x [] h = absurd h
 in_map f x (y ∷ ys) (inl e) = inl (ap f e)
 in_map f x (y ∷ ys) (inr h) = inr (in_map f x ys h)
 
 pub record Of {X Y : Type 0} (f : X → Y) (xs : List X) (y : Y) : Type 0 where
   pub item : X
-  pub is : IsIn item xs
+  pub is : IsElementOf item xs
   pub gives : y ≡ f item
 
-pub of_map : {X Y : Type 0} (f : X → Y) (y : Y) (xs : List X) → IsIn y (map f xs) → Of f xs y
+pub of_map : {X Y : Type 0} (f : X → Y) (y : Y) (xs : List X) → IsElementOf y (map f xs) → Of f xs y
 of_map f y [] h = absurd h
 of_map f y (x ∷ xs) (inl e) = record { item = x; is = inl refl; gives = e }
 of_map f y (x ∷ xs) (inr h) = let o = of_map f y xs h in record { item = o.item; is = inr o.is; gives = o.gives }
 
-filter_by : {X : Type 0} (q : X → Bool) (x y : X) (ys kept : List X) (b : Bool) → q y ≡ b → (IsIn x kept → IsIn x ys × (q x ≡ true)) → IsIn x (cond b (y ∷ kept) kept) → IsIn x (y ∷ ys) × (q x ≡ true)
+filter_by : {X : Type 0} (q : X → Bool) (x y : X) (ys kept : List X) (b : Bool) → q y ≡ b → (IsElementOf x kept → IsElementOf x ys × (q x ≡ true)) → IsElementOf x (cond b (y ∷ kept) kept) → IsElementOf x (y ∷ ys) × (q x ≡ true)
 filter_by q x y ys kept true is later (inl e) = (inl e, ap q e ∙ is)
 filter_by q x y ys kept true is later (inr h) = let l = later h in (inr l.0, l.1)
 filter_by q x y ys kept false is later h = let l = later h in (inr l.0, l.1)
 
-of_filter : {X : Type 0} (q : X → Bool) (x : X) (ys : List X) → IsIn x (filter q ys) → IsIn x ys × (q x ≡ true)
+of_filter : {X : Type 0} (q : X → Bool) (x : X) (ys : List X) → IsElementOf x (filter q ys) → IsElementOf x ys × (q x ≡ true)
 of_filter q x [] h = absurd h
 of_filter q x (y ∷ ys) h = filter_by q x y ys (filter q ys) (q y) refl (of_filter q x ys) h
 
-kept_by : {X : Type 0} (q : X → Bool) (x y : X) (kept : List X) (b : Bool) → q y ≡ b → q x ≡ true → (x ≡ y) ⊎ IsIn x kept → IsIn x (cond b (y ∷ kept) kept)
+kept_by : {X : Type 0} (q : X → Bool) (x y : X) (kept : List X) (b : Bool) → q y ≡ b → q x ≡ true → (x ≡ y) ⊎ IsElementOf x kept → IsElementOf x (cond b (y ∷ kept) kept)
 kept_by q x y kept true is passes h = h
 kept_by q x y kept false is passes (inl e) = absurd (true≢false (sym passes ∙ ap q e ∙ is))
 kept_by q x y kept false is passes (inr h) = h
 
-in_filter : {X : Type 0} (q : X → Bool) (x : X) (ys : List X) → q x ≡ true → IsIn x ys → IsIn x (filter q ys)
+in_filter : {X : Type 0} (q : X → Bool) (x : X) (ys : List X) → q x ≡ true → IsElementOf x ys → IsElementOf x (filter q ys)
 in_filter q x [] passes h = absurd h
 in_filter q x (y ∷ ys) passes (inl e) = kept_by q x y (filter q ys) (q y) refl passes (inl e)
 in_filter q x (y ∷ ys) passes (inr h) = kept_by q x y (filter q ys) (q y) refl passes (inr (in_filter q x ys passes h))
 
-at_in : {X : Type 0} (xs : List X) (k : ℕ) (x : X) → At xs k x → IsIn x xs
+at_in : {X : Type 0} (xs : List X) (k : ℕ) (x : X) → At xs k x → IsElementOf x xs
 at_in [] k x at = absurd at
 at_in (y ∷ ys) zero x at = inl at
 at_in (y ∷ ys) (suc k) x at = inr (at_in ys k x at)
@@ -66,7 +66,7 @@ record Placed {X : Type 0} (xs : List X) (x : X) : Type 0 where
   place : ℕ
   at : At xs place x
 
-in_at : {X : Type 0} (xs : List X) (x : X) → IsIn x xs → Placed xs x
+in_at : {X : Type 0} (xs : List X) (x : X) → IsElementOf x xs → Placed xs x
 in_at [] x h = absurd h
 in_at (y ∷ ys) x (inl e) = record { place = 0; at = e }
 in_at (y ∷ ys) x (inr h) = let p = in_at ys x h in record { place = suc p.place; at = p.at }
@@ -77,27 +77,27 @@ pub record InLine (number : ℕ) (lines : List (List ℕ)) (m : Mention) : Type 
   pub place : ℕ
   pub line : List ℕ
   pub at : At lines place line
-  pub is : IsIn m (mentions_in (number + place) line)
+  pub is : IsElementOf m (mentions_in (number + place) line)
 
-of_lines_by : (number : ℕ) (line : List ℕ) (lines : List (List ℕ)) (m : Mention) → (IsIn m (mentions_from (number + 1) lines) → InLine (number + 1) lines m) → IsIn m (mentions_in number line) ⊎ IsIn m (mentions_from (number + 1) lines) → InLine number (line ∷ lines) m
-of_lines_by number line lines m later (inl h) = record { place = 0; line = line; at = refl; is = let e : number ≡ number + 0 = omega arith in subst (λ n. IsIn m (mentions_in n line)) e h }
+of_lines_by : (number : ℕ) (line : List ℕ) (lines : List (List ℕ)) (m : Mention) → (IsElementOf m (mentions_from (number + 1) lines) → InLine (number + 1) lines m) → IsElementOf m (mentions_in number line) ⊎ IsElementOf m (mentions_from (number + 1) lines) → InLine number (line ∷ lines) m
+of_lines_by number line lines m later (inl h) = record { place = 0; line = line; at = refl; is = let e : number ≡ number + 0 = omega arith in subst (λ n. IsElementOf m (mentions_in n line)) e h }
 of_lines_by number line lines m later (inr h) =
     let l = later h in
     let e : number + 1 + l.place ≡ number + suc l.place = omega arith in
-    record { place = suc l.place; line = l.line; at = l.at; is = subst (λ n. IsIn m (mentions_in n l.line)) e l.is }
+    record { place = suc l.place; line = l.line; at = l.at; is = subst (λ n. IsElementOf m (mentions_in n l.line)) e l.is }
 
-pub of_lines : (number : ℕ) (lines : List (List ℕ)) (m : Mention) → IsIn m (mentions_from number lines) → InLine number lines m
+pub of_lines : (number : ℕ) (lines : List (List ℕ)) (m : Mention) → IsElementOf m (mentions_from number lines) → InLine number lines m
 of_lines number [] m h = absurd h
 of_lines number (line ∷ lines) m h = of_lines_by number line lines m (of_lines (number + 1) lines m) (in_either m (mentions_in number line) _ h)
 
-pub in_lines : (number : ℕ) (lines : List (List ℕ)) (m : Mention) (place : ℕ) (line : List ℕ) → At lines place line → IsIn m (mentions_in (number + place) line) → IsIn m (mentions_from number lines)
+pub in_lines : (number : ℕ) (lines : List (List ℕ)) (m : Mention) (place : ℕ) (line : List ℕ) → At lines place line → IsElementOf m (mentions_in (number + place) line) → IsElementOf m (mentions_from number lines)
 in_lines number [] m place line at h = absurd at
 in_lines number (l ∷ ls) m zero line at h =
     let e : number + 0 ≡ number = omega arith in
-    in_left m (mentions_in number l) _ (subst (λ n. IsIn m (mentions_in n l)) e (subst (λ k. IsIn m (mentions_in (number + 0) k)) at h))
+    in_left m (mentions_in number l) _ (subst (λ n. IsElementOf m (mentions_in n l)) e (subst (λ k. IsElementOf m (mentions_in (number + 0) k)) at h))
 in_lines number (l ∷ ls) m (suc place) line at h =
     let e : number + suc place ≡ number + 1 + place = omega arith in
-    in_right m (mentions_in number l) _ (in_lines (number + 1) ls m place line at (subst (λ n. IsIn m (mentions_in n line)) e h))
+    in_right m (mentions_in number l) _ (in_lines (number + 1) ls m place line at (subst (λ n. IsElementOf m (mentions_in n line)) e h))
 
 -- ---- what separates
 
@@ -143,7 +143,7 @@ joined f g w b c = simp append_assoc
 
 -- ---- both ways
 
-run_of : (text line word : List ℕ) (k j : ℕ) (m : Mention) → At (lines_of text) k line → At (slice_split separates line) j word → is_some_run word ≡ true → m ≡ mention (lower_cased word) (1 + k) → IsRun text m
+run_of : (text line word : List ℕ) (k j : ℕ) (m : Mention) → At (lines_of text) k line → At (slice_split separates line) j word → is_some_run word ≡ true → m ≡ mention (lower_cased word) (1 + k) → IsWordRun text m
 run_of text line word k j m at_line at_word some e =
     let l = piece ends_line text line k at_line in
     let w = piece separates line word j at_word in
@@ -161,7 +161,7 @@ run_of text line word k j m at_line at_word some e =
       line_is = ap (λ (n : Mention). n.line) e ∙ (let c = count_by-append ends_line l.front w.front in omega (arith, l.place));
     }
 
-pub to_run : (text : List ℕ) (m : Mention) → IsIn m (mentions_of text) → IsRun text m
+pub to_run : (text : List ℕ) (m : Mention) → IsElementOf m (mentions_of text) → IsWordRun text m
 to_run text m h =
     let l = of_lines 1 (lines_of text) m h in
     let w = of_map (λ word. mention (lower_cased word) (1 + l.place)) m (words_in l.line) l.is in
@@ -169,7 +169,7 @@ to_run text m h =
     let p = in_at (slice_split separates l.line) w.item s.0 in
     run_of text l.line w.item l.place p.place m l.at p.at s.1 w.gives
 
-pub from_run : (text : List ℕ) (m : Mention) → IsRun text m → IsIn m (mentions_of text)
+pub from_run : (text : List ℕ) (m : Mention) → IsWordRun text m → IsElementOf m (mentions_of text)
 from_run text m r =
     let f = at_last ends_line r.front in
     let b = at_first ends_line r.back in
@@ -194,7 +194,7 @@ from_run text m r =
       place = refl;
     }) in
     let k = count_by ends_line f.front in
-    let word : IsIn r.run (words_in line) = in_filter is_some_run r.run (slice_split separates line) (lt-ltb 0 (length r.run) r.some) (at_in _ _ r.run at_word) in
-    let here : IsIn (mention (lower_cased r.run) (1 + k)) (mentions_of text) = in_lines 1 (lines_of text) _ k line at_line (in_map (λ w. mention (lower_cased w) (1 + k)) r.run (words_in line) word) in
+    let word : IsElementOf r.run (words_in line) = in_filter is_some_run r.run (slice_split separates line) (lt-ltb 0 (length r.run) r.some) (at_in _ _ r.run at_word) in
+    let here : IsElementOf (mention (lower_cased r.run) (1 + k)) (mentions_of text) = in_lines 1 (lines_of text) _ k line at_line (in_map (λ w. mention (lower_cased w) (1 + k)) r.run (words_in line) word) in
     let lines : m.line ≡ 1 + k = r.line_is ∙ (let c : count_by ends_line r.front ≡ k + count_by ends_line f.rest = ap (count_by ends_line) f.is ∙ count_by-append ends_line f.front f.rest in omega (arith, count_none ends_line f.rest f.none)) in
-    subst (λ n. IsIn n (mentions_of text)) (sym (ap₂ mention r.word_is lines)) here
+    subst (λ n. IsElementOf n (mentions_of text)) (sym (ap₂ mention r.word_is lines)) here

@@ -16,7 +16,7 @@ EndsWith p (x ∷ []) = p x ≡ true
 EndsWith p (x ∷ y ∷ ys) = EndsWith p (y ∷ ys)
 
 -- The word is a run of letters, lower-cased, with no letter before it or behind it; its line is the one after those that ended before it.
-pub record IsRun (text : List ℕ) (m : Mention) : Type 0 where
+pub record IsWordRun (text : List ℕ) (m : Mention) : Type 0 where
   pub front : List ℕ
   pub run : List ℕ
   pub back : List ℕ
@@ -31,7 +31,7 @@ pub record IsRun (text : List ℕ) (m : Mention) : Type 0 where
 -- A run with more letters than a word may have is in the line with this number, and none is in a line before it.
 pub record IsFirstLongRun (text : List ℕ) (number : ℕ) : Type 0 where
   pub found : Mention
-  pub is : IsRun text found
+  pub is : IsWordRun text found
   pub long : MOST_LETTERS < length found.word
   pub here : found.line ≡ number
-  pub none_before : (m : Mention) → IsRun text m → MOST_LETTERS < length m.word → number ≤ m.line
+  pub none_before : (m : Mention) → IsWordRun text m → MOST_LETTERS < length m.word → number ≤ m.line

@@ -2,12 +2,12 @@
 use Rattle.std.specs.Prelude.{◌≡◌, ◌↔◌, ℕ, ◌<◌, List, ◌++◌, map, length}
 use Rattle.std.specs.List.{AllByRecursion}
 use Rattle.concordance.specs.Words.{IsFirstTooLong, Mention, mention, mentions_of}
-use Rattle.concordance.specs.Runs.{IsFirstLongRun, IsRun}
-use Rattle.concordance.specs.Rows.{AreRowsOf, IsConcordanceOf, IsIn, IsRising, Row, with_lines}
+use Rattle.concordance.specs.Runs.{IsFirstLongRun, IsWordRun}
+use Rattle.concordance.specs.Rows.{AreRowsOf, IsConcordanceOf, IsElementOf, IsRising, WordRow, with_lines}
 
 -- words in their lines have at most one list of rows
 abbrev pub OneListOfRows : Type 0
-OneListOfRows = (mentions : List Mention) (rows others : List Row) → AreRowsOf mentions rows → AreRowsOf mentions others → rows ≡ others
+OneListOfRows = (mentions : List Mention) (rows others : List WordRow) → AreRowsOf mentions rows → AreRowsOf mentions others → rows ≡ others
 
 -- a text has at most one concordance
 abbrev pub OneConcordance : Type 0
@@ -19,7 +19,7 @@ SomeConcordance = (text : List ℕ) → (told : List ℕ) × IsConcordanceOf tex
 
 -- the words of a text are its longest runs of letters, each in its line
 abbrev pub WordsAreRuns : Type 0
-WordsAreRuns = (text : List ℕ) (m : Mention) → IsIn m (mentions_of text) ↔ IsRun text m
+WordsAreRuns = (text : List ℕ) (m : Mention) → IsElementOf m (mentions_of text) ↔ IsWordRun text m
 
 -- the first line with a word that is too long is the first with such a run
 abbrev pub LongWordsAreRuns : Type 0
@@ -27,6 +27,6 @@ LongWordsAreRuns = (text : List ℕ) (number : ℕ) → IsFirstTooLong text numb
 
 -- if lines of a word are added, all of which are behind those that it has, the rows are those of the words before and these
 abbrev pub LinesAreAdded : Type 0
-LinesAreAdded = (mentions : List Mention) (rows : List Row) (word lines : List ℕ) → AreRowsOf mentions rows → 0 < length lines → IsRising lines
-    → ((m : Mention) → IsIn m mentions → m.word ≡ word → AllByRecursion (λ n. m.line < n) lines)
+LinesAreAdded = (mentions : List Mention) (rows : List WordRow) (word lines : List ℕ) → AreRowsOf mentions rows → 0 < length lines → IsRising lines
+    → ((m : Mention) → IsElementOf m mentions → m.word ≡ word → AllByRecursion (λ n. m.line < n) lines)
     → AreRowsOf (mentions ++ map (mention word) lines) (with_lines word lines rows)

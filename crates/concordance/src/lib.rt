@@ -11,6 +11,6 @@ pub use laws::{
     lines_are_added, one_concordance, some_concordance, texts_are_worked_out, words_are_runs,
 };
 pub use letters::{Letters, MOST_LETTERS, lower_cased, separates};
-pub use listing::{Words, add_lines, told};
+pub use listing::{WordMap, add_lines, told};
 pub use long_words::first_too_long;
 pub use part::{MOST_PARTS, Part, Parts, parts};

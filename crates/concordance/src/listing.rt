@@ -10,12 +10,12 @@ use std::alloc::{AllocError, Global};
 use std::collections::BTreeMap;
 
 /// The words of a text in the order of bytes, each with its lines.
-pub type Words = BTreeMap<Vec<u8>, Vec<u32>>;
+pub type WordMap = BTreeMap<Vec<u8>, Vec<u32>>;
 
 /// Adds lines of a word, behind those that it has.
 ///
 /// Where memory is out, nothing is said of what `words` then has.
-pub fn add_lines(words: &mut Words, word: Vec<u8>, lines: Vec<u32>) -> Result<(), AllocError>
+pub fn add_lines(words: &mut WordMap, word: Vec<u8>, lines: Vec<u32>) -> Result<(), AllocError>
     ensures { OnOk result (rows_of words.new ≡ with_lines word.items lines.items (rows_of words.old)) }
 {
     match words.get_mut(word.as_slice()) {
@@ -31,7 +31,7 @@ pub fn add_lines(words: &mut Words, word: Vec<u8>, lines: Vec<u32>) -> Result<()
 }
 
 /// The text of a concordance: a line for each word, with the numbers of the lines in which it stands.
-pub fn told(alloc: Global, words: &Words) -> Result<Vec<u8>, AllocError>
+pub fn told(alloc: Global, words: &WordMap) -> Result<Vec<u8>, AllocError>
     ensures rows { IfOk result (λ told. told.items ≡ flat_map row_text (rows_of words.now)) }
     ensures concordance { IfOk result (λ told. (text : List ℕ) → AreRowsOf (mentions_of text) (rows_of words.now) → IsConcordanceOf text told.items) }
     ensures ordered { AreInOrder (rows_of words.now) }

@@ -1,7 +1,7 @@
 ghost use Rattle.std.specs.Prelude.{◌≤◌, ◌<◌, ◌^◌, length};
 
 use crate::asserting::assert_same;
-use concordance::{Letters, Words, first_too_long, lower_cased, parts, told};
+use concordance::{Letters, WordMap, first_too_long, lower_cased, parts, told};
 use std::alloc::{AllocError, Global};
 use std::collections::BTreeMap;
 use std::process::Abort;
@@ -10,7 +10,7 @@ use std::test::Fail;
 #[test]
 fn rows_are_told_in_order(rt: HostRuntime) -> Result<(), Fail> {
     let alloc = rt.alloc();
-    let mut words: Words = BTreeMap::new(alloc);
+    let mut words: WordMap = BTreeMap::new(alloc);
     assert_same(&rt, &told(alloc, &words)?.as_slice(), &b"".as_slice());
     let lines = Vec::from_slice(alloc, &[1])?;
     words.insert(Vec::from_slice(alloc, b"b")?, lines)?;
