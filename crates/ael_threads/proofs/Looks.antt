@@ -147,6 +147,7 @@ module _ (plan : Plan) (m : ℕ) (y : Held) (q : Step) (words : List ℕ) (worke
           stands = st;
           task_is = sym (goes.kept (no_answer call)) ∙ is;
           looks = looks;
+          epoch = sym gate_flips ∙ now;
           step = q;
           wants = want;
           begins = call;

@@ -36,7 +36,8 @@ pub record HasFlipped (early late : List Entry) : Type 0 where
   pub is : late ≡ early ++ (between ++ Exchanged by asked ∷ rest)
 
 -- Where the history is this, mutator m looks at the gate and begins the task: with the words there and with what all workers hold, of
--- which m looks, they stand for the plain state after the history, and by what it finds there m is in the call.
+-- which m looks, they stand for the plain state after the history, whose number of flips is m's epoch, and by what it finds there m is
+-- in the call.
 pub record BeginsAt (plan : Plan) (m : ℕ) (task : Task) (log : List Entry) : Type 0 where
   pub words : List ℕ
   pub workers : List Held
@@ -45,6 +46,7 @@ pub record BeginsAt (plan : Plan) (m : ℕ) (task : Task) (log : List Entry) : T
   pub stands : WorkersStand (heap_of plan words workers) (after_all (first_plain plan) log) (last_flip (first_plain plan) log)
   pub task_is : held.task ≡ Some task
   pub looks : held.stage ≡ Looks
+  pub epoch : flips_of plan log ≡ held.epoch
   pub step : Step
   pub wants : wanted held ≡ Some step
   pub begins : IsInCall (turned held (reply_of step words)).stage

@@ -70,21 +70,24 @@ pub record IsUnderWay (a : Seated) (task : Task) (b : Seated) : Type 0 where
 -- ---- a full heap
 
 -- A flip came since the caller began the task, in this call: the history at the look that began it begins with all that was known before
--- the call. So the caller is of a later epoch than before, or of the last.
-pub record FlippedInCall (a : Seated) (task : Task) (log : List Entry) (b : Seated) : Type 0 where
+-- the call, and its number of flips is the epoch in which the caller has begun the task, as it is before its last act; that epoch is not
+-- before the one in which the caller was before the call. So the caller is of a later epoch than before, or of the last.
+pub record FlippedInCall (a : Seated) (task : Task) (log : List Entry) (last b : Seated) : Type 0 where
   pub since : FlippedSinceBegun a.knows.plan (first_number a.knows.hands) task log
   pub seen : IsPrefix a.knows.seen since.began
   pub heard : IsPrefix a.knows.heard since.began
+  pub flips : flips_of a.knows.plan since.began ≡ last.worker.begun
+  pub begun : a.worker.epoch ≤ last.worker.begun
   pub rises : (a.worker.epoch < b.worker.epoch) ⊎ (b.worker.epoch ≡ 2 ^ 32 - 1)
 
 -- where the call ends with heap full
-abbrev pub FlippedByEnd : Seated → Task → List Entry → Seated → End → Type 0
-FlippedByEnd a task log b (HeapFull asked room live) = FlippedInCall a task log b
-FlippedByEnd a task log b end = ⊤
+abbrev pub FlippedByEnd : Seated → Task → List Entry → (last b : Seated) → End → Type 0
+FlippedByEnd a task log last b (HeapFull asked room live) = FlippedInCall a task log last b
+FlippedByEnd a task log last b end = ⊤
 
-abbrev pub FlippedByOutcome : Seated → Task → List Entry → Seated → Did → Type 0
-FlippedByOutcome a task log b Done = ⊤
-FlippedByOutcome a task log b (Trap end) = FlippedByEnd a task log b end
+abbrev pub FlippedByOutcome : Seated → Task → List Entry → (last b : Seated) → Did → Type 0
+FlippedByOutcome a task log last b Done = ⊤
+FlippedByOutcome a task log last b (Trap end) = FlippedByEnd a task log last b end
 
 -- ---- a call
 
@@ -120,7 +123,7 @@ pub record Called (a : Seated) (task : Task) (did : Did) (b : Seated) : Type 0 w
   pub acts : ActsBy last reply stepped b
   pub answers : told last.worker reply ≡ Answers task did
   pub heard : IsPrefix a.knows.heard b.knows.heard
-  pub flipped : FlippedByOutcome a task (a.knows.seen ++ history.between) b did
+  pub flipped : FlippedByOutcome a task (a.knows.seen ++ history.between) last b did
   pub epoch : b.worker.epoch ≡ last.worker.epoch
   pub comes : ComesTo (after_all (first_plain a.knows.plan) (a.knows.seen ++ history.between)) (first_number a.knows.hands) task did
   pub full : FullByOutcome a.knows.plan.spaces.pages acts.knows.before last.worker did

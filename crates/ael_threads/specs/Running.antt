@@ -18,7 +18,7 @@ use Rattle.gc_worker.specs.declared.calls.entry.Entry.{Entry}
 use Rattle.gc_worker.specs.declared.calls.entry.Entry.TheVariants.{Made}
 use Rattle.ael_threads.specs.declared.view.Plan.{Plan}
 use Rattle.gc_worker.specs.History.Legal.{IsLegal, after_all, worker_call, last_flip}
-use Rattle.ael_threads.specs.Began.{FlippedSinceBegun}
+use Rattle.ael_threads.specs.Began.{FlippedSinceBegun, flips_of}
 use Rattle.ael_threads.specs.Histories.{first_plain, hand}
 use Rattle.ael_threads.specs.Programs.{HasExecuted}
 use Rattle.ael_threads.specs.Readers.{SeatedScanner}
@@ -29,7 +29,7 @@ use Rattle.ael_threads.specs.Seats.{IsMine, Seated, ShowsSeen}
 
 -- The heap was full for mutator m at its call with which the history ends: by words that its own seat read, with which all workers stood
 -- for the history before the call; and what is told as live was live at the last flip, which came since the look that began the call's
--- task if it is not the last that there can be.
+-- task, in the epoch that m keeps, if it is not the last that there can be.
 pub record FoundFull (plan : Plan) (m : ℕ) (log : List Entry) (asked room live : ℕ) : Type 0 where
   pub before : List Entry
   pub task : Task
@@ -42,6 +42,7 @@ pub record FoundFull (plan : Plan) (m : ℕ) (log : List Entry) (asked room live
   pub no_room : FindsNoRoom plan.spaces.pages words held asked room live
   pub was_live : IsLive (last_flip (first_plain plan) log) live
   pub flipped : FlippedSinceBegun plan m task before
+  pub begun : flips_of plan flipped.began ≡ held.begun
 
 -- at a call of this history
 abbrev pub EndFoundFull : Plan → (m : ℕ) → List Entry → End → Type 0

@@ -153,6 +153,7 @@ module _ (a b c : Seated) (task : Task) (r : Reply) (s : Stepped) (u : IsUnderWa
           stands = st;
           task_is = w.asks;
           looks = looks;
+          epoch = log_flips ∙ at_look looks;
           step = k.step;
           wants = k.wants;
           begins = subst (λ (reply : Reply). IsInCall (turned x reply).stage) k.reply call;
@@ -190,7 +191,7 @@ module _ (a b c : Seated) (task : Task) (r : Reply) (s : Stepped) (u : IsUnderWa
 
   -- ---- a full heap
 
-  full : (other : Task) (asked room live : ℕ) → told x r ≡ Answers other (Trap (HeapFull asked room live)) → FlippedInCall a task log c
+  full : (other : Task) (asked room live : ℕ) → told x r ≡ Answers other (Trap (HeapFull asked room live)) → FlippedInCall a task log b c
   full other asked room live e =
       let past = full_is_found_later n plan.mutators m x r other asked room live fits_x e in
       let was = u.begun (answers_in_call x r other (Trap (HeapFull asked room live)) x.stage e past) in
@@ -210,10 +211,12 @@ module _ (a b c : Seated) (task : Task) (r : Reply) (s : Stepped) (u : IsUnderWa
         };
         seen = was.seen;
         heard = was.heard;
+        flips = then;
+        begun = first;
         rises = ⊎_elim (λ (early : x.begun < x.epoch). inl (omega (arith, first, early, stays))) (λ last. inr (stays ∙ last)) finds.no_flip;
       }
 
-  pub flipped_by : (other : Task) (did : Did) → told x r ≡ Answers other did → FlippedByOutcome a task log c did
+  pub flipped_by : (other : Task) (did : Did) → told x r ≡ Answers other did → FlippedByOutcome a task log b c did
   flipped_by other Done e = tt
   flipped_by other (Trap (HeapFull asked room live)) e = full other asked room live e
   flipped_by other (Trap Halt) e = tt
