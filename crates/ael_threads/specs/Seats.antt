@@ -30,6 +30,7 @@ use Rattle.gc_worker.specs.Laws.Step.{FlipsWhereTold, WorkersStand, read, epoch_
 use Rattle.heap_state.specs.Cycles.Copies.{CopiedIsLive}
 use Rattle.gc_worker.specs.Steps.Stepped.{stepped_by, uncounted}
 use Rattle.gc_worker.specs.declared.calls.did.Did.TheVariants.{Done, Trap}
+use Rattle.gc_worker.specs.declared.task.Task.{Task}
 use Rattle.gc_worker.specs.Steps.Turned.{PageWon, Told, Silent, Answers, Marks, told, turned, won}
 use Rattle.gc_worker.specs.Steps.Wanted.{wanted}
 use Rattle.gc_worker.specs.declared.calls.call.Call.{Call}
@@ -143,9 +144,9 @@ pub record StandWith (plan : Plan) (m : ℕ) (x : Held) (seen : List Entry) (wor
 -- replies; with the words before and after it the workers stand for histories of which the latter has what the step tells besides, and no
 -- other worker has changed. The history before it begins with all that the seat had heard of, and has just the calls that the worker
 -- made; the seat hears of the one after it. A flip, and nothing else, raises the epoch by one, for the pages that the worker's task asks
--- for. Where the heap is told to be full it was by the words before, and what is told as live was live at the last flip. If the worker is
--- then a mutator that runs, as after each effect, each pointer in its registers leads to a record's header in the words after, and two
--- registers hold one word exactly where the plain ones hold one value.
+-- for. Where the heap is told to be full it was by the words before, and what is told as live was live at the last flip. An effect leaves
+-- a mutator that runs and has no end. If the worker is then such a one, each pointer in its registers leads to a record's header in the
+-- words after, and two registers hold one word exactly where the plain ones hold one value.
 pub record Moves (v : View) (m : ℕ) (x : Held) (r : Reply) (w : View) : Type 0 where
   pub takes : Takes x r
   pub fits : Fits v.plan.spaces.pages v.plan.mutators m (turned x r)
@@ -172,6 +173,7 @@ pub record Moves (v : View) (m : ℕ) (x : Held) (r : Reply) (w : View) : Type 0
   pub flips : FlipsWhereTold v.plan.spaces.pages before after x (told x r)
   pub full : FullWhereTold v.plan.spaces.pages before x (told x r)
   pub live : LiveWhereTold (last_flip (first_plain v.plan) w.seen) (told x r)
+  pub runs : (task : Task) → told x r ≡ Answers task Done → IsRunning (turned x r)
   pub lands : IsRunning (turned x r) → RegistersLand v.plan.spaces.pages after (turned x r)
   pub alike : IsRunning (turned x r) → (q : Mutator) → slice_get (plain_after_seen w).mutators m ≡ Some q → AreAlike (turned x r).registers q
 

@@ -48,7 +48,7 @@ use Rattle.ael_threads.proofs.Lists.Elements.{each_map, prefix_more, prefix_self
 use Rattle.gc_worker.proofs.History.Steps.{step_tallied}
 use Rattle.ael_threads.proofs.TableRule.Flips.{flips_by}
 use Rattle.gc_worker.proofs.History.Extensions.{Agrees, after_more, calls_more, calls_other, flip_more, legal_more, seen_keeps}
-use Rattle.ael_threads.proofs.WorkerSeats.Shown.{alike_by, ends_with, full_by, lands_by, live_by, mutator_at, no_end, runs_aside, shown_by}
+use Rattle.ael_threads.proofs.WorkerSeats.Shown.{alike_by, ends_with, full_by, lands_by, live_by, looks_run, mutator_at, no_end, runs_aside, shown_by}
 use Rattle.gc_worker.proofs.History.Tallies.{tally_flip, tally_now}
 use Rattle.gc_worker.proofs.History.Tasks.{task_tallied}
 use Rattle.ael_threads.proofs.TableRule.Views.{all_fit, my_fit}
@@ -424,6 +424,7 @@ module _ (plan : Plan) (id : ℕ) (was : Hand) (x : Held) (others : List Hand) (
       flips = flips_by n plan.mutators m count x r follows.fits s.words later t refl (subst (FlipsWhereTold n s.words later y) tells law.flips);
       full = full_by n s.words count x t (subst (FullWhereTold n s.words y) tells law.full);
       live = live_seen (first_plain plan) seen b.log m t (subst (LiveWhereTold o) tells (live_by (heap_of plan s.words workers1) p o readied y (told y r) law.full));
+      runs = λ task is. looks_run n plan.mutators m z fits_z (looks task is);
       lands = lands;
       alike = λ h w its. alike h w (agrees.mutator ∙ its);
     },
