@@ -109,7 +109,7 @@ pub record RunsAsScanner (w : Work) (k : ℕ) (s : Seated) : Type 0 where
   pub hands : s.knows.hands ≡ hand k s.worker [] ∷ []
   pub task : s.worker.task ≡ None
 
--- and has seen that all mutators have left
+-- and is gone, as a scanner is only after it has found that all mutators have left (`saw` of `Moves`)
 pub record HasSeenAllLeave (w : Work) (k : ℕ) (s : Seated) : Type 0 where
   pub scanning : RunsAsScanner w k s
   pub gone : s.worker.stage ≡ Gone

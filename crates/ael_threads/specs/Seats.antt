@@ -1,5 +1,5 @@
 -- What a seat is told by a step, and by what it takes in.
-use Rattle.std.specs.Prelude.{◌≡◌, ◌≢◌, ℕ, zero, suc, ◌+◌, ◌==◌, ◌<◌, ⊤, true, Option, Some, None, List, [], ◌∷◌, ◌++◌, map, take, drop, slice_get, length, if◌then◌else◌}
+use Rattle.std.specs.Prelude.{◌≡◌, ◌≢◌, ℕ, zero, suc, ◌+◌, ◌==◌, ◌<◌, ◌≤◌, ⊤, true, Option, Some, None, List, [], ◌∷◌, ◌++◌, map, take, drop, slice_get, length, if◌then◌else◌}
 use mathlib.Core.List.{IsPrefix}
 use lib.ListN.{get_elem?}
 use Rattle.atomic_table.specs.Table as table
@@ -26,7 +26,8 @@ use Rattle.plain_state.specs.declared.end.End.TheVariants.{HeapFull}
 use Rattle.heap_state.specs.Meaning.Reachable as reachable
 use Rattle.heap_state.specs.Worker.{is_running}
 use Rattle.gc_worker.specs.Laws.Copied.{IsTraced}
-use Rattle.gc_worker.specs.Laws.Step.{FlipsWhereTold, WorkersStand, read, epoch_of}
+use Rattle.gc_worker.specs.Laws.Gone.{ScannersAreLast}
+use Rattle.gc_worker.specs.Laws.Step.{FlipsWhereTold, WorkersStand, held_at, read, epoch_of}
 use Rattle.heap_state.specs.Cycles.Copies.{CopiedIsLive}
 use Rattle.gc_worker.specs.Steps.Stepped.{stepped_by, uncounted}
 use Rattle.gc_worker.specs.declared.calls.did.Did.TheVariants.{Done, Trap}
@@ -140,13 +141,13 @@ pub record StandWith (plan : Plan) (m : ℕ) (x : Held) (seen : List Entry) (wor
   pub stands : WorkersStand (heap_of plan words workers) (after_all (first_plain plan) log) (last_flip (first_plain plan) log)
   pub tallied : IsTallied (heap_of plan words workers) (opening_tally plan) log
 
--- A step of worker m, whose code holds x and takes r. It is the step that x wants, on the words before it, and r is what that step
--- replies; with the words before and after it the workers stand for histories of which the latter has what the step tells besides, and no
--- other worker has changed. The history before it begins with all that the seat had heard of, and has just the calls that the worker
--- made; the seat hears of the one after it. A flip, and nothing else, raises the epoch by one, for the pages that the worker's task asks
--- for. Where the heap is told to be full it was by the words before, and what is told as live was live at the last flip. An effect leaves
--- a mutator that runs and has no end. If the worker is then such a one, each pointer in its registers leads to a record's header in the
--- words after, and two registers hold one word exactly where the plain ones hold one value.
+-- A step of worker m, whose code holds x and takes r. It is the step that x wants, on the words before it, and r is what that step replies;
+-- with the words before and after it the workers stand for histories of which the latter has what the step tells besides, and no other
+-- worker has changed. A scanner that is gone after it found all mutators gone. The history before it begins with all that the seat had
+-- heard of, and has just the calls that the worker made; the seat hears of the one after it. A flip, and nothing else, raises the epoch by
+-- one, for the pages that the worker's task asks for. Where the heap is told to be full it was by the words before, and what is told as
+-- live was live at the last flip. An effect leaves a mutator that runs and has no end. If the worker is then such a one, each pointer in
+-- its registers leads to a record's header in the words after, and two registers hold one word exactly where the plain ones hold one value.
 pub record Moves (v : View) (m : ℕ) (x : Held) (r : Reply) (w : View) : Type 0 where
   pub takes : Takes x r
   pub fits : Fits v.plan.spaces.pages v.plan.mutators m (turned x r)
@@ -170,6 +171,7 @@ pub record Moves (v : View) (m : ℕ) (x : Held) (r : Reply) (w : View) : Type 0
   pub hears : w.heard ≡ stands.log
   pub sees : w.seen ≡ seen_after v.seen stands.log (told x r)
   pub others : (j : ℕ) → j ≢ m → get_elem? stands.workers j ≡ get_elem? found.workers j
+  pub saw : v.plan.mutators ≤ m → (turned x r).stage ≡ Gone → (j : ℕ) → j < v.plan.mutators → (held_at (heap_of v.plan before found.workers) j).stage ≡ Gone
   pub flips : FlipsWhereTold v.plan.spaces.pages before after x (told x r)
   pub full : FullWhereTold v.plan.spaces.pages before x (told x r)
   pub live : LiveWhereTold (last_flip (first_plain v.plan) w.seen) (told x r)
@@ -214,8 +216,8 @@ pub record ActsBy (a : Seated) (r : Reply) (s : Stepped) (b : Seated) : Type 0 w
   pub knows : Moves a.knows (first_number a.knows.hands) a.worker r b.knows
   pub goes_on : KeepsToTask a.worker r
 
--- An act is idle exactly where the worker is gone: a mutator that has left, or a scanner that has read a gate which all mutators have left.
--- No other step brings a worker there (`who_is_gone_saw_why` of gc_worker).
+-- An act is idle exactly where the worker is gone. The act that brought it there was a mutator's exchange of the gate that counts it as
+-- left, or a scanner's look at a gate that counts all mutators as left (`who_is_gone_saw_why`), which then were gone (`saw`).
 abbrev pub Acts : Seated → Stepped → Seated → Type 0
 Acts a Idle b = (b ≡ a) × (a.worker.stage ≡ Gone)
 Acts a s b = (r : Reply) × ActsBy a r s b
@@ -302,19 +304,20 @@ pub record Stays (workers : List Held) (log : List Entry) (h : Hand) : Type 0 wh
   pub state : StandsAs workers h.number h.worker
   pub calls : calls_of h.number log ≡ h.own
 
--- THE CLAUSE OF CLOSE: the calls of all these callers stand in one legal history, each once, of which what each has seen is a
--- beginning; with what their codes hold the words stand for the plain state after it; what was copied in an epoch that is traced is what
--- was live at the last flip of the history; the gate's epoch is the number of its flips; each flip was for a record, and where a call told
--- the heap to be full, what was live at the flip before it, which came since the look that began the call if it is not the last that there
--- can be, filled the space, with records made since then or being made, by the history or else by the tasks that mutators have begun, so
--- a heap that is as large as the history needs is never full; no mutator asked for two flips between two of its calls; if all workers are
--- there the history has no other calls; no worker stands twice, and no page was won twice in one epoch.
+-- THE CLAUSE OF CLOSE: the calls of all these callers stand in one legal history, each once, of which what each has seen is a beginning;
+-- with what their codes hold the words stand for the plain state after it; if a scanner is gone, all mutators are; what was copied in an
+-- epoch that is traced is what was live at the last flip of the history; the gate's epoch is the number of its flips; each flip was for a
+-- record, and where a call told the heap to be full, what was live at the flip before it, which came since the look that began the call if
+-- it is not the last that there can be, filled the space, with records made since then or being made, by the history or else by the tasks
+-- that mutators have begun, so a heap that is as large as the history needs is never full; no mutator asked for two flips between two of
+-- its calls; if all workers are there the history has no other calls; no worker stands twice, and no page was won twice in one epoch.
 pub record Closes (plan : Plan) (all : List Seated) (words : List ℕ) : Type 0 where
   pub log : List Entry
   pub workers : List Held
   pub legal : IsLegal (first_plain plan) log
   pub count : length workers ≡ crew plan
   pub stands : WorkersStand (heap_of plan words workers) (after_all (first_plain plan) log) (last_flip (first_plain plan) log)
+  pub last : ScannersAreLast (heap_of plan words workers)
   pub copied : IsTraced (heap_of plan words workers) → CopiedIsLive (read (heap_of plan words workers)) (last_flip (first_plain plan) log)
   pub epoch : epoch_of plan.spaces.pages words ≡ (tally (opening_tally plan) log).flips
   pub entries : EachEntry (EntryIs plan.spaces.pages (tasks_held workers)) (opening_tally plan) log

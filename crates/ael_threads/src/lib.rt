@@ -16,7 +16,9 @@ mod shared;
 mod view;
 mod words;
 
-pub use gc_worker::{Call, Did, Entry, loads_get_the_last_store, records_keep_their_shape};
+pub use gc_worker::{
+    Call, Did, Entry, loads_get_the_last_store, records_keep_their_shape, who_is_gone_saw_why,
+};
 pub use laws::lone_calls_come_to_the_same;
 pub use mutator::{Mutator, Reg};
 pub use opening::Seats;

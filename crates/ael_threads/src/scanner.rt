@@ -26,7 +26,8 @@ impl Model for Scanner {
 }
 
 impl Scanner {
-    /// Makes one atomic step, and waits for nobody. It is idle exactly where the scanner has seen that all mutators have left.
+    /// Makes one atomic step, and waits for nobody. It is idle exactly where the scanner is gone. The act after which it is gone found all
+    /// mutators gone (`saw`), at a gate that counts them all as left.
     pub fn act(&mut self, h: &Shared) -> Stepped
         requires { self.old.seated.table ≡ h.now.table.shared.table_id }
         ensures table { self.new.seated.table ≡ self.old.seated.table }

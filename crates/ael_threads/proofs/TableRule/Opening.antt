@@ -10,6 +10,7 @@ use Rattle.gc_worker.specs.Laws.Between.{fresh_mutator, fresh_scanner, fresh_wor
 use Rattle.gc_worker.specs.Laws.Cycles.{IsInCall}
 use Rattle.gc_worker.specs.Workers.Held.{Held}
 use Rattle.gc_worker.specs.Steps.Stepped.{uncounted}
+use Rattle.gc_worker.proofs.Between.Last.{scanners_begin_last}
 use Rattle.gc_worker.proofs.Between.Opening.{heaps_open}
 use Rattle.std.specs.Prelude.{if◌then◌else◌}
 use Rattle.ael_threads.specs.declared.view.Hand.{Hand}
@@ -86,6 +87,7 @@ opens_kept plan size few all = record {
   winner = λ c. 0;
   legal = tt;
   stands = heaps_open plan.spaces.pages plan.mutators plan.scanners size few all;
+  last = scanners_begin_last plan.spaces.pages plan.mutators plan.scanners;
   tallied = opening_tallied plan.spaces.pages plan.mutators plan.scanners size few all (first_plain plan);
   begun = λ m x is call. absurd (fresh_looks plan.spaces.pages plan.mutators 0 (crew plan) m x is call);
   flipped = tt;

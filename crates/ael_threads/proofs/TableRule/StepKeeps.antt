@@ -1,5 +1,5 @@
 -- A step keeps the rule.
-use Rattle.std.proofs.Common.{◌≡◌, ◌≢◌, ℕ, ◌<◌, inl, inr, ⊎_elim, Option, Some, None, List, [], ◌∷◌, ◌++◌, length, slice_get, slice_set, set, refl, sym, ◌∙◌, ap, subst, length-set, arith, get_or-set_same}
+use Rattle.std.proofs.Common.{◌≡◌, ◌≢◌, ℕ, ◌<◌, ◌≤◌, inl, inr, ⊎_elim, Option, Some, None, List, [], ◌∷◌, ◌++◌, length, slice_get, slice_set, set, refl, sym, ◌∙◌, ap, subst, length-set, arith, get_or-set_other, get_or-set_same}
 use mathlib.Core.Option.{some}
 use mathlib.Core.List.{IsPrefix}
 use lib.ListN.{get_elem?}
@@ -9,7 +9,7 @@ use Rattle.atom_store.specs.declared.step.Step.{Step}
 use Rattle.atom_store.specs.Step.{words_after, reply_of}
 use Rattle.plain_state.specs.declared.end.End.{End}
 use Rattle.plain_state.specs.State.{Mutator, Plain}
-use Rattle.gc_worker.specs.declared.stage.Stage.TheVariants.{Looks}
+use Rattle.gc_worker.specs.declared.stage.Stage.TheVariants.{Gone, Looks}
 use Rattle.gc_worker.specs.declared.task.Task.{Task}
 use Rattle.gc_worker.specs.Plain.Answer.{ComesTo, IsAnswered, after_told}
 use Rattle.gc_worker.specs.Laws.Between.{Begins, AreAlike, KeepsToTask, IsAsPlain, IsSo, RegistersLand, Readies, ShowsRegisters, with_task}
@@ -18,12 +18,14 @@ use Rattle.gc_worker.specs.Workers.Counted.{CountsApart, counted, count_after}
 use Rattle.gc_worker.specs.Workers.Fits.{Fits}
 use Rattle.gc_worker.specs.Plain.Full.{FullWhereTold}
 use Rattle.gc_worker.specs.Workers.Held.{Held}
+use Rattle.gc_worker.specs.Laws.Gone.{ScannersAreLast}
 use Rattle.gc_worker.specs.Laws.Step.{FlipsWhereTold, Heap, StepKeeps, WorkersStand, at_flip, held_at, nobody}
 use Rattle.gc_worker.specs.Steps.Stepped.{uncounted}
 use Rattle.gc_worker.specs.declared.calls.did.Did.TheVariants.{Done, Trap}
 use Rattle.gc_worker.specs.Steps.Turned.{Told, Silent, Answers, Marks, told, turned, won}
 use Rattle.gc_worker.specs.Steps.Wanted.{wanted}
 use Rattle.gc_worker.proofs.Between.GoingOn.{workers_go_on}
+use Rattle.gc_worker.proofs.Between.Last.{scanners_last_with, scanners_stay_last}
 use Rattle.gc_worker.proofs.Between.Readying.{readying_stands}
 use Rattle.gc_worker.proofs.Between.Standing.{what_stands_is_so}
 use Rattle.gc_worker.proofs.Workers.ApartFromCount.{counted_fit, counts_are_apart}
@@ -178,6 +180,13 @@ module _ (plan : Plan) (id : ℕ) (was : Hand) (x : Held) (others : List Hand) (
   tells : told y r ≡ t
   tells = apart.tells r
 
+  -- who was given a task is at the stage that it was at
+  stage_is : y.stage ≡ (held_at (heap_of plan s.words b.workers) m).stage
+  stage_is = ⊎_elim (λ (same : x ≡ was.worker). ap (λ (w : Held). w.stage) same) (λ given. ap (λ (w : Held). w.stage) given.2) follows.begins ∙ sym (ap (λ (w : Held). w.stage) old_is)
+
+  readied_last : ScannersAreLast (heap_of plan s.words workers1)
+  readied_last = scanners_last_with (heap_of plan s.words b.workers) m y inside stage_is b.last
+
   abbrev count' : ℕ
   count' = count_after count t
 
@@ -204,6 +213,16 @@ module _ (plan : Plan) (id : ℕ) (was : Hand) (x : Held) (others : List Hand) (
   tallied' = subst (λ (u : Told). IsTallied heap' (opening_tally plan) (b.log ++ extra m u)) tells
       (step_tallied (heap_of plan s.words workers1) m y q inside1 (get_or-set_same b.workers m y nobody inside) (apart.wants ∙ want) (opening_tally plan) b.log readied_tallied
       (subst (λ (w : Plain × Plain). WorkersStand (heap_of plan s.words workers1) w.0 w.1) (λ i. (sym (tally_now (opening_tally plan) b.log) i, sym (tally_flip (opening_tally plan) b.log) i)) readied))
+
+  last' : ScannersAreLast heap'
+  last' = scanners_stay_last (heap_of plan s.words workers1) p o m y q readied inside1 (get_or-set_same b.workers m y nobody inside) (apart.wants ∙ want) readied_last
+
+  -- a scanner that has just gone found all mutators gone
+  saw : plan.mutators ≤ m → z.stage ≡ Gone → (j : ℕ) → j < plan.mutators → (held_at (heap_of plan s.words workers1) j).stage ≡ Gone
+  saw scanner gone j mutator =
+      let mine : (held_at heap' m).stage ≡ Gone = ap (λ (w : Held). w.stage) (get_or-set_same workers1 m (turned y r) nobody inside1 ∙ becomes) ∙ gone in
+      let there = let l = length-set workers1 m (turned y r) in let i = inside1 in let below : m < length workers2 = omega (arith, l, i) in below in
+      sym (ap (λ (w : Held). w.stage) (get_or-set_other workers1 m j (turned y r) nobody (λ e. omega (arith, e, scanner, mutator)))) ∙ last' m j there scanner mine mutator
 
   so' : IsSo heap' p'
   so' = what_stands_is_so heap' p' (last_flip (first_plain plan) log') stands'
@@ -346,6 +365,7 @@ module _ (plan : Plan) (id : ℕ) (was : Hand) (x : Held) (others : List Hand) (
     winner = won_after b.winner id (won x r);
     legal = legal';
     stands = stands';
+    last = last';
     tallied = tallied';
     begun = begun';
     flipped = flipped';
@@ -421,6 +441,7 @@ module _ (plan : Plan) (id : ℕ) (was : Hand) (x : Held) (others : List Hand) (
       hears = refl;
       sees = refl;
       others = λ j other. set_else workers1 m j (turned y r) other;
+      saw = saw;
       flips = flips_by n plan.mutators m count x r follows.fits s.words later t refl (subst (FlipsWhereTold n s.words later y) tells law.flips);
       full = full_by n s.words count x t (subst (FullWhereTold n s.words y) tells law.full);
       live = live_seen (first_plain plan) seen b.log m t (subst (LiveWhereTold o) tells (live_by (heap_of plan s.words workers1) p o readied y (told y r) law.full));

@@ -61,6 +61,7 @@ closes plan id t all one words xs g end =
       legal = b.legal;
       count = b.count;
       stands = stands;
+      last = b.last;
       copied = copied_was_live (heap_of plan words b.workers) (after_all (first_plain plan) b.log) (last_flip (first_plain plan) b.log) stands;
       epoch = subst (λ (z : List ℕ). epoch_of plan.spaces.pages z ≡ (tally (opening_tally plan) b.log).flips) end.2 b.tallied.counts.epoch;
       entries = b.tallied.entries;

@@ -61,7 +61,7 @@ impl Mutator {
 }
 
 impl Scanner {
-    /// Makes acts until it has seen that all mutators have left.
+    /// Makes acts until it is gone, as it is only after it has found that all mutators have left.
     pub(crate) fn runs<R: Wait, P: Pace>(&mut self, job: &Job<R, P>)
         requires { self.old.seated.table ≡ job.now.table }
         ensures { (k : ℕ) → RunsAsScanner job.now k self.old.seated → HasSeenAllLeave job.now k self.new.seated }
