@@ -5,19 +5,13 @@
 #![tactic(auto)]
 
 #[cfg(test)]
-mod assembler;
-#[cfg(test)]
 mod asserting;
 #[cfg(test)]
 mod atomic_steps;
 #[cfg(test)]
 mod claiming;
 #[cfg(test)]
-mod concordances;
-#[cfg(test)]
 mod copying;
-#[cfg(test)]
-mod dumps;
 #[cfg(test)]
 mod ends;
 #[cfg(test)]
@@ -32,5 +26,7 @@ mod protection;
 mod scanning;
 #[cfg(test)]
 mod tagged_words;
+#[cfg(test)]
+mod texts;
 #[cfg(test)]
 mod walking;
