@@ -7,7 +7,7 @@ ghost use Rattle.ael_commands.specs.declared.arguments.job.Job.{Job};
 ghost use Rattle.ael_commands.specs.declared.arguments.job.Job.TheVariants.{Run};
 ghost use Rattle.ael_commands.specs.declared.status.Status.TheVariants.{NoMemory, ReadFault};
 ghost use Rattle.ael_commands.specs.Calls.Answer.{IsAnswer, IsAsked, IsCaused, IsDrawnFor};
-ghost use Rattle.ael_commands.specs.Streams.Ends.{drawn_and_filled};
+ghost use Rattle.ael_commands.specs.Streams.Ends.{drawn_by_call};
 ghost use Rattle.ael_commands.specs.Arguments.Jobs.{IsStill, is_waiting, job_task};
 ghost use Rattle.ael_commands.specs.Arguments.Options.{AreInRange};
 ghost use Rattle.ael_commands.specs.Tasks.ProgramTask.{IsTextIn, IsUnfit};
@@ -39,8 +39,8 @@ pub fn answer<R: Threads + Wait + Sync, S: Source>(
     src: &mut S,
 ) -> Answer
     requires { ForOk asked NumbersAreInRange }
-    ensures answer { (words : Option Job) → IsAsked words asked → IsAnswer words (drawn_and_filled S.Source src.old src.new) result.output.items result.status }
-    ensures drawn { (words : Option Job) → IsAsked words asked → IsDrawnFor words (drawn_and_filled S.Source src.old src.new) }
+    ensures answer { (words : Option Job) → IsAsked words asked → IsAnswer words (drawn_by_call S.Source src.old src.new) result.output.items result.status }
+    ensures drawn { (words : Option Job) → IsAsked words asked → IsDrawnFor words (drawn_by_call S.Source src.old src.new) }
     ensures counted { result.status ≢ ReadFault → S.faults src.new ≡ S.faults src.old }
 {
     match asked {
@@ -56,8 +56,8 @@ pub fn answer<R: Threads + Wait + Sync, S: Source>(
 pub fn answer_still<S: Source>(alloc: Global, asked: Result<Job, WordsError>, src: &mut S) -> Answer
     requires range { ForOk asked NumbersAreInRange }
     requires still { ForOk asked IsStill }
-    ensures answer { (words : Option Job) → IsAsked words asked → IsAnswer words (drawn_and_filled S.Source src.old src.new) result.output.items result.status }
-    ensures drawn { (words : Option Job) → IsAsked words asked → IsDrawnFor words (drawn_and_filled S.Source src.old src.new) }
+    ensures answer { (words : Option Job) → IsAsked words asked → IsAnswer words (drawn_by_call S.Source src.old src.new) result.output.items result.status }
+    ensures drawn { (words : Option Job) → IsAsked words asked → IsDrawnFor words (drawn_by_call S.Source src.old src.new) }
     ensures counted { result.status ≢ ReadFault → S.faults src.new ≡ S.faults src.old }
     ensures wanting { (words : Option Job) → IsAsked words asked → is_waiting words ≡ true → (result.output.items ≡ []) × (result.status ≡ NoMemory) × (src.new ≡ src.old) }
 {
@@ -80,9 +80,9 @@ fn wait_for<R: Threads + Wait + Sync, S: Source>(
     src: &mut S,
 ) -> Result<Answer, Status>
     requires { AreInRange options }
-    ensures ok { IfOk result (λ answer. IsCaused (Run options) (drawn_and_filled S.Source src.old src.new) answer.output.items answer.status) }
-    ensures err { IfErr result (IsCaused (Run options) (drawn_and_filled S.Source src.old src.new) []) }
-    ensures drawn { IsDrawnFor (Some (Run options)) (drawn_and_filled S.Source src.old src.new) }
+    ensures ok { IfOk result (λ answer. IsCaused (Run options) (drawn_by_call S.Source src.old src.new) answer.output.items answer.status) }
+    ensures err { IfErr result (IsCaused (Run options) (drawn_by_call S.Source src.old src.new) []) }
+    ensures drawn { IsDrawnFor (Some (Run options)) (drawn_by_call S.Source src.old src.new) }
     ensures counted { result ≢ Err ReadFault → S.faults src.new ≡ S.faults src.old }
 {
     or_no_memory(run(rt, alloc, &read_program(alloc, src)?, options))
@@ -92,9 +92,9 @@ fn wait_for<R: Threads + Wait + Sync, S: Source>(
 fn work<S: Source>(alloc: Global, job: Job, src: &mut S) -> Result<Answer, Status>
     requires range { NumbersAreInRange job }
     requires still { IsStill job }
-    ensures ok { IfOk result (λ answer. IsCaused job (drawn_and_filled S.Source src.old src.new) answer.output.items answer.status) }
-    ensures err { IfErr result (IsCaused job (drawn_and_filled S.Source src.old src.new) []) }
-    ensures drawn { IsDrawnFor (Some job) (drawn_and_filled S.Source src.old src.new) }
+    ensures ok { IfOk result (λ answer. IsCaused job (drawn_by_call S.Source src.old src.new) answer.output.items answer.status) }
+    ensures err { IfErr result (IsCaused job (drawn_by_call S.Source src.old src.new) []) }
+    ensures drawn { IsDrawnFor (Some job) (drawn_by_call S.Source src.old src.new) }
     ensures counted { result ≢ Err ReadFault → S.faults src.new ≡ S.faults src.old }
 {
     match job {
@@ -128,9 +128,9 @@ fn or_no_memory(made: Result<Answer, plain_heap::NoMemory>) -> Result<Answer, St
 
 /// The program whose text is the input.
 fn read_program<S: Source>(alloc: Global, src: &mut S) -> Result<Program, Status>
-    ensures ok { IfOk result (λ program. IsTextIn (drawn_and_filled S.Source src.old src.new) program.code program.schedule) }
-    ensures err { IfErr result (IsUnfit (drawn_and_filled S.Source src.old src.new)) }
-    ensures drawn { IsDrawn Everything (drawn_and_filled S.Source src.old src.new) }
+    ensures ok { IfOk result (λ program. IsTextIn (drawn_by_call S.Source src.old src.new) program.code program.schedule) }
+    ensures err { IfErr result (IsUnfit (drawn_by_call S.Source src.old src.new)) }
+    ensures drawn { IsDrawn Everything (drawn_by_call S.Source src.old src.new) }
     ensures counted { result ≢ Err ReadFault → S.faults src.new ≡ S.faults src.old }
 {
     let text = read_all(alloc, src)?;

@@ -3,7 +3,7 @@ use Rattle.std.specs.Prelude.{ℕ, List, String, map, string_bytes}
 use Rattle.std.specs.declared.alloc.Global.{Global}
 use Rattle.ael_commands.specs.declared.streams.sink.Sink as sinks
 use Rattle.ael_commands.specs.declared.streams.source.Source as sources
-use Rattle.ael_commands.specs.Streams.Ends.{Drawn, Filled, drawn_and_filled, filled}
+use Rattle.ael_commands.specs.Streams.Ends.{Drawn, Filled, drawn_by_call, filled}
 
 pub record Call : Type 0 where
   pub words : List (List ℕ)
@@ -17,4 +17,4 @@ call_with words source out err code = record { words = words; source = source; o
 
 -- the call with these words, by its ends before and after it
 abbrev pub call_of : {S O E : Type 0} → sources.Ghosts S → sinks.Ghosts O → sinks.Ghosts E → List (String Global) → S → S → O → O → E → E → ℕ → Call
-call_of s o e words src src' out out' err err' code = call_with (map string_bytes words) (drawn_and_filled s src src') (filled o out out') (filled e err err') code
+call_of s o e words src src' out out' err err' code = call_with (map string_bytes words) (drawn_by_call s src src') (filled o out out') (filled e err err') code

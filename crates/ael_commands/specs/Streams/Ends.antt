@@ -18,10 +18,11 @@ pub record Filled : Type 0 where
   pub before : ℕ
   pub after : ℕ
 
--- what a call draws from a source, and what it fills into a sink, by the values before and after it
-abbrev pub drawn_and_filled : {S : Type 0} → sources.Ghosts S → S → S → Drawn
-drawn_and_filled g old new = record { left = g.left old; rest = g.left new; before = g.faults old; after = g.faults new }
+-- what a call draws from a source, by its values before and after
+abbrev pub drawn_by_call : {S : Type 0} → sources.Ghosts S → S → S → Drawn
+drawn_by_call g old new = record { left = g.left old; rest = g.left new; before = g.faults old; after = g.faults new }
 
+-- and what it fills into a sink
 abbrev pub filled : {K : Type 0} → sinks.Ghosts K → K → K → Filled
 filled g old new = record { held = g.held old; holds = g.held new; before = g.faults old; after = g.faults new }
 

@@ -1,7 +1,7 @@
 ghost use Rattle.std.specs.Prelude.{◌≤◌, ◌<◌, ◌^◌, length};
 
 use crate::asserting::assert_same;
-use concordance::{Letters, WordMap, first_too_long, lower_cased, parts, told};
+use concordance_text::{Letters, MOST_PARTS, WordMap, first_too_long, lower_cased, parts, told};
 use std::alloc::{AllocError, Global};
 use std::collections::BTreeMap;
 use std::process::Abort;
@@ -40,7 +40,7 @@ fn words_are_lower_cased(rt: HostRuntime) {
 /// Of each part of a text the number of its first line, and how many bytes it has.
 fn shape(alloc: Global, text: &[u8], count: usize) -> Result<Vec<(u32, usize)>, AllocError>
     requires some { 0 < count }
-    requires few { count ≤ 16 }
+    requires few { count ≤ MOST_PARTS }
     requires short { length text.now < 2 ^ 31 }
 {
     let mut shape = Vec::new(alloc);

@@ -1,7 +1,7 @@
 use Rattle.std.proofs.Common.{map, refl}
 use Rattle.std.specs.Prelude.{string_bytes}
 use Rattle.ael_commands.specs.Calls.Call.{call_of}
-use Rattle.ael_commands.specs.Streams.Ends.{drawn_and_filled}
+use Rattle.ael_commands.specs.Streams.Ends.{drawn_by_call}
 use Rattle.ael_commands.specs.Calls.Headline.{HeadlineHolds}
 use Rattle.ael_commands.proofs.top_call.ael.Given as given
 use Rattle.ael_commands.proofs.top_call.ael.Goals as goal
@@ -11,7 +11,7 @@ holds : (g : given.Over) (c : goal.Joined-answer g)
     → HeadlineHolds (call_of g.S.Source g.O.Sink g.E.Sink c.args.words.now c.args.src.now c.answer-answer.new.src c.args.out.now c.finish.new.out c.args.err.now c.finish.new.err c.finish.result)
 holds g c =
     let nothing = c.in-None.ensures.nothing_done refl in
-    rw (nothing.0, nothing.1, nothing.2) at (c.finish.ensures.holds (map string_bytes c.args.words.now) (drawn_and_filled g.S.Source c.ael_still.new.src c.answer-answer.new.src) (record {
+    rw (nothing.0, nothing.1, nothing.2) at (c.finish.ensures.holds (map string_bytes c.args.words.now) (drawn_by_call g.S.Source c.ael_still.new.src c.answer-answer.new.src) (record {
       drawn = c.answer-answer.ensures.drawn _ c.read_words.ensures.asked;
       steady = c.answer-answer.ensures.counted;
       answer = c.answer-answer.ensures.answer _ c.read_words.ensures.asked;

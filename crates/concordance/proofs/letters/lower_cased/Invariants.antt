@@ -1,7 +1,0 @@
-use Rattle.std.proofs.Common.{◌≡◌, take}
-use Rattle.concordance.specs.Words.{lower_cased}
-use Rattle.concordance.proofs.letters.lower_cased.Given as goal
-
--- the letters so far
-abbrev pub invariant-loop-letter : goal.invariant-loop-letter
-invariant-loop-letter l = l.letters.items ≡ lower_cased (take l.letter-index l.word)
