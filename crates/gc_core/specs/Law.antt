@@ -56,7 +56,7 @@ plain_after s p told = state_after s.code s.turns p (option_to_list (mark_of tol
 abbrev pub story_by : CoreState → Story → Stepped → Story
 story_by s story told = story_after s.code s.turns story (option_to_list (mark_of told))
 
--- An end for want of room comes where the next step of mutator m asks for so many pages, and the worker finds no room for them.
+-- An end for want of room comes only where the next step of mutator m asks for so many pages, and the worker finds no room for them.
 abbrev pub IsForWant : CoreState → Plain → ℕ → End → Type 0
 IsForWant s p m (ends.HeapFull asked room live) = (asked_by s.code s.turns p m ≡ Some asked) × FindsNoRoom s.heap.pages s.heap.words (ready s m) asked room live
 IsForWant s p m ends.Halt = ⊤

@@ -14,21 +14,23 @@ use Rattle.gc_core.specs.Cycles.{FillsTheSpace, story_of, claims_of}
 use Rattle.gc_core.specs.Event.{event_of}
 use Rattle.gc_core.specs.Run.{InEveryRun, run_of}
 
--- where the heap is full, what was claimed since the last flip are pages of records made since then, or being made by the others
+-- where the heap is full, what was claimed since the last flip is no more than the pages of records made since then and of those that the
+-- others make next
 abbrev pub ClaimsAreForRecords : Type 0
 ClaimsAreForRecords = InEveryRun (λ code config schedule n. (w m asked room live : ℕ)
     → (event_of (run_of code config schedule n).last w).told ≡ Ended m (ends.HeapFull asked room live)
     → claims_of code config schedule n
     ≤ PAGE_WORDS * (made_since code config.turns (run_of code config schedule n).order + being_made code config.turns (story_of code config schedule n).now m))
 
--- the words claimed since the last flip are those of the pages of records made since then, or are set aside for records that workers make
+-- the words claimed since the last flip are no more than those of the pages of records made since then and those set aside for records
+-- that workers make
 abbrev pub ClaimsAreMadeOrSetAside : Type 0
 ClaimsAreMadeOrSetAside = InEveryRun (λ code config schedule n.
     claims_of code config schedule n ≤ PAGE_WORDS * made_since code config.turns (run_of code config schedule n).order + aside_in (run_of code config schedule n).last.heap)
 
 -- In a run of n steps, behind these marks of its order, mutator m tells the heap to be full: by the event that follows so many steps. The
 -- words that the run has claimed by then, since the last flip, fill the space with what was live at that flip and the room that is left.
--- They are those of the pages of records made since then, or are set aside for records that workers make.
+-- They are no more than those of the pages of records made since then and those set aside for records that workers make.
 pub record IsFilledByClaims (code : List (List Instr)) (config : Config) (schedule : ℕ → ℕ) (n : ℕ) (front : List Mark) (m asked room live : ℕ) : Type 0 where
   pub steps : ℕ
   pub within : steps < n
@@ -45,7 +47,8 @@ AreFilledByClaims code config schedule n order = (front rest : List Mark) (m ask
 abbrev pub OrdersAreFilledByClaims : Type 0
 OrdersAreFilledByClaims = InEveryRun (λ code config schedule n. AreFilledByClaims code config schedule n (run_of code config schedule n).order)
 
--- at a full heap of an order the space is filled by what was live at the last flip and by records made since
+-- at a full heap of an order, what was live at the last flip and the room leave no more of the space than the pages of records made since
+-- and of those that the others make next
 abbrev pub OrdersFillTheSpace : Type 0
 OrdersFillTheSpace = InEveryRun (λ code config schedule n.
     EachFullIs config.pages code config.turns (first_story code) 0 (run_of code config schedule n).order)

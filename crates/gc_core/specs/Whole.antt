@@ -31,7 +31,7 @@ IsFull s w = (asked room live : ℕ) → (event_of s w).told ≡ Ended w (ends.H
 
 -- So many events by a schedule, from a core that represents p: the last core is lawful, and represents the plain machine that executed the
 -- run's order from p on. So does what a dump tells of it; what is seen of it is what is seen of that machine, each mark of the order
--- acts, and heap full is told where there is no room.
+-- acts, and heap full is told only where there is no room.
 pub record IsPlainRun (schedule : ℕ → ℕ) (at n : ℕ) (s : CoreState) (p : Plain) : Type 0 where
   pub lawful : IsLawful (run_from schedule at n s).last
   pub represents : Represents (read (run_from schedule at n s).last.heap) (state_after s.code s.turns p (run_from schedule at n s).order)

@@ -58,8 +58,8 @@ pub fn cycles_keep_what_is_live()
 {}
 
 /// Where a run tells that the heap is full, what was live at the last flip, the words claimed since then and the room that is left are all
-/// words of the space; and what was claimed are pages of records made since then, or of such that other mutators are making. Each mark of
-/// the order that tells the heap to be full comes so, from a step of the run before which just these words were claimed.
+/// words of the space; and what was claimed is no more than the pages of records made since then and of those that the other mutators
+/// make next. Each mark of the order that tells the heap to be full comes so, from a step of the run before which just these words were claimed.
 pub fn full_heaps_are_filled()
     ensures filled { FullHeapsAreFilled }
     ensures for_records { ClaimsAreForRecords }
@@ -79,8 +79,9 @@ pub fn instructions_flip_once()
     ensures lone { LoneFullsFollowTheirFlips }
 {}
 
-/// A heap is never full in which, wherever a flip came since a mutator's last step, the mutator's next record fits beside what was live at
-/// that flip and all records made since then or being made. With one mutator it is enough that the record fits beside what is live.
+/// A heap is never full in which, wherever a flip came since a mutator's last step or the epoch is the last, the mutator's next record fits
+/// beside what was live at the last flip, all records made since then, and those that the others make next. With one mutator, before the
+/// last epoch, it is enough that the record fits beside what is live.
 pub fn large_heaps_are_never_full()
     ensures large { LargeHeapsAreNeverFull }
     ensures lone { LoneHeapsAreNeverFull }

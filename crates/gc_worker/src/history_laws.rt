@@ -2,8 +2,7 @@
 
 ghost use Rattle.gc_worker.specs.History.Loads.{LoadsGetTheLastStore, RecordsKeepTheirShape, WordsAreStored, WordsBeginAsZero};
 
-/// The calls of a record form one history, whichever copy of it served them: in a legal history, a load of a word of a record that had its
-/// effect got what the last store in that word before it wrote, of whatever mutator, or what stood there before the history. In a new
+/// The calls of a record form one history: in a legal history, a load of a word of a record that had its effect got what the last store in that word before it wrote, of whatever mutator, or what stood there before the history. In a new
 /// heap that is the number 0. And so it is of each word at any time, whether loaded or not.
 pub fn loads_get_the_last_store()
     ensures loads { LoadsGetTheLastStore }

@@ -118,7 +118,8 @@ pub fn what_was_copied_was_live()
     ensures full { FullTellsLive }
 {}
 
-/// A mutator that found its epoch traced tells that the heap is full where the words have no room for the pages that its task asks for.
+/// A mutator that found its epoch traced tells that the heap is full where the words have no room for the pages that its task asks for,
+/// and no flip can help.
 pub fn full_is_told()
     ensures { FullIsTold }
 {}
@@ -137,7 +138,7 @@ pub fn pages_are_opened_by_claims()
     ensures copied { CopiedPagesAreBelowLow }
 {}
 
-/// The exchange of a worker that slept past a flip is lost, as its round's epoch is past: that of the word of the page that it claims, and
+/// The exchange of a round that slept past a flip is lost, as the round's epoch is past: that of the word of the page that it claims, and
 /// that of TRACED. No word changes, and the round ends with nothing done. So a page is won in the gate's epoch alone.
 pub fn exchanges_of_past_epochs_are_lost()
     ensures pages { PastClaimsAreLost }
@@ -168,7 +169,8 @@ pub fn claims_are_for_records()
     ensures records { SetAsideIsForRecords }
 {}
 
-/// A mutator that asks for a flip has seen none since it began its instruction, with which it goes on until it answers.
+/// If a mutator that asks for a flip has seen none since it began its instruction, so it is after each step; and it goes on with that
+/// instruction until it answers.
 pub fn flips_are_first()
     ensures first { FlipsAreFirst }
     ensures stay { FlipsStayFirst }

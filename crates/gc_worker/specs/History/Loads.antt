@@ -40,7 +40,7 @@ last_stored p (Exchanged by asked ∷ es) i x first = last_stored p es i x first
 abbrev pub WordsAreStored : Type 0
 WordsAreStored = (p : Plain) (log : List Entry) (i : Identity) (x : ℕ) → IsLegal p log → record_word (after_all p log).heap i x ≡ last_stored p log i x (record_word p.heap i x)
 
--- before the first call of a new heap each word is the number 0, as it is in each record that comes
+-- before the first call of a new heap, which has no records, each word counts as the number 0
 abbrev pub WordsBeginAsZero : Type 0
 WordsBeginAsZero = (mutators : ℕ) (i : Identity) (x : ℕ) → record_word (opening_plain mutators).heap i x ≡ Number 0
 

@@ -34,7 +34,7 @@ abbrev pub flips_in : ℕ → List Mark → ℕ
 flips_in flips [] = flips
 flips_in flips (mark ∷ marks) = flips_in (flips_by flips mark) marks
 
--- a mutator finds the heap full where a flip came since its last step, or as many as there can be
+-- a mutator finds the heap full only where a flip came since its last step, or as many as there can be
 abbrev pub FullMayCome : (ℕ → Bool) → ℕ → Mark → Type 0
 FullMayCome since flips (Step j) = ⊤
 FullMayCome since flips (Flip asked) = ⊤

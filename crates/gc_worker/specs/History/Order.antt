@@ -38,7 +38,7 @@ AreFetched code turns m p (Made c ∷ es) =
     (c.by ≡ m → (q : Mutator) → slice_get p.mutators m ≡ Some q → c.task ≡ task_of (fetch code turns m q)) × AreFetched code turns m (after_call p c) es
 AreFetched code turns m p (Exchanged by asked ∷ es) = AreFetched code turns m p es
 
--- where the heap is told to be full there are fewer words than are asked for
+-- where the heap is told to be full, the room that is told is less than what is asked for
 abbrev pub IsShortEnd : End → Type 0
 IsShortEnd (HeapFull asked room live) = room < PAGE_WORDS * asked
 IsShortEnd end = ⊤

@@ -111,8 +111,8 @@ pub record IsAskedFor (tasks : Tasks) (t : Tally) (by asked : ℕ) (es : List En
   pub makes : asked_by_task t.now by (next_task by es (tasks by)) ≡ Some asked
 
 -- Mutator m finds too few words for the record that its task makes, in an epoch whose flip came since its last call, or in the last one.
--- What is told as live was live at the last flip. With the room that is left and the words claimed since then it fills the space; and
--- those were claimed for records made since then, of which a single mutator made none, or that the other mutators make next.
+-- What is told as live was live at the last flip. What it and the room leave of the space is no more than have the pages of records made
+-- since then or that the other mutators make next. A single mutator with a flip since its last call made none since then.
 pub record IsFilled (pages : ℕ) (tasks : Tasks) (t : Tally) (m : ℕ) (task : Task) (asked room live : ℕ) (es : List Entry) : Type 0 where
   pub asked_is : asked_by_task t.now m (Some task) ≡ Some asked
   pub short : room < PAGE_WORDS * asked
@@ -142,8 +142,8 @@ EntryIs pages tasks t (Exchanged by asked) es = IsAskedFor tasks t by asked es
 abbrev pub aside_in : Heap → ℕ
 aside_in h = sum_below (length h.workers) (λ k. set_aside (held_at h k))
 
--- What was claimed since the last flip is all that LOW has fallen, and is for records made since then or for which pages are set aside.
--- Where all mutators have a flip since their last call none was made. The gate's epoch is the number of flips; no instruction began in a
+-- What was claimed since the last flip is all that LOW has fallen, and no more than the pages of records made since then and those set
+-- aside. Where all mutators have a flip since their last call none was made. The gate's epoch is the number of flips; no instruction began in a
 -- later one, and a mutator whose instruction began in an earlier one has a flip since its last call. Who asks for a flip has seen none
 -- since it began its instruction; who has asked for one is still in its call, and has seen one.
 pub record FitsTally (h : Heap) (t : Tally) : Type 0 where

@@ -146,7 +146,7 @@ WorkersWant = (n mutators k : ℕ) (x : Held) → Fits n mutators k x → (wante
 
 -- ---- what is so at any time
 
--- Registers show those of the plain mutator: a number stands exactly where that number does, and a pointer exactly where a reference does.
+-- Registers show those of the plain mutator: where a number stands that one has the number, and where a pointer stands it has a reference.
 pub record ShowsRegisters (registers : List ℕ) (q : Mutator) : Type 0 where
   pub numbers : (j n : ℕ) → j < REGISTERS → decode (slice_index registers j) ≡ NumberWord n → slice_get q.registers j ≡ Some (Number n)
   pub pointers : (j a : ℕ) → j < REGISTERS → decode (slice_index registers j) ≡ PointerWord a → (i : Identity) × (slice_get q.registers j ≡ Some (Reference i))
@@ -162,7 +162,7 @@ abbrev pub AreAlike : List ℕ → Mutator → Type 0
 AreAlike registers q = (j i : ℕ) → j < REGISTERS → i < REGISTERS → (slice_index registers j ≡ slice_index registers i) ↔ (slice_get q.registers j ≡ slice_get q.registers i)
 
 -- A mutator is as its plain one, and where it has no end its registers show that one's. Where it runs its epoch is the gate's, and then
--- they lead to where the records are.
+-- they lead to headers of records.
 pub record IsAsPlain (h : Heap) (p : Plain) (k : ℕ) (x : Held) (q : Mutator) : Type 0 where
   pub account : Accounts p.heap k x.account q
   pub shows : q.end ≡ None → ShowsRegisters x.registers q

@@ -20,7 +20,7 @@ use Rattle.gc_worker.specs.Steps.Wanted.{wanted}
 abbrev pub epoch_of_heap : Heap → ℕ
 epoch_of_heap h = epoch_of h.pages h.words
 
--- a page of the gate's epoch into which records were copied: it begins below FRONT
+-- a page for copies: one of the space of the gate's epoch that begins below FRONT
 pub record IsCopiedPage (h : Heap) (page : ℕ) : Type 0 where
   pub area : AreaWord
   pub area_is : decode_area (word_in h.pages h.words (Area (to_space (epoch_of_heap h)))) ≡ Some area
@@ -42,7 +42,7 @@ FlipsAreOfTraced = (h : Heap) (p o : Plain) (k : ℕ) (x : Held) (reply : Reply)
 
 -- ---- pages that are claimed
 
--- a page of the gate's epoch that begins below LOW: none of the pages of new records
+-- a page of the space of the gate's epoch that begins below LOW
 pub record IsBelowLow (n : ℕ) (words : List ℕ) (page : ℕ) : Type 0 where
   pub area : AreaWord
   pub area_is : decode_area (word_in n words (Area (to_space (epoch_of n words)))) ≡ Some area

@@ -84,7 +84,7 @@ set_aside_at stage = 0
 abbrev pub set_aside : Held → ℕ
 set_aside x = set_aside_at x.stage
 
--- What is claimed is set aside, until the record stands for which it was claimed; who ends has nothing set aside.
+-- What is claimed is set aside, until the record stands for which it was claimed; who ends has nothing set aside. Of a flip nothing is said.
 abbrev pub SetsAside : (was : Held) → (claims : ℕ) → (now : Held) → Told → Type 0
 SetsAside was claims now Silent = claims + set_aside was ≤ set_aside now
 SetsAside was claims now (Answers task Done) = claims ≡ 0
@@ -126,9 +126,11 @@ IsFirstAt x stage = ⊤
 abbrev pub IsFirst : Held → Type 0
 IsFirst x = IsFirstAt x x.stage
 
+-- a step keeps that
 abbrev pub FlipsStayFirst : Type 0
 FlipsStayFirst = (x : Held) (reply : Reply) → IsFirst x → IsFirst (turned x reply)
 
+-- and so it is of one that makes the flip
 abbrev pub FlipsAreFirst : Type 0
 FlipsAreFirst = (x : Held) (reply : Reply) (asked : ℕ) → IsFirst x → told x reply ≡ Marks asked → x.epoch ≤ x.begun
 

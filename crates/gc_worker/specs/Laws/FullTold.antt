@@ -1,4 +1,4 @@
--- That a mutator tells the heap to be full where it is.
+-- That a mutator tells the heap to be full where there is no room and no flip can help.
 use Rattle.std.specs.Prelude.{◌≡◌, ℕ, true, List, Some}
 use Rattle.plain_state.specs.declared.end.End.TheVariants.{HeapFull}
 use Rattle.atom_store.specs.declared.reply.Reply.TheVariants.{Value}

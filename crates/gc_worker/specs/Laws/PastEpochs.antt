@@ -1,4 +1,4 @@
--- A worker that slept past a flip wins no exchange: its claim of a page and its exchange of TRACED are lost.
+-- A round that slept past a flip wins nothing: its claim of a page and its exchange of TRACED are lost.
 use Rattle.std.specs.Prelude.{◌≡◌, ℕ, ◌<◌, List, length, Some, None}
 use Rattle.plain_state.specs.State.{Plain}
 use Rattle.atom_store.specs.declared.reply.Reply.TheVariants.{Lost}

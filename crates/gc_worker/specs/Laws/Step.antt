@@ -79,7 +79,7 @@ epoch_of n words = epoch_said 0 (word_in n words Gate)
 abbrev pub age : ℕ → List ℕ → (page : ℕ) → ℕ
 age n words page = age_of (page_in (word_in n words (Page page)))
 
--- somebody won the page in this epoch, or it is too late to
+-- the page's word is of this epoch or a later one, so nobody can win the page in it any more
 pub record IsOut (n : ℕ) (words : List ℕ) (w : PageWon) : Type 0 where
   pub page : w.page ≤ 2 * n
   pub epoch : w.epoch < age n words w.page

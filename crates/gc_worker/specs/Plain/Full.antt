@@ -15,8 +15,8 @@ use Rattle.gc_worker.specs.declared.calls.did.Did.{Did}
 use Rattle.gc_worker.specs.declared.calls.did.Did.TheVariants.{Done, Trap}
 use Rattle.gc_worker.specs.Steps.Turned.{Told, Silent, Answers, Marks}
 
--- In its epoch, which is the gate's and is traced, the words between FRONT and LOW are too few for the pages that it asks for, and those
--- below FRONT are the copied ones; and no flip can help: one came since it began its instruction, or the epoch is the last.
+-- In its epoch, which is the gate's and is traced, the words between FRONT and LOW are too few for the pages that it asks for, and as many
+-- as are told to be live are below FRONT; and no flip can help: one came since it began its instruction, or the epoch is the last.
 pub record FindsNoRoom (n : ℕ) (words : List ℕ) (x : Held) (asked room live : ℕ) : Type 0 where
   pub gate : GateWord
   pub gate_is : decode_gate (word_in n words Gate) ≡ Some gate

@@ -18,7 +18,7 @@ pub use Rattle.gc_worker.specs.declared.steps.allocating.Making.{Making}
 abbrev pub by_address : ℕ → Identity
 by_address address = record { mutator = 0; serial = address }
 
--- the value that a word is to a worker; what is no value's word is none
+-- the value that a word is to a worker; what is no value's word is the number 0
 abbrev pub seen_as : Decoded → Value
 seen_as (NumberWord n) = Number n
 seen_as (PointerWord address) = Reference (by_address address)
