@@ -3,7 +3,7 @@
 ghost use Rattle.std.specs.Prelude.{◌≡◌, ◌+◌, ◌-◌, ◌≤◌, ◌<◌, ◌↔◌, [], IfOk, IsErrOf, IsTrue, not};
 ghost use Rattle.heap_laws.specs.Opening.{opening_entries};
 ghost use Rattle.heap_state.specs.Memory.Entries.{written};
-ghost use Rattle.space_map.specs.declared.spaces.TheConstants.{MOST_SCANNERS};
+ghost use Rattle.space_map.specs.declared.spaces.TheConstants.{MOST_MUTATORS, MOST_SCANNERS};
 ghost use Rattle.space_map.specs.Spaces.{is_size};
 ghost use Rattle.space_map.specs.Table.{table_length};
 ghost use Rattle.ael_threads.specs.Histories.{first_held, new_hands};
@@ -52,7 +52,7 @@ impl Shared {
     /// A heap in which nobody has made a step, and a seat for each of its workers: 1 to 16 mutators, and at most 8 scanners. `BadPages`
     /// comes exactly for fewer than 4 pages or more than 2048, else `NoMemory` where memory is wanting. The words and the room for the most numbers of each mutator are taken here; no later call takes memory.
     pub fn open(alloc: Global, mutators: u8, config: &Config) -> Result<(Shared, Seats), OpenError>
-        requires mutators { (1 ≤ mutators) × (mutators ≤ 16) }
+        requires mutators { (1 ≤ mutators) × (mutators ≤ MOST_MUTATORS) }
         requires scanners { config.now.scanners ≤ MOST_SCANNERS }
         ensures key { IfOk result (λ o. o.0.table.shared.key ≡ plan_of mutators config.now) }
         ensures words { IfOk result (λ o. o.0.table.shared.table_id.words ≡ table_length config.now.pages) }
@@ -76,7 +76,7 @@ impl Shared {
 
     /// Gives each worker a seat of its own.
     fn deal(&self, alloc: Global, mut seat: Seat<u8, View>, plan: &Plan) -> Result<Seats, OpenError>
-        requires few { (plan.now.mutators ≤ 16) × (crew plan.now ≤ 24) }
+        requires few { (plan.now.mutators ≤ MOST_MUTATORS) × (crew plan.now ≤ MOST_MUTATORS + MOST_SCANNERS) }
         requires live { self.now.table.shared.table_id.words ≡ table_length plan.now.spaces.pages }
         requires table { seat.table_id ≡ self.now.table.shared.table_id }
         requires seat { seat.me ≡ (first_view plan.now, []) }
@@ -104,7 +104,7 @@ impl Shared {
 
     /// Gives the next worker a seat of its own.
     fn seated(&self, seat: &mut Seat<u8, View>, worker: Worker, plan: &Plan, k: u8) -> Caller
-        requires few { (plan.now.mutators ≤ 16) × (crew plan.now ≤ 24) }
+        requires few { (plan.now.mutators ≤ MOST_MUTATORS) × (crew plan.now ≤ MOST_MUTATORS + MOST_SCANNERS) }
         requires live { self.now.table.shared.table_id.words ≡ table_length plan.now.spaces.pages }
         requires below { k < crew plan.now }
         requires worker { worker ≡ first_held plan.now k }

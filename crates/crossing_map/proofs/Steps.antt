@@ -3,7 +3,7 @@ use Rattle.std.proofs.Common.{◌≡◌, ◌≢◌, ℕ, ◌+◌, ◌-◌, ◌*�
 use Rattle.std.proofs.lemmas.Bool.{lt-ltb, ne_eqb, cases_Bool}
 use Rattle.heap_words.specs.Decoded.{Decoded, NumberWord, PointerWord, HeaderWord, ForwardWord, BusyWord, Malformed, decode}
 use Rattle.space_map.specs.Table.{HeapWord, Page, Cross, place_of}
-use Rattle.heap_state.specs.Memory.Table.{page_in, table_of}
+use Rattle.heap_state.specs.Memory.Table.{page_word_in, table_of}
 use Rattle.heap_state.specs.Memory.Walk.{Met, Nothing, Reserved, meets, met_word, next_place}
 use Rattle.heap_state.proofs.Table.Places.{word_in-row}
 use Rattle.crossing_map.specs.declared.walked.Walked.{Walked as Next}
@@ -20,9 +20,9 @@ unfolding table_of
 heap-word n words x place inside is = word_in-row n words (HeapWord x) inside ∙ sym (ap (slice_index words) is)
 
 pub page-word : (n : ℕ) (words : List ℕ) (p place : ℕ) → p ≤ 2 * n → place ≡ place_of n (Page p)
-    → (table_of n words).page p ≡ page_in (slice_index words place)
+    → (table_of n words).page p ≡ page_word_in (slice_index words place)
 unfolding table_of
-page-word n words p place inside is = ap page_in (word_in-row n words (Page p) inside ∙ sym (ap (slice_index words) is))
+page-word n words p place inside is = ap page_word_in (word_in-row n words (Page p) inside ∙ sym (ap (slice_index words) is))
 
 pub cross-word : (n : ℕ) (words : List ℕ) (p place : ℕ) → p < 2 * n → place ≡ place_of n (Cross p)
     → (table_of n words).cross p ≡ slice_index words place

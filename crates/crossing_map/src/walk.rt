@@ -2,7 +2,7 @@ ghost use Rattle.std.specs.Prelude.{◌≡◌, ◌+◌, ◌-◌, ◌*◌, ◌/�
 ghost use Rattle.space_map.specs.Table.{table_length};
 ghost use Rattle.space_map.specs.Spaces.{IsPageCount};
 ghost use Rattle.heap_state.specs.Kept.{reserved_in};
-ghost use Rattle.heap_state.specs.Memory.Table.{page_in, table_of};
+ghost use Rattle.heap_state.specs.Memory.Table.{page_word_in, table_of};
 ghost use Rattle.heap_state.specs.Memory.Walk.{is_protected};
 ghost use Rattle.crossing_map.specs.Crossing.{pairs_kept};
 ghost use Rattle.crossing_map.specs.FirstWord.{item_by};
@@ -104,7 +104,7 @@ fn reserved_size(kept: &[(u64, u64)], at: u32) -> u32
 }
 
 fn is_open(word: u64, epoch: u32) -> bool
-    ensures { IsTrue result ↔ (is_protected epoch (page_in word) ≡ false) }
+    ensures { IsTrue result ↔ (is_protected epoch (page_word_in word) ≡ false) }
 {
     match PageWord::read(word) {
         Some(PageWord::Open(opened)) => opened == epoch,

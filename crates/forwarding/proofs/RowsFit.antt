@@ -1,6 +1,7 @@
 -- A copy that goes on wants a step on a row of the table.
 use Rattle.std.proofs.Common.{ℕ, ◌*◌, ◌<◌, ◌≤◌, arith}
 use Rattle.atom_store.specs.StepOn.{IsOn}
+use Rattle.space_map.specs.declared.spaces.TheConstants.{LAST_WORKER}
 use Rattle.space_map.specs.Spaces.{Layout}
 use Rattle.space_map.specs.Table.{IsRow}
 use Rattle.forwarding.specs.declared.evac_stage.EvacStage.{EvacStage}
@@ -8,7 +9,7 @@ use Rattle.forwarding.specs.declared.evac_stage.EvacStage.TheVariants.{LoadsHead
 use Rattle.forwarding.specs.Evacuation.{IsGoing, wants_at}
 use Rattle.forwarding.specs.Soundness.{FitsStage}
 
-pub rows_fit : (l : Layout) (a e k : ℕ) → k ≤ 23 → a < 128 * l.pages → (stage : EvacStage) → FitsStage l.pages a stage → IsGoing stage → IsOn (IsRow l.pages) (wants_at l a e k stage)
+pub rows_fit : (l : Layout) (a e k : ℕ) → k ≤ LAST_WORKER → a < 128 * l.pages → (stage : EvacStage) → FitsStage l.pages a stage → IsGoing stage → IsOn (IsRow l.pages) (wants_at l a e k stage)
 rows_fit l a e k few low LoadsHeader fits going = omega (arith, low)
 rows_fit l a e k few low (TakesHeader kept) fits going = omega (arith, low)
 rows_fit l a e k few low (LoadsArea kept) fits going = omega arith

@@ -24,7 +24,8 @@ pub struct Core<'p> {
 }
 
 impl<'p> Model for Core<'p> {
-    ghost use Rattle.std.specs.Prelude.{◌≤◌, length, vec_len};
+    ghost use Rattle.std.specs.Prelude.{◌+◌, ◌≤◌, length, vec_len};
+    ghost use Rattle.space_map.specs.declared.spaces.TheConstants.{MOST_MUTATORS, MOST_SCANNERS};
     ghost use Rattle.gc_core.specs.Core.{CoreState};
 
     ghost Value = { CoreState };
@@ -34,7 +35,7 @@ impl<'p> Model for Core<'p> {
 
     ghost view = { core_in };
 
-    ghost invariant = { λ c. (vec_len c.slots ≤ 24) × (length c.program.now.code ≤ vec_len c.slots) × IsLawful (core_in c) };
+    ghost invariant = { λ c. (vec_len c.slots ≤ MOST_MUTATORS + MOST_SCANNERS) × (length c.program.now.code ≤ vec_len c.slots) × IsLawful (core_in c) };
 }
 
 impl<'p> Core<'p> {

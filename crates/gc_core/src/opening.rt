@@ -4,7 +4,7 @@ ghost use Rattle.std.specs.Prelude.{◌≡◌, ◌+◌, ◌≤◌, ◌<◌, ◌�
 ghost use Rattle.heap_state.specs.Memory.Entries.{written};
 ghost use Rattle.heap_laws.specs.Opening.{opening_entries};
 ghost use Rattle.gc_worker.specs.Laws.Between.{fresh_worker, fresh_workers};
-ghost use Rattle.space_map.specs.declared.spaces.TheConstants.{LAST_WORKER, MOST_SCANNERS};
+ghost use Rattle.space_map.specs.declared.spaces.TheConstants.{LAST_WORKER, MOST_MUTATORS, MOST_SCANNERS};
 ghost use Rattle.gc_worker.specs.declared.config.TheConstants.{MOST_TURNS};
 ghost use Rattle.gc_core.specs.Core.{opening_core, workers_of, is_size};
 
@@ -37,7 +37,7 @@ fn words(alloc: Global, spaces: Spaces) -> Result<PlainAtoms, NoMemory>
 
 /// Worker `k` before its first step.
 fn worker(alloc: Global, spaces: Spaces, k: u8, mutators: u8) -> Result<Slot, NoMemory>
-    requires few { mutators ≤ 16 }
+    requires few { mutators ≤ MOST_MUTATORS }
     requires all { k ≤ LAST_WORKER }
     ensures { IfOk result (λ slot. slot ≡ fresh_worker spaces.pages mutators k) }
 {
@@ -49,8 +49,8 @@ fn worker(alloc: Global, spaces: Spaces, k: u8, mutators: u8) -> Result<Slot, No
 
 /// All workers, the mutators first.
 fn slots(alloc: Global, spaces: Spaces, mutators: u8, count: u8) -> Result<Vec<Slot>, NoMemory>
-    requires few { mutators ≤ 16 }
-    requires all { count ≤ 24 }
+    requires few { mutators ≤ MOST_MUTATORS }
+    requires all { count ≤ MOST_MUTATORS + MOST_SCANNERS }
     ensures { IfOk result (λ slots. slots.items ≡ fresh_workers spaces.pages mutators 0 count) }
 {
     let mut slots = Vec::new(alloc);

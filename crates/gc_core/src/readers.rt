@@ -3,6 +3,7 @@
 ghost use Rattle.std.specs.Prelude.{◌≡◌, ◌<◌, ◌≤◌, length, Some, option_map, slice_get};
 ghost use Rattle.std.specs.List.{list_all};
 ghost use Rattle.std.specs.Option.{is_some};
+ghost use Rattle.space_map.specs.declared.spaces.TheConstants.{MOST_MUTATORS};
 ghost use Rattle.gc_worker.specs.Steps.Stepped.{header_kept, place_kept};
 ghost use Rattle.gc_worker.specs.Steps.Wanted.{wanted};
 ghost use Rattle.gc_core.specs.Core.{workers_of};
@@ -64,7 +65,7 @@ impl<'p> Core<'p> {
     pub fn mutators(&self) -> usize
         ensures exact { result ≡ length (seen_of self.now) }
         ensures registers { result ≡ length (registers_in self.now) }
-        ensures small { result ≤ 16 }
+        ensures small { result ≤ MOST_MUTATORS }
     {
         self.program.code.len()
     }

@@ -4,4 +4,5 @@ pub mod Scans
 pub mod Accesses
 pub mod Replies
 pub mod Ends
+pub mod Looks
 pub mod Whole

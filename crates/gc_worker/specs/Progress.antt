@@ -1,6 +1,6 @@
--- What a step has brought after which the same machine is at work: less is left of it, but for an exchange that was lost, a record that
--- another worker copies, and a worker that waits for others.
-use Rattle.std.specs.Prelude.{◌≡◌, ◌≢◌, ℕ, ◌<◌, ⊤, length, Some}
+-- What a step has brought after which the same machine is at work: less is left of it, but for an exchange that was lost, a header that
+-- another worker keeps, and a worker that waits for others. A look after which the mutator looks again had nothing to do, or has done it.
+use Rattle.std.specs.Prelude.{◌≡◌, ◌≢◌, ℕ, ◌<◌, ⊤, length, Some, None}
 use Rattle.plain_state.specs.State.{Plain}
 use Rattle.atom_store.specs.declared.reply.Reply.{Reply}
 use Rattle.atom_store.specs.declared.reply.Reply.TheVariants.{Lost}
@@ -26,11 +26,13 @@ use Rattle.page_slots.specs.Open as open_page
 use Rattle.gc_worker.specs.Steps.Access as access
 use Rattle.gc_worker.specs.Workers.Held.{Held}
 use Rattle.gc_worker.specs.Laws.Step.{Heap, WorkersStand, held_at}
-use Rattle.gc_worker.specs.Steps.Turned.{turned}
+use Rattle.gc_worker.specs.Steps.Turned.{Answers, told, turned}
 use Rattle.gc_worker.specs.Steps.Wanted.{wanted}
+use Rattle.gc_worker.specs.declared.calls.did.Did.TheVariants.{Done}
 use Rattle.gc_worker.specs.declared.stage.back.Back.TheVariants.{ToScanner}
 use Rattle.gc_worker.specs.declared.stage.Stage.{Stage}
 use Rattle.gc_worker.specs.declared.stage.Stage.TheVariants.{Looks, Passes, Flips, Forwards, Accesses, Places, Serves, Scans, Evacuates, Opens, Gone}
+use Rattle.gc_worker.specs.declared.task.Task.{Task}
 
 -- so many steps are left of the machine at work at a stage, as the machine itself counts them
 abbrev pub left_at : Stage → ℕ
@@ -46,8 +48,9 @@ left_at (Evacuates v s back) = evac_left.left v
 left_at (Opens o s back) = open_page.left o
 left_at Gone = 0
 
--- the machine at work at one stage is at work at the other too, or one of its sort that does the same
+-- the machine at work at one stage is at work at the other too, or one of its sort that does the same; a look at the gate is one of its own
 abbrev pub IsSameMachine : Stage → Stage → Type 0
+IsSameMachine Looks Looks = ⊤
 IsSameMachine (Passes g after) (Passes next later) = next.passage ≡ g.passage
 IsSameMachine (Flips f) (Flips next) = ⊤
 IsSameMachine (Forwards w) (Forwards next) = next.register ≡ w.register
@@ -88,9 +91,12 @@ pub data Progress (h : Heap) (k : ℕ) (x : Held) (q : Step) : Type 0 where
   ExchangeWasLost : (word : ℕ) → reply_of q h.words ≡ Lost word → Progress h k x q
   AnotherCopies : ReadsAnothers h k q → Progress h k x q
   OthersGoFirst : IsWaiting x.stage (reply_of q h.words) → Progress h k x q
+  NothingIsAsked : x.stage ≡ Looks → x.task ≡ None → Progress h k x q
+  TaskIsDone : x.stage ≡ Looks → (task : Task) → x.task ≡ Some task → told x (reply_of q h.words) ≡ Answers task Done → Progress h k x q
 
--- A step from a heap that stands, after which the same machine is at work, leaves it less to do; or its exchange was lost, or another worker
--- copies the record, or the worker waits for others.
+-- A step from a heap that stands, after which the same machine is at work, leaves it less to do; or its exchange was lost, or it read a
+-- header that another worker keeps, or the worker waits for others. If a mutator looks at the gate and looks again, it has no task, or
+-- one that the look itself has done.
 abbrev pub MachinesGoOn : Type 0
 MachinesGoOn = (h : Heap) (p o : Plain) (k : ℕ) (x : Held) (q : Step) → WorkersStand h p o → k < length h.workers → held_at h k ≡ x → wanted x ≡ Some q
     → IsSameMachine x.stage (turned x (reply_of q h.words)).stage → Progress h k x q

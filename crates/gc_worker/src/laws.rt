@@ -85,6 +85,7 @@ pub fn accesses_are_worked_out()
 /// A step from a heap that stands, after which the same machine is at work, leaves it less to do, by the machine's own count of what is
 /// left; or its exchange was lost; or it loaded the first word of a record whose header another worker keeps; or the worker waits for
 /// others: the gate doesn't let it in or run on yet, mutators run or are behind while it is to flip, or it is a scanner, whose round has ended.
+/// A mutator that looks at the gate and then looks again has no task, or one that the look has done.
 pub fn machines_go_on()
     ensures { MachinesGoOn }
 {}

@@ -3,6 +3,9 @@
 //! A worker names its next atomic step and takes the reply. What it holds between two steps is one stage, beside its
 //! registers and its account; each machine is a variant of the stage. The crate defines what a worker wants, what a reply
 //! makes of it and what its step is to the plain machine, and what the proofs of the heap know of it at each stage.
+//!
+//! It also says which histories of calls and flips are legal, and what is so along each of them: what a load gets, which records
+//! stay, and when a heap is full.
 #![tactic(auto)]
 
 mod access;

@@ -1,6 +1,6 @@
 ghost use Rattle.std.specs.Prelude.{◌≡◌, ◌≤◌, ◌<◌, Some, IfOk, IfSome, IsSome};
 ghost use Rattle.atom_store.specs.Step.{place_in};
-ghost use Rattle.space_map.specs.declared.spaces.TheConstants.{LAST_WORKER};
+ghost use Rattle.space_map.specs.declared.spaces.TheConstants.{LAST_WORKER, MOST_MUTATORS};
 ghost use Rattle.space_map.specs.Table.{table_length};
 ghost use Rattle.gc_worker.specs.declared.task.Task.TheVariants.{Calls, Stops};
 ghost use Rattle.gc_worker.specs.Laws.Between.{IsIdle, fresh_mutator, fresh_scanner, with_task};
@@ -60,7 +60,7 @@ impl Worker {
         mutators: u8,
     ) -> Result<Worker, NoMemory>
         requires number { number < mutators }
-        requires few { mutators ≤ 16 }
+        requires few { mutators ≤ MOST_MUTATORS }
         ensures { IfOk result (λ worker. worker ≡ fresh_mutator spaces.pages mutators number) }
     {
         spaces.known();

@@ -9,7 +9,7 @@ use Rattle.heap_state.specs.Cycles.Cycle.{Cycle}
 use Rattle.heap_state.specs.Memory.Entries.{Entry, TracedIs, AreaIs, PageIs, written}
 use Rattle.heap_state.specs.Worker.{Worker, Outside, Scanner, fresh}
 use Rattle.heap_laws.specs.Flipping.Reset.{whole_area}
-use Rattle.space_map.specs.declared.spaces.TheConstants.{PAGE_WORDS}
+use Rattle.space_map.specs.declared.spaces.TheConstants.{PAGE_WORDS, MOST_MUTATORS, MOST_SCANNERS}
 
 -- ---- the table
 
@@ -51,5 +51,5 @@ pub record BeginsCycle (c : Configuration) (p : plain.Plain) : Type 0 where
   pub cycle : Cycle (era c) (memory c) (team c) stands.ghost p
 
 abbrev pub OpeningStands : Type 0
-OpeningStands = (n mutators scanners : ℕ) → IsPageCount n → mutators ≤ 16 → mutators + scanners ≤ 24
+OpeningStands = (n mutators scanners : ℕ) → IsPageCount n → mutators ≤ MOST_MUTATORS → mutators + scanners ≤ MOST_MUTATORS + MOST_SCANNERS
     → BeginsCycle (opening_configuration n mutators scanners) (opening_plain mutators)

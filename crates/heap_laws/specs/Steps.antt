@@ -16,7 +16,7 @@ use Rattle.heap_state.specs.Invariant.Ghost.{Ghost}
 use Rattle.heap_state.specs.Invariant.Inductive.{Invariant, Knows}
 use Rattle.heap_state.specs.Meaning.Values.{Shown}
 use Rattle.heap_state.specs.Worker.{Worker, Team}
-use Rattle.space_map.specs.declared.spaces.TheConstants.{PAGE_WORDS}
+use Rattle.space_map.specs.declared.spaces.TheConstants.{PAGE_WORDS, MOST_MUTATORS, MOST_SCANNERS}
 
 -- The invariant holds, the gate is of the epoch, and worker k is one of the team. This is the first premise of each law.
 pub record Ready (E : Era) (m : Memory) (team : Team) (g : Ghost) (k : ℕ) : Type 0 where
@@ -80,7 +80,7 @@ pub data WritesRow (E : Era) (m : Memory) : Option Entry → Memory → Type 0 w
   InPage : (page : ℕ) (word : PageWord) → page ≤ page_of E.board → PageFits word → WritesRow E m (Some (PageIs page word)) (with_page m page word)
   InCross : (page place : ℕ) → page < page_of E.board → WritesRow E m (Some (CrossIs page place)) (with_crossing m page place)
   InWord : (addr word : ℕ) → addr < E.board + PAGE_WORDS → WritesRow E m (Some (WordIs addr word)) (with_word m addr word)
-  InAnnounce : (worker place : ℕ) → worker < 24 → WritesRow E m (Some (AnnounceIs worker place)) (with_announced m worker place)
+  InAnnounce : (worker place : ℕ) → worker < MOST_MUTATORS + MOST_SCANNERS → WritesRow E m (Some (AnnounceIs worker place)) (with_announced m worker place)
 
 -- ---- what is kept
 

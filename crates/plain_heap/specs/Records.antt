@@ -15,24 +15,25 @@ use Rattle.plain_heap.specs.Call.{After, values_of, loads, call}
 
 -- ---- words
 
--- word x of record i; where there is none, the number 0, with which it begins
-abbrev pub record_word : Heap → Identity → (x : ℕ) → Value
-record_word heap i x = slice_index_or (values_of heap i) x (Number 0)
+-- the word of a record at this index; if there is none, the number 0, with which it begins
+abbrev pub record_word : Heap → Identity → (index : ℕ) → Value
+record_word heap identity index = slice_index_or (values_of heap identity) index (Number 0)
 
--- what an action leaves in word x of record i, in which this stands: what it stores there, else the same
-abbrev pub word_after : Result Action End → Identity → (x : ℕ) → Value → Value
-word_after (Ok (Stores j y v)) i x now = if are_same (Reference j) (Reference i) && (y == x) then v else now
-word_after _ i x now = now
+-- what an action leaves in that word, in which this stands: what it stores there, else the same
+abbrev pub word_after : Result Action End → Identity → (index : ℕ) → Value → Value
+word_after (Ok (Stores target at value)) identity index now = if are_same (Reference target) (Reference identity) && (at == index) then value else now
+word_after _ identity index now = now
 
 -- an instruction leaves each word of each record as it was, but for the one in which it stores
 abbrev pub OnlyStoresChangeWords : Type 0
-OnlyStoresChangeWords = (m : ℕ) (heap : Heap) (k : Mutator) (instr : Instr) (after : After) (i : Identity) (x : ℕ) → call m heap k instr ≡ Ok after
-    → record_word after.heap i x ≡ word_after (action k instr) i x (record_word heap i x)
+OnlyStoresChangeWords = (number : ℕ) (heap : Heap) (mutator : Mutator) (instr : Instr) (after : After) (identity : Identity) (index : ℕ) → call number heap mutator instr ≡ Ok after
+    → record_word after.heap identity index ≡ word_after (action mutator instr) identity index (record_word heap identity index)
 
 -- an instruction that loads takes the word into its register, and changes nothing else
 abbrev pub LoadsTakeTheWord : Type 0
-LoadsTakeTheWord = (m : ℕ) (heap : Heap) (k : Mutator) (instr : Instr) (after : After) (d : ℕ) (i : Identity) (x : ℕ) → action k instr ≡ Ok (Loads d i x) → call m heap k instr ≡ Ok after
-    → after ≡ loads heap k d (record_word heap i x)
+LoadsTakeTheWord = (number : ℕ) (heap : Heap) (mutator : Mutator) (instr : Instr) (after : After) (register : ℕ) (identity : Identity) (index : ℕ)
+    → action mutator instr ≡ Ok (Loads register identity index) → call number heap mutator instr ≡ Ok after
+    → after ≡ loads heap mutator register (record_word heap identity index)
 
 -- ---- kinds and lengths
 
@@ -44,11 +45,11 @@ pub record RecordShape : Type 0 where
 abbrev pub shape : Record → RecordShape
 shape r = record { kind = r.kind; len = length r.values }
 
--- that of record i, if it is there
+-- that of a record, if it is there
 abbrev pub shape_of : Heap → Identity → Option RecordShape
-shape_of heap i = option_map shape (record_of heap i)
+shape_of heap identity = option_map shape (record_of heap identity)
 
 -- an instruction leaves each record there, with its kind and its length
 abbrev pub ShapesStay : Type 0
-ShapesStay = (m : ℕ) (heap : Heap) (k : Mutator) (instr : Instr) (after : After) (i : Identity) (s : RecordShape) → call m heap k instr ≡ Ok after
-    → shape_of heap i ≡ Some s → shape_of after.heap i ≡ Some s
+ShapesStay = (number : ℕ) (heap : Heap) (mutator : Mutator) (instr : Instr) (after : After) (identity : Identity) (known : RecordShape) → call number heap mutator instr ≡ Ok after
+    → shape_of heap identity ≡ Some known → shape_of after.heap identity ≡ Some known

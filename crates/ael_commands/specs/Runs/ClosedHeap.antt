@@ -1,9 +1,10 @@
 -- The heap of a run on threads once all its workers have left it.
-use Rattle.std.specs.Prelude.{◌≡◌, ◌≤◌, ℕ, List, length, map}
+use Rattle.std.specs.Prelude.{◌≡◌, ◌+◌, ◌≤◌, ℕ, List, length, map}
 use Rattle.mutator_asm.specs.declared.instr.Instr.{Instr}
 use Rattle.mutator_asm.specs.declared.item.Item.{Item}
 use Rattle.plain_heap.specs.Order.{plain}
 use Rattle.plain_heap.specs.Print.{plain_seen}
+use Rattle.space_map.specs.declared.spaces.TheConstants.{MOST_MUTATORS, MOST_SCANNERS}
 use Rattle.space_map.specs.Table.{table_length}
 use Rattle.gc_core.specs.Run.{Ran}
 use Rattle.ael_threads.specs.declared.programs.outputs.Outputs.{Outputs}
@@ -24,8 +25,8 @@ told_by pages outputs = record {
 -- it tells the registers of each mutator and all words of the table, and there are no more workers than there may be
 pub record IsWholeHeap (pages : ℕ) (outputs : Outputs) : Type 0 where
   pub registers : length outputs.regs.items ≡ length outputs.mutators.items
-  pub mutators : length outputs.mutators.items ≤ 16
-  pub workers : length outputs.kept.items ≤ 24
+  pub mutators : length outputs.mutators.items ≤ MOST_MUTATORS
+  pub workers : length outputs.kept.items ≤ MOST_MUTATORS + MOST_SCANNERS
   pub words : length outputs.words ≡ table_length pages
 
 -- a run of the program on threads came to this, and this is what it tells: of the mutators what is seen of those of the plain machine

@@ -4,7 +4,7 @@ use crate::runs::report::Report;
 use ael_threads::Outputs;
 use plain_heap::End;
 use plain_state::REGISTERS;
-use space_map::Spaces;
+use space_map::{MOST_MUTATORS, Spaces};
 use std::marker::Model;
 
 /// How large the heap was, and what is told of it.
@@ -66,7 +66,7 @@ impl Report for ClosedHeap {
 
     /// A run on threads tells the end of each.
     fn all_ended(&self) -> bool {
-        prove!(self.outputs.mutators.len() <= 16);
+        prove!(self.outputs.mutators.len() <= MOST_MUTATORS as usize);
         true
     }
 

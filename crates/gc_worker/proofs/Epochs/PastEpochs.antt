@@ -22,7 +22,7 @@ use Rattle.fault_duty.specs.declared.duty_stage.DutyStage.TheVariants.{Claims}
 use Rattle.fault_duty.specs.Duty.{Round}
 use Rattle.fault_duty.specs.Soundness.{IsOwnClaim}
 use Rattle.heap_state.specs.Configuration.{Configuration, team}
-use Rattle.heap_state.specs.Memory.Table.{page_in, word_in}
+use Rattle.heap_state.specs.Memory.Table.{page_word_in, word_in}
 use Rattle.heap_state.specs.Worker.{Worker}
 use Rattle.heap_state.proofs.Puts.{none≢some}
 use Rattle.heap_state.proofs.Table.Places.{word_in-row}
@@ -58,7 +58,7 @@ other_word n m words row old new pages is other =
 -- the word of a page that says this has its age
 age_as : (n : ℕ) (words : List ℕ) (page : ℕ) (says : PageWord) → PageFits says → word_in n words (Page page) ≡ encode_page says → age n words page ≡ age_of says
 age_as n words page says fits same =
-    ap (λ (w : ℕ). age_of (page_in w)) same ∙ ap (λ o. age_of (unwrap_or o Unset)) (decode_page-encode_page says fits)
+    ap (λ (w : ℕ). age_of (page_word_in w)) same ∙ ap (λ o. age_of (unwrap_or o Unset)) (decode_page-encode_page says fits)
 
 -- the two exchanges
 abbrev claims_page : Claiming → Step

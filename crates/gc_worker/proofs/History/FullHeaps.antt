@@ -22,7 +22,6 @@ use Rattle.gc_worker.specs.Steps.Turned.{Answers, told, told_at}
 use Rattle.gc_worker.proofs.Between.Begun.{full_is_found_later}
 use Rattle.gc_worker.proofs.Between.GoingOn.{workers_go_on}
 use Rattle.gc_worker.specs.History.Tally.{asked_by_task}
-use Rattle.gc_worker.specs.History.Legal.{worker_call}
 use Rattle.gc_worker.proofs.History.Tallies.{asks_as}
 
 -- ---- who is in a call has begun its instruction

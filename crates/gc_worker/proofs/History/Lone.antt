@@ -15,7 +15,7 @@ use Rattle.plain_heap.proofs.States.SameMutators.{plain_count}
 use Rattle.plain_heap.proofs.Orders.Stories.{story-now, story_after-append}
 use Rattle.heap_state.specs.Functions.{sum_below}
 use Rattle.heap_state.specs.Meaning.Reachable.{IsLive}
-use Rattle.gc_worker.specs.History.Needs.{EachFullIs, EachMayCome, EndsWithFlip, HasNoFull, IsEnoughForOne, being_made, flips_by, flips_in, made_after, made_by_mark, made_since, first_story, since_by, since_in}
+use Rattle.gc_worker.specs.History.Needs.{EachFullIs, EachMayCome, EndsWithFlip, HasNoFull, IsEnoughForOne, being_made, flips_by, flips_in, made_after, made_after_mark, made_since, first_story, since_by, since_in}
 use Rattle.gc_worker.specs.Plain.Marks.{EachActs}
 use Rattle.gc_worker.proofs.History.Needs.{at_full, may_come_at}
 
@@ -95,7 +95,7 @@ module _ (code : List (List Instr)) (turns : ℕ) where
 made_after-append : (code : List (List Instr)) (turns : ℕ) (s : Story) (made : ℕ) (xs ys : List Mark)
     → made_after code turns s made (xs ++ ys) ≡ made_after code turns (story_after code turns s xs) (made_after code turns s made xs) ys
 made_after-append code turns s made [] ys = refl
-made_after-append code turns s made (mark ∷ xs) ys = made_after-append code turns (story_marked code turns s mark) (made_by_mark code turns s.now made mark) xs ys
+made_after-append code turns s made (mark ∷ xs) ys = made_after-append code turns (story_marked code turns s mark) (made_after_mark code turns s.now made mark) xs ys
 
 -- who asks for pages is there
 asker : (code : List (List Instr)) (turns : ℕ) (p : Plain) (m asked : ℕ) → asked_by code turns p m ≡ Some asked → m < length p.mutators

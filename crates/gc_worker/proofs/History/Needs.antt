@@ -20,7 +20,7 @@ use Rattle.gc_worker.specs.declared.calls.entry.Entry.TheVariants.{Made, Exchang
 use Rattle.gc_worker.specs.declared.task.Task.{Task}
 use Rattle.gc_worker.specs.declared.task.Task.TheVariants.{Calls, Stops}
 use Rattle.gc_worker.specs.History.Legal.{IsLegal, after_all, after_call}
-use Rattle.gc_worker.specs.History.Needs.{EachFullIs, EachMayCome, HasNoFull, IsFullAt, IsLargeEnough, FullMayCome, being_made, flips_by, flips_in, made_after, made_by_mark, first_story, pages_next, since_by, since_in}
+use Rattle.gc_worker.specs.History.Needs.{EachFullIs, EachMayCome, HasNoFull, IsFullAt, IsLargeEnough, FullMayCome, being_made, flips_by, flips_in, made_after, made_after_mark, first_story, pages_next, since_by, since_in}
 use Rattle.gc_worker.specs.History.Order.{AreFetched, mark_by, order_of}
 use Rattle.gc_worker.specs.History.Tally.{EachEntry, EntryIs, IsFilled, IsFilledBy, IsFilledByEnd, Tally, Tasks, after_entry, asked_by_task, asked_for, asked_unless_ended, made_next, made_if, next_task, pages_by_task, tally}
 use Rattle.gc_worker.specs.Plain.Marks.{end_mark, task_of}
@@ -187,14 +187,14 @@ module _ (code : List (List Instr)) (turns : ℕ) (tasks : Tasks) where
   -- ---- what it makes
 
   call_made : (t : Tally) (made : ℕ) (c : Call) → length t.now.mutators ≡ length code → IsNext code turns t.now c.by (Some c.task) → t.made ≤ made
-      → t.made + made_if c.did (pages_by_task t.now c.by (Some c.task)) ≤ made_by_mark code turns t.now made (mark_by c.by c.did)
+      → t.made + made_if c.did (pages_by_task t.now c.by (Some c.task)) ≤ made_after_mark code turns t.now made (mark_by c.by c.did)
   call_made t made c sections its covers = by_did c.did
     where
-      by_sort : (why : End) → Sort c.by why → t.made ≤ made_by_mark code turns t.now made (end_mark c.by why)
+      by_sort : (why : End) → Sort c.by why → t.made ≤ made_after_mark code turns t.now made (end_mark c.by why)
       by_sort why (IsStep is calls) = rw is (omega (arith, covers))
       by_sort why (IsFull asked room live is) = rw is covers
 
-      by_did : (did : Did) → t.made + made_if did (pages_by_task t.now c.by (Some c.task)) ≤ made_by_mark code turns t.now made (mark_by c.by did)
+      by_did : (did : Did) → t.made + made_if did (pages_by_task t.now c.by (Some c.task)) ≤ made_after_mark code turns t.now made (mark_by c.by did)
       by_did Done = let most = pages_most t.now sections c.by (Some c.task) its in omega (arith, covers, most)
       by_did (Trap why) = let most = by_sort why (sort c.by why) in omega (arith, most)
 
@@ -203,7 +203,7 @@ module _ (code : List (List Instr)) (turns : ℕ) (tasks : Tasks) where
       → (tally t log).made ≤ made_after code turns (record { flip = t.flip; now = t.now }) made (order_of log)
   order_makes t made [] legal sections own covers = covers
   order_makes t made (Made c ∷ es) legal sections own covers =
-      let more = made_by_mark code turns t.now made (mark_by c.by c.did) in
+      let more = made_after_mark code turns t.now made (mark_by c.by c.did) in
       let most = call_made t made c sections (λ task q is its none. sym (same_Some c.task task is) ∙ (own c.by).0 refl q its) covers in
       subst (λ (s : Story). (tally (after_entry t (Made c)) es).made ≤ made_after code turns s more (order_of es))
       (sym (call_turns code turns t.now t.flip c legal.0 sections ((own c.by).0 refl)))
@@ -216,7 +216,7 @@ module _ (code : List (List Instr)) (turns : ℕ) (tasks : Tasks) where
 pub at_full : (n : ℕ) (code : List (List Instr)) (turns : ℕ) (s : Story) (made : ℕ) (front rest : List Mark) (m asked room live : ℕ)
     → EachFullIs n code turns s made (front ++ Full m asked room live ∷ rest) → IsFullAt n code turns (story_after code turns s front) (made_after code turns s made front) m asked room live
 at_full n code turns s made [] rest m asked room live each = each.0
-at_full n code turns s made (mark ∷ front) rest m asked room live each = at_full n code turns (story_marked code turns s mark) (made_by_mark code turns s.now made mark) front rest m asked room live each.1
+at_full n code turns s made (mark ∷ front) rest m asked room live each = at_full n code turns (story_marked code turns s mark) (made_after_mark code turns s.now made mark) front rest m asked room live each.1
 
 -- and to whether it may come
 pub may_come_at : (since : ℕ → Bool) (flips : ℕ) (front rest : List Mark) (mark : Mark) → EachMayCome since flips (front ++ mark ∷ rest) → FullMayCome (since_in since front) (flips_in flips front) mark

@@ -42,7 +42,7 @@ use Rattle.gc_worker.proofs.Plain.NewRecords.{asked_is, plain_pages}
 use Rattle.gc_worker.proofs.StepKeeps.{steps_keep}
 use Rattle.gc_worker.specs.declared.calls.entry.Entry.{Entry}
 use Rattle.gc_worker.specs.History.Tally.{FitsTally, EachEntry, EntryIs, IsAskedFor, IsFilled, IsFilledByEnd, IsTallied, Tally, Tasks, aside_in, asked_by_task, made_next, next_task, pages_by_task, tally, tasks_held}
-use Rattle.gc_worker.specs.History.Legal.{worker_call, extra}
+use Rattle.gc_worker.specs.History.Legal.{extra}
 use Rattle.gc_worker.proofs.History.Aside.{aside_changes, aside_most, aside_of_others}
 use Rattle.gc_worker.proofs.History.FullHeaps.{full_asks, full_calls, past_look}
 use Rattle.gc_worker.proofs.History.Records.{makes_its_record}

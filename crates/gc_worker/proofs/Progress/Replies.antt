@@ -96,7 +96,7 @@ module _ (c : Configuration) (p : Plain) (s : Stands c p) (k : ℕ) where
   pub word_is : (n : ℕ) → n ≡ c.pages → (row : Row) → IsRow c.pages row → word_at n row ≡ word_in c.pages c.words row
   word_is n same row is = ap (λ (m : ℕ). word_at m row) same ∙ sym (word_in-row c.pages c.words row is)
 
-  says_gate : (n : ℕ) → n ≡ c.pages → is_some (decode_gate (word_at n Gate)) ≡ true
+  pub says_gate : (n : ℕ) → n ≡ c.pages → is_some (decode_gate (word_at n Gate)) ≡ true
   says_gate n same = ap (λ (w : ℕ). is_some (decode_gate w)) (word_is n same Gate tt) ∙ ap is_some (gate_says c p s)
 
   says_area : (n : ℕ) → n ≡ c.pages → (epoch : ℕ) → is_some (decode_area (word_at n (Area (to_space epoch)))) ≡ true

@@ -1,5 +1,5 @@
 -- What a step has brought after which the same machine is at work, from what each stage may read and what that leaves it to do.
-use Rattle.std.proofs.Common.{◌≡◌, ◌≢◌, ℕ, ◌<◌, Bool, true, Some, refl, sym, ap, subst, ◌∙◌, arith}
+use Rattle.std.proofs.Common.{◌≡◌, ◌≢◌, ℕ, ◌<◌, Bool, true, Option, Some, None, refl, sym, ap, subst, ◌∙◌, arith}
 use Rattle.std.proofs.lemmas.Option.{same_Some}
 use Rattle.plain_state.specs.State.{Plain}
 use Rattle.atom_store.specs.declared.reply.Reply.{Reply}
@@ -12,7 +12,7 @@ use Rattle.atom_store.specs.Step.{reply_of}
 use Rattle.heap_words.specs.Decoded.{Decoded, HeaderWord, decode}
 use Rattle.heap_words.specs.FirstWords.{is_header}
 use Rattle.space_map.specs.Spaces.{Layout}
-use Rattle.space_map.specs.Table.{HeapWord, place_of}
+use Rattle.space_map.specs.Table.{Gate, HeapWord, place_of}
 use Rattle.alloc_end.specs.declared.allocated.Allocated.{Allocated}
 use Rattle.alloc_end.specs.Place as place
 use Rattle.fault_duty.specs.declared.round_end.RoundEnd.{RoundEnd}
@@ -48,13 +48,15 @@ use Rattle.gc_worker.specs.declared.stage.forwarding_register.ForwardingRegister
 use Rattle.gc_worker.specs.declared.access.record_access.RecordAccess.{RecordAccess}
 use Rattle.gc_worker.specs.declared.stage.Stage.{Stage}
 use Rattle.gc_worker.specs.declared.stage.Stage.TheVariants.{Looks, Passes, Flips, Forwards, Accesses, Places, Serves, Scans, Evacuates, Opens, Gone}
+use Rattle.gc_worker.specs.declared.calls.did.Did.TheVariants.{Done}
+use Rattle.gc_worker.specs.declared.task.Task.{Task}
 use Rattle.gc_worker.specs.Steps.Access as access
 use Rattle.gc_worker.specs.Workers.Fits.{IsOwnPassage}
 use Rattle.gc_worker.specs.Steps.Goes.{Is}
 use Rattle.gc_worker.specs.Workers.Held.{Held, at_stage}
 use Rattle.gc_worker.specs.Laws.Step.{read}
-use Rattle.gc_worker.specs.Progress.{Progress, LessIsLeft, ExchangeWasLost, AnotherCopies, OthersGoFirst, IsSameMachine, IsWaiting, MachinesGoOn, left_at}
-use Rattle.gc_worker.specs.Steps.Turned.{turned_access, turned_at, turned_copy, turned_flip, turned_gate, turned_opening, turned_place, turned_register, turned_round, turned_scan, with_evac}
+use Rattle.gc_worker.specs.Progress.{Progress, LessIsLeft, ExchangeWasLost, AnotherCopies, OthersGoFirst, NothingIsAsked, TaskIsDone, IsSameMachine, IsWaiting, MachinesGoOn, left_at}
+use Rattle.gc_worker.specs.Steps.Turned.{Answers, told_at, told_look, turned_look, turned_access, turned_at, turned_copy, turned_flip, turned_gate, turned_opening, turned_place, turned_register, turned_round, turned_scan, with_evac}
 use Rattle.gc_worker.specs.Steps.Wanted.{wanted_at}
 use Rattle.gc_worker.proofs.Stages.Access.Going as accessing_going
 use Rattle.gc_worker.proofs.Stages.Access.Stages.{header_there}
@@ -64,9 +66,10 @@ use Rattle.gc_worker.proofs.Stages.Copies.Hosts as hosts
 use Rattle.gc_worker.proofs.Stages.Copies.Words.{heap_word}
 use Rattle.gc_worker.proofs.Workers.Members.{member}
 use Rattle.gc_worker.proofs.Progress.Accesses.{accesses_lower}
-use Rattle.gc_worker.proofs.Progress.Replies.{TakesOn, Advances, Loses, Waits, MeetsBusy, On, accessing, copying, flipping, loads_header, opening, passing, placing, scanning, serving, word_at, word_is}
+use Rattle.gc_worker.proofs.Progress.Replies.{TakesOn, Advances, Loses, Waits, MeetsBusy, On, accessing, copying, flipping, loads_header, opening, passing, placing, says_gate, scanning, serving, word_at, word_is}
 use Rattle.gc_worker.proofs.Progress.Copies.{copies_lower}
 use Rattle.gc_worker.proofs.Progress.Ends.{IsOfScanner, accesses_end, allocations_end, flips_end, openings_end, passages_end, registers_end, rounds_end, scans_end}
+use Rattle.gc_worker.proofs.Progress.Looks.{IsDone, looks_done}
 use Rattle.gc_worker.proofs.Progress.Lowering.{allocations_lower, flips_lower, openings_lower, passages_lower}
 use Rattle.gc_worker.proofs.Progress.Scans.{first-lt, scans_lower}
 use Rattle.gc_worker.proofs.Stages.Scan.Headers.{answer2, first_header}
@@ -81,6 +84,8 @@ module _ (c : Configuration) (p : Plain) (s : Stands c p) (k : ℕ) (x : Held) (
     Was_lost : (word : ℕ) → r ≡ Lost word → Result stage
     Meets : MeetsBusy c k q → Result stage
     Awaits : IsWaiting stage r → Result stage
+    Idles : stage ≡ Looks → x.task ≡ None → Result stage
+    Has_done : stage ≡ Looks → (task : Task) → x.task ≡ Some task → told_at (at_stage x stage) stage r ≡ Answers task Done → Result stage
 
   by_answer : (stage : Stage) (advances : Reply → Bool) → TakesOn advances r (MeetsBusy c k q)
       → (advances r ≡ true → left_at (turned_at (at_stage x stage) stage r).stage < left_at stage) → Result stage
@@ -271,6 +276,19 @@ module _ (c : Configuration) (p : Plain) (s : Stands c p) (k : ℕ) (x : Held) (
       (openings_lower o.stage r t))
   opening_on o z back (Finished result) ends asked same = absurd (openings_end (at_stage x (Opens o z back)) o z back same)
 
+  -- ---- a look
+
+  look_by : (task : Option Task) → x.task ≡ task → IsDone task (told_look (at_stage x Looks) r) → Result Looks
+  look_by None is done = Idles refl is
+  look_by (Some task) is done = Has_done refl task is done
+
+  look_on : Is c k (at_stage x Looks) → wanted_at (at_stage x Looks) Looks ≡ Some q → Same Looks (turned_look (at_stage x Looks) r) → Result Looks
+  look_on is asked same =
+      look_by x.task refl
+      (subst (λ (z : Step). Same Looks (turned_look (at_stage x Looks) (reply_of z c.words)) → IsDone x.task (told_look (at_stage x Looks) (reply_of z c.words)))
+      (same_Some (Load (place_of x.layout.pages Gate)) q asked)
+      (looks_done (at_stage x Looks) (word_at c p s k x.layout.pages Gate) (says_gate c p s k x.layout.pages is.fits.pages) is.fits.task) same)
+
   -- ---- each stage
 
   by_stage : (stage : Stage) → Is c k (at_stage x stage) → wanted_at (at_stage x stage) stage ≡ Some q → Same stage (turned_at (at_stage x stage) stage r) → Result stage
@@ -287,7 +305,7 @@ module _ (c : Configuration) (p : Plain) (s : Stands c p) (k : ℕ) (x : Held) (
   by_stage (Scans v back) is asked same = scan_on v back (scan_taken.told (scan_taken.taken v r).stage) refl is asked same
   by_stage (Evacuates v z back) is asked same = copy_on v z back (evac_taken.told (evac_taken.taken v r).stage) refl is asked same
   by_stage (Opens o z back) is asked same = opening_on o z back (open_page.told (open_page.taken o r)) refl asked same
-  by_stage Looks is asked same = absurd same
+  by_stage Looks is asked same = look_on is asked same
   by_stage Gone is asked same = absurd (cc)
 
 pub machines_go_on : MachinesGoOn
@@ -298,3 +316,5 @@ machines_go_on h p o k x q st l holds asked same = by_result (by_stage (read h) 
     by_result (Was_lost word is) = ExchangeWasLost word is
     by_result (Meets busy) = AnotherCopies (record { at = busy.at; loads = busy.loads; len = busy.len; worker = busy.worker; busy = busy.busy; other = busy.other })
     by_result (Awaits waiting) = OthersGoFirst waiting
+    by_result (Idles at none) = NothingIsAsked at none
+    by_result (Has_done at task is done) = TaskIsDone at task is done

@@ -1,6 +1,7 @@
 -- What a worker keeps of itself, from one stage to the next.
 use Rattle.std.proofs.Common.{◌≡◌, ℕ, ◌<◌, ◌≤◌, ◌^◌, true, List, [], length, replicate, Option, None, is_some, nat_lt, refl, sym, subst, arith}
 use Rattle.plain_state.specs.declared.sizes.TheConstants.{REGISTERS, MOST_PRINTED}
+use Rattle.space_map.specs.declared.spaces.TheConstants.{LAST_WORKER}
 use Rattle.space_map.specs.Spaces.{IsPageCount}
 use Rattle.alloc_end.specs.declared.run.Run.{Run}
 use Rattle.gate_core.specs.declared.passage.Passage.{Passage}
@@ -11,7 +12,7 @@ use Rattle.gc_worker.specs.Workers.Held.{Held, at_stage}
 use Rattle.gc_worker.specs.Steps.Turned.{passes, in_epoch}
 
 -- The parts of a worker are spelled here alone: of a new one, and of one of which some are others now.
-pub new_worker : (n mutators k : ℕ) → IsPageCount n → k ≤ 23 → AreValues (replicate REGISTERS 0) → IsWorkerOf n mutators k k n mutators 0 (replicate REGISTERS 0) [] None
+pub new_worker : (n mutators k : ℕ) → IsPageCount n → k ≤ LAST_WORKER → AreValues (replicate REGISTERS 0) → IsWorkerOf n mutators k k n mutators 0 (replicate REGISTERS 0) [] None
 new_worker n mutators k size few values = record {
   number = refl;
   few = few;

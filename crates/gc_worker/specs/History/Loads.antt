@@ -21,48 +21,51 @@ use Rattle.gc_worker.specs.History.Legal.{IsLegal, after_all, after_call}
 
 -- ---- stores
 
--- what a mutator's task leaves in word x of record i, in which this stands: an instruction that has its effect may store there
-abbrev pub word_after_task : Option Mutator → Task → Did → Identity → (x : ℕ) → Value → Value
-word_after_task (Some q) (Calls instr) Done i x now = word_after (action q instr) i x now
-word_after_task _ task did i x now = now
+-- what a mutator's task leaves in the word of a record at this index, in which this stands: an instruction that has its effect may store there
+abbrev pub word_after_task : Option Mutator → Task → Did → Identity → (index : ℕ) → Value → Value
+word_after_task (Some mutator) (Calls instr) Done identity index now = word_after (action mutator instr) identity index now
+word_after_task _ task did identity index now = now
 
 -- what a call leaves there
-abbrev pub word_after_call : Plain → Call → Identity → (x : ℕ) → Value → Value
-word_after_call p c i x now = word_after_task (slice_get p.mutators c.by) c.task c.did i x now
+abbrev pub word_after_call : Plain → Call → Identity → (index : ℕ) → Value → Value
+word_after_call plain call identity index now = word_after_task (slice_get plain.mutators call.by) call.task call.did identity index now
 
--- what the last store of a history in word x of record i wrote there; if there is none, what stood there first
-abbrev pub last_stored : Plain → List Entry → Identity → (x : ℕ) → (first : Value) → Value
-last_stored p [] i x first = first
-last_stored p (Made c ∷ es) i x first = last_stored (after_call p c) es i x (word_after_call p c i x first)
-last_stored p (Exchanged by asked ∷ es) i x first = last_stored p es i x first
+-- what the last store of a history in the word of a record at this index wrote there; if there is none, what stood there first
+abbrev pub last_stored : Plain → List Entry → Identity → (index : ℕ) → (first : Value) → Value
+last_stored plain [] identity index first = first
+last_stored plain (Made call ∷ entries) identity index first =
+    last_stored (after_call plain call) entries identity index (word_after_call plain call identity index first)
+last_stored plain (Exchanged by asked ∷ entries) identity index first = last_stored plain entries identity index first
 
 -- in a legal history each word of each record is what was stored last in it
 abbrev pub WordsAreStored : Type 0
-WordsAreStored = (p : Plain) (log : List Entry) (i : Identity) (x : ℕ) → IsLegal p log → record_word (after_all p log).heap i x ≡ last_stored p log i x (record_word p.heap i x)
+WordsAreStored = (plain : Plain) (log : List Entry) (identity : Identity) (index : ℕ) → IsLegal plain log
+    → record_word (after_all plain log).heap identity index ≡ last_stored plain log identity index (record_word plain.heap identity index)
 
 -- before the first call of a new heap, which has no records, each word counts as the number 0
 abbrev pub WordsBeginAsZero : Type 0
-WordsBeginAsZero = (mutators : ℕ) (i : Identity) (x : ℕ) → record_word (opening_plain mutators).heap i x ≡ Number 0
+WordsBeginAsZero = (mutators : ℕ) (identity : Identity) (index : ℕ) → record_word (opening_plain mutators).heap identity index ≡ Number 0
 
 -- ---- loads
 
--- the call is an instruction of mutator q that had its effect, which was to load word x of record i into register d
-pub record IsLoad (p : Plain) (c : Call) (q : Mutator) (d : ℕ) (i : Identity) (x : ℕ) : Type 0 where
-  pub mutator : slice_get p.mutators c.by ≡ Some q
+-- the call is an instruction of this mutator that had its effect, which was to load the word of a record at this index into a register
+pub record IsLoad (plain : Plain) (call : Call) (own : Mutator) (register : ℕ) (identity : Identity) (index : ℕ) : Type 0 where
+  pub mutator : slice_get plain.mutators call.by ≡ Some own
   pub instr : Instr
-  pub task : c.task ≡ Calls instr
-  pub loads : action q instr ≡ Ok (Loads d i x)
-  pub done : c.did ≡ Done
+  pub task : call.task ≡ Calls instr
+  pub loads : action own instr ≡ Ok (Loads register identity index)
+  pub done : call.did ≡ Done
 
--- In a legal history it gets what was stored there last before it: its mutator goes on with that in register d.
+-- In a legal history it gets what was stored there last before it: its mutator goes on with that in the register.
 abbrev pub LoadsGetTheLastStore : Type 0
-LoadsGetTheLastStore = (p : Plain) (front rest : List Entry) (c : Call) (q : Mutator) (d : ℕ) (i : Identity) (x : ℕ) → IsLegal p (front ++ Made c ∷ rest)
-    → IsLoad (after_all p front) c q d i x
-    → slice_get (after_all p (front ++ Made c ∷ [])).mutators c.by ≡ Some (went_on (set_register q d (last_stored p front i x (record_word p.heap i x))))
+LoadsGetTheLastStore = (plain : Plain) (front rest : List Entry) (call : Call) (own : Mutator) (register : ℕ) (identity : Identity) (index : ℕ)
+    → IsLegal plain (front ++ Made call ∷ rest) → IsLoad (after_all plain front) call own register identity index
+    → slice_get (after_all plain (front ++ Made call ∷ [])).mutators call.by
+    ≡ Some (went_on (set_register own register (last_stored plain front identity index (record_word plain.heap identity index))))
 
 -- ---- kinds and lengths
 
 -- a record that a history has made is there after each history that goes on from there, with its kind and its length
 abbrev pub RecordsKeepTheirShape : Type 0
-RecordsKeepTheirShape = (p : Plain) (front rest : List Entry) (i : Identity) (s : RecordShape) → shape_of (after_all p front).heap i ≡ Some s
-    → shape_of (after_all p (front ++ rest)).heap i ≡ Some s
+RecordsKeepTheirShape = (plain : Plain) (front rest : List Entry) (identity : Identity) (known : RecordShape) → shape_of (after_all plain front).heap identity ≡ Some known
+    → shape_of (after_all plain (front ++ rest)).heap identity ≡ Some known

@@ -56,14 +56,14 @@ abbrev pub being_made : List (List Instr) → ℕ → Plain → (m : ℕ) → �
 being_made code turns p m = sum_below (length p.mutators) (λ j. if j == m then 0 else pages_next code turns p j)
 
 -- the pages of the records made since the last flip, after a mark
-abbrev pub made_by_mark : List (List Instr) → ℕ → Plain → (made : ℕ) → Mark → ℕ
-made_by_mark code turns p made (Step m) = made + pages_next code turns p m
-made_by_mark code turns p made (Flip asked) = 0
-made_by_mark code turns p made (Full m asked room live) = made
+abbrev pub made_after_mark : List (List Instr) → ℕ → Plain → (made : ℕ) → Mark → ℕ
+made_after_mark code turns p made (Step m) = made + pages_next code turns p m
+made_after_mark code turns p made (Flip asked) = 0
+made_after_mark code turns p made (Full m asked room live) = made
 
 abbrev pub made_after : List (List Instr) → ℕ → Story → (made : ℕ) → List Mark → ℕ
 made_after code turns s made [] = made
-made_after code turns s made (mark ∷ marks) = made_after code turns (story_marked code turns s mark) (made_by_mark code turns s.now made mark) marks
+made_after code turns s made (mark ∷ marks) = made_after code turns (story_marked code turns s mark) (made_after_mark code turns s.now made mark) marks
 
 -- before the first mark
 abbrev pub first_story : List (List Instr) → Story
@@ -94,7 +94,7 @@ IsFullMark pages code turns s made (Full m asked room live) = IsFullAt pages cod
 abbrev pub EachFullIs : (pages : ℕ) → List (List Instr) → ℕ → Story → (made : ℕ) → List Mark → Type 0
 EachFullIs pages code turns s made [] = ⊤
 EachFullIs pages code turns s made (mark ∷ marks) =
-    IsFullMark pages code turns s made mark × EachFullIs pages code turns (story_marked code turns s mark) (made_by_mark code turns s.now made mark) marks
+    IsFullMark pages code turns s made mark × EachFullIs pages code turns (story_marked code turns s mark) (made_after_mark code turns s.now made mark) marks
 
 -- ---- a heap that is large enough
 

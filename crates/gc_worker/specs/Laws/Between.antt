@@ -7,6 +7,7 @@ use Rattle.plain_state.specs.declared.value.Identity.{Identity}
 use Rattle.plain_state.specs.declared.value.Value.TheVariants.{Number, Reference}
 use Rattle.plain_state.specs.declared.sizes.TheConstants.{REGISTERS}
 use Rattle.plain_state.specs.State.{Mutator, Plain, serial_of}
+use Rattle.space_map.specs.declared.spaces.TheConstants.{MOST_MUTATORS, MOST_SCANNERS}
 use Rattle.space_map.specs.Spaces.{IsInSpace, IsPageCount, to_space}
 use Rattle.space_map.specs.Table.{HeapWord, table_length}
 use Rattle.atom_store.specs.declared.reply.Reply.{Reply}
@@ -74,7 +75,7 @@ opening_heap n mutators scanners = record {
 
 -- it stands for the plain state in which nothing was made yet, and a cycle begins there
 abbrev pub HeapsOpen : Type 0
-HeapsOpen = (n mutators scanners : ℕ) → IsPageCount n → mutators ≤ 16 → mutators + scanners ≤ 24
+HeapsOpen = (n mutators scanners : ℕ) → IsPageCount n → mutators ≤ MOST_MUTATORS → mutators + scanners ≤ MOST_MUTATORS + MOST_SCANNERS
     → WorkersStand (opening_heap n mutators scanners) (opening_plain mutators) (opening_plain mutators)
 
 -- ---- what a worker may become without a step

@@ -11,7 +11,7 @@ use Rattle.gate_core.specs.declared.reset.Reset.{Reset}
 use Rattle.gate_core.specs.Flip.{Flipping}
 use Rattle.heap_state.specs.Configuration.{Configuration, Stands, era, memory, team}
 use Rattle.heap_state.specs.Cycles.Cycle.{Cycle}
-use Rattle.heap_state.specs.Memory.Table.{word_in, page_in}
+use Rattle.heap_state.specs.Memory.Table.{word_in, page_word_in}
 use Rattle.space_map.specs.Spaces.{IsInSpace, to_space}
 use Rattle.gc_worker.specs.declared.stage.forwarding_register.ForwardingRegister.{ForwardingRegister}
 use Rattle.gc_worker.specs.declared.stage.Stage.TheVariants.{Flips, Forwards, Gone}
@@ -77,7 +77,7 @@ epoch_of n words = epoch_said 0 (word_in n words Gate)
 
 -- the epoch that a page's word says, and one more, or 0
 abbrev pub age : ℕ → List ℕ → (page : ℕ) → ℕ
-age n words page = age_of (page_in (word_in n words (Page page)))
+age n words page = age_of (page_word_in (word_in n words (Page page)))
 
 -- the page's word is of this epoch or a later one, so nobody can win the page in it any more
 pub record IsOut (n : ℕ) (words : List ℕ) (w : PageWon) : Type 0 where

@@ -1,5 +1,6 @@
 -- What the proofs of the heap know of a worker, component by component, each by cases on its stage.
-use Rattle.std.specs.Prelude.{ℕ, ◌+◌, ◌/◌, ◌==◌, ◌||◌, Bool, true, false, Option, Some, None, nat_lt, slice_index, if◌then◌else◌}
+use Rattle.std.specs.Prelude.{ℕ, ◌+◌, ◌-◌, ◌/◌, ◌==◌, ◌||◌, Bool, true, false, Option, Some, None, nat_lt, slice_index, if◌then◌else◌}
+use Rattle.space_map.specs.declared.spaces.TheConstants.{LAST_WORKER, PAGE_WORDS}
 use Rattle.space_map.specs.Spaces.{Layout, page_of, first_word, board_page}
 use Rattle.alloc_end.specs.declared.place_stage.PlaceStage.{PlaceStage}
 use Rattle.alloc_end.specs.declared.place_stage.PlaceStage.TheVariants as place_stage
@@ -266,7 +267,7 @@ moving addr r done word crossed = record {
 
 -- the first page that begins behind a copy
 abbrev pub page_past : Reserved → ℕ
-page_past r = (r.to + evac.size_of r.kept + 63) / 64
+page_past r = (r.to + evac.size_of r.kept + (PAGE_WORDS - 1)) / PAGE_WORDS
 
 abbrev pub copy_at : Layout → (addr epoch : ℕ) → EvacStage → Option Copy
 copy_at l a e evac_stage.LoadsHeader = None
@@ -364,7 +365,7 @@ abbrev pub looks_not : Claiming → Bool
 looks_not c = c.in_place || (c.page == board_page c.layout.pages)
 
 abbrev pub looked_all : Claiming → ℕ
-looked_all c = if looks_not c then 0 else 24
+looked_all c = if looks_not c then 0 else LAST_WORKER + 1
 
 abbrev pub claim_with : Claiming → (looked : ℕ) (sure : Bool) → Claim
 claim_with c looked sure = record { page = c.page; old = c.found; in_place = c.in_place; looked = looked; sure = sure }
@@ -385,7 +386,7 @@ upto_before d page = if (page == board_page d.layout.pages) || (page == duty.to_
 
 -- the pages found open, where all full ones are
 abbrev pub upto_all : duty.Round → (front : ℕ) → ℕ
-upto_all d front = if nat_lt front (duty.to_start d + 64) then 0 else page_of front
+upto_all d front = if nat_lt front (duty.to_start d + PAGE_WORDS) then 0 else page_of front
 
 abbrev pub look_with : duty.Round → (traced front : ℕ) (board : Bool) (upto : ℕ) (filled : Bool) → Look
 look_with d traced front board upto filled = record {

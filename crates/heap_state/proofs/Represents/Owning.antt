@@ -13,7 +13,7 @@ use Rattle.heap_state.specs.Invariant.Inductive.{Invariant}
 use Rattle.heap_state.specs.Meaning.Represents.{IsOwn}
 use Rattle.heap_state.specs.Memory.Walk.{Walked}
 use Rattle.heap_state.proofs.Represents.Denoting.{header_of, Headers, Own, Forwarded, headers}
-use Rattle.heap_state.proofs.Walks.InHeap.{StandsUnwritten, in_heap_sound, now_sound}
+use Rattle.heap_state.proofs.Walks.InHeap.{StandsWritten, in_heap_sound, now_sound}
 use Rattle.heap_state.proofs.Records.Headers.{said_kind-header_kind}
 
 abbrev pub identity_at : ℕ → ℕ → Identity
@@ -31,7 +31,7 @@ module _ (c : Configuration) (g : Ghost) (inv : Invariant (era c) (memory c) (te
 
   -- what the proofs know of a record that has its own header
   pub record Owns (w : Walked) (kind : Kind) (len serial mutator : ℕ) : Type 0 where
-    pub known : StandsUnwritten E m.traced g w
+    pub known : StandsWritten E m.traced g w
     pub of_kind : kind ≡ g.kind w.at
     pub long : len + 1 ≡ w.size
     pub named : identity_at mutator serial ≡ g.identity w.at
@@ -42,7 +42,7 @@ module _ (c : Configuration) (g : Ghost) (inv : Invariant (era c) (memory c) (te
       let known = in_heap_sound c g inv w is.walked in
       by_headers known (headers c g inv w.at (omega (arith, known.sized)) known.written)
     where
-      by_headers : StandsUnwritten E m.traced g w → Headers c g inv w.at → Owns w kind len serial mutator
+      by_headers : StandsWritten E m.traced g w → Headers c g inv w.at → Owns w kind len serial mutator
       by_headers known (Forwarded b e y n f) = absurd (let q : Malformed ≡ HeaderWord is.head len serial mutator = sym e ∙ is.header in cc)
       by_headers known (Own e h) =
           let q : header_of c g inv w.at ≡ HeaderWord is.head len serial mutator = sym e ∙ is.header in

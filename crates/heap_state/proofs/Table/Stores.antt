@@ -3,7 +3,6 @@ use Rattle.std.proofs.Common.{◌≡◌, ℕ, ◌==◌, true, false, cond, refl,
 use Rattle.std.proofs.Math.Path.{fun_ext}
 use Rattle.std.proofs.lemmas.Bool.{cases_Bool}
 use Rattle.space_map.specs.AreaWord.{area_in, encode_area}
-use Rattle.space_map.specs.GateWord.{encode_gate}
 use Rattle.space_map.specs.PageWord.{encode_page}
 use Rattle.space_map.specs.Table.{Row, Area, Page, IsRow}
 use Rattle.space_map.proofs.AreaWords.{area_in-encode_area, encode_area-lt}
@@ -12,7 +11,7 @@ use Rattle.space_map.proofs.PageWords.{decode_page-encode_page}
 use Rattle.space_map.proofs.Rows.{row_eq, row_eq-decides}
 use Rattle.heap_state.specs.Memory.Entries.{Entry, GateIs, AreaIs, PageIs, EntryFits, row_of, word_of, with_entry}
 use Rattle.heap_state.specs.Functions.{put}
-use Rattle.heap_state.specs.Memory.Table.{HasForm, page_in, table_by, table_of, word_in}
+use Rattle.heap_state.specs.Memory.Table.{HasForm, page_word_in, table_by, table_of, word_in}
 use Rattle.heap_state.specs.Theorems.Rows.{StoresEntry}
 use Rattle.heap_state.proofs.Table.Places.{length-after, put_row, word_in-set}
 
@@ -51,7 +50,7 @@ module _ (n : ℕ) (words : Row → ℕ) where
       (put_said area_in (λ x. words (Area x)) space (encode_area area) area (area_in-encode_area area fits.1))
   one_part (PageIs page word) fits =
       ap (λ z. record (table_by n words) { page = z })
-      (put_said page_in (λ x. words (Page x)) page (encode_page word) word (rw (decode_page-encode_page word fits.1) refl))
+      (put_said page_word_in (λ x. words (Page x)) page (encode_page word) word (rw (decode_page-encode_page word fits.1) refl))
   one_part _ fits = refl
 
 -- ---- a store

@@ -28,7 +28,7 @@ abbrev pub IsInReach : Era → ℕ → ℕ → Type 0
 IsInReach E traced a = ((E.start ≤ a) × (a < E.start + E.span)) ⊎ ((traced ≤ E.epoch) × (E.old_start ≤ a) × (a < E.old_start + E.old_span))
 
 -- a record in the heap stands there, and nobody writes it
-pub record StandsUnwritten (E : Era) (traced : ℕ) (g : Ghost) (w : Walked) : Type 0 where
+pub record StandsWritten (E : Era) (traced : ℕ) (g : Ghost) (w : Walked) : Type 0 where
   pub sized : (0 < w.size) × (g.size w.at ≡ w.size)
   pub written : g.writer w.at ≡ 0
   pub inside : IsInReach E traced w.at
@@ -156,7 +156,7 @@ module _ (c : Configuration) (g : Ghost) (inv : Invariant (era c) (memory c) (te
   now_complete a f l st w = space_complete E.start m.front m.low (E.start + E.span) E.epoch g.size g.writer m.heap (reserved_in (kept_of c.workers)) m.page told_now
       (λ a f l st. tells E m c.mutators c.workers g inv a st) clear_now a f l st w
 
-  pub in_heap_sound : (w : Walked) → IsInHeap (dump_of c) w → StandsUnwritten E m.traced g w
+  pub in_heap_sound : (w : Walked) → IsInHeap (dump_of c) w → StandsWritten E m.traced g w
   in_heap_sound w (inl h) = let i = now_sound w h in record { sized = i.sized; written = i.written; inside = inl i.inside }
   in_heap_sound w (inr h) =
       let t = still_copying h.0 in

@@ -17,14 +17,14 @@ unfoldable pub word_in : ℕ → List ℕ → Row → ℕ
 word_in n words row = if is_row n row then slice_index words (place_of n row) else 0
 
 -- a page's word; one that is no page word says nothing
-abbrev pub page_in : ℕ → PageWord
-page_in w = unwrap_or (decode_page w) Unset
+abbrev pub page_word_in : ℕ → PageWord
+page_word_in w = unwrap_or (decode_page w) Unset
 
 -- the word has no bit that the format of its row doesn't have; a row without a format has any word
 abbrev pub HasForm : Row → ℕ → Type 0
 HasForm Gate word = word < 2 ^ 62
 HasForm (Area space) word = word < 2 ^ 54
-HasForm (Page page) word = decode_page word ≡ Some (page_in word)
+HasForm (Page page) word = decode_page word ≡ Some (page_word_in word)
 HasForm row word = ⊤
 
 -- ---- the table
@@ -50,7 +50,7 @@ table_by n word = record {
   gate = gate_in (word Gate);
   traced = word Traced;
   area = λ space. area_in (word (Area space));
-  page = λ page. page_in (word (Page page));
+  page = λ page. page_word_in (word (Page page));
   cross = λ page. word (Cross page);
   heap = λ addr. word (HeapWord addr);
   announced = λ worker. word (Announce worker);

@@ -113,12 +113,12 @@ mover (Flip asked) = 0
 mover (Full m asked room live) = m
 
 -- the mark changes nothing, or one mutator of the program moves
-abbrev pub MovesOne : List (List Instr) → ℕ → Plain → Plain → Type 0
-MovesOne code m s after = (after ≡ s) ⊎ ((m < length code) × MovesMutator m s after)
+abbrev pub MovesAtMostOne : List (List Instr) → ℕ → Plain → Plain → Type 0
+MovesAtMostOne code m s after = (after ≡ s) ⊎ ((m < length code) × MovesMutator m s after)
 
 -- an end for want of room comes to a mutator that had none
-abbrev pub GetsFull : List (List Instr) → ℕ → Plain → ℕ → ℕ → ℕ → ℕ → Type 0
-GetsFull code turns s m asked room live =
+abbrev pub GetsFullEnd : List (List Instr) → ℕ → Plain → ℕ → ℕ → ℕ → ℕ → Type 0
+GetsFullEnd code turns s m asked room live =
     (m < length code) × (is_some (mutator_of s m).end ≡ false) × (marked code turns s (Full m asked room live) ≡ ended s m (mutator_of s m) (HeapFull asked room live))
 
 module _ (code : List (List Instr)) (turns : ℕ) (alone : shares_nothing code ≡ true) (s : Plain) (apart : IsApart code s) where
@@ -129,7 +129,7 @@ module _ (code : List (List Instr)) (turns : ℕ) (alone : shares_nothing code �
   step_as m true has is = stays-moves code s apart m (stepped code turns s m) (stepped-rests code turns s m has apart.counted is)
   step_as m false has is = (step-alike code turns alone m s s apart apart (itself m) has is).one
 
-  step_acts : (m : ℕ) → (m < length code) ⊎ (length code ≤ m) → MovesOne code m s (stepped code turns s m)
+  step_acts : (m : ℕ) → (m < length code) ⊎ (length code ≤ m) → MovesAtMostOne code m s (stepped code turns s m)
   step_acts m (inl has) = inr (has, step_as m (is_some (mutator_of s m).end) has refl)
   step_acts m (inr past) = inl (stepped-past code turns s m past)
 
@@ -148,34 +148,34 @@ module _ (code : List (List Instr)) (turns : ℕ) (alone : shares_nothing code �
     subst (λ k. is_some k.end ≡ false) (sym (get_or_from_slice_get s.mutators m k fresh found)) (asks_as m asked k k.end (rw found at asks)),
   )
 
-  fills_as : (m asked room live : ℕ) (asks : Bool) → is_asked asked (asked_by code turns s m) ≡ asks → (marked code turns s (Full m asked room live) ≡ s) ⊎ GetsFull code turns s m asked room live
+  fills_as : (m asked room live : ℕ) (asks : Bool) → is_asked asked (asked_by code turns s m) ≡ asks → (marked code turns s (Full m asked room live) ≡ s) ⊎ GetsFullEnd code turns s m asked room live
   unfolding marked
   fills_as m asked room live false is = inl (rw is refl)
   fills_as m asked room live true is =
       let found = found_as m asked (slice_get s.mutators m) refl is in
       inr (subst (λ n. m < n) apart.counted found.0, found.1, rw (is, slice_get-get_or s.mutators m fresh found.0) refl)
 
-  pub fills : (m asked room live : ℕ) → (marked code turns s (Full m asked room live) ≡ s) ⊎ GetsFull code turns s m asked room live
+  pub fills : (m asked room live : ℕ) → (marked code turns s (Full m asked room live) ≡ s) ⊎ GetsFullEnd code turns s m asked room live
   fills m asked room live = fills_as m asked room live (is_asked asked (asked_by code turns s m)) refl
 
-  full_acts : (m asked room live : ℕ) → (marked code turns s (Full m asked room live) ≡ s) ⊎ GetsFull code turns s m asked room live → MovesOne code m s (marked code turns s (Full m asked room live))
+  full_acts : (m asked room live : ℕ) → (marked code turns s (Full m asked room live) ≡ s) ⊎ GetsFullEnd code turns s m asked room live → MovesAtMostOne code m s (marked code turns s (Full m asked room live))
   full_acts m asked room live (inl same) = inl same
   full_acts m asked room live (inr fills) = inr (fills.0, rw fills.2 (full-moves code s apart m (HeapFull asked room live) fills.1))
 
-  acts : (mark : Mark) → MovesOne code (mover mark) s (marked code turns s mark)
+  acts : (mark : Mark) → MovesAtMostOne code (mover mark) s (marked code turns s mark)
   unfolding marked
   acts (Step m) = step_acts m (cases_lt m (length code))
   acts (Flip asked) = inl refl
   acts (Full m asked room live) = full_acts m asked room live (fills m asked room live)
 
-  apart_after : (m : ℕ) (after : Plain) → MovesOne code m s after → IsApart code after
+  apart_after : (m : ℕ) (after : Plain) → MovesAtMostOne code m s after → IsApart code after
   apart_after m after (inl same) = rw same apart
   apart_after m after (inr moves) = moves-apart code s apart m after moves.1 moves.0
 
   pub marked-apart : (mark : Mark) → IsApart code (marked code turns s mark)
   marked-apart mark = apart_after (mover mark) (marked code turns s mark) (acts mark)
 
-  other_after : (m j : ℕ) (after : Plain) → MovesOne code j s after → (m ≡ j → ⊥) → HasSameMutator m s after
+  other_after : (m j : ℕ) (after : Plain) → MovesAtMostOne code j s after → (m ≡ j → ⊥) → HasSameMutator m s after
   other_after m j after (inl same) other = rw same (itself m)
   other_after m j after (inr moves) other = moves-other m j s after moves.1 other
 
@@ -183,7 +183,7 @@ module _ (code : List (List Instr)) (turns : ℕ) (alone : shares_nothing code �
   pub marked-other : (m : ℕ) (mark : Mark) → (m ≡ mover mark → ⊥) → HasSameMutator m s (marked code turns s mark)
   marked-other m mark other = other_after m (mover mark) (marked code turns s mark) (acts mark) other
 
-  rests_after : (m j : ℕ) (after : Plain) → MovesOne code j s after → (m ≡ j) ⊎ (m ≡ j → ⊥) → is_some (mutator_of s m).end ≡ true → mutator_of after m ≡ mutator_of s m
+  rests_after : (m j : ℕ) (after : Plain) → MovesAtMostOne code j s after → (m ≡ j) ⊎ (m ≡ j → ⊥) → is_some (mutator_of s m).end ≡ true → mutator_of after m ≡ mutator_of s m
   rests_after m j after (inl same) e ended = rw same refl
   rests_after m j after (inr moves) (inl e) ended = subst (λ n. mutator_of after n ≡ mutator_of s n) (sym e)
       (moves-mutator code s apart j after moves.1 moves.0 ∙ moves.1.rests (subst (λ n. is_some (mutator_of s n).end ≡ true) e ended))

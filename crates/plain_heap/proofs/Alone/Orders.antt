@@ -16,7 +16,7 @@ use Rattle.plain_heap.proofs.States.Steps.{stepped-past}
 use Rattle.plain_heap.proofs.Calls.Counts.{Grown}
 use Rattle.plain_heap.proofs.Alone.Runs.{mutator_of, after_steps, stepped-rests, steps-come, steps-end}
 use Rattle.plain_heap.proofs.Alone.Apart.{IsApart, HasSameMutator, moves-apart, full-moves, ended-mutator, opening-apart, opening-begun}
-use Rattle.plain_heap.proofs.Alone.Moves.{step-alike, mover, GetsFull, fills, marked-apart, marked-other, marked-rests}
+use Rattle.plain_heap.proofs.Alone.Moves.{step-alike, mover, GetsFullEnd, fills, marked-apart, marked-other, marked-rests}
 
 -- the numbers of k are the first of those of l, and with an end of its own it is l
 pub record IsFrontOf (k l : Mutator) : Type 0 where
@@ -95,7 +95,7 @@ module _ (code : List (List Instr)) (turns : ℕ) (alone : shares_nothing code �
       })
 
   agree-full_as : (marks : List Mark) → Agree marks → (n asked room live : ℕ) (s u : Plain) → IsApart code s → IsApart code u → HasSameMutator m s u
-      → (marked code turns s (Full m asked room live) ≡ s) ⊎ GetsFull code turns s m asked room live
+      → (marked code turns s (Full m asked room live) ≡ s) ⊎ GetsFullEnd code turns s m asked room live
       → is_some (mutator_of (after_steps code turns u n m) m).end ≡ true
       → IsFrontOf (mutator_of (state_after code turns (marked code turns s (Full m asked room live)) marks) m) (mutator_of (after_steps code turns u n m) m)
   agree-full_as marks rest n asked room live s u apart other meets (inl same) is = rw same (rest n s u apart other meets is)

@@ -21,7 +21,7 @@ use Rattle.space_map.proofs.AreaWords.{decode_area-encode_area}
 use Rattle.space_map.proofs.PageWords.{decode_page-encode_page}
 use Rattle.space_map.proofs.Rows.{place_of-apart}
 use Rattle.heap_state.specs.Configuration.{Configuration, Stands, table, era, memory}
-use Rattle.heap_state.specs.Memory.Table.{page_in, word_in}
+use Rattle.heap_state.specs.Memory.Table.{page_word_in, word_in}
 use Rattle.heap_state.proofs.Table.Places.{word_in-row, word_in-same, word_in-other}
 use Rattle.gc_worker.specs.Laws.Step.{age}
 use Rattle.gc_worker.specs.Steps.Turned.{PageWon}
@@ -53,7 +53,7 @@ LeavesBy c o w = (q : Step) → o ≡ Some q → LeavesPages c (words_after q c.
 
 module _ (c : Configuration) (p : Plain) (s : Stands c p) where
   same_age : (later : List ℕ) (page : ℕ) → word_in c.pages later (Page page) ≡ word_in c.pages c.words (Page page) → age c.pages later page ≡ age c.pages c.words page
-  same_age later page same = ap (λ (n : ℕ). age_of (page_in n)) same
+  same_age later page same = ap (λ (n : ℕ). age_of (page_word_in n)) same
 
   same_low : (later : List ℕ) → word_in c.pages later (Area (space_now c)) ≡ word_in c.pages c.words (Area (space_now c)) → NoHigher c later
   same_low later same a is =
@@ -138,7 +138,7 @@ module _ (c : Configuration) (p : Plain) (s : Stands c p) where
 
     pub age_now : age c.pages written page ≡ age_of word
     age_now =
-        ap (λ (n : ℕ). age_of (page_in n)) (word_in-same c.pages c.words (Page page) (encode_page word) within s.formed.whole)
+        ap (λ (n : ℕ). age_of (page_word_in n)) (word_in-same c.pages c.words (Page page) (encode_page word) within s.formed.whole)
         ∙ ap (λ (o : Option PageWord). age_of (unwrap_or o Unset)) (decode_page-encode_page word fits)
 
     pub writes_page : (w : Option PageWon) → ByClaim c written w page → LeavesPages c written w

@@ -1,5 +1,6 @@
 -- What the gate counts.
-use Rattle.std.specs.Prelude.{◌≡◌, ℕ, ◌^◌, ◌<◌, ◌≤◌, false, nat_lt}
+use Rattle.std.specs.Prelude.{◌≡◌, ℕ, ◌+◌, ◌^◌, ◌<◌, ◌≤◌, false, nat_lt}
+use Rattle.space_map.specs.declared.spaces.TheConstants.{MOST_MUTATORS, MOST_SCANNERS}
 use Rattle.space_map.specs.declared.gate_word.GateWord.{GateWord}
 use Rattle.heap_state.specs.Functions.{sum_below, count_one}
 use Rattle.heap_state.specs.Worker.{Worker, is_mutator, is_live, is_running, is_flipper, is_gone, is_late}
@@ -15,7 +16,7 @@ pub record Counted (gate : GateWord) (count : ℕ) (worker : ℕ → Worker) : T
   pub still : 0 < gate.behind → (gate.running ≡ 0) × (gate.request ≡ false)
   pub epoch_fits : gate.epoch < 2 ^ 32
 
--- at most 16 mutators, then the scanners, at most 24 workers in all
+-- no more mutators than a heap may have, then the scanners, and no more workers in all than there may be of both
 pub record Staffed (mutators count : ℕ) (worker : ℕ → Worker) : Type 0 where
-  pub few : (mutators ≤ 16) × (mutators ≤ count) × (count ≤ 24)
+  pub few : (mutators ≤ MOST_MUTATORS) × (mutators ≤ count) × (count ≤ MOST_MUTATORS + MOST_SCANNERS)
   pub posts : (k : ℕ) → k < count → is_mutator (worker k).post ≡ nat_lt k mutators
