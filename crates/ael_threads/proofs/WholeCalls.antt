@@ -1,4 +1,5 @@
 pub mod Began
+pub mod Ended
 pub mod BetweenSteps
 pub mod Acts
 pub mod Underway

@@ -1,24 +1,23 @@
 -- The look at the gate by which a mutator began an instruction, and a flip since then.
-use Rattle.std.specs.Prelude.{◌≡◌, ⊤, ℕ, ◌^◌, ◌-◌, ◌⊎◌, List, [], ◌∷◌, ◌++◌, Some}
+use Rattle.std.specs.Prelude.{◌≡◌, ℕ, ◌^◌, ◌-◌, ◌⊎◌, List, ◌∷◌, ◌++◌, Some, slice_index_or}
 use mathlib.Core.List.{IsPrefix}
 use Rattle.atom_store.specs.declared.step.Step.{Step}
 use Rattle.atom_store.specs.Step.{reply_of}
+use Rattle.gc_worker.specs.declared.calls.call.Call.{Call}
 use Rattle.gc_worker.specs.declared.calls.entry.Entry.{Entry}
 use Rattle.gc_worker.specs.declared.calls.entry.Entry.TheVariants.{Exchanged, Made}
-use Rattle.plain_state.specs.declared.end.End.{End}
 use Rattle.plain_state.specs.declared.end.End.TheVariants.{HeapFull}
-use Rattle.gc_worker.specs.declared.calls.did.Did.{Did}
-use Rattle.gc_worker.specs.declared.calls.did.Did.TheVariants.{Done, Trap}
+use Rattle.gc_worker.specs.declared.calls.did.Did.TheVariants.{Trap}
 use Rattle.gc_worker.specs.declared.stage.Stage.TheVariants.{Looks}
 use Rattle.gc_worker.specs.declared.task.Task.{Task}
 use Rattle.gc_worker.specs.Laws.Cycles.{IsInCall}
 use Rattle.gc_worker.specs.Workers.Held.{Held}
-use Rattle.gc_worker.specs.Laws.Step.{WorkersStand}
+use Rattle.gc_worker.specs.Laws.Step.{WorkersStand, nobody}
 use Rattle.gc_worker.specs.Steps.Stepped.{uncounted}
 use Rattle.gc_worker.specs.Steps.Turned.{turned}
 use Rattle.gc_worker.specs.Steps.Wanted.{wanted}
 use Rattle.ael_threads.specs.declared.view.Plan.{Plan}
-use Rattle.gc_worker.specs.History.Legal.{after_all, calls_of, last_flip}
+use Rattle.gc_worker.specs.History.Legal.{after_all, calls_of, last_flip, worker_call}
 use Rattle.gc_worker.specs.History.Tally.{tally}
 use Rattle.ael_threads.specs.Histories.{first_plain, opening_tally}
 use Rattle.ael_threads.specs.Workers.{StandsAs, heap_of}
@@ -51,13 +50,20 @@ pub record BeginsAt (plan : Plan) (m : ℕ) (task : Task) (log : List Entry) : T
   pub wants : wanted held ≡ Some step
   pub begins : IsInCall (turned held (reply_of step words)).stage
 
--- Mutator m, whose call of this task comes right after this history, began the task by a look at which the history was a beginning of it,
--- with all calls of m that it has; and since that look a flip came, or as many came as there can be.
-pub record FlippedSinceBegun (plan : Plan) (m : ℕ) (task : Task) (log : List Entry) : Type 0 where
+-- Mutator m began this task in this epoch: by a look at which the history was a beginning of this one, with just these calls of m, and as
+-- many flips as the epoch says.
+pub record BegunWithin (plan : Plan) (m : ℕ) (task : Task) (begun : ℕ) (own : List Call) (log : List Entry) : Type 0 where
   pub began : List Entry
   pub look : BeginsAt plan m task began
   pub begins : IsPrefix began log
-  pub calls : calls_of m began ≡ calls_of m log
+  pub calls : calls_of m began ≡ own
+  pub flips : flips_of plan began ≡ begun
+
+-- Mutator m, whose call of this task comes right after this history, began the task in this epoch by a look at a beginning of the history,
+-- with all calls of m that it has; and since that look a flip came, or as many came as there can be.
+pub record FlippedSinceBegun (plan : Plan) (m : ℕ) (task : Task) (begun : ℕ) (log : List Entry) : Type 0 where
+  pub within : BegunWithin plan m task begun (calls_of m log) log
+  pub open within use *
   pub flipped : HasFlipped began log ⊎ (flips_of plan log ≡ 2 ^ 32 - 1)
 
 -- ---- a history
@@ -67,26 +73,15 @@ pub record FlippedSinceBegun (plan : Plan) (m : ℕ) (task : Task) (log : List E
 pub record HasLooked (plan : Plan) (m : ℕ) (x : Held) (log : List Entry) : Type 0 where
   pub task : Task
   pub task_is : x.task ≡ Some task
-  pub began : List Entry
-  pub look : BeginsAt plan m task began
-  pub begins : IsPrefix began log
-  pub calls : calls_of m began ≡ calls_of m log
-  pub flips : flips_of plan began ≡ x.begun
+  pub within : BegunWithin plan m task x.begun (calls_of m log) log
+  pub open within use *
 
-abbrev pub FlippedSinceByEnd : Plan → (m : ℕ) → Task → List Entry → End → Type 0
-FlippedSinceByEnd plan m task log (HeapFull asked room live) = FlippedSinceBegun plan m task log
-FlippedSinceByEnd plan m task log end = ⊤
+-- the epochs in which workers began their last tasks, by their numbers
+abbrev pub begun_held : List Held → ℕ → ℕ
+begun_held workers j = (slice_index_or workers j nobody).begun
 
-abbrev pub FlippedSinceByOutcome : Plan → (m : ℕ) → Task → List Entry → Did → Type 0
-FlippedSinceByOutcome plan m task log Done = ⊤
-FlippedSinceByOutcome plan m task log (Trap end) = FlippedSinceByEnd plan m task log end
-
--- where the entry after this history tells the heap to be full, a flip came since the look that began its task, or none can
-abbrev pub FlippedIfFull : Plan → List Entry → Entry → Type 0
-FlippedIfFull plan log (Made c) = FlippedSinceByOutcome plan c.by c.task log c.did
-FlippedIfFull plan log (Exchanged by asked) = ⊤
-
--- a fact of each entry, by those before it
-abbrev pub EachAfter : (List Entry → Entry → Type 0) → (front : List Entry) → List Entry → Type 0
-EachAfter P front [] = ⊤
-EachAfter P front (e ∷ es) = P front e × EachAfter P (front ++ e ∷ []) es
+-- Wherever the history tells that mutator m finds the heap full, m began that task by a look in this epoch, and since then a flip came, or
+-- none can.
+abbrev pub FlippedIfFull : Plan → (m begun : ℕ) → List Entry → Type 0
+FlippedIfFull plan m begun log = (front rest : List Entry) (task : Task) (asked room live : ℕ) → front ++ Made (worker_call m task (Trap (HeapFull asked room live))) ∷ rest ≡ log
+    → FlippedSinceBegun plan m task begun front

@@ -23,7 +23,7 @@ use Rattle.gc_worker.specs.declared.calls.did.Did.TheVariants.{Done, Trap}
 use Rattle.gc_worker.specs.History.Tally.{IsFilledBy, tally, tasks_held}
 use Rattle.ael_threads.specs.Histories.{opening_tally, first_plain, hand}
 use Rattle.gc_worker.specs.History.Legal.{after_all, worker_call, calls_of, last_flip}
-use Rattle.ael_threads.specs.Began.{BeginsAt, FlippedSinceBegun, flips_of}
+use Rattle.ael_threads.specs.Began.{BegunWithin, FlippedSinceBegun, flips_of}
 use Rattle.ael_threads.specs.Seats.{ActsBy, Extends, IsShown, LiveWhereTold, Seated, ShowsSeen, first_number, first_own, plain_after_seen}
 
 -- a caller's call that came to this
@@ -52,13 +52,10 @@ pub record Waits (a : Seated) (task : Task) (b : Seated) : Type 0 where
 -- It has begun the task in this call: by a look at which the history began with all that was known before the call, and had just the
 -- calls that the caller had made; in an epoch not before the one in which the caller was before the call.
 pub record HasBegun (a : Seated) (task : Task) (b : Seated) : Type 0 where
-  pub began : List Entry
-  pub look : BeginsAt a.knows.plan (first_number a.knows.hands) task began
+  pub within : BegunWithin a.knows.plan (first_number a.knows.hands) task b.worker.begun (first_own a.knows.hands) b.knows.heard
+  pub open within use *
   pub seen : IsPrefix a.knows.seen began
   pub heard : IsPrefix a.knows.heard began
-  pub calls : calls_of (first_number a.knows.hands) began ≡ first_own a.knows.hands
-  pub hears : IsPrefix began b.knows.heard
-  pub flips : flips_of a.knows.plan began ≡ b.worker.begun
   pub epoch : a.worker.epoch ≤ b.worker.begun
 
 -- a caller that waits; where it is past the look it has begun the task in this call
@@ -73,10 +70,9 @@ pub record IsUnderWay (a : Seated) (task : Task) (b : Seated) : Type 0 where
 -- the call, and its number of flips is the epoch in which the caller has begun the task, as it is before its last act; that epoch is not
 -- before the one in which the caller was before the call. So the caller is of a later epoch than before, or of the last.
 pub record FlippedInCall (a : Seated) (task : Task) (log : List Entry) (last b : Seated) : Type 0 where
-  pub since : FlippedSinceBegun a.knows.plan (first_number a.knows.hands) task log
+  pub since : FlippedSinceBegun a.knows.plan (first_number a.knows.hands) task last.worker.begun log
   pub seen : IsPrefix a.knows.seen since.began
   pub heard : IsPrefix a.knows.heard since.began
-  pub flips : flips_of a.knows.plan since.began ≡ last.worker.begun
   pub begun : a.worker.epoch ≤ last.worker.begun
   pub rises : (a.worker.epoch < b.worker.epoch) ⊎ (b.worker.epoch ≡ 2 ^ 32 - 1)
 

@@ -35,7 +35,7 @@ use Rattle.gc_worker.specs.History.Legal.{IsLegal, after_all, last_flip}
 use Rattle.ael_threads.specs.Opened.{plan_of}
 use Rattle.gc_worker.specs.History.Order.{order_of}
 use Rattle.ael_threads.specs.Readers.{SeatedScanner, seated}
-use Rattle.ael_threads.specs.Began.{EachAfter, FlippedIfFull}
+use Rattle.ael_threads.specs.Began.{FlippedIfFull, begun_held}
 use Rattle.ael_threads.specs.Rule.{crew, heap_of}
 use Rattle.ael_threads.specs.Running.{FullIn}
 use Rattle.ael_threads.specs.Seats.{Closes, Seated}
@@ -90,10 +90,10 @@ pub record TellsRegisters (told : Outputs) (m : ℕ) (q : Mutator) : Type 0 wher
 -- program, each mutator its section from the start, none of its instructions skipped and none executed twice, to its end. The words that
 -- are told, with what all workers hold, which have left, stand for the plain state after it, and registers show the plain ones; what was
 -- copied in an epoch that is traced is what was live at its last flip; what else is told is what these say. Each flip was for a record, an
--- instruction asking for one at most; where a mutator's end is that the heap is full, it was, by the words that its own seat read, after a
--- flip that came since the instruction began if it is not the last that there can be, and what was live at the flip before filled the
--- space, with records made since then or being made. So it is by the order alone; and a heap that is as large as the order needs is never
--- full.
+-- instruction asking for one at most; where a mutator's end is that the heap is full, it was, by words with which all workers stood at that
+-- call, and what was live at the flip before filled the space, with records made since then or being made; there is a look by which the
+-- mutator began that instruction, and that flip came since, if it is not the last that there can be. So it is by the order alone; and a
+-- heap that is as large as the order needs is never full.
 pub record Runs (code : List (List Instr)) (config : Config) (told : Outputs) : Type 0 where
   pub log : List Entry
   pub workers : List Held
@@ -112,7 +112,7 @@ pub record Runs (code : List (List Instr)) (config : Config) (told : Outputs) : 
   pub entries : EachEntry (EntryIs config.pages (tasks_held workers)) (opening_tally (plan_of (length code) config)) log
   pub all_words : length told.words ≡ table_length config.pages
   pub tells : Tells (heap_of (plan_of (length code) config) told.words workers) told
-  pub flipped : EachAfter (FlippedIfFull (plan_of (length code) config)) [] log
+  pub flipped : (m : ℕ) → FlippedIfFull (plan_of (length code) config) m (begun_held workers m) log
   pub full : (m : ℕ) (q : Mutator) (end : End) → slice_get (after_all (opening code) log).mutators m ≡ Some q → q.end ≡ Some end → FullIn (plan_of (length code) config) m log end
   pub filled : EachFullIs config.pages code config.turns (needs.first_story code) 0 (order_of log)
   pub follows : EachMayCome (λ m. false) 0 (order_of log)

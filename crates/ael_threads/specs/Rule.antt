@@ -17,7 +17,7 @@ use Rattle.ael_threads.specs.declared.view.View.{View}
 use Rattle.gc_worker.specs.History.Tally.{IsTallied}
 use Rattle.ael_threads.specs.Histories.{opening_tally, Each, IsOnce, first_plain, new_hands, hand_number}
 use Rattle.gc_worker.specs.History.Legal.{IsLegal, after_all, calls_of, last_flip}
-use Rattle.ael_threads.specs.Began.{EachAfter, HasLooked, FlippedIfFull}
+use Rattle.ael_threads.specs.Began.{FlippedIfFull, HasLooked, begun_held}
 pub use Rattle.ael_threads.specs.Workers.{StandsAs, crew, heap_of}
 
 -- ---- views
@@ -64,8 +64,8 @@ pub record FitsView (plan : Plan) (words : List ℕ) (workers : List Held) (log 
 
 -- THE RULE: with what all workers hold the words stand for the plain state after one legal history, and keep what a cycle keeps that
 -- began at its last flip; once a scanner is gone, all mutators are; what is counted along the history fits the words and the workers;
--- each worker that is in a call began it by a look at a beginning of the history, and each full heap of the history was found after a flip
--- since such a look, or in the last epoch; what each seat knows fits these.
+-- each worker that is in a call began it by a look at a beginning of the history, in the epoch that it keeps, and where the history tells
+-- that a worker found the heap full, a flip came since that look, or none can; what each seat knows fits these.
 pub record RuleHolds (plan : Plan) (s : table.State ℕ View) : Type 0 where
   pub log : List Entry
   pub workers : List Held
@@ -77,5 +77,5 @@ pub record RuleHolds (plan : Plan) (s : table.State ℕ View) : Type 0 where
   pub last : ScannersAreLast (heap_of plan s.words workers)
   pub tallied : IsTallied (heap_of plan s.words workers) (opening_tally plan) log
   pub begun : (m : ℕ) (x : Held) → get_elem? workers m ≡ some x → IsInCall x.stage → HasLooked plan m x log
-  pub flipped : EachAfter (FlippedIfFull plan) [] log
+  pub flipped : (m : ℕ) → FlippedIfFull plan m (begun_held workers m) log
   pub seats : (id : ℕ) (v : View) → get_elem? s.views id ≡ some v → FitsView plan s.words workers log owner winner id v

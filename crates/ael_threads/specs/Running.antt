@@ -18,7 +18,7 @@ use Rattle.gc_worker.specs.declared.calls.entry.Entry.{Entry}
 use Rattle.gc_worker.specs.declared.calls.entry.Entry.TheVariants.{Made}
 use Rattle.ael_threads.specs.declared.view.Plan.{Plan}
 use Rattle.gc_worker.specs.History.Legal.{IsLegal, after_all, worker_call, last_flip}
-use Rattle.ael_threads.specs.Began.{FlippedSinceBegun, flips_of}
+use Rattle.ael_threads.specs.Began.{FlippedSinceBegun}
 use Rattle.ael_threads.specs.Histories.{first_plain, hand}
 use Rattle.ael_threads.specs.Programs.{HasExecuted}
 use Rattle.ael_threads.specs.Readers.{SeatedScanner}
@@ -27,9 +27,9 @@ use Rattle.ael_threads.specs.Seats.{IsMine, Seated, ShowsSeen}
 
 -- ---- a full heap
 
--- The heap was full for mutator m at its call with which the history ends: by words that its own seat read, with which all workers stood
--- for the history before the call; and what is told as live was live at the last flip, which came since the look that began the call's
--- task, in the epoch that m keeps, if it is not the last that there can be.
+-- The heap was full for mutator m at its call with which the history ends: by words with which these workers stood for the history before
+-- the call; and what is told as live was live at the last flip, which came since the look that began the call's task, in the epoch that m
+-- keeps among these workers, if it is not the last that there can be.
 pub record FoundFull (plan : Plan) (m : ℕ) (log : List Entry) (asked room live : ℕ) : Type 0 where
   pub before : List Entry
   pub task : Task
@@ -41,8 +41,7 @@ pub record FoundFull (plan : Plan) (m : ℕ) (log : List Entry) (asked room live
   pub stands : WorkersStand (heap_of plan words workers) (after_all (first_plain plan) before) (last_flip (first_plain plan) before)
   pub no_room : FindsNoRoom plan.spaces.pages words held asked room live
   pub was_live : IsLive (last_flip (first_plain plan) log) live
-  pub flipped : FlippedSinceBegun plan m task before
-  pub begun : flips_of plan flipped.began ≡ held.begun
+  pub flipped : FlippedSinceBegun plan m task held.begun before
 
 -- at a call of this history
 abbrev pub EndFoundFull : Plan → (m : ℕ) → List Entry → End → Type 0
@@ -110,7 +109,7 @@ pub record RunsAsScanner (w : Work) (k : ℕ) (s : Seated) : Type 0 where
   pub task : s.worker.task ≡ None
 
 -- and is gone, as a scanner is only after it has found that all mutators have left (`saw` of `Moves`)
-pub record HasSeenAllLeave (w : Work) (k : ℕ) (s : Seated) : Type 0 where
+pub record ScannerIsGone (w : Work) (k : ℕ) (s : Seated) : Type 0 where
   pub scanning : RunsAsScanner w k s
   pub gone : s.worker.stage ≡ Gone
 
@@ -135,4 +134,4 @@ AreScanning w from scanners = EachFrom (λ k (s : SeatedScanner). RunsAsScanner 
 
 -- and after their last act
 abbrev pub HaveScanned : Work → (from : ℕ) → List SeatedScanner → Type 0
-HaveScanned w from scanners = EachFrom (λ k (s : SeatedScanner). HasSeenAllLeave w k s.seated) from scanners
+HaveScanned w from scanners = EachFrom (λ k (s : SeatedScanner). ScannerIsGone w k s.seated) from scanners

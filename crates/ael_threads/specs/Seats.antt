@@ -45,7 +45,7 @@ use Rattle.gc_worker.specs.History.Large.{HasNoFullCall, IsLargeFor}
 use Rattle.gc_worker.specs.History.Tally.{EachEntry, EntryIs, IsTallied, Tasks, tasks_held, tally}
 use Rattle.ael_threads.specs.Histories.{AreBy, opening_tally, Each, IsOnce, HasOwnCalls, first_held, first_plain, hand, hand_number}
 use Rattle.gc_worker.specs.History.Legal.{IsLegal, after_all, worker_call, calls_of, extra, last_flip, own_after}
-use Rattle.ael_threads.specs.Began.{EachAfter, FlippedIfFull}
+use Rattle.ael_threads.specs.Began.{FlippedIfFull, begun_held}
 use Rattle.ael_threads.specs.Rule.{StandsAs, crew, heap_of, view}
 
 -- ---- a step by the word that it finds
@@ -204,9 +204,9 @@ abbrev pub Heads : Plan → Held → List Hand → Type 0
 Heads plan x [] = ⊥
 Heads plan x (was ∷ others) = Follows plan was.number was.worker x
 
--- the seat is of this heap
-abbrev pub IsSeatOf : TableId → View → Type 0
-IsSeatOf t v = (0 < v.plan.spaces.pages) × (t.words ≡ table_length v.plan.spaces.pages)
+-- the seat is of a heap whose table has as many words as this one
+abbrev pub FitsTable : TableId → View → Type 0
+FitsTable t v = (0 < v.plan.spaces.pages) × (t.words ≡ table_length v.plan.spaces.pages)
 
 -- what an act tells: the caller's code took this reply to the step that it wanted, and goes on with its task or has answered it
 pub record ActsBy (a : Seated) (r : Reply) (s : Stepped) (b : Seated) : Type 0 where
@@ -244,6 +244,11 @@ new_callers t plan from (suc n) = new_callers t plan from n ++ new_seated t plan
 abbrev pub both_of : View → View → View
 both_of v w = view v.plan (v.hands ++ w.hands) v.seen w.seen (v.claims ++ w.claims)
 
+-- Where the history tells that this worker found the heap full, a flip came since the look by which it began that task, in the epoch that
+-- its code keeps, or none can.
+abbrev pub HasFlippedIfFull : Plan → List Entry → Hand → Type 0
+HasFlippedIfFull plan log h = FlippedIfFull plan h.number h.worker.begun log
+
 -- the whole history was seen and heard of, of which both lists are beginnings, and in which these workers' calls stand, each once
 pub record Learned (v w : View) : Type 0 where
   pub plan : w.plan ≡ v.plan
@@ -258,14 +263,15 @@ pub record Learned (v w : View) : Type 0 where
   pub legal : IsLegal (first_plain w.plan) w.seen
   pub tasks : Tasks
   pub entries : EachEntry (EntryIs w.plan.spaces.pages tasks) (opening_tally w.plan) w.seen
-  pub flipped : EachAfter (FlippedIfFull w.plan) [] w.seen
+  pub flipped : Each (HasFlippedIfFull w.plan w.seen) w.hands
 
 abbrev pub Learns : table.Step ℕ → Me → ℕ → Me → Type 0
 Learns st me found later = (later.1 ≡ me.1) × Learned me.0 later.0
 
 -- THE CLAUSE OF ABSORB: one history for both callers, with just the calls that both made; no worker of both, and no page won by both in
 -- one epoch. There are tasks, one a worker at most, by which, where the history has no later call of a worker, each full heap of it was
--- filled and each of its flips was asked for; and each full heap was found after a flip since the call began, or in the last epoch.
+-- filled and each of its flips was asked for; and where one of these workers found the heap full, a flip came since the look by which it
+-- began that task, in the epoch that its code keeps, or none can.
 pub record Absorbs (v u w : View) : Type 0 where
   pub plan : w.plan ≡ v.plan
   pub hands : w.hands ≡ v.hands ++ u.hands
@@ -279,7 +285,7 @@ pub record Absorbs (v u w : View) : Type 0 where
   pub legal : IsLegal (first_plain w.plan) w.seen
   pub tasks : Tasks
   pub entries : EachEntry (EntryIs w.plan.spaces.pages tasks) (opening_tally w.plan) w.seen
-  pub flipped : EachAfter (FlippedIfFull w.plan) [] w.seen
+  pub flipped : Each (HasFlippedIfFull w.plan w.seen) w.hands
 
 -- ---- the end
 
@@ -307,10 +313,11 @@ pub record Stays (workers : List Held) (log : List Entry) (h : Hand) : Type 0 wh
 -- THE CLAUSE OF CLOSE: the calls of all these callers stand in one legal history, each once, of which what each has seen is a beginning;
 -- with what their codes hold the words stand for the plain state after it; if a scanner is gone, all mutators are; what was copied in an
 -- epoch that is traced is what was live at the last flip of the history; the gate's epoch is the number of its flips; each flip was for a
--- record, and where a call told the heap to be full, what was live at the flip before it, which came since the look that began the call if
--- it is not the last that there can be, filled the space, with records made since then or being made, by the history or else by the tasks
--- that mutators have begun, so a heap that is as large as the history needs is never full; no mutator asked for two flips between two of
--- its calls; if all workers are there the history has no other calls; no worker stands twice, and no page was won twice in one epoch.
+-- record, and where a call told the heap to be full, what was live at the flip before it filled the space, with records made since then or
+-- being made, by the history or else by the tasks that mutators have begun, so a heap that is as large as the history needs is never full;
+-- that flip came since the look by which the worker began that task, in the epoch that it keeps, if it is not the last that there can be;
+-- no mutator asked for two flips between two of its calls; if all workers are there the history has no other calls; no worker stands
+-- twice, and no page was won twice in one epoch.
 pub record Closes (plan : Plan) (all : List Seated) (words : List ℕ) : Type 0 where
   pub log : List Entry
   pub workers : List Held
@@ -322,7 +329,8 @@ pub record Closes (plan : Plan) (all : List Seated) (words : List ℕ) : Type 0 
   pub epoch : epoch_of plan.spaces.pages words ≡ (tally (opening_tally plan) log).flips
   pub entries : EachEntry (EntryIs plan.spaces.pages (tasks_held workers)) (opening_tally plan) log
   pub large : IsLargeFor plan.spaces.pages (tasks_held workers) (opening_tally plan) log → HasNoFullCall log
-  pub flipped : EachAfter (FlippedIfFull plan) [] log
+  pub flipped : Each (HasFlippedIfFull plan log) (all_hands all)
+  pub all_flipped : (m : ℕ) → FlippedIfFull plan m (begun_held workers m) log
   pub seen : Each (λ (s : Seated). IsPrefix s.knows.seen log) all
   pub hands : Each (Stays workers log) (all_hands all)
   pub others : length (all_hands all) ≡ crew plan → AreBy (map hand_number (all_hands all)) log

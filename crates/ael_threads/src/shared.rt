@@ -9,7 +9,7 @@ ghost use Rattle.gc_worker.specs.Workers.Held.{Held};
 ghost use Rattle.gc_worker.specs.Laws.Step.{nobody};
 ghost use Rattle.gc_worker.specs.Steps.Wanted.{wanted};
 ghost use Rattle.ael_threads.specs.Rule.{RuleHolds, first_view, spent_view};
-ghost use Rattle.ael_threads.specs.Seats.{Heads, IsSeatOf, IsMine, Learns, Moves, Plays, ShowsSeen, both_of, first_number, first_of, others_of};
+ghost use Rattle.ael_threads.specs.Seats.{Heads, FitsTable, IsMine, Learns, Moves, Plays, ShowsSeen, both_of, first_number, first_of, others_of};
 
 use crate::view::{Plan, View};
 use atom_store::{Reply, Step};
@@ -89,7 +89,7 @@ impl Shared {
         requires worker { worker.now ≡ J.now }
         requires want { wanted worker.now ≡ Some step }
         requires heads { Heads seat.old.me.0.plan worker.now seat.old.me.0.hands }
-        requires live { IsSeatOf seat.old.table_id seat.old.me.0 }
+        requires live { FitsTable seat.old.table_id seat.old.me.0 }
         requires mine { IsMine seat.old.me.0 }
         requires shows { ShowsSeen worker.now seat.old.me.0 }
         ensures table { (seat.new.table_id ≡ seat.old.table_id) × (seat.new.id ≡ seat.old.id) × (seat.new.me.1 ≡ seat.old.me.1) }

@@ -33,6 +33,10 @@ module _ {A : Type 0} where
   each_at P [] ys y h = h.0
   each_at P (x ∷ xs) ys y h = each_at P xs ys y h.1
 
+  pub not_empty : (xs ys : List A) (x : A) → xs ++ x ∷ ys ≡ [] → ⊥
+  not_empty [] ys x e = cc
+  not_empty (z ∷ zs) ys x e = cc
+
   pub prefix_more : (xs ys zs : List A) → IsPrefix xs ys → IsPrefix xs (ys ++ zs)
   prefix_more xs ys zs h = (h.0 ++ zs, sym (append_assoc xs h.0 zs) ∙ ap (λ (z : List A). z ++ zs) h.1)
 

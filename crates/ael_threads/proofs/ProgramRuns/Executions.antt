@@ -29,7 +29,7 @@ use Rattle.ael_threads.specs.Programs.{HasExecuted, count_after_call, fetched_at
 use Rattle.ael_threads.specs.Rule.{StandsAs, heap_of}
 use Rattle.ael_threads.specs.Running.{Executed, Executing, FoundFull, EndFoundFull, HasRun, RunsAsScanner, Work}
 use Rattle.ael_threads.specs.Seats.{Acts, IsMine, IsShown, Seated, ShowsSeen, first_number, first_own, plain_after_seen, seen_after}
-use Rattle.ael_threads.specs.Began.{FlippedSinceBegun, flips_of}
+use Rattle.ael_threads.specs.Began.{FlippedSinceBegun}
 use Rattle.ael_threads.proofs.WholeCalls.FromActs.{found_is, quiet_first, quiet_more}
 use Rattle.gc_worker.proofs.History.Extensions.{legal_last}
 use Rattle.ael_threads.proofs.WholeCalls.OneMore.{fetches_shown}
@@ -122,8 +122,8 @@ module _ (w : Work) (m count : ℕ) (a : Seated) (h : Executing w m count a) whe
       let k = c.acts.knows in
       let n : first_number c.last.knows.hands ≡ m = c.waits.rests.number ∙ number_is in
       let plan : c.last.knows.plan ≡ w.plan = c.waits.rests.plan ∙ h.plan in
-      let since = subst (λ (v : Plan × (ℕ × List Entry)). (f : FlippedSinceBegun v.0 v.1.0 task v.1.1) × (flips_of v.0 f.began ≡ c.last.worker.begun))
-      (λ i. (h.plan i, (number_is i, found_is a b task (Trap (HeapFull asked room live)) c i))) (c.flipped.since, c.flipped.flips) in record {
+      let since = subst (λ (v : Plan × (ℕ × List Entry)). FlippedSinceBegun v.0 v.1.0 task c.last.worker.begun v.1.1)
+      (λ i. (h.plan i, (number_is i, found_is a b task (Trap (HeapFull asked room live)) c i))) c.flipped.since in record {
         before = k.found.log;
         task = task;
         is = k.sees ∙ ((λ i. seen_after c.last.knows.seen k.stands.log (c.answers i)) ∙ (k.grows ∙ (λ i. k.found.log ++ extra (n i) (c.answers i))));
@@ -134,8 +134,7 @@ module _ (w : Work) (m count : ℕ) (a : Seated) (h : Executing w m count a) whe
         stands = subst (λ (v : Plan). WorkersStand (heap_of v k.before k.found.workers) (after_all (first_plain v) k.found.log) (last_flip (first_plain v) k.found.log)) plan k.found.stands;
         no_room = subst (λ (v : Plan). FindsNoRoom v.spaces.pages k.before c.last.worker asked room live) h.plan c.full;
         was_live = subst (λ (v : Plan). IsLive (last_flip (first_plain v) b.knows.seen) live) h.plan c.live;
-        flipped = since.0;
-        begun = since.1;
+        flipped = since;
       }
 
   full_by : (b : Seated) (task : Task) (end : End) → Called a task (Trap end) b → EndFoundFull w.plan m b.knows.seen end

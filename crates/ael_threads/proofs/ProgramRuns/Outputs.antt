@@ -326,7 +326,7 @@ module _ (code : List (List Instr)) (config : Config) (t : TableId) (ms : List S
           left = workers_left;
           shows = λ m q is. shown_at m q told regs (ap (λ (z : Plain). slice_get (after_all z c.log).mutators m) from ∙ is);
           entries = c.entries;
-          flipped = c.flipped;
+          flipped = c.all_flipped;
           tells = subst (λ (z : List ℕ). Tells (heap_of plan_here z c.workers) told) (sym same) tells;
           filled = fulls.0;
           follows = fulls.1;

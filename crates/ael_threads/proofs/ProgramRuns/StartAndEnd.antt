@@ -10,7 +10,7 @@ use Rattle.ael_threads.specs.Histories.{Each}
 use Rattle.ael_threads.specs.Opened.{new_scanner, new_scanners}
 use Rattle.ael_threads.specs.Outputs.{HasEnd}
 use Rattle.ael_threads.specs.Readers.{SeatedScanner}
-use Rattle.ael_threads.specs.Running.{AreReady, AreScanning, EachFrom, Executing, HasSeenAllLeave, HaveRun, HaveScanned, RunsAsScanner, Work}
+use Rattle.ael_threads.specs.Running.{AreReady, AreScanning, EachFrom, Executing, ScannerIsGone, HaveRun, HaveScanned, RunsAsScanner, Work}
 use Rattle.ael_threads.specs.Seats.{Seated, new_callers, new_seated}
 use Rattle.ael_threads.proofs.ProgramRuns.Programs.{executed_first}
 use Rattle.ael_threads.proofs.ProgramRuns.Outputs.{from_append}
@@ -85,7 +85,7 @@ module _ (w : Work) where
 
   -- each of them, wherever it stands
   pub each_scanned : (n : ℕ) (old new : List SeatedScanner) → length new ≡ length old
-      → ((i : ℕ) (s : SeatedScanner) → i < length old → (k : ℕ) → RunsAsScanner w k (get_or old i s).seated → HasSeenAllLeave w k (get_or new i s).seated) → AreScanning w n old → HaveScanned w n new
+      → ((i : ℕ) (s : SeatedScanner) → i < length old → (k : ℕ) → RunsAsScanner w k (get_or old i s).seated → ScannerIsGone w k (get_or new i s).seated) → AreScanning w n old → HaveScanned w n new
   each_scanned n [] [] many scans h = tt
   each_scanned n [] (y ∷ ys) many scans h = absurd (omega (arith, many))
   each_scanned n (x ∷ xs) [] many scans h = absurd (omega (arith, many))

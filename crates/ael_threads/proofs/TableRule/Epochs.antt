@@ -1,5 +1,5 @@
 -- The epochs of workers and of the gate, and the flips of a history that its epoch counts.
-use Rattle.std.proofs.Common.{◌≡◌, ℕ, ◌<◌, ◌≤◌, true, List, [], ◌∷◌, ◌++◌, length, Some, None, refl, sym, ◌∙◌, ap, subst, arith}
+use Rattle.std.proofs.Common.{◌≡◌, ℕ, ◌<◌, ◌≤◌, ◌-◌, ◌^◌, ◌⊎◌, inl, inr, ⊎_elim, true, List, [], ◌∷◌, ◌++◌, length, Some, None, refl, sym, ◌∙◌, ap, subst, arith}
 use mathlib.Core.List.{IsPrefix}
 use Rattle.plain_state.specs.State.{Plain}
 use Rattle.heap_state.specs.Configuration.{era, team}
@@ -97,21 +97,19 @@ flips_rise plan early late h =
     omega (arith, all, more)
 
 -- where there are more flips one stands in what came since
-record IsMore (more : List Entry) : Type 0 where
-  between : List Entry
-  by : ℕ
-  asked : ℕ
-  rest : List Entry
-  is : more ≡ between ++ Exchanged by asked ∷ rest
-
-is_more : (t : Tally) (more : List Entry) → t.flips < (tally t more).flips → IsMore more
+is_more : (t : Tally) (more : List Entry) → t.flips < (tally t more).flips → HasFlipped [] more
 is_more t [] h = absurd (omega (arith, h))
 is_more t (Made c ∷ es) h = let f = is_more (after_entry t (Made c)) es h in record { between = Made c ∷ f.between; by = f.by; asked = f.asked; rest = f.rest; is = ap (λ (z : List Entry). Made c ∷ z) f.is }
 is_more t (Exchanged by asked ∷ es) h = record { between = []; by = by; asked = asked; rest = es; is = refl }
 
-pub has_flipped : (plan : Plan) (early late : List Entry) → IsPrefix early late → flips_of plan early < flips_of plan late → HasFlipped early late
+has_flipped : (plan : Plan) (early late : List Entry) → IsPrefix early late → flips_of plan early < flips_of plan late → HasFlipped early late
 has_flipped plan early late h fewer =
     let all : flips_of plan late ≡ (tally (tally (opening_tally plan) early) h.0).flips =
     ap (λ (log : List Entry). flips_of plan log) (sym h.1) ∙ ap (λ (t : Tally). t.flips) (tally_append (opening_tally plan) early h.0) in
     let f = is_more (tally (opening_tally plan) early) h.0 (omega (arith, all, fewer)) in
     record { between = f.between; by = f.by; asked = f.asked; rest = f.rest; is = sym h.1 ∙ ap (λ (z : List Entry). early ++ z) f.is }
+
+-- so one does for a worker that has come into a later epoch since it began
+pub flipped_since : (plan : Plan) (early late : List Entry) (x : Held) → IsPrefix early late → flips_of plan early ≡ x.begun → flips_of plan late ≡ x.epoch → (x.begun < x.epoch) ⊎ (x.epoch ≡ 2 ^ 32 - 1)
+    → HasFlipped early late ⊎ (flips_of plan late ≡ 2 ^ 32 - 1)
+flipped_since plan early late x h then now no_flip = ⊎_elim (λ (fewer : x.begun < x.epoch). inl (has_flipped plan early late h (omega (arith, fewer, now, then)))) (λ last. inr (now ∙ last)) no_flip

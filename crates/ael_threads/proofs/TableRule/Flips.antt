@@ -29,6 +29,7 @@ use Rattle.gc_worker.specs.declared.stage.Stage.TheVariants.{Looks, Passes, Flip
 use Rattle.gc_worker.specs.declared.task.Task.{Task}
 use Rattle.gc_worker.specs.declared.task.Task.TheVariants.{Calls, Stops}
 use Rattle.gc_worker.specs.Steps.Access as access
+use Rattle.gc_worker.specs.Workers.Begun.{IsPastLook}
 use Rattle.gc_worker.specs.Workers.Counted.{counted}
 use Rattle.gc_worker.specs.Workers.Fits.{Fits, FitsTask}
 use Rattle.gc_worker.specs.Workers.Held.{Held, pages_needed, at_stage, making_for}
@@ -58,27 +59,28 @@ module _ (n mutators m count : ℕ) (x : Held) (reply : Reply) (fits : Fits n mu
 
 -- ---- an answer
 
-abbrev Stays : (was now : Held) → Told → Type 0
-Stays was now Silent = ⊤
-Stays was now (Answers task outcome) = now.epoch ≡ was.epoch
-Stays was now (Marks asked) = ⊤
+-- who answers stays in its epoch, and if it has begun the task before, keeps the one in which it did
+abbrev Stays : (past : Type 0) (was now : Held) → Told → Type 0
+Stays past was now Silent = ⊤
+Stays past was now (Answers task outcome) = (now.epoch ≡ was.epoch) × (past → now.begun ≡ was.begun)
+Stays past was now (Marks asked) = ⊤
 
 module _ (x : Held) where
-  effect_stays : (y : Held) → y.epoch ≡ x.epoch → (task : Option Task) → Stays x y (told_effect task)
-  effect_stays y same (Some task) = same
-  effect_stays y same None = tt
+  effect_stays : (y : Held) → y.epoch ≡ x.epoch → y.begun ≡ x.begun → (task : Option Task) → Stays ⊤ x y (told_effect task)
+  effect_stays y same began (Some task) = (same, λ past. began)
+  effect_stays y same began None = tt
 
-  end_stays : (why : End) (task : Option Task) → Stays x (ended x why) (told_end task why)
-  end_stays why (Some task) = refl
+  end_stays : (why : End) (task : Option Task) → Stays ⊤ x (ended x why) (told_end task why)
+  end_stays why (Some task) = (refl, λ past. refl)
   end_stays why None = tt
 
   -- ---- a look
 
-  by_action : (task : Task) (act : Action) → Stays x (acts (begins x) act) (told_action task act)
-  by_action task (Sets d v) = refl
-  by_action task (Jumps target) = refl
-  by_action task (Links d target) = refl
-  by_action task (Prints n) = refl
+  by_action : (task : Task) (act : Action) → Stays ⊥ x (acts (begins x) act) (told_action task act)
+  by_action task (Sets d v) = (refl, λ past. absurd past)
+  by_action task (Jumps target) = (refl, λ past. absurd past)
+  by_action task (Links d target) = (refl, λ past. absurd past)
+  by_action task (Prints n) = (refl, λ past. absurd past)
   by_action task (Makes kind d n) = tt
   by_action task (Measures d i) = tt
   by_action task (Loads d i n) = tt
@@ -87,24 +89,24 @@ module _ (x : Held) where
   by_action task (Puts n v) = tt
   by_action task (Swaps d n v) = tt
 
-  by_result : (task : Task) (r : Result Action End) → Stays x (acted (begins x) r) (told_acted task r)
+  by_result : (task : Task) (r : Result Action End) → Stays ⊥ x (acted (begins x) r) (told_acted task r)
   by_result task (Ok act) = by_action task act
-  by_result task (Err why) = refl
+  by_result task (Err why) = (refl, λ past. absurd past)
 
-  start_stays : (task : Option Task) → Stays x (started x task) (told_start x task)
+  start_stays : (task : Option Task) → Stays ⊥ x (started x task) (told_start x task)
   start_stays None = tt
   start_stays (Some (Calls instr)) = by_result (Calls instr) (action (seen x.account x.registers) instr)
-  start_stays (Some (Stops why)) = refl
+  start_stays (Some (Stops why)) = (refl, λ past. absurd past)
 
-  request_stays : (b : Bool) → Stays x (cond b (at_stage x (passes x Park afters.Looks)) (started x x.task)) (cond b Silent (told_start x x.task))
+  request_stays : (b : Bool) → Stays ⊥ x (cond b (at_stage x (passes x Park afters.Looks)) (started x x.task)) (cond b Silent (told_start x x.task))
   request_stays true = tt
   request_stays false = start_stays x.task
 
-  gate_stays : (o : Option GateWord) → Stays x (looked_by x o) (told_gate x o)
+  gate_stays : (o : Option GateWord) → Stays ⊥ x (looked_by x o) (told_gate x o)
   gate_stays (Some read) = request_stays read.request
   gate_stays None = tt
 
-  look_stays : (reply : Reply) → Stays x (turned_look x reply) (told_look x reply)
+  look_stays : (reply : Reply) → Stays ⊥ x (turned_look x reply) (told_look x reply)
   look_stays (replies.Value word) = gate_stays (decode_gate word)
   look_stays replies.Done = tt
   look_stays replies.Won = tt
@@ -112,38 +114,38 @@ module _ (x : Held) where
 
   -- ---- an access, an allocation
 
-  flip_stays : (f : flip.Flipping) (turn : Turn Flipped) → Stays x (turned_flip x f turn) (told_flip turn)
+  flip_stays : (f : flip.Flipping) (turn : Turn Flipped) → Stays ⊤ x (turned_flip x f turn) (told_flip turn)
   flip_stays f More = tt
   flip_stays f (Finished (flipped.Went asked)) = tt
   flip_stays f (Finished (flipped.NotYet word)) = tt
 
-  access_stays : (a : Access) (turn : Turn Accessed) → Stays x (turned_access x a turn) (told_access x.task turn)
+  access_stays : (a : Access) (turn : Turn Accessed) → Stays ⊤ x (turned_access x a turn) (told_access x.task turn)
   access_stays a More = tt
   access_stays a (Finished (Faults page)) = tt
-  access_stays a (Finished (Brings into word)) = effect_stays (turned_access x a (Finished (Brings into word))) refl x.task
-  access_stays a (Finished Stored) = effect_stays (turned_access x a (Finished Stored)) refl x.task
+  access_stays a (Finished (Brings into word)) = effect_stays (turned_access x a (Finished (Brings into word))) refl refl x.task
+  access_stays a (Finished Stored) = effect_stays (turned_access x a (Finished Stored)) refl refl x.task
   access_stays a (Finished (Fails why)) = end_stays why x.task
 
-  full_stays : (b : Bool) (why : End) (y : Held) → Stays x (cond b (ended x why) y) (cond b (told_end x.task why) Silent)
+  full_stays : (b : Bool) (why : End) (y : Held) → Stays ⊤ x (cond b (ended x why) y) (cond b (told_end x.task why) Silent)
   full_stays true why y = end_stays why x.task
   full_stays false why y = tt
 
-  shortage_stays : (s : Shortage) (traced : Bool) → Stays x (full_by x s traced) (told_full x s traced)
+  shortage_stays : (s : Shortage) (traced : Bool) → Stays ⊤ x (full_by x s traced) (told_full x s traced)
   shortage_stays s false = tt
   shortage_stays s true = full_stays (finds_full x) (end_by_shortage s) _
 
-  placed_stays : (run : Run) (at : ℕ) (made : Option Making) → Stays x (with_record x run at made) (told_effect x.task)
-  placed_stays run at (Some m) = effect_stays (with_record x run at (Some m)) refl x.task
-  placed_stays run at None = effect_stays x refl x.task
+  placed_stays : (run : Run) (at : ℕ) (made : Option Making) → Stays ⊤ x (with_record x run at made) (told_effect x.task)
+  placed_stays run at (Some m) = effect_stays (with_record x run at (Some m)) refl refl x.task
+  placed_stays run at None = effect_stays x refl refl x.task
 
-  place_stays : (p : place.Placing) (turn : Turn Allocated) → Stays x (turned_place x p turn) (told_place x turn)
+  place_stays : (p : place.Placing) (turn : Turn Allocated) → Stays ⊤ x (turned_place x p turn) (told_place x turn)
   place_stays p More = tt
   place_stays p (Finished (Placed at)) = placed_stays p.run at (making_for x x.task)
   place_stays p (Finished (Full s)) = shortage_stays s s.traced
 
   -- ---- each stage
 
-  by_stage : (stage : Stage) (reply : Reply) → Stays x (turned_at x stage reply) (told_at x stage reply)
+  by_stage : (stage : Stage) (reply : Reply) → Stays (IsPastLook stage) x (turned_at x stage reply) (told_at x stage reply)
   by_stage Looks reply = look_stays reply
   by_stage (Flips f) reply = flip_stays (flip.taken f reply) (flip.told (flip.taken f reply))
   by_stage (Accesses a) reply = access_stays (access.taken a reply) (access.told a reply)
@@ -157,4 +159,7 @@ module _ (x : Held) where
   by_stage Gone reply = tt
 
   pub answers_in_epoch : (reply : Reply) (task : Task) (outcome : Did) → told x reply ≡ Answers task outcome → (turned x reply).epoch ≡ x.epoch
-  answers_in_epoch reply task outcome e = subst (Stays x (turned x reply)) e (by_stage x.stage reply)
+  answers_in_epoch reply task outcome e = (subst (Stays (IsPastLook x.stage) x (turned x reply)) e (by_stage x.stage reply)).0
+
+  pub answers_as_begun : (reply : Reply) (task : Task) (outcome : Did) → told x reply ≡ Answers task outcome → IsPastLook x.stage → (turned x reply).begun ≡ x.begun
+  answers_as_begun reply task outcome e = (subst (Stays (IsPastLook x.stage) x (turned x reply)) e (by_stage x.stage reply)).1

@@ -18,7 +18,7 @@ use Rattle.ael_threads.specs.declared.view.Plan.{Plan}
 use Rattle.ael_threads.specs.declared.view.View.{View}
 use Rattle.ael_threads.specs.Histories.{Each, IsOnce, first_held, first_plain, hand, new_hands, hand_number}
 use Rattle.ael_threads.specs.Rule.{FitsView, HasHand, RuleHolds, StandsAs, crew, first_view}
-use Rattle.ael_threads.proofs.Lists.Elements.{prefix_self}
+use Rattle.ael_threads.proofs.Lists.Elements.{not_empty, prefix_self}
 use Rattle.gc_worker.proofs.History.Opening.{opening_tallied}
 
 abbrev pub first_words : Plan → List ℕ
@@ -90,7 +90,7 @@ opens_kept plan size few all = record {
   last = scanners_begin_last plan.spaces.pages plan.mutators plan.scanners;
   tallied = opening_tallied plan.spaces.pages plan.mutators plan.scanners size few all (first_plain plan);
   begun = λ m x is call. absurd (fresh_looks plan.spaces.pages plan.mutators 0 (crew plan) m x is call);
-  flipped = tt;
+  flipped = λ m front rest task asked room live is. absurd (not_empty front rest _ is);
   seats = λ id v at. one id v at;
 }
   where

@@ -1,5 +1,6 @@
 -- A step keeps the rule.
 use Rattle.std.proofs.Common.{◌≡◌, ◌≢◌, ℕ, ◌<◌, ◌≤◌, inl, inr, ⊎_elim, Option, Some, None, List, [], ◌∷◌, ◌++◌, length, slice_get, slice_set, set, refl, sym, ◌∙◌, ap, subst, length-set, arith, get_or-set_other, get_or-set_same}
+use Rattle.std.proofs.lemmas.Bool.{cases_eq}
 use mathlib.Core.Option.{some}
 use mathlib.Core.List.{IsPrefix}
 use lib.ListN.{get_elem?}
@@ -42,19 +43,19 @@ use Rattle.ael_threads.specs.Histories.{opening_tally, HasOwnCalls, first_plain,
 use Rattle.gc_worker.specs.History.Legal.{IsLegal, after_all, worker_call, calls_of, extra, last_flip, own_after}
 use Rattle.ael_threads.specs.Rule.{FitsView, HasHand, RuleHolds, crew, heap_of, view}
 use Rattle.ael_threads.specs.Seats.{Follows, IsRunning, IsShown, Moves, Sees, ShowsSeen, StandWith, plain_after_seen, seen_after, with_claim, LiveByEnd, LiveWhereTold}
-use Rattle.ael_threads.specs.Began.{EachAfter, HasLooked, FlippedIfFull}
+use Rattle.ael_threads.specs.Began.{BegunWithin, FlippedIfFull, HasLooked, begun_held}
 use Rattle.ael_threads.proofs.WholeCalls.Began.{given_none}
-use Rattle.ael_threads.proofs.Looks.{flipped_more, looked}
+use Rattle.ael_threads.proofs.Looks.{begun_later, flipped_aside, flipped_more, looked}
 use Rattle.ael_threads.proofs.Lists.Reads.{at_inside, at_set, get_of, set_else, set_here}
 use Rattle.ael_threads.proofs.Lists.Elements.{each_map, prefix_more, prefix_self}
 use Rattle.gc_worker.proofs.History.Steps.{step_tallied}
 use Rattle.ael_threads.proofs.TableRule.Flips.{flips_by}
 use Rattle.gc_worker.proofs.History.Extensions.{Agrees, after_more, calls_more, calls_other, flip_more, legal_more, seen_keeps}
-use Rattle.ael_threads.proofs.WorkerSeats.Shown.{alike_by, ends_with, full_by, lands_by, live_by, looks_run, mutator_at, no_end, runs_aside, shown_by}
+use Rattle.ael_threads.proofs.WorkerSeats.Shown.{alike_by, ends_with, full_by, lands_by, live_by, looks_run, mutator_at, runs_aside, shown_by, unended}
 use Rattle.gc_worker.proofs.History.Tallies.{tally_flip, tally_now}
 use Rattle.gc_worker.proofs.History.Tasks.{task_tallied}
 use Rattle.ael_threads.proofs.TableRule.Views.{all_fit, my_fit}
-use Rattle.ael_threads.proofs.TableRule.WonPages.{KeepsPagesOut, won_after}
+use Rattle.ael_threads.proofs.TableRule.WonPages.{LeavesPagesOut, won_after}
 
 abbrev pub TableState : Type 0
 TableState = table.State ℕ View
@@ -184,6 +185,10 @@ module _ (plan : Plan) (id : ℕ) (was : Hand) (x : Held) (others : List Hand) (
   stage_is : y.stage ≡ (held_at (heap_of plan s.words b.workers) m).stage
   stage_is = ⊎_elim (λ (same : x ≡ was.worker). ap (λ (w : Held). w.stage) same) (λ given. ap (λ (w : Held). w.stage) given.2) follows.begins ∙ sym (ap (λ (w : Held). w.stage) old_is)
 
+  -- and began its last task when it did
+  begun_is : y.begun ≡ begun_held b.workers m
+  begun_is = ⊎_elim (λ (same : x ≡ was.worker). ap (λ (w : Held). w.begun) same) (λ given. ap (λ (w : Held). w.begun) given.2) follows.begins ∙ sym (ap (λ (w : Held). w.begun) old_is)
+
   readied_last : ScannersAreLast (heap_of plan s.words workers1)
   readied_last = scanners_last_with (heap_of plan s.words b.workers) m y inside stage_is b.last
 
@@ -265,7 +270,7 @@ module _ (plan : Plan) (id : ℕ) (was : Hand) (x : Held) (others : List Hand) (
   shows_ended : (w : Mutator) (end : End) (u : Told) → t ≡ u → slice_get (after_told p m u).mutators m ≡ Some w → slice_get p'.mutators m ≡ Some w → w.end ≡ Some end → ShowsRegisters z.registers w
   shows_ended w end Silent is was_its its e = stays_ended w end was_its e
   shows_ended w end (Marks asked) is was_its its e = stays_ended w end was_its e
-  shows_ended w end (Answers task Done) is was_its its e = (as_plain w its).shows (no_end heap' p' n plan.mutators m count' z w (as_plain w its) fits_z (looks task is))
+  shows_ended w end (Answers task Done) is was_its its e = (as_plain w its).shows (unended heap' p' m count' z w (as_plain w its) (looks_run n plan.mutators m z fits_z (looks task is)))
   shows_ended w end (Answers task (Trap why)) is was_its its e =
       let comes : ComesTo p m task (Trap why) = subst (IsAnswered p m) is answered in
       let s = showed_at comes.mutator comes.is in
@@ -297,15 +302,15 @@ module _ (plan : Plan) (id : ℕ) (was : Hand) (x : Held) (others : List Hand) (
     calls = calls_more b.log m t was.own has.calls;
   }
 
-  keeps : KeepsPagesOut n s.words later (won x r)
+  keeps : LeavesPagesOut n s.words later (won x r)
   keeps = record { kept = law.kept; wins = law.wins }
 
   same : (j : ℕ) → j ≢ m → get_elem? workers2 j ≡ get_elem? b.workers j
   same j other = set_else workers1 m j (turned y r) other ∙ set_else b.workers m j y other
 
   fit : FitsView plan later workers2 log' b.owner (won_after b.winner id (won x r)) id v'
-  fit = my_fit plan s.words later b.workers workers2 b.log t b.owner b.winner id m (won x r) keeps same plan was d others seen seen' heard log' claims fits_view refl refl has'
-      (seen_fits seen b.log m t fits_view.seen) (prefix_self log')
+  fit = my_fit plan s.words later b.workers workers2 b.log t b.owner b.winner id m (won x r) keeps same plan was d others seen seen' heard claims fits_view refl refl has'
+      (seen_fits seen b.log m t fits_view.seen)
 
   legal' : IsLegal (first_plain plan) log'
   legal' = legal_more (first_plain plan) b.log m t b.legal answered
@@ -327,11 +332,7 @@ module _ (plan : Plan) (id : ℕ) (was : Hand) (x : Held) (others : List Hand) (
           let l = b.begun m old has.state.is (subst IsInCall (ap (λ (w : Held). w.stage) its) call) in record {
             task = l.task;
             task_is = ap (λ (w : Held). w.task) its ∙ l.task_is;
-            began = l.began;
-            look = l.look;
-            begins = l.begins;
-            calls = l.calls;
-            flips = l.flips ∙ sym (ap (λ (w : Held). w.begun) its);
+            within = subst (λ (begun : ℕ). BegunWithin plan m l.task begun (calls_of m b.log) b.log) (sym (ap (λ (w : Held). w.begun) its)) l.within;
           }
 
       given : (task : Task) × (was.worker.task ≡ None) × (x ≡ with_task was.worker task) → HasLooked plan m y b.log
@@ -346,15 +347,23 @@ module _ (plan : Plan) (id : ℕ) (was : Hand) (x : Held) (others : List Hand) (
   begun' j w is call = ⊎_elim
       (λ (here : (j ≡ m) × (turned y r ≡ w)). subst (λ (v : ℕ × Held). HasLooked plan v.0 v.1 log') (λ i. (sym here.0 i, here.1 i))
       (subst (λ (u : Told). HasLooked plan m (turned y r) (b.log ++ extra m u)) tells
-      (looked plan m y q s.words workers1 b.log at_y (apart.wants ∙ want) readied readied_tallied stage_kept law.fits law.full (subst (λ (v : Held). IsInCall v.stage) (sym here.1) call))))
+      (looked plan m y q s.words workers1 b.log at_y (apart.wants ∙ want) b.legal readied readied_tallied stage_kept law.fits law.full (subst (λ (v : Held). IsInCall v.stage) (sym here.1) call))))
       (λ (there : (j ≢ m) × (get_elem? workers1 j ≡ some w)).
       let l = b.begun j w (sym (set_else b.workers m j y there.0) ∙ there.1) call in
-      record { task = l.task; task_is = l.task_is; began = l.began; look = l.look; begins = prefix_more l.began b.log (extra m t) l.begins; calls = l.calls ∙ sym (calls_other j b.log m t there.0); flips = l.flips })
+      record { task = l.task; task_is = l.task_is; within = begun_later plan j l.task w.begun w.begun (calls_of j b.log) (calls_of j log') b.log log' l.within refl (sym (calls_other j b.log m t there.0)) (extra m t, refl) })
       (at_set workers1 m j (turned y r) w is)
 
-  flipped' : EachAfter (FlippedIfFull plan) [] log'
-  flipped' = subst (λ (u : Told). EachAfter (FlippedIfFull plan) [] (b.log ++ extra m u)) tells
-      (flipped_more plan m y q s.words workers1 b.log at_y (apart.wants ∙ want) readied readied_tallied stage_kept law.fits law.full b.flipped)
+  -- who found the heap full
+  mine_flipped : FlippedIfFull plan m (begun_held workers2 m) log'
+  mine_flipped = subst (λ (v : ℕ × Told). FlippedIfFull plan m v.0 (b.log ++ extra m v.1)) (λ i. (ap (λ (w : Held). w.begun) (sym (get_or-set_same workers1 m (turned y r) nobody inside1)) i, tells i))
+      (flipped_more plan m y q s.words workers1 b.log at_y (apart.wants ∙ want) b.legal readied readied_tallied stage_kept law.fits law.full (subst (λ (begun : ℕ). FlippedIfFull plan m begun b.log) (sym begun_is) (b.flipped m)))
+
+  flipped' : (j : ℕ) → FlippedIfFull plan j (begun_held workers2 j) log'
+  flipped' j = ⊎_elim (λ (here : j ≡ m). subst (λ (i : ℕ). FlippedIfFull plan i (begun_held workers2 i) log') (sym here) mine_flipped)
+      (λ (there : j ≢ m).
+      let held : begun_held b.workers j ≡ begun_held workers2 j = ap (λ (w : Held). w.begun) (sym (get_or-set_other workers1 m j (turned y r) nobody there ∙ get_or-set_other b.workers m j y nobody there)) in
+      flipped_aside plan j (begun_held workers2 j) m b.log t there (subst (λ (begun : ℕ). FlippedIfFull plan j begun b.log) held (b.flipped j)))
+      (cases_eq j m)
 
   kept' : RuleHolds plan (record { words = later; homes = s.homes; views = slice_set s.views id v' })
   kept' = record {

@@ -15,13 +15,13 @@ use Rattle.ael_threads.specs.Histories.{Each, hand_number}
 use Rattle.ael_threads.specs.Rule.{FitsView, HasHand, view}
 use Rattle.ael_threads.specs.Seats.{with_claim}
 use Rattle.ael_threads.proofs.Lists.Reads.{at_set}
-use Rattle.ael_threads.proofs.Lists.Elements.{each_both, each_map, each_of_map, prefix_more}
+use Rattle.ael_threads.proofs.Lists.Elements.{each_both, each_map, each_of_map, prefix_more, prefix_self}
 use Rattle.gc_worker.proofs.History.Extensions.{calls_other}
-use Rattle.ael_threads.proofs.TableRule.WonPages.{KeepsPagesOut, claims_kept, claims_more, once_more, won_after}
+use Rattle.ael_threads.proofs.TableRule.WonPages.{LeavesPagesOut, claims_kept, claims_more, once_more, won_after}
 
 -- worker m of the seat id makes the step: the words, the workers and the history before and after, and the page won
 module _ (plan : Plan) (words later : List ℕ) (workers workers' : List Held) (log : List Entry) (t : Told) (owner : ℕ → ℕ) (winner : WonClaim → ℕ) (id m : ℕ) (w : Option PageWon)
-    (h : KeepsPagesOut plan.spaces.pages words later w) (same : (n : ℕ) → n ≢ m → get_elem? workers' n ≡ get_elem? workers n) where
+    (h : LeavesPagesOut plan.spaces.pages words later w) (same : (n : ℕ) → n ≢ m → get_elem? workers' n ≡ get_elem? workers n) where
   abbrev log' : List Entry
   log' = log ++ extra m t
 
@@ -49,14 +49,14 @@ module _ (plan : Plan) (words later : List ℕ) (workers workers' : List Held) (
   }
 
   -- what the seat itself knows
-  pub my_fit : (p : Plan) (was d : Hand) (others : List Hand) (seen seen' heard heard' : List Entry) (claims : List WonClaim)
+  pub my_fit : (p : Plan) (was d : Hand) (others : List Hand) (seen seen' heard : List Entry) (claims : List WonClaim)
       → FitsView plan words workers log owner winner id (view p (was ∷ others) seen heard claims) → was.number ≡ m → d.number ≡ m → HasHand workers' log' owner id d
-      → IsPrefix seen' log' → IsPrefix heard' log'
-      → FitsView plan later workers' log' owner winner' id (view p (d ∷ others) seen' heard' (with_claim claims w))
-  my_fit p was d others seen seen' heard heard' claims f was_is number_is has pre hears = record {
+      → IsPrefix seen' log'
+      → FitsView plan later workers' log' owner winner' id (view p (d ∷ others) seen' log' (with_claim claims w))
+  my_fit p was d others seen seen' heard claims f was_is number_is has pre = record {
     same = f.same;
     seen = pre;
-    heard = hears;
+    heard = prefix_self log';
     hands = (
       has,
       each_map (λ (z : Hand). HasHand workers log owner id z × (z.number ≢ was.number)) (HasHand workers' log' owner id)

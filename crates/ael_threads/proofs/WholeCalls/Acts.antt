@@ -7,13 +7,9 @@ use Rattle.std.specs.Option.{is_some}
 use Rattle.heap_laws.specs.Opening.{opening_mutator}
 use Rattle.plain_state.specs.declared.end.End.{End}
 use Rattle.gate_core.specs.declared.passage.Passage.{Passage}
-use Rattle.gate_core.specs.declared.passage.Passage.TheVariants.{Attach, Forwarded, Leave, Look, Park, Request, Resume}
-use Rattle.gc_worker.specs.declared.stage.after.After.{After}
-use Rattle.gc_worker.specs.declared.stage.Stage.{Stage}
-use Rattle.gc_worker.specs.declared.stage.Stage.TheVariants.{Accesses, Evacuates, Flips, Forwards, Gone, Looks, Opens, Passes, Places, Scans, Serves}
 use Rattle.gc_worker.specs.declared.steps.stepped.Stepped.{Stepped}
 use Rattle.gc_worker.specs.declared.steps.stepped.Stepped.TheVariants as stepped
-use Rattle.gc_worker.specs.Workers.Fits.{Fits, FitsEnd, FitsTask, FitsTaskBefore, IsEndBefore}
+use Rattle.gc_worker.specs.Workers.Fits.{Fits, FitsEnd, FitsTask, FitsTaskBefore}
 use Rattle.gc_worker.specs.Workers.Held.{Held}
 use Rattle.gc_worker.specs.Steps.Stepped.{stepped_by, uncounted}
 use Rattle.gc_worker.specs.declared.calls.did.Did.TheVariants.{Done, Trap}
@@ -26,6 +22,7 @@ use Rattle.ael_threads.specs.Histories.{first_plain}
 use Rattle.ael_threads.specs.Readers.{IsThere}
 use Rattle.ael_threads.specs.Seats.{Acts, ActsBy, Heads, Moves, Seated, first_number, plain_after_seen}
 use Rattle.gc_worker.proofs.History.Extensions.{as_many}
+use Rattle.ael_threads.proofs.WholeCalls.Ended.{ended_at}
 
 pub heads_fit : (plan : Plan) (x : Held) (hs : List Hand) → Heads plan x hs → Fits plan.spaces.pages plan.mutators (first_number hs) x
 heads_fit plan x [] h = absurd h
@@ -45,32 +42,10 @@ is_there a heads below =
 
 -- who has an end has no task
 pub no_task : (plan : Plan) (x : Held) (hs : List Hand) (end : End) → Heads plan x hs → x.account.end ≡ Some end → x.task ≡ None
-no_task plan x hs end heads is = by_stage x.stage (subst (λ (o : Option End). FitsEnd x.stage (is_some o)) is f.end) f.task
-  where
-    f : Fits plan.spaces.pages plan.mutators (first_number hs) x
-    f = heads_fit plan x hs heads
-
-    by_passage : (passage : Passage) (after : After) → IsEndBefore passage true → FitsTaskBefore x passage after → x.task ≡ None
-    by_passage Leave after e task = task
-    by_passage Look after e task = absurd (cc)
-    by_passage Attach after e task = absurd (cc)
-    by_passage Park after e task = absurd (cc)
-    by_passage Request after e task = absurd (cc)
-    by_passage (Resume epoch) after e task = absurd (cc)
-    by_passage Forwarded after e task = absurd (cc)
-
-    by_stage : (stage : Stage) → FitsEnd stage true → FitsTask x stage → x.task ≡ None
-    by_stage Gone e task = task
-    by_stage (Passes g after) e task = by_passage g.passage after e task
-    by_stage Looks e task = absurd (cc)
-    by_stage (Flips g) e task = absurd (cc)
-    by_stage (Forwards w) e task = absurd (cc)
-    by_stage (Accesses a) e task = absurd (cc)
-    by_stage (Places p) e task = absurd (cc)
-    by_stage (Serves d back) e task = absurd (cc)
-    by_stage (Scans g back) e task = absurd (cc)
-    by_stage (Evacuates v g back) e task = absurd (cc)
-    by_stage (Opens o g back) e task = absurd (cc)
+no_task plan x hs end heads is =
+    let f = heads_fit plan x hs heads in
+    ended_at (λ stage. FitsTask x stage → x.task ≡ None) (λ g after e. subst (λ (p : Passage). FitsTaskBefore x p after → x.task ≡ None) (sym e) (λ none. none)) (λ none. none)
+    x.stage (subst (λ (o : Option End). FitsEnd x.stage (is_some o)) is f.end) f.task
 
 -- who makes a step is not idle
 not_idle : (k : ℕ) (t : Told) → stepped.Idle ≡ stepped_by k t → ⊥

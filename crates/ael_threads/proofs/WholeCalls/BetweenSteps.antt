@@ -26,7 +26,7 @@ use Rattle.ael_threads.specs.declared.view.View.{View}
 use Rattle.gc_worker.specs.History.Legal.{after_all, calls_of}
 use Rattle.ael_threads.specs.Histories.{HasOwnCalls, first_held, first_plain, hand}
 use Rattle.ael_threads.specs.Rule.{crew, view}
-use Rattle.ael_threads.specs.Seats.{Follows, Heads, IsSeatOf, IsMine, IsShown, Learned, Moves, Seated, ShowsSeen, both_of, first_number, first_own}
+use Rattle.ael_threads.specs.Seats.{Follows, Heads, FitsTable, IsMine, IsShown, Learned, Moves, Seated, ShowsSeen, both_of, first_number, first_own}
 use Rattle.ael_threads.proofs.Lists.Reads.{get_of}
 use Rattle.gc_worker.proofs.History.Extensions.{seen_keeps}
 use Rattle.ael_threads.proofs.TableRule.Opening.{uncounted_first, worker_at}
@@ -78,7 +78,7 @@ pub sound_by : (n mutators k : ℕ) (x : Held) → Fits n mutators k x → IsSou
 sound_by n mutators k x f = subst (λ (j : ℕ). Fits x.layout.pages x.mutators j x) (sym f.number)
     (subst (λ (m : ℕ). Fits x.layout.pages m k x) (sym f.beside) (subst (λ (pages : ℕ). Fits pages mutators k x) (sym f.pages) f))
 
-pub still_live : (t u : TableId) (v w : View) → t ≡ u → w.plan ≡ v.plan → IsSeatOf u v → IsSeatOf t w
+pub still_live : (t u : TableId) (v w : View) → t ≡ u → w.plan ≡ v.plan → FitsTable u v → FitsTable t w
 still_live t u v w e f live = subst (λ (z : TableId × Plan). (0 < z.1.spaces.pages) × (z.0.words ≡ table_length z.1.spaces.pages)) (λ i. (sym e i, sym f i)) live
 
 -- ---- a new caller

@@ -167,6 +167,14 @@ filled_last a task did tasks before h = entry_at (EntryIs a.knows.plan.spaces.pa
 lands_uncounted : (n : ℕ) (words : List ℕ) (z : Held) → RegistersLand n words z → RegistersLand n words (uncounted z)
 lands_uncounted n words z l = record { in_space = l.in_space; header = l.header }
 
+-- the history that the last act found is the one before the call
+found_at : (a b c : Seated) (task : Task) (did : Did) (r : Reply) (s : Stepped) (h : ActsBy b r s c) → first_number b.knows.hands ≡ first_number a.knows.hands → told b.worker r ≡ Answers task did
+    → (e : Extends a.knows.plan c.knows.hands a.knows.seen (call_by a task did) c.knows.seen) → h.knows.found.log ≡ a.knows.seen ++ e.between
+found_at a b c task did r s h number answers e =
+    let k = h.knows in
+    append_cancel_right k.found.log (a.knows.seen ++ e.between) (Made (call_by a task did) ∷ [])
+    ((λ i. k.found.log ++ extra (sym number i) (sym answers i)) ∙ (sym k.grows ∙ (sym (k.sees ∙ (λ i. seen_after b.knows.seen k.stands.log (answers i))) ∙ e.is)))
+
 calls : (a b c : Seated) (task : Task) (r : Reply) (s : Stepped) (did : Did) → IsUnderWay a task b → ActsBy b r s c → (other : Task) → told b.worker r ≡ Answers other did → Called a task did c
 calls a b c task r s did u h other is =
     let w = u.waits in
@@ -183,9 +191,7 @@ calls a b c task r s did u h other is =
     subst (λ (z : Plan × (List Entry × Call)). Extends z.0 c.knows.hands z.1.0 z.1.1 c.knows.seen) (λ i. (w.rests.plan i, (w.rests.seen i, call_is i)))
     (subst (λ (t : Told). Sees b.knows m t c.knows) is k.seen) in
     let ends : k.stands.log ≡ (a.knows.seen ++ history.between) ++ Made (call_by a task did) ∷ [] = sym (k.sees ∙ ap (seen_after b.knows.seen k.stands.log) is) ∙ history.is in
-    let front : k.found.log ≡ a.knows.seen ++ history.between =
-    append_cancel_right k.found.log (a.knows.seen ++ history.between) (Made (call_by a task did) ∷ [])
-    ((λ i. k.found.log ++ Made (sym call_is i) ∷ []) ∙ ((λ i. k.found.log ++ extra m (sym is i)) ∙ (sym k.grows ∙ ends))) in
+    let front : k.found.log ≡ a.knows.seen ++ history.between = found_at a b c task did r s h w.rests.number answers history in
     record {
       rests = ap (λ (x : Held). x.task) h.worker ∙ answer.rests;
       ends = ap (λ (x : Held). x.account.end) h.worker ∙ ends_by b.knows.plan.spaces.pages b.knows.plan.mutators m b.worker (turned b.worker r) did answer.after k.fits;
@@ -226,13 +232,8 @@ by_end a b c task r m end w h (Answers other Done) is e = absurd (cc)
 by_end a b c task r m end w h (Answers other (Trap why)) is e = let same : why ≡ end = cc in calls a b c task r (stepped.Ended m end) (Trap end) w h other (is ∙ ap (λ (z : End). Answers other (Trap z)) same)
 by_end a b c task r m end w h (Marks asked) is e = absurd (cc)
 
--- the history that the last act found is the one before the call
 pub found_is : (a b : Seated) (task : Task) (did : Did) (c : Called a task did b) → a.knows.seen ++ c.history.between ≡ c.acts.knows.found.log
-found_is a b task did c =
-    let k = c.acts.knows in
-    sym (append_cancel_right k.found.log (a.knows.seen ++ c.history.between) (Made (call_by a task did) ∷ [])
-    ((λ i. k.found.log ++ extra (sym c.waits.rests.number i) (sym c.answers i))
-    ∙ (sym k.grows ∙ (sym (k.sees ∙ (λ i. seen_after c.last.knows.seen k.stands.log (c.answers i))) ∙ c.history.is))))
+found_is a b task did c = sym (found_at a c.last b task did c.reply c.stepped c.acts c.waits.rests.number c.answers c.history)
 
 pub executed : (a b c : Seated) (task : Task) (m : ℕ) → IsUnderWay a task b → Acts b (stepped.Effect m) c → Called a task Done c
 executed a b c task m w h = by_effect a b c task h.0 m w h.1 (told b.worker h.0) refl h.1.stepped

@@ -6,6 +6,7 @@ use Rattle.plain_state.specs.declared.end.End.TheVariants.{Halt, NotPointer, Not
 use Rattle.space_map.specs.declared.gate_word.GateWord.{GateWord}
 use Rattle.std.specs.Prelude.{Option}
 use Rattle.heap_state.specs.Worker.{is_running}
+use Rattle.gc_worker.specs.declared.calls.call.Call.{Call}
 use Rattle.gc_worker.specs.declared.calls.did.Did.{Did}
 use Rattle.gc_worker.specs.declared.calls.did.Did.TheVariants.{Done, Trap}
 use Rattle.gc_worker.specs.declared.calls.entry.Entry.{Entry}
@@ -33,9 +34,10 @@ use Rattle.ael_threads.specs.Calls.{FlippedByOutcome, FlippedInCall, HasBegun, I
 use Rattle.ael_threads.specs.Histories.{first_plain}
 use Rattle.ael_threads.specs.Rule.{StandsAs, heap_of}
 use Rattle.ael_threads.specs.Seats.{ActsBy, Moves, Seated, first_number, first_own}
+use Rattle.ael_threads.proofs.Looks.{begun_here, begun_later, flipped_full}
 use Rattle.ael_threads.proofs.WholeCalls.Began.{answers_in_call, was_in_call}
 use Rattle.ael_threads.proofs.Lists.Elements.{prefix_more, prefix_trans}
-use Rattle.ael_threads.proofs.TableRule.Epochs.{flips_rise, has_flipped, no_later, runs_now}
+use Rattle.ael_threads.proofs.TableRule.Epochs.{flips_rise, no_later}
 use Rattle.ael_threads.proofs.TableRule.Flips.{answers_in_epoch}
 use Rattle.ael_threads.proofs.Lists.Reads.{at_inside, get_of}
 
@@ -93,9 +95,6 @@ module _ (a b c : Seated) (task : Task) (r : Reply) (s : Stepped) (u : IsUnderWa
   task_is : (held_at before m).task ≡ Some task
   task_is = ap (λ (y : Held). y.task) holds ∙ (ap (λ (y : Held). y.task) here.shown ∙ w.asks)
 
-  stage_is : (held_at before m).stage ≡ x.stage
-  stage_is = ap (λ (y : Held). y.stage) holds ∙ ap (λ (y : Held). y.stage) here.shown
-
   fits_x : Fits n plan.mutators m x
   fits_x =
       let count = here.held.account.executed in
@@ -134,35 +133,20 @@ module _ (a b c : Seated) (task : Task) (r : Reply) (s : Stepped) (u : IsUnderWa
 
   -- ---- the look
 
-  at_look : x.stage ≡ Looks → flips_of a.knows.plan log ≡ x.epoch
-  at_look looks =
-      let runs : is_running (post_in (held_at before m) (held_at before m).stage) ≡ true = ap (λ (stage : Stage). is_running (post_in (held_at before m) stage)) (stage_is ∙ looks) in
-      let now = runs_now before (after_all (first_plain plan) log) (last_flip (first_plain plan) log) st m below runs in
-      sym log_flips ∙ (sym gate_flips ∙ (now ∙ epoch_is))
-
   begins : x.stage ≡ Looks → z.begun ≡ x.epoch → IsInCall z.stage → HasBegun a task c
   begins looks same call =
-      let flips : flips_of a.knows.plan log ≡ c.worker.begun = at_look looks ∙ (sym same ∙ sym begun_is) in
+      let look = begun_here plan m x k.step task k.before k.found.workers log here st gate_flips k.wants w.asks looks (subst (λ (reply : Reply). IsInCall (turned x reply).stage) k.reply call) in
+      let flips : flips_of a.knows.plan log ≡ c.worker.begun = sym log_flips ∙ (look.1 ∙ (sym same ∙ sym begun_is)) in
       let past = a_past in record {
-        began = log;
-        look = subst (λ (v : Plan × ℕ). BeginsAt v.0 v.1 task log) (λ i. (w.rests.plan i, w.rests.number i)) (record {
-          words = k.before;
-          workers = k.found.workers;
-          held = x;
-          here = here;
-          stands = st;
-          task_is = w.asks;
-          looks = looks;
-          epoch = log_flips ∙ at_look looks;
-          step = k.step;
-          wants = k.wants;
-          begins = subst (λ (reply : Reply). IsInCall (turned x reply).stage) k.reply call;
-        });
+        within = record {
+          began = log;
+          look = subst (λ (v : Plan × ℕ). BeginsAt v.0 v.1 task log) (λ i. (w.rests.plan i, w.rests.number i)) look.0;
+          begins = hears;
+          calls = its_calls;
+          flips = flips;
+        };
         seen = subst (λ (seen : List Entry). IsPrefix seen log) w.rests.seen k.found.begins;
         heard = prefix_trans a.knows.heard b.knows.heard log w.rests.heard k.heard;
-        calls = its_calls;
-        hears = hears;
-        flips = flips;
         epoch = omega (arith, past, flips);
       }
 
@@ -173,13 +157,9 @@ module _ (a b c : Seated) (task : Task) (r : Reply) (s : Stepped) (u : IsUnderWa
       let was = u.begun (was_in_call n plan.mutators m x r fits_x past call) in
       let begun : x.begun ≡ c.worker.begun = sym same ∙ sym begun_is in
       let epoch = was.epoch in record {
-        began = was.began;
-        look = was.look;
+        within = begun_later a.knows.plan (first_number a.knows.hands) task x.begun c.worker.begun (first_own a.knows.hands) (first_own a.knows.hands) b.knows.heard c.knows.heard was.within begun refl (heard_more b c r s h);
         seen = was.seen;
         heard = was.heard;
-        calls = was.calls;
-        hears = prefix_trans was.began b.knows.heard c.knows.heard was.hears (heard_more b c r s h);
-        flips = was.flips ∙ begun;
         epoch = omega (arith, epoch, begun);
       }
 
@@ -196,22 +176,15 @@ module _ (a b c : Seated) (task : Task) (r : Reply) (s : Stepped) (u : IsUnderWa
       let past = full_is_found_later n plan.mutators m x r other asked room live fits_x e in
       let was = u.begun (answers_in_call x r other (Trap (HeapFull asked room live)) x.stage e past) in
       let finds : FindsNoRoom n k.before x asked room live = subst (FullWhereTold n k.before x) e k.full in
-      let begins : IsPrefix was.began log = prefix_trans was.began b.knows.heard log was.hears k.heard in
       let gate : epoch_of n k.before ≡ x.epoch = ap (λ (o : Option GateWord). epoch_in_gate 0 o) finds.gate_is ∙ finds.epoch in
       let now : flips_of a.knows.plan log ≡ x.epoch = sym log_flips ∙ (sym gate_flips ∙ gate) in
-      let then = was.flips in
+      let own : List Call = first_own a.knows.hands in
       let first = was.epoch in
       let stays : c.worker.epoch ≡ x.epoch = ap (λ (y : Held). y.epoch) h.worker ∙ answers_in_epoch x r other (Trap (HeapFull asked room live)) e in record {
-        since = record {
-          began = was.began;
-          look = was.look;
-          begins = begins;
-          calls = was.calls ∙ sym its_calls;
-          flipped = ⊎_elim (λ (early : x.begun < x.epoch). inl (has_flipped a.knows.plan was.began log begins (omega (arith, early, now, then)))) (λ last. inr (now ∙ last)) finds.no_flip;
-        };
+        since = flipped_full a.knows.plan (first_number a.knows.hands) task x own log
+            (begun_later a.knows.plan (first_number a.knows.hands) task x.begun x.begun own own b.knows.heard log was.within refl refl k.heard) (sym its_calls) now finds.no_flip;
         seen = was.seen;
         heard = was.heard;
-        flips = then;
         begun = first;
         rises = ⊎_elim (λ (early : x.begun < x.epoch). inl (omega (arith, first, early, stays))) (λ last. inr (stays ∙ last)) finds.no_flip;
       }

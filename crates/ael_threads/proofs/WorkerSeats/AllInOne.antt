@@ -17,8 +17,9 @@ use Rattle.gc_worker.proofs.History.Large.{large_has_no_full}
 use Rattle.gc_worker.specs.History.Tally.{tally, tasks_held}
 use Rattle.gc_worker.specs.History.Legal.{IsLegal, after_all, last_flip}
 use Rattle.ael_threads.specs.Rule.{HasHand, RuleHolds, crew, heap_of}
-use Rattle.ael_threads.specs.Seats.{Absorbs, Closes, Gathers, Seated, Stays, all_hands}
+use Rattle.ael_threads.specs.Seats.{Absorbs, Closes, Gathers, HasFlippedIfFull, Seated, Stays, all_hands}
 use Rattle.ael_threads.proofs.Callers.{are_by, each_is_there}
+use Rattle.ael_threads.proofs.Looks.{hand_flipped}
 use Rattle.ael_threads.proofs.Lists.Elements.{each_at, each_map, each_to_map, prefix_self, prefix_trans}
 use Rattle.ael_threads.proofs.Lists.Reads.{at_inside}
 
@@ -66,7 +67,9 @@ closes plan id t all one words xs g end =
       epoch = subst (λ (z : List ℕ). epoch_of plan.spaces.pages z ≡ (tally (opening_tally plan) b.log).flips) end.2 b.tallied.counts.epoch;
       entries = b.tallied.entries;
       large = large_has_no_full plan.spaces.pages (tasks_held b.workers) (opening_tally plan) b.log b.tallied.entries;
-      flipped = b.flipped;
+      flipped = subst (Each (HasFlippedIfFull plan b.log)) g.hands
+          (each_map (HasHand b.workers b.log b.owner id) (HasFlippedIfFull plan b.log) (λ h k. hand_flipped plan b.workers b.log h k.state b.flipped) one.knows.hands f.hands);
+      all_flipped = b.flipped;
       seen = each_map (λ (c : Seated). IsPrefix c.knows.seen one.knows.seen) (λ (c : Seated). IsPrefix c.knows.seen b.log) (λ c h. prefix_trans c.knows.seen one.knows.seen b.log h f.seen) all g.seen;
       hands = hands;
       others = λ many. all_by plan b.workers b.log (all_hands all) b.count b.legal hands apart many;

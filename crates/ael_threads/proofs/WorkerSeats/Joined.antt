@@ -15,9 +15,9 @@ use Rattle.ael_threads.specs.declared.view.View.{View}
 use Rattle.gc_worker.specs.History.Tally.{EachEntry, EntryIs, IsTallied, tasks_held}
 use Rattle.ael_threads.specs.Histories.{opening_tally, Each, IsOnce, first_plain, hand_number}
 use Rattle.gc_worker.specs.History.Legal.{IsLegal, after_all, calls_of, last_flip}
-use Rattle.ael_threads.specs.Began.{EachAfter, FlippedIfFull}
 use Rattle.ael_threads.specs.Rule.{FitsView, HasHand, RuleHolds, Won, heap_of, spent_view, view}
-use Rattle.ael_threads.specs.Seats.{Learns, Me, both_of}
+use Rattle.ael_threads.specs.Seats.{HasFlippedIfFull, Learns, Me, both_of}
+use Rattle.ael_threads.proofs.Looks.{hand_flipped}
 use Rattle.ael_threads.proofs.Lists.Reads.{at_set, set_else}
 use Rattle.ael_threads.proofs.Lists.Elements.{each_append, each_map, each_to_map, prefix_self}
 
@@ -167,7 +167,8 @@ learns plan slots id me st live s b homes at small =
           legal = subst (λ (z : Plan). IsLegal (first_plain z) b.log) (sym (f.same live)) b.legal;
           tasks = tasks_held b.workers;
           entries = subst (λ (z : Plan). EachEntry (EntryIs z.spaces.pages (tasks_held b.workers)) (opening_tally z) b.log) (sym (f.same live)) b.tallied.entries;
-          flipped = subst (λ (z : Plan). EachAfter (FlippedIfFull z) [] b.log) (sym (f.same live)) b.flipped;
+          flipped = subst (λ (z : Plan). Each (HasFlippedIfFull z b.log) v.hands) (sym (f.same live))
+              (each_map (HasHand b.workers b.log b.owner id) (HasFlippedIfFull plan b.log) (λ h t. hand_flipped plan b.workers b.log h t.state b.flipped) v.hands f.hands);
         },
       ),
     )

@@ -42,11 +42,7 @@ pub none_of : (o : Option End) → is_some o ≡ false → o ≡ None
 none_of None e = refl
 none_of (Some end) e = absurd (cc)
 
--- who looks at the gate has no end
-pub no_end : (h : Heap) (p : Plain) (n mutators m count : ℕ) (z : Held) (q : Mutator) → IsAsPlain h p m (counted count z) q → Fits n mutators m z → z.stage ≡ Looks → q.end ≡ None
-no_end h p n mutators m count z q a f looks = sym a.account.end ∙ none_of z.account.end (subst (λ (stage : Stage). FitsEnd stage (is_some z.account.end)) looks f.end)
-
--- and runs
+-- who looks at the gate has no end, and runs
 pub looks_run : (n mutators m : ℕ) (z : Held) → Fits n mutators m z → z.stage ≡ Looks → IsRunning z
 looks_run n mutators m z f looks = (
   none_of z.account.end (subst (λ (stage : Stage). FitsEnd stage (is_some z.account.end)) looks f.end),
@@ -98,7 +94,7 @@ counted_post count z (Opens o s back) = refl
 counted_post count z Gone = refl
 
 module _ (h : Heap) (p : Plain) (m count : ℕ) (z : Held) (q : Mutator) (a : IsAsPlain h p m (counted count z) q) (r : IsRunning z) where
-  unended : q.end ≡ None
+  pub unended : q.end ≡ None
   unended = sym a.account.end ∙ r.0
 
   counted_runs : is_running (post_in (counted count z) z.stage) ≡ true
@@ -152,11 +148,12 @@ module _ (p : Plain) (m : ℕ) (q : Mutator) (why : End) (its : slice_get p.muta
   abbrev with_end : Mutator
   with_end = record q { end = Some why }
 
-  -- who answers by an end keeps its registers
-  ended_is : (task : Task) → slice_get (after_told p m (Answers task (Trap why))).mutators m ≡ Some with_end
+  -- who answers by an end has it
+  pub ended_is : (task : Task) → slice_get (after_told p m (Answers task (Trap why))).mutators m ≡ Some with_end
   ended_is (Calls instr) = ap (λ (o : Option Mutator). slice_get (after_answer p m (Calls instr) (Trap why) o).mutators m) its ∙ slice_get-set_same p.mutators m with_end (slice_get_within p.mutators m q its)
   ended_is (Stops end) = ap (λ (o : Option Mutator). slice_get (after_answer p m (Stops end) (Trap why) o).mutators m) its ∙ slice_get-set_same p.mutators m with_end (slice_get_within p.mutators m q its)
 
+-- and keeps its registers
 pub ends_with : (p : Plain) (m : ℕ) (q : Mutator) (task : Task) (why : End) (w : Mutator) (registers : List ℕ) → slice_get p.mutators m ≡ Some q → slice_get (after_told p m (Answers task (Trap why))).mutators m ≡ Some w
     → ShowsRegisters registers q → ShowsRegisters registers w
 ends_with p m q task why w registers its was s =

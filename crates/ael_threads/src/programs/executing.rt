@@ -5,7 +5,7 @@ ghost use Rattle.space_map.specs.declared.spaces.TheConstants.{MOST_MUTATORS};
 ghost use Rattle.gc_worker.specs.declared.task.Task.TheVariants.{Stops};
 ghost use Rattle.gc_worker.specs.Workers.Fits.{MayStop};
 ghost use Rattle.ael_threads.specs.Calls.{Called};
-ghost use Rattle.ael_threads.specs.Running.{Executed, Executing, HasRun, HasSeenAllLeave, RunsAsScanner};
+ghost use Rattle.ael_threads.specs.Running.{Executed, Executing, HasRun, ScannerIsGone, RunsAsScanner};
 
 use crate::mutator::Mutator;
 use crate::pace::Pace;
@@ -64,7 +64,7 @@ impl Scanner {
     /// Makes acts until it is gone, as it is only after it has found that all mutators have left.
     pub(crate) fn runs<R: Wait, P: Pace>(&mut self, job: &Job<R, P>)
         requires { self.old.seated.table ≡ job.now.table }
-        ensures { (k : ℕ) → RunsAsScanner job.now k self.old.seated → HasSeenAllLeave job.now k self.new.seated }
+        ensures { (k : ℕ) → RunsAsScanner job.now k self.old.seated → ScannerIsGone job.now k self.new.seated }
     {
         for _ in job.rt.forever() {
             job.pace.scan(self);

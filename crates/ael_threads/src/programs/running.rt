@@ -9,7 +9,7 @@ ghost use Rattle.gc_worker.specs.declared.config.TheConstants.{MOST_TURNS};
 ghost use Rattle.ael_threads.specs.Histories.{Each};
 ghost use Rattle.ael_threads.specs.Outputs.{HasEnd, IsToldOnClose, Runs};
 ghost use Rattle.ael_threads.specs.Readers.{SeatedScanner};
-ghost use Rattle.ael_threads.specs.Running.{AreReady, AreScanning, Executing, HasRun, HasSeenAllLeave, HaveRun, HaveScanned, RunsAsScanner};
+ghost use Rattle.ael_threads.specs.Running.{AreReady, AreScanning, Executing, HasRun, ScannerIsGone, HaveRun, HaveScanned, RunsAsScanner};
 ghost use Rattle.ael_threads.specs.Seats.{Seated};
 
 use crate::mutator::Mutator;
@@ -108,7 +108,7 @@ fn run_scanners<R: Threads + Wait + Sync, P: Pace>(job: &Job<R, P>, scanners: &m
         threads,
         &|_, scanner: &mut Scanner|
             requires { scanner.now.seated.table ≡ job.now.table }
-            ensures { (k : ℕ) → RunsAsScanner job.entry.now k scanner.entry.now.seated → HasSeenAllLeave job.entry.now k scanner.exit.now.seated }
+            ensures { (k : ℕ) → RunsAsScanner job.entry.now k scanner.entry.now.seated → ScannerIsGone job.entry.now k scanner.exit.now.seated }
         { scanner.runs(job) },
     );
 }
