@@ -6,3 +6,4 @@ pub mod Looks
 pub mod Callers
 pub mod ProgramRuns
 pub mod Alone
+pub mod Unread

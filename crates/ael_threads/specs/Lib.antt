@@ -10,3 +10,4 @@ pub mod Programs
 pub mod Running
 pub mod Outputs
 pub mod Alone
+pub mod Unread

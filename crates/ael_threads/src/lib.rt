@@ -19,7 +19,7 @@ mod words;
 pub use gc_worker::{
     Call, Did, Entry, loads_get_the_last_store, records_keep_their_shape, who_is_gone_saw_why,
 };
-pub use laws::lone_calls_come_to_the_same;
+pub use laws::{board_words_stay, lone_calls_come_to_the_same, unread_boards_share_nothing};
 pub use mutator::{Mutator, Reg};
 pub use opening::Seats;
 pub use pace::{NoPace, Pace};

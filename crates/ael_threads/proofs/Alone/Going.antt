@@ -33,18 +33,18 @@ module _ (m j : ℕ) (other : j ≢ m) (p u : Plain) (same : Matches m p u) (k :
 -- ---- a call of mutator m
 
 -- the same is executed, and the same is an end
-executed_too : (R : After → After → Type 0) (o v : Result After End) → Same R o v → IsOk o → IsOk v
+pub executed_too : (R : After → After → Type 0) (o v : Result After End) → Same R o v → IsOk o → IsOk v
 executed_too R (Ok a) (Ok b) same is = refl
 executed_too R (Ok a) (Err why) same is = absurd same
 executed_too R (Err why) v same is = cc
 
-ended_too : (R : After → After → Type 0) (o v : Result After End) (end : End) → Same R o v → o ≡ Err end → v ≡ Err end
+pub ended_too : (R : After → After → Type 0) (o v : Result After End) (end : End) → Same R o v → o ≡ Err end → v ≡ Err end
 ended_too R (Ok a) v end same is = cc
 ended_too R (Err why) (Ok b) end same is = absurd same
 ended_too R (Err why) (Err other) end same is = ap Err (sym same) ∙ is
 
 -- an end that an instruction may have
-may_end_too : (m : ℕ) (heap there : Heap) (k : Mutator) (instr : Instr) (end : End) → (call m heap k instr ≡ Err end → call m there k instr ≡ Err end)
+pub may_end_too : (m : ℕ) (heap there : Heap) (k : Mutator) (instr : Instr) (end : End) → (call m heap k instr ≡ Err end → call m there k instr ≡ Err end)
     → MayEnd m heap k instr end → MayEnd m there k instr end
 may_end_too m heap there k instr (HeapFull asked room live) too may = may
 may_end_too m heap there k instr _ too may = too may

@@ -76,7 +76,7 @@ module _ (m : ℕ) (u : Plain) (c : Call) (by : c.by ≡ m) (comes : ComesTo u c
       ap (λ (d : Call). d.did ∷ replies_alone (after_call u d) m (tasks_of cs)) (replied_is is) ∙ ap (λ (ds : List Did). c.did ∷ ds) rest
 
   -- after it the mutator has the end that it got
-  end_is : (end : End) → c.did ≡ Trap end → slice_get (after_call u c).mutators m ≡ Some (record comes.mutator { end = Some end })
+  pub end_is : (end : End) → c.did ≡ Trap end → slice_get (after_call u c).mutators m ≡ Some (record comes.mutator { end = Some end })
   end_is end e =
       let after : after_call u c ≡ after_outcome u m comes.mutator c.task (Trap end) =
       after_is u c m comes.mutator by its ∙ ap (λ (d : Did). after_outcome u m comes.mutator c.task d) e in

@@ -1,0 +1,4 @@
+pub mod OtherBoards
+pub mod OneCall
+pub mod WholeHistory
+pub mod BoardWords

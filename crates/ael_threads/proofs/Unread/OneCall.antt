@@ -1,0 +1,132 @@
+-- One call that doesn't read the board, and the same call with a move in place of a put, made on another board.
+use Rattle.std.proofs.Common.{◌≡◌, ℕ, inl, inr, true, List, Result, Ok, Err, slice_set, refl, ap, sym, ◌∙◌, subst}
+use Rattle.std.specs.Prelude.{IsOk, IsTrue}
+use Rattle.std.proofs.lemmas.List.{set-get_or}
+use Rattle.plain_state.specs.declared.end.End.{End}
+use Rattle.plain_state.specs.declared.value.Value.{Value}
+use Rattle.plain_state.specs.declared.value.Value.TheVariants.{Number}
+use Rattle.plain_state.specs.State.{Mutator, Plain}
+use Rattle.plain_state.specs.Writing.{with_heap}
+use Rattle.mutator_asm.specs.declared.instr.Instr.{Instr}
+use Rattle.mutator_asm.specs.declared.instr.Instr.TheVariants as instrs
+use Rattle.mutator_asm.specs.declared.operand.Operand.{Operand}
+use Rattle.plain_heap.specs.declared.action.Action.TheVariants.{Puts}
+use Rattle.plain_heap.specs.Action.{◌>>=◌, action, board_place, register}
+use Rattle.plain_heap.specs.Alone.{leaves_board}
+use Rattle.plain_heap.specs.Call.{After, call, performed, went_on}
+use Rattle.plain_heap.specs.Step.{settled}
+use Rattle.plain_heap.proofs.Alone.Alike.{Same}
+use Rattle.gc_worker.specs.declared.task.Task.{Task}
+use Rattle.gc_worker.specs.declared.task.Task.TheVariants.{Calls, Stops}
+use Rattle.gc_worker.specs.declared.calls.call.Call.{Call}
+use Rattle.gc_worker.specs.declared.calls.did.Did.{Did}
+use Rattle.gc_worker.specs.declared.calls.did.Did.TheVariants.{Done, Trap}
+use Rattle.gc_worker.specs.History.Legal.{after_call, worker_call}
+use Rattle.gc_worker.specs.Plain.Answer.{ComesTo, MayCome, after_outcome}
+use Rattle.ael_threads.specs.Alone.{LeavesBoard, task_leaves_board}
+use Rattle.ael_threads.specs.Unread.{IsPut, LeavesUnread, as_move, instr_as_move, task_as_move}
+use Rattle.ael_threads.proofs.Alone.Going.{after_is, ended_too, executed_too, may_end_too}
+use Rattle.ael_threads.proofs.Unread.OtherBoards.{KeepBoards, call-same, with_other_board}
+
+-- the state with another board
+abbrev pub reboarded : Plain → List Value → Plain
+reboarded p board = with_heap p (with_other_board p.heap board)
+
+module _ (p : Plain) (board : List Value) (m : ℕ) (k : Mutator) where
+  abbrev there : Plain
+  there = reboarded p board
+
+  -- ---- a task that leaves the board alone
+
+  settles : (o v : Result After End) → Same (KeepBoards p.heap board) o v → settled there m k v ≡ reboarded (settled p m k o) board
+  settles (Ok a) (Ok b) same = λ i. record {
+    heap = record { records = same.records i; board = same.there i };
+    mutators = slice_set p.mutators m (same.mutator i);
+  }
+  settles (Ok a) (Err why) same = absurd same
+  settles (Err why) (Ok b) same = absurd same
+  settles (Err why) (Err other) same = λ i. settled there m k (Err (sym same i))
+
+  leaving-may : (task : Task) (did : Did) → IsTrue (task_leaves_board task) → MayCome m p.heap k task did → MayCome m there.heap k task did
+  leaving-may (Calls instr) Done leaves may =
+      executed_too (KeepBoards p.heap board) (call m p.heap k instr) (call m there.heap k instr) (call-same m p.heap board k instr leaves) may
+  leaving-may (Calls instr) (Trap end) leaves may =
+      may_end_too m p.heap there.heap k instr end
+      (ended_too (KeepBoards p.heap board) (call m p.heap k instr) (call m there.heap k instr) end (call-same m p.heap board k instr leaves)) may
+  leaving-may (Stops end) Done leaves may = may
+  leaving-may (Stops end) (Trap other) leaves may = may
+
+  leaving-after : (task : Task) (did : Did) → IsTrue (task_leaves_board task) → after_outcome there m k task did ≡ reboarded (after_outcome p m k task did) board
+  leaving-after (Calls instr) Done leaves = settles (call m p.heap k instr) (call m there.heap k instr) (call-same m p.heap board k instr leaves)
+  leaving-after (Calls instr) (Trap end) leaves = refl
+  leaving-after (Stops end) Done leaves = refl
+  leaving-after (Stops end) (Trap why) leaves = refl
+
+  -- ---- a put, and a move
+
+  -- the mutator goes on, and the records stay
+  abbrev gone_on : Plain
+  gone_on = record { heap = there.heap; mutators = slice_set p.mutators m (went_on k) }
+
+  move_executed : (a : ℕ) → IsOk (call m there.heap k (instrs.Mov a a))
+  unfolding call action
+  move_executed a = refl
+
+  move_is : (a : ℕ) → settled there m k (call m there.heap k (instrs.Mov a a)) ≡ gone_on
+  unfolding call action
+  move_is a = ap (λ (rs : List Value). let r : Plain = record { heap = there.heap; mutators = slice_set p.mutators m (went_on (record k { registers = rs })) } in r) (set-get_or k.registers a (Number 0))
+
+  put_at : (a : ℕ) (o : Result ℕ End) → IsOk ((o >>= (λ x. Ok (Puts x (register k a)))) >>= performed m p.heap k)
+      → reboarded (settled p m k ((o >>= (λ x. Ok (Puts x (register k a)))) >>= performed m p.heap k)) board ≡ gone_on
+  put_at a (Ok x) executed = refl
+  put_at a (Err why) executed = cc
+
+  put_is : (place : Operand) (a : ℕ) → IsOk (call m p.heap k (instrs.Put place a)) → reboarded (settled p m k (call m p.heap k (instrs.Put place a))) board ≡ gone_on
+  unfolding call action
+  put_is place a executed = put_at a (board_place k place) executed
+
+-- ---- calls
+
+-- the call d on another board does what the call c does
+pub record IsSameBeside (p : Plain) (board : List Value) (c d : Call) : Type 0 where
+  pub comes : ComesTo (reboarded p board) d.by d.task d.did
+  pub after : after_call (reboarded p board) d ≡ reboarded (after_call p c) board
+
+leaving-same : (p : Plain) (board : List Value) (c : Call) → LeavesBoard c → ComesTo p c.by c.task c.did → IsSameBeside p board c c
+leaving-same p board c leaves t =
+    let k = t.mutator in record {
+      comes = record { mutator = k; is = t.is; no_end = t.no_end; may = leaving-may p board c.by k c.task c.did leaves t.may };
+      after = after_is (reboarded p board) c c.by k refl t.is
+          ∙ (leaving-after p board c.by k c.task c.did leaves ∙ ap (λ (z : Plain). reboarded z board) (sym (after_is p c c.by k refl t.is)));
+    }
+
+pub same_as_move : (c : Call) → LeavesBoard c → as_move c ≡ c
+same_as_move c leaves = ap (λ (task : Task). let d : Call = record c { task = task } in d) (by_task c.task leaves)
+  where
+    by_instr : (instr : Instr) → leaves_board instr ≡ true → instr_as_move instr ≡ instr
+    by_instr (instrs.Put place a) is = cc
+    by_instr (instrs.Li d n) is = refl
+    by_instr _ is = refl
+
+    by_task : (task : Task) → IsTrue (task_leaves_board task) → task_as_move task ≡ task
+    by_task (Calls instr) is = ap Calls (by_instr instr is)
+    by_task (Stops end) is = refl
+
+putting : (p : Plain) (board : List Value) (m : ℕ) (place : Operand) (a : ℕ) → ComesTo p m (Calls (instrs.Put place a)) Done
+    → IsSameBeside p board (worker_call m (Calls (instrs.Put place a)) Done) (worker_call m (Calls (instrs.Mov a a)) Done)
+putting p board m place a t =
+    let k = t.mutator in record {
+      comes = record { mutator = k; is = t.is; no_end = t.no_end; may = move_executed p board m k a };
+      after = after_is (reboarded p board) (worker_call m (Calls (instrs.Mov a a)) Done) m k refl t.is
+          ∙ (move_is p board m k a ∙ (sym (put_is p board m k place a t.may)
+          ∙ ap (λ (z : Plain). reboarded z board) (sym (after_is p (worker_call m (Calls (instrs.Put place a)) Done) m k refl t.is))));
+    }
+
+put-same : (p : Plain) (board : List Value) (c : Call) (place : Operand) (a : ℕ) → IsPut c place a → ComesTo p c.by c.task c.did → IsSameBeside p board c (as_move c)
+put-same p board c place a put t =
+    subst (λ (z : Task × Did). ComesTo p c.by z.0 z.1 → IsSameBeside p board (worker_call c.by z.0 z.1) (as_move (worker_call c.by z.0 z.1)))
+    (λ i. (sym put.task i, sym put.did i)) (putting p board c.by place a) t
+
+pub unread-same : (p : Plain) (board : List Value) (c : Call) → LeavesUnread c → ComesTo p c.by c.task c.did → IsSameBeside p board c (as_move c)
+unread-same p board c (inl leaves) t = subst (IsSameBeside p board c) (sym (same_as_move c leaves)) (leaving-same p board c leaves t)
+unread-same p board c (inr puts) t = put-same p board c puts.0 puts.1 puts.2 t

@@ -1,0 +1,79 @@
+-- An instruction that leaves the board alone, on two heaps with the same records: it does the same on both, and leaves each its board.
+use Rattle.std.proofs.Common.{◌≡◌, ℕ, true, List, Option, Some, None, Result, Ok, Err, refl}
+use Rattle.std.specs.Bool.{⊤}
+use Rattle.std.specs.Result.{IfOk}
+use Rattle.plain_state.specs.declared.end.End.{End}
+use Rattle.plain_state.specs.declared.value.Identity.{Identity}
+use Rattle.plain_state.specs.declared.value.Value.{Value}
+use Rattle.plain_state.specs.Operation.{applied}
+use Rattle.plain_state.specs.State.{Heap, Mutator, Record, record_of}
+use Rattle.plain_state.specs.Writing.{stored}
+use Rattle.mutator_asm.specs.declared.instr.Instr.{Instr}
+use Rattle.mutator_asm.specs.declared.instr.Instr.TheVariants as instrs
+use Rattle.plain_heap.specs.declared.action.Action.{Action}
+use Rattle.plain_heap.specs.declared.action.Action.TheVariants.{Sets, Jumps, Links, Prints, Makes, Measures, Loads, Stores, Gets, Puts, Swaps}
+use Rattle.plain_heap.specs.Action.{◌>>=◌, action}
+use Rattle.plain_heap.specs.Alone.{leaves_board}
+use Rattle.plain_heap.specs.Call.{After, call, may_hold, performed, store_in, value_in, went_on}
+use Rattle.plain_heap.proofs.Alone.Alike.{Same, same-bind}
+use Rattle.plain_heap.proofs.Calls.Named.{Names, Spells, named}
+
+abbrev pub with_other_board : Heap → List Value → Heap
+with_other_board heap board = record heap { board = board }
+
+-- both times the mutator becomes the same, and so do the records; each heap keeps its board
+pub record KeepBoards (heap : Heap) (board : List Value) (a b : After) : Type 0 where
+  pub mutator : b.mutator ≡ a.mutator
+  pub records : b.heap.records ≡ a.heap.records
+  pub here : a.heap.board ≡ heap.board
+  pub there : b.heap.board ≡ board
+
+module _ (m : ℕ) (heap : Heap) (board : List Value) (k : Mutator) where
+  abbrev other : Heap
+  other = with_other_board heap board
+
+  abbrev DoTheSame : Result After End → Result After End → Type 0
+  DoTheSame = Same (KeepBoards heap board)
+
+  stored_same : (i : Identity) (r : Record) (x : ℕ) (o : Result Value End)
+      → DoTheSame ((o >>= (λ v. Ok (stored heap i r x v))) >>= (λ h. Ok (record { heap = h; mutator = went_on k })))
+      ((o >>= (λ v. Ok (stored other i r x v))) >>= (λ h. Ok (record { heap = h; mutator = went_on k })))
+  stored_same i r x (Ok v) = record { mutator = refl; records = refl; here = refl; there = refl }
+  stored_same i r x (Err why) = refl
+
+  stores_same : (i : Identity) (o : Option Record) (x : ℕ) (v : Value)
+      → DoTheSame (store_in heap i o x v >>= (λ h. Ok (record { heap = h; mutator = went_on k }))) (store_in other i o x v >>= (λ h. Ok (record { heap = h; mutator = went_on k })))
+  stores_same i None x v = refl
+  stores_same i (Some r) x v = stored_same i r x (may_hold r.kind v)
+
+  performed-same : (act : Action) → Names (λ v. ⊤) ⊥ k act → DoTheSame (performed m heap k act) (performed m other k act)
+  performed-same (Sets d v) is = record { mutator = refl; records = refl; here = refl; there = refl }
+  performed-same (Jumps target) is = record { mutator = refl; records = refl; here = refl; there = refl }
+  performed-same (Links d target) is = record { mutator = refl; records = refl; here = refl; there = refl }
+  performed-same (Prints n) is = record { mutator = refl; records = refl; here = refl; there = refl }
+  performed-same (Makes kind d n) is = record { mutator = refl; records = refl; here = refl; there = refl }
+  performed-same (Measures d i) is = record { mutator = refl; records = refl; here = refl; there = refl }
+  performed-same (Loads d i x) is = same-bind (KeepBoards heap board) (value_in heap i x) _ _ (λ v at. record { mutator = refl; records = refl; here = refl; there = refl })
+  performed-same (Stores i x v) is = same-bind (KeepBoards heap board) (value_in heap i x) _ _ (λ old at. stores_same i (record_of heap i) x v)
+  performed-same (Gets d x) is = absurd is.0
+  performed-same (Puts x v) is = absurd is.0
+  performed-same (Swaps d x v) is = absurd is.0
+
+  spells : (i : Instr) → leaves_board i ≡ true → Spells (λ v. ⊤) ⊥ i
+  spells (instrs.Get d x) leaves = cc
+  spells (instrs.Put x a) leaves = cc
+  spells (instrs.Swap d x) leaves = cc
+  spells (instrs.Li d n) leaves = tt
+  spells _ leaves = tt
+
+  computed : (o : Result ℕ End) → IfOk o (λ n. ⊤)
+  computed (Ok n) = tt
+  computed (Err why) = tt
+
+  acts_as : (o : Result Action End) → IfOk o (Names (λ v. ⊤) ⊥ k) → DoTheSame (o >>= performed m heap k) (o >>= performed m other k)
+  acts_as (Ok act) is = performed-same act is
+  acts_as (Err why) is = refl
+
+  pub call-same : (i : Instr) → leaves_board i ≡ true → DoTheSame (call m heap k i) (call m other k i)
+  unfolding call
+  call-same i leaves = acts_as (action k i) (named (λ v. ⊤) ⊥ k (λ r. tt) tt (λ b. tt) (λ operation a b is_a is_b. computed (applied operation a b)) i (spells i leaves))
