@@ -102,8 +102,8 @@ WasExecuted (Trap end) = ⊥
 -- answers the task in the epoch that the caller then has. Where the task was executed, each pointer in the registers leads to a record's
 -- header in the space of that epoch, by the words after that act, and two registers hold one word exactly where the plain ones hold one
 -- value; where the heap is told to be full it was, by the words that the act found, and what is told as live was live at the last flip,
--- which came since the look that began the task in this call if the epoch is not the last one: with records made since then, or being made
--- by the others, it fills the space.
+-- which came since the look that began the task in this call if the epoch is not the last one; what it and the room leave of the space is
+-- no more than the pages of records made since then, or made next by the others.
 pub record Called (a : Seated) (task : Task) (did : Did) (b : Seated) : Type 0 where
   pub rests : b.worker.task ≡ None
   pub ends : b.worker.account.end ≡ end_by_did did

@@ -91,9 +91,9 @@ pub record TellsRegisters (told : Outputs) (m : ℕ) (q : Mutator) : Type 0 wher
 -- are told, with what all workers hold, which have left, stand for the plain state after it, and registers show the plain ones; what was
 -- copied in an epoch that is traced is what was live at its last flip; what else is told is what these say. Each flip was for a record, an
 -- instruction asking for one at most; where a mutator's end is that the heap is full, it was, by words with which all workers stood at that
--- call, and what was live at the flip before filled the space, with records made since then or being made; there is a look by which the
--- mutator began that instruction, and that flip came since, if it is not the last that there can be. So it is by the order alone; and a
--- heap that is as large as the order needs is never full.
+-- call, and what was live at the flip before and the room left no more of the space than the pages of records made since then, or made
+-- next by others; there is a look by which the mutator began that instruction, and that flip came since, if it is not the last that there
+-- can be. So it is by the order alone; and a heap that is as large as the order needs is never full.
 pub record Runs (code : List (List Instr)) (config : Config) (told : Outputs) : Type 0 where
   pub log : List Entry
   pub workers : List Held

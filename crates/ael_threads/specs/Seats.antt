@@ -313,8 +313,9 @@ pub record Stays (workers : List Held) (log : List Entry) (h : Hand) : Type 0 wh
 -- THE CLAUSE OF CLOSE: the calls of all these callers stand in one legal history, each once, of which what each has seen is a beginning;
 -- with what their codes hold the words stand for the plain state after it; if a scanner is gone, all mutators are; what was copied in an
 -- epoch that is traced is what was live at the last flip of the history; the gate's epoch is the number of its flips; each flip was for a
--- record, and where a call told the heap to be full, what was live at the flip before it filled the space, with records made since then or
--- being made, by the history or else by the tasks that mutators have begun, so a heap that is as large as the history needs is never full;
+-- record, and where a call told the heap to be full, what was live at the flip before it and the room left no more of the space than the
+-- pages of records made since then, or made next, by the history or else by the tasks that mutators have begun, so a heap that is as large
+-- as the history needs is never full;
 -- that flip came since the look by which the worker began that task, in the epoch that it keeps, if it is not the last that there can be;
 -- no mutator asked for two flips between two of its calls; if all workers are there the history has no other calls; no worker stands
 -- twice, and no page was won twice in one epoch.
