@@ -22,7 +22,7 @@ use Rattle.gc_worker.specs.declared.calls.did.Did.{Did}
 use Rattle.gc_worker.specs.declared.calls.did.Did.TheVariants.{Done, Trap}
 use Rattle.gc_worker.specs.History.Tally.{IsFilledBy, tally, tasks_held}
 use Rattle.ael_threads.specs.Histories.{opening_tally, first_plain, hand}
-use Rattle.gc_worker.specs.History.Legal.{after_all, worker_call, calls_of, last_flip}
+use Rattle.gc_worker.specs.History.Legal.{after_all, worker_call, last_flip}
 use Rattle.ael_threads.specs.Began.{BegunWithin, FlippedSinceBegun, flips_of}
 use Rattle.ael_threads.specs.Seats.{ActsBy, Extends, IsShown, LiveWhereTold, Seated, ShowsSeen, first_number, first_own, plain_after_seen}
 

@@ -1,5 +1,5 @@
 -- Calls in a history: which stood there before the last step, and that a mutator keeps the end that one gave it.
-use Rattle.std.proofs.Common.{◌≡◌, ◌≢◌, ◌⊎◌, ℕ, inl, inr, ⊎_elim, Some, None, List, [], ◌∷◌, ◌++◌, slice_get, refl, sym, ◌∙◌, ap, subst}
+use Rattle.std.proofs.Common.{◌≡◌, ◌≢◌, ◌⊎◌, ℕ, inl, inr, ⊎_elim, Some, None, List, [], ◌∷◌, ◌++◌, slice_get, refl, sym, ◌∙◌, ap}
 use Rattle.std.proofs.lemmas.Option.{same_Some}
 use Rattle.plain_state.specs.declared.end.End.{End}
 use Rattle.plain_state.specs.State.{Mutator, Plain}

@@ -1,5 +1,5 @@
 -- What an act tells.
-use Rattle.std.proofs.Common.{Option, None, true, ◌≡◌, ℕ, ◌<◌, List, [], ◌∷◌, Some, sym, ◌∙◌, subst, arith, length}
+use Rattle.std.proofs.Common.{Option, None, ◌≡◌, ℕ, ◌<◌, List, [], ◌∷◌, Some, sym, ◌∙◌, subst, arith, length}
 use Rattle.std.proofs.lemmas.List.{length-replicate}
 use Rattle.atom_store.specs.declared.reply.Reply.{Reply}
 use Rattle.atom_store.specs.declared.step.Step.{Step}

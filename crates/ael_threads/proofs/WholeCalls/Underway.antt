@@ -1,16 +1,14 @@
 -- A caller from act to act of its call: when it began its task, and what flips came since.
-use Rattle.std.proofs.Common.{◌≡◌, ℕ, ◌<◌, ◌≤◌, inl, inr, true, List, length, Some, sym, ◌∙◌, ap, subst, arith, ⊎_elim}
+use Rattle.std.proofs.Common.{◌≡◌, ℕ, ◌<◌, ◌≤◌, inl, inr, List, length, Some, refl, sym, ◌∙◌, ap, subst, arith, ⊎_elim}
 use mathlib.Core.List.{IsPrefix}
 use Rattle.atom_store.specs.declared.reply.Reply.{Reply}
 use Rattle.plain_state.specs.declared.end.End.TheVariants.{Halt, NotPointer, NotNumber, OutOfRange, IntoRaw, ZeroDivisor, JumpOut, TurnsOut, OutputFull, HeapFull}
 use Rattle.space_map.specs.declared.gate_word.GateWord.{GateWord}
 use Rattle.std.specs.Prelude.{Option}
-use Rattle.heap_state.specs.Worker.{is_running}
 use Rattle.gc_worker.specs.declared.calls.call.Call.{Call}
 use Rattle.gc_worker.specs.declared.calls.did.Did.{Did}
 use Rattle.gc_worker.specs.declared.calls.did.Did.TheVariants.{Done, Trap}
 use Rattle.gc_worker.specs.declared.calls.entry.Entry.{Entry}
-use Rattle.gc_worker.specs.declared.stage.Stage.{Stage}
 use Rattle.gc_worker.specs.declared.stage.Stage.TheVariants.{Looks}
 use Rattle.gc_worker.specs.declared.steps.stepped.Stepped.{Stepped}
 use Rattle.gc_worker.specs.declared.task.Task.{Task}
@@ -21,7 +19,6 @@ use Rattle.gc_worker.specs.Workers.Fits.{Fits}
 use Rattle.gc_worker.specs.Plain.Full.{FindsNoRoom, FullWhereTold}
 use Rattle.gc_worker.specs.Workers.Held.{Held}
 use Rattle.gc_worker.specs.History.Legal.{after_all, calls_of, extra, last_flip}
-use Rattle.gc_worker.specs.Workers.Knows.{post_in}
 use Rattle.gc_worker.specs.Laws.Step.{Heap, WorkersStand, epoch_of, held_at, nobody}
 use Rattle.gc_worker.specs.Steps.Stepped.{uncounted}
 use Rattle.gc_worker.specs.Steps.Turned.{Answers, epoch_in_gate, told, turned}
