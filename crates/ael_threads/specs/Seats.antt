@@ -264,6 +264,7 @@ pub record Learned (v w : View) : Type 0 where
   pub tasks : Tasks
   pub entries : EachEntry (EntryIs w.plan.spaces.pages tasks) (opening_tally w.plan) w.seen
   pub flipped : Each (HasFlippedIfFull w.plan w.seen) w.hands
+  pub all_flipped : (m : ℕ) → (begun : ℕ) × FlippedIfFull w.plan m begun w.seen
 
 abbrev pub Learns : table.Step ℕ → Me → ℕ → Me → Type 0
 Learns st me found later = (later.1 ≡ me.1) × Learned me.0 later.0
@@ -271,7 +272,7 @@ Learns st me found later = (later.1 ≡ me.1) × Learned me.0 later.0
 -- THE CLAUSE OF ABSORB: one history for both callers, with just the calls that both made; no worker of both, and no page won by both in
 -- one epoch. There are tasks, one a worker at most, by which, where the history has no later call of a worker, each full heap of it was
 -- filled and each of its flips was asked for; and where one of these workers found the heap full, a flip came since the look by which it
--- began that task, in the epoch that its code keeps, or none can.
+-- began that task, in the epoch that its code keeps, or none can; where another did, since such a look in some epoch.
 pub record Absorbs (v u w : View) : Type 0 where
   pub plan : w.plan ≡ v.plan
   pub hands : w.hands ≡ v.hands ++ u.hands
@@ -286,6 +287,7 @@ pub record Absorbs (v u w : View) : Type 0 where
   pub tasks : Tasks
   pub entries : EachEntry (EntryIs w.plan.spaces.pages tasks) (opening_tally w.plan) w.seen
   pub flipped : Each (HasFlippedIfFull w.plan w.seen) w.hands
+  pub all_flipped : (m : ℕ) → (begun : ℕ) × FlippedIfFull w.plan m begun w.seen
 
 -- ---- the end
 

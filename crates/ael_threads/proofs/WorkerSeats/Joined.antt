@@ -13,6 +13,7 @@ use Rattle.ael_threads.specs.declared.view.Hand.{Hand}
 use Rattle.ael_threads.specs.declared.view.Plan.{Plan}
 use Rattle.ael_threads.specs.declared.view.View.{View}
 use Rattle.gc_worker.specs.History.Tally.{EachEntry, EntryIs, IsTallied, tasks_held}
+use Rattle.ael_threads.specs.Began.{FlippedIfFull, begun_held}
 use Rattle.ael_threads.specs.Histories.{opening_tally, Each, IsOnce, first_plain, hand_number}
 use Rattle.gc_worker.specs.History.Legal.{IsLegal, after_all, calls_of, last_flip}
 use Rattle.ael_threads.specs.Rule.{FitsView, HasHand, RuleHolds, Won, heap_of, spent_view, view}
@@ -169,6 +170,7 @@ learns plan slots id me st live s b homes at small =
           entries = subst (λ (z : Plan). EachEntry (EntryIs z.spaces.pages (tasks_held b.workers)) (opening_tally z) b.log) (sym (f.same live)) b.tallied.entries;
           flipped = subst (λ (z : Plan). Each (HasFlippedIfFull z b.log) v.hands) (sym (f.same live))
               (each_map (HasHand b.workers b.log b.owner id) (HasFlippedIfFull plan b.log) (λ h t. hand_flipped plan b.workers b.log h t.state b.flipped) v.hands f.hands);
+          all_flipped = subst (λ (z : Plan). (m : ℕ) → (begun : ℕ) × FlippedIfFull z m begun b.log) (sym (f.same live)) (λ m. (begun_held b.workers m, b.flipped m));
         },
       ),
     )
