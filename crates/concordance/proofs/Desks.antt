@@ -1,0 +1,13 @@
+pub mod Seats
+pub mod Instructions
+pub mod AtEntry
+pub mod NewWord
+pub mod Noting
+pub mod FreshRecord
+pub mod MadeEntry
+pub mod MadeLetters
+pub mod ComparedLetters
+pub mod ComparedWord
+pub mod NotedLine
+pub mod Searched
+pub mod NotedWord

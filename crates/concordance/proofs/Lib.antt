@@ -1,0 +1,14 @@
+pub mod Doing
+pub mod RegisterCount
+pub mod Lone
+pub mod Shown
+pub mod Lists
+pub mod Notes
+pub mod Desks
+pub mod Partners
+pub mod OneMutator
+pub mod FewFlips
+pub mod LiveWords
+pub mod DoneCalls
+pub mod FullHeaps
+pub mod Whole

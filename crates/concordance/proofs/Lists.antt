@@ -1,0 +1,5 @@
+pub mod Elements
+pub mod Sums
+pub mod Serials
+pub mod LastRecord
+pub mod Letters

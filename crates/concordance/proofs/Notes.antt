@@ -1,0 +1,12 @@
+pub mod Turns
+pub mod Keeping
+pub mod MoreRecords
+pub mod Finding
+pub mod NewEntry
+pub mod NewLine
+pub mod Telling
+pub mod Adding
+pub mod AddingLines
+pub mod Needing
+pub mod Worked
+pub mod Search

@@ -1,0 +1,29 @@
+use Rattle.std.proofs.Common.{◌∙◌, ap, arith}
+use Rattle.gc_worker.specs.declared.calls.did.Did.TheVariants.{Trap}
+use Rattle.concordance.specs.Lone.{desk_of}
+use Rattle.concordance.proofs.Doing.{makes_serial}
+use Rattle.concordance.proofs.Lone.{finds_full, makes_desk, makes_full, makes_lone}
+use Rattle.concordance.proofs.Shown.{serial_read}
+use Rattle.concordance.proofs.clerk.Clerk.makes.Goals as goal
+
+pub prove-unreachable-requires : goal.prove-unreachable-requires
+prove-unreachable-requires g c =
+    let serial = c.serial-serial.ensures in
+    let read = serial_read c.self.inside.mutator c.args.self.now c.self.view_is c.requires.lone serial.shows serial.there in
+    let few = makes_serial (desk_of c.args.self.now) c.args.instr c.requires.can in
+    let said = serial.serial in
+    let many = c.if-prove.true in
+    omega (arith, read, few, said, many)
+
+pub of-requires : goal.of-requires
+of-requires g c = makes_full c.args.self.now c.call.new.self c.args.instr c.requires.lone c.requires.can c.call.result c.call.ensures.called c.in-Trap.end c.in-Trap.is
+
+pub returns-in-Done-clause-lone : goal.returns-in-Done-clause-lone
+returns-in-Done-clause-lone g c = makes_lone c.args.self.now c.call.new.self c.args.instr c.requires.lone c.requires.can c.call.result c.call.ensures.called c.in-Done.is
+
+pub returns-in-Done-clause-desk : goal.returns-in-Done-clause-desk
+returns-in-Done-clause-desk g c = makes_desk c.args.self.now c.call.new.self c.args.instr c.requires.lone c.requires.can c.call.result c.call.ensures.called c.in-Done.is
+
+pub returns-in-Trap-clause-full : goal.returns-in-Trap-clause-full
+returns-in-Trap-clause-full g c =
+    finds_full c.args.self.now c.call.new.self c.args.instr c.requires.lone c.requires.can c.call.result c.call.ensures.called c.of.result.asked c.of.result.room c.of.ensures.0 (c.in-Trap.is ∙ ap Trap c.of.ensures.1)

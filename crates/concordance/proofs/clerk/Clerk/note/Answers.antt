@@ -1,0 +1,43 @@
+use Rattle.std.proofs.Common.{◌≡◌, ℕ, ◌+◌, ◌≤◌, List, length, sym, ap, ◌∙◌, subst, arith}
+use Rattle.mutator_asm.specs.declared.instr.Instr.TheVariants.{St}
+use Rattle.mutator_asm.specs.declared.operand.Operand.{Operand}
+use Rattle.concordance.specs.Desk.{CanDo, desk_after}
+use Rattle.concordance.specs.Lone.{desk_of}
+use Rattle.concordance.specs.declared.registers.TheConstants.{ENTRY, HERE}
+use Rattle.concordance.proofs.Desks.NotedWord.{noted_aside, noted_first, takes_entry, three_more}
+use Rattle.concordance.proofs.clerk.Clerk.note.Goals as goal
+
+pub does-requires-clause-can : goal.does-requires-clause-can
+does-requires-clause-can g c =
+    let n = c.requires.notes in
+    let f = c.in-Side.ensures in
+    let w = c.in_ok-note_word-in-Side.ensures in
+    let place = f.place n.is.notes n.noted n.is.holds in
+    subst (λ (x : Operand). CanDo (desk_of c.note_word.new.self) (St HERE x ENTRY)) (sym c.side.ensures)
+    (takes_entry c.args.self.now c.find.new.self c.note_word.new.self c.args.word.now c.args.line c.requires.short f.records f.others w.records w.entry w.latest w.others n.is.notes n.noted n.is.holds place.0 c.in-Side.right place.1)
+
+pub returns-in_ok-note_word-in-Side-clause-noted : goal.returns-in_ok-note_word-in-Side-clause-noted
+returns-in_ok-note_word-in-Side-clause-noted g c noted is none_later =
+    let f = c.in-Side.ensures in
+    let w = c.in_ok-note_word-in-Side.ensures in
+    let place = f.place is.notes noted is.holds in
+    noted_aside c.args.self.now c.find.new.self c.note_word.new.self c.args.word.now c.args.line c.requires.short f.records f.others w.records w.entry w.latest w.others is.notes noted is.holds place.0 c.in-Side.right place.1 c.does.new.self
+    (c.does.ensures.desk ∙ ap (λ (x : Operand). desk_after (desk_of c.note_word.new.self) (St HERE x ENTRY)) c.side.ensures)
+
+pub returns-in_ok-note_word-in-Side-clause-made : goal.returns-in_ok-note_word-in-Side-clause-made
+returns-in_ok-note_word-in-Side-clause-made g c =
+    let n = c.requires.notes in
+    let f = c.in-Side.ensures in
+    let w = c.in_ok-note_word-in-Side.ensures in
+    let place = f.place n.is.notes n.noted n.is.holds in
+    let more = three_more c.args.self.now c.find.new.self c.note_word.new.self c.args.word.now c.args.line c.requires.short f.records f.others w.records w.entry w.latest w.others n.is.notes n.noted n.is.holds place.0 c.in-Side.right place.1 c.does.new.self
+    (c.does.ensures.desk ∙ ap (λ (x : Operand). desk_after (desk_of c.note_word.new.self) (St HERE x ENTRY)) c.side.ensures) in
+    omega (arith, more)
+
+pub returns-in_ok-note_word-in-Nowhere-clause-noted : goal.returns-in_ok-note_word-in-Nowhere-clause-noted
+returns-in_ok-note_word-in-Nowhere-clause-noted g c noted is none_later =
+    let f = c.in-Nowhere.ensures in
+    let w = c.in_ok-note_word-in-Nowhere.ensures in
+    let place = f.place is.notes noted is.holds in
+    noted_first c.args.self.now c.find.new.self c.note_word-in-Nowhere.new.self c.args.word.now c.args.line c.requires.short f.records f.others w.records w.entry w.latest w.others is.notes noted is.holds place.0 c.does-in-Nowhere.new.self place.1
+    c.does-in-Nowhere.ensures.desk

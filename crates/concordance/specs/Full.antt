@@ -1,0 +1,35 @@
+-- A clerk that has the heap for itself finds it full only if its own records fill it.
+use Rattle.std.specs.Prelude.{◌≡◌, ℕ, ◌+◌, ◌-◌, ◌*◌, ◌^◌, ◌<◌, ◌≤◌, length}
+use Rattle.std.specs.List.{sum_by}
+use Rattle.plain_state.specs.declared.end.End.TheVariants.{HeapFull}
+use Rattle.plain_state.specs.declared.sizes.TheConstants.{PAGE_WORDS}
+use Rattle.plain_state.specs.Layout.{size_of}
+use Rattle.plain_state.specs.State.{Heap, Plain, made_by, serial_of}
+use Rattle.mutator_asm.specs.declared.instr.Instr.{Instr}
+use Rattle.heap_state.specs.Meaning.Reachable.{IsLive}
+use Rattle.gc_worker.specs.declared.calls.did.Did.TheVariants.{Trap}
+use Rattle.gc_worker.specs.declared.task.Task.TheVariants.{Calls}
+use Rattle.ael_threads.specs.Calls.{Called}
+use Rattle.ael_threads.specs.Histories.{Each}
+use Rattle.ael_threads.specs.Seats.{Seated, ShowsSeen, first_number, first_own}
+use Rattle.concordance.specs.Lone.{IsLone, alone_by}
+use Rattle.concordance.specs.OneMutator.{WasDone}
+
+-- the words that all records take which mutator m has made
+abbrev pub words_made : Heap → (m : ℕ) → ℕ
+words_made heap m = sum_by size_of (made_by heap m)
+
+-- if one mutator has made all records, what is live takes no more words than they do
+abbrev pub LiveIsMade : Type 0
+LiveIsMade = (p : Plain) (words : ℕ) → length p.heap.records ≡ 1 → IsLive p words → words ≤ words_made p.heap 0
+
+-- each call of a clerk that has no end was executed
+abbrev pub LoneCallsAreDone : Type 0
+LoneCallsAreDone = (s : Seated) → IsLone s → ShowsSeen s.worker s.knows → Each WasDone (first_own s.knows.hands)
+
+-- The heap has one mutator, the clerk's, whose calls so far were executed, and which has made fewer records than there can be flips. If its
+-- next call finds the heap full, its records and the room that is left are at least the words of a space.
+abbrev pub LoneFullsAreFilled : Type 0
+LoneFullsAreFilled = (a b : Seated) (i : Instr) (asked room live : ℕ) → IsLone a → a.knows.plan.mutators ≡ 1 → first_number a.knows.hands ≡ 0
+    → Each WasDone (first_own a.knows.hands) → serial_of (alone_by a).heap 0 + 1 < 2 ^ 32 - 1 → Called a (Calls i) (Trap (HeapFull asked room live)) b
+    → PAGE_WORDS * a.knows.plan.spaces.pages ≤ room + words_made (alone_by a).heap 0
