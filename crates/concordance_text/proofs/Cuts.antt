@@ -4,9 +4,11 @@ use Rattle.std.specs.Prelude.{count_by}
 use Rattle.std.specs.List.{slice_split, onto_first}
 use Rattle.std.proofs.lemmas.List.Sums.{sum_by-append}
 use Rattle.std.proofs.lemmas.List.Splits.{length-slice_split}
-use Rattle.concordance_text.specs.Words.{ends_line, lines_of, mentions_from, mentions_in}
+use Rattle.concordance_text.specs.Rows.{IsElementOf}
+use Rattle.concordance_text.specs.Words.{Mention, ends_line, lines_of, mentions_from, mentions_in}
 use Rattle.concordance_text.specs.declared.part.Part.{Part}
-use Rattle.concordance_text.specs.Parts.{EndsWithLine, IsCut, bytes_of}
+use Rattle.concordance_text.specs.Parts.{AreInEarlierLines, EndsWithLine, IsCut, bytes_of}
+use Rattle.concordance_text.proofs.LineNumbers.{line_within}
 
 onto_append : {X : Type 0} (x : X) (ps qs : List (List X)) → 0 < length ps → onto_first x (ps ++ qs) ≡ onto_first x ps ++ qs
 onto_append x [] qs some = absurd (omega arith)
@@ -52,6 +54,23 @@ pub cut_there : (place : ℕ) (text xs ys : List ℕ) → xs ≡ take place text
 cut_there place text xs ys e f (inl h) = inl (subst EndsWithLine (sym e) h)
 cut_there place text xs ys e f (inr h) = inr (f ∙ drop_of_length-le text (omega arith))
 
+-- in a text that ends with a line's end, a word stands in a line before the one behind it
+line_before : (number : ℕ) (text : List ℕ) (m : Mention) → EndsWithLine text → IsElementOf m (mentions_from number (lines_of text)) → m.line < number + count_by ends_line text
+line_before number text m (inl e) h = absurd (subst (λ (bs : List ℕ). IsElementOf m (mentions_from number (lines_of bs))) e h)
+line_before number text m (inr e) h =
+    let in_front : IsElementOf m (mentions_from number (lines_of e.0)) =
+    subst (IsElementOf m) (after_line number e.0 [] ∙ append-nil _) (subst (λ (bs : List ℕ). IsElementOf m (mentions_from number (lines_of bs))) e.1 h) in
+    let within = (line_within number (lines_of e.0) m in_front).1 in
+    omega (arith, within, length-slice_split ends_line e.0, count_by-end e.0, ap (count_by ends_line) e.1)
+
+-- the words of a text that is cut at a line's end are in order
+in_order_cut : (number : ℕ) (xs ys : List ℕ) → EndsWithLine xs ⊎ (ys ≡ []) → AreInEarlierLines (mentions_from number (lines_of xs)) (mentions_from (number + count_by ends_line xs) (lines_of ys))
+in_order_cut number xs ys (inl ends) m n h k =
+    let before = line_before number xs m ends h in
+    let behind = (line_within (number + count_by ends_line xs) (lines_of ys) n k).0 in
+    omega (arith, before, behind)
+in_order_cut number xs ys (inr e) m n h k = absurd (subst (λ (bs : List ℕ). IsElementOf n (mentions_from (number + count_by ends_line xs) (lines_of bs))) e k)
+
 -- two parts in a row, if the second begins with the right line
 pub is_cut : (whole first rest : Part) → bytes_of first ++ bytes_of rest ≡ bytes_of whole → EndsWithLine (bytes_of first) ⊎ (bytes_of rest ≡ []) → first.line ≡ whole.line → rest.line ≡ whole.line + count_by ends_line (bytes_of first) → IsCut whole first rest
 is_cut whole first rest bytes there begins later = record {
@@ -62,4 +81,7 @@ is_cut whole first rest bytes there begins later = record {
       ap₂ (λ n k. mentions_from n (lines_of (bytes_of first)) ++ mentions_from k (lines_of (bytes_of rest))) begins later
       ∙ mentions_cut whole.line (bytes_of first) (bytes_of rest) there
       ∙ ap (λ bs. mentions_from whole.line (lines_of bs)) bytes;
+  in_order = subst (λ n. AreInEarlierLines (mentions_from first.line (lines_of (bytes_of first))) (mentions_from n (lines_of (bytes_of rest)))) (sym later)
+      (subst (λ n. AreInEarlierLines (mentions_from n (lines_of (bytes_of first))) (mentions_from (whole.line + count_by ends_line (bytes_of first)) (lines_of (bytes_of rest)))) (sym begins)
+      (in_order_cut whole.line (bytes_of first) (bytes_of rest) there));
 }

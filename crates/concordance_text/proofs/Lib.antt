@@ -1,9 +1,11 @@
 pub mod LongWords
+pub mod LineNumbers
 pub mod Cuts
 pub mod Uniqueness
 pub mod Existence
 pub mod Entries
 pub mod Rests
+pub mod LineOrder
 pub mod Pieces
 pub mod WordRuns
 pub mod LongRuns

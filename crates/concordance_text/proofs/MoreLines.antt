@@ -28,14 +28,14 @@ words_with w ns (r ∷ rs) = words_by w ns r rs (with_lines w ns rs) _ (slice_cm
 
 -- ---- their lines
 
-abbrev AreLater : List ℕ → ℕ → Type 0
+abbrev pub AreLater : List ℕ → ℕ → Type 0
 AreLater ns n = AllByRecursion (λ k. n < k) ns
 
 all_less : (n : ℕ) (ks : List ℕ) → AreLater ks n → AllByRecursion (λ k. nat_cmp n k ≡ Less) ks
 all_less n [] later = tt
 all_less n (k ∷ ks) later = (sym (nat_cmp_is n k Less later.0), all_less n ks later.1)
 
-rising_append : (xs ys : List ℕ) → IsRising xs → IsRising ys → ((n : ℕ) → IsElementOf n xs → AreLater ys n) → IsRising (xs ++ ys)
+pub rising_append : (xs ys : List ℕ) → IsRising xs → IsRising ys → ((n : ℕ) → IsElementOf n xs → AreLater ys n) → IsRising (xs ++ ys)
 unfolding IsStrictlySortedBy
 rising_append [] ys rx ry later = ry
 rising_append (x ∷ xs) ys rx ry later = (all_append _ xs ys rx.0 (all_less x ys (later x (inl refl))), rising_append xs ys rx.1 ry (λ n h. later n (inr h)))
@@ -64,7 +64,7 @@ some_with w ns (r ∷ rs) sn all = some_by w ns r rs (with_lines w ns rs) (slice
 
 -- ---- what they tell
 
-abbrev IsNew : List ℕ → List ℕ → Mention → Type 0
+abbrev pub IsNew : List ℕ → List ℕ → Mention → Type 0
 IsNew w ns m = (m.word ≡ w) × IsElementOf m.line ns
 
 told_by : (m : Mention) (w ns : List ℕ) (r : WordRow) (rs more : List WordRow) (o : Ordering) → (o ≡ Equal → w ≡ r.word) → (TellsMention more m → IsNew w ns m ⊎ TellsMention rs m)
@@ -95,10 +95,10 @@ tells_with m w ns (r ∷ rs) h = tells_by m w ns r rs (with_lines w ns rs) (slic
 
 -- ---- all of it
 
-is_new : (w ns : List ℕ) (m : Mention) → IsElementOf m (map (mention w) ns) → IsNew w ns m
+pub is_new : (w ns : List ℕ) (m : Mention) → IsElementOf m (map (mention w) ns) → IsNew w ns m
 is_new w ns m h = let o = of_map (mention w) m ns h in (ap (λ (n : Mention). n.word) o.gives, subst (λ k. IsElementOf k ns) (sym (ap (λ (n : Mention). n.line) o.gives)) o.is)
 
-new_is : (w ns : List ℕ) (m : Mention) → IsNew w ns m → IsElementOf m (map (mention w) ns)
+pub new_is : (w ns : List ℕ) (m : Mention) → IsNew w ns m → IsElementOf m (map (mention w) ns)
 new_is w ns m h = subst (λ v. IsElementOf (mention v m.line) (map (mention w) ns)) (sym h.0) (in_map (mention w) m.line ns h.1)
 
 pub lines_are_added : LinesAreAdded

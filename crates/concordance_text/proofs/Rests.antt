@@ -15,14 +15,14 @@ pub flat_map_last : {A X : Type 0} (f : A → List X) (xs : List A) (y : A) (zs 
 flat_map_last f [] y zs = ap (λ l. l ++ zs) (append-nil (f y))
 flat_map_last f (x ∷ xs) y zs = append_assoc (f x) _ zs ∙ ap (λ l. f x ++ l) (flat_map_last f xs y zs) ∙ sym (append_assoc (f x) _ _)
 
--- a rest that is cut has the same bytes
-same_bytes : (ps : List Part) (rest p q : Part) → bytes_of p ++ bytes_of q ≡ bytes_of rest → flat_map bytes_of ((ps ++ p ∷ []) ++ q ∷ []) ≡ flat_map bytes_of (ps ++ rest ∷ [])
-same_bytes [] rest p q e = sym (append_assoc (bytes_of p) (bytes_of q) []) ∙ ap (λ l. l ++ []) e
-same_bytes (x ∷ ps) rest p q e = ap (λ l. bytes_of x ++ l) (same_bytes ps rest p q e)
+-- a rest that is cut has the same elements
+pub same_elements : {X : Type 0} (f : Part → List X) (ps : List Part) (rest p q : Part) → f p ++ f q ≡ f rest → flat_map f ((ps ++ p ∷ []) ++ q ∷ []) ≡ flat_map f (ps ++ rest ∷ [])
+same_elements f [] rest p q e = sym (append_assoc (f p) (f q) []) ∙ ap (λ l. l ++ []) e
+same_elements f (x ∷ ps) rest p q e = ap (λ l. f x ++ l) (same_elements f ps rest p q e)
 
 pub cut_once_more : (ps : List Part) (rest p q : Part) → bytes_of p ++ bytes_of q ≡ bytes_of rest → EndsWithLine (bytes_of p) ⊎ (bytes_of q ≡ []) → AreCutAtLineEnds (ps ++ rest ∷ []) → AreCutAtLineEnds ((ps ++ p ∷ []) ++ q ∷ [])
 cut_once_more [] rest p q e there cut = (⊎_elim (λ h. inl h) (λ h. inr (append-nil (bytes_of q) ∙ h)) there, (inr refl, tt))
-cut_once_more (x ∷ ps) rest p q e there cut = (⊎_elim (λ h. inl h) (λ h. inr (same_bytes ps rest p q e ∙ h)) cut.0, cut_once_more ps rest p q e there cut.1)
+cut_once_more (x ∷ ps) rest p q e there cut = (⊎_elim (λ h. inl h) (λ h. inr (same_elements bytes_of ps rest p q e ∙ h)) cut.0, cut_once_more ps rest p q e there cut.1)
 
 front_of_nothing : {X : Type 0} (xs ys : List X) → xs ++ ys ≡ [] → xs ≡ []
 front_of_nothing [] ys e = refl

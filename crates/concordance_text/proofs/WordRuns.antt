@@ -44,7 +44,7 @@ filter_by q x y ys kept true is later (inl e) = (inl e, ap q e ∙ is)
 filter_by q x y ys kept true is later (inr h) = let l = later h in (inr l.0, l.1)
 filter_by q x y ys kept false is later h = let l = later h in (inr l.0, l.1)
 
-of_filter : {X : Type 0} (q : X → Bool) (x : X) (ys : List X) → IsElementOf x (filter q ys) → IsElementOf x ys × (q x ≡ true)
+pub of_filter : {X : Type 0} (q : X → Bool) (x : X) (ys : List X) → IsElementOf x (filter q ys) → IsElementOf x ys × (q x ≡ true)
 of_filter q x [] h = absurd h
 of_filter q x (y ∷ ys) h = filter_by q x y ys (filter q ys) (q y) refl (of_filter q x ys) h
 
@@ -63,11 +63,11 @@ at_in [] k x at = absurd at
 at_in (y ∷ ys) zero x at = inl at
 at_in (y ∷ ys) (suc k) x at = inr (at_in ys k x at)
 
-record Placed {X : Type 0} (xs : List X) (x : X) : Type 0 where
-  place : ℕ
-  at : At xs place x
+pub record Placed {X : Type 0} (xs : List X) (x : X) : Type 0 where
+  pub place : ℕ
+  pub at : At xs place x
 
-in_at : {X : Type 0} (xs : List X) (x : X) → IsElementOf x xs → Placed xs x
+pub in_at : {X : Type 0} (xs : List X) (x : X) → IsElementOf x xs → Placed xs x
 in_at [] x h = absurd h
 in_at (y ∷ ys) x (inl e) = record { place = 0; at = e }
 in_at (y ∷ ys) x (inr h) = let p = in_at ys x h in record { place = suc p.place; at = p.at }

@@ -3,7 +3,7 @@
 ghost use Rattle.std.specs.Prelude.{◌≡◌, ◌≢◌, ℕ, ◌+◌, ◌≤◌, ◌<◌, ◌/◌, ◌^◌, ◌⊎◌, [], Some, count_by, flat_map, length, slice_get, take};
 ghost use Rattle.std.specs.List.{AllByRecursion};
 ghost use Rattle.concordance_text.specs.Words.{ends_line, mentions_of};
-ghost use Rattle.concordance_text.specs.Parts.{AreCutAtLineEnds, EndsWithLine, IsCut, IsNumbered, bytes_of, mentions_of_part};
+ghost use Rattle.concordance_text.specs.Parts.{AreCutAtLineEnds, AreInLineOrder, EndsWithLine, IsCut, IsNumbered, bytes_of, mentions_of_part};
 
 use arrayvec::ArrayVec;
 
@@ -23,6 +23,7 @@ pub fn parts<'t>(text: &'t [u8], count: usize) -> Parts<'t>
     ensures at_line_ends { AreCutAtLineEnds result.items }
     ensures numbered { AllByRecursion IsNumbered result.items }
     ensures mentions { flat_map mentions_of_part result.items ≡ mentions_of text.now }
+    ensures in_order { AreInLineOrder result.items }
 {
     let mut parts = Parts::new();
     let mut rest = Part::whole(text);
