@@ -11,3 +11,5 @@ pub mod ComparedWord
 pub mod NotedLine
 pub mod Searched
 pub mod NotedWord
+pub mod ReadLine
+pub mod ReadText

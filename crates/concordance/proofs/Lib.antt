@@ -12,3 +12,5 @@ pub mod LiveWords
 pub mod DoneCalls
 pub mod FullHeaps
 pub mod Whole
+pub mod Gathered
+pub mod Pieces

@@ -5,3 +5,5 @@ pub mod Partners
 pub mod OneMutator
 pub mod Full
 pub mod Whole
+pub mod Gathering
+pub mod Pieces

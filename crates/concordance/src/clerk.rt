@@ -1,5 +1,7 @@
 //! A clerk: a mutator of the heap that notes the words of a part of the text.
 
+mod whole;
+
 ghost use Rattle.std.specs.Prelude.{◌≡◌, ◌<◌, ◌↔◌, ℕ, Some, None, IfErr, IsTrue, OnOk};
 ghost use Rattle.plain_state.specs.declared.end.End.{End};
 ghost use Rattle.plain_state.specs.declared.sizes.TheConstants.{REGISTERS};

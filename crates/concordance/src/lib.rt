@@ -5,9 +5,11 @@
 
 mod clerk;
 mod finding;
+mod gathering;
 mod laws;
 mod noting;
 mod path;
+mod reading;
 mod registers;
 
 pub use laws::{

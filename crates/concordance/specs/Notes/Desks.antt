@@ -5,7 +5,7 @@ use Rattle.plain_state.specs.declared.value.Value.{Value}
 use Rattle.plain_state.specs.declared.value.Value.TheVariants.{Number}
 use Rattle.concordance_text.specs.Words.{Mention}
 use Rattle.concordance.specs.Desk.{Desk, desk_register}
-use Rattle.concordance.specs.Notes.Invariant.{HoldsNotes}
+use Rattle.concordance.specs.Notes.Invariant.{HoldsNotes, NoneIsLater}
 use Rattle.concordance.specs.Notes.Places.{PathEndsAt, HasNone, IsEntryOf}
 use Rattle.concordance.specs.Notes.Records.{IsEntry, IsLetters, Note}
 use Rattle.concordance.specs.declared.finding.Place.{Place}
@@ -27,6 +27,12 @@ pub record HasNotedJust (desk : Desk) (noted : List Mention) : Type 0 where
 pub record KeepsNotes (desk : Desk) : Type 0 where
   pub noted : List Mention
   pub is : HasNotedJust desk noted
+
+-- and in no line behind this one
+pub record KeepsNotesTo (desk : Desk) (line : ℕ) : Type 0 where
+  pub noted : List Mention
+  pub is : HasNotedJust desk noted
+  pub none_later : NoneIsLater noted line
 
 -- ---- what calls change
 

@@ -1,0 +1,5 @@
+pub mod Reads
+pub mod Places
+pub mod Walks
+pub mod NewRows
+pub mod Parts

@@ -1,0 +1,15 @@
+use Rattle.concordance.specs.Gathering.{whole_desk_of}
+use Rattle.concordance.proofs.Gathered.Reads.{gets_begins, gets_it, gets_not_end}
+use Rattle.concordance.proofs.clerk.Clerk.gets.Goals as goal
+
+pub call-requires-clause-may_begin : goal.call-requires-clause-may_begin
+call-requires-clause-may_begin g c = gets_begins c.args.self.now.worker.account c.args.self.now.worker.registers (whole_desk_of c.args.self.now) c.args.instr c.requires.valid c.requires.can
+
+pub call-requires-clause-no_end : goal.call-requires-clause-no_end
+call-requires-clause-no_end g c = c.requires.all.no_end
+
+pub unreachable-requires : goal.unreachable-requires
+unreachable-requires g c = gets_not_end c.args.self.now c.call.new.self c.args.instr c.requires.all c.requires.can c.call.result c.call.ensures.called c.in-Trap.field-0 c.in-Trap.is
+
+pub returns : goal.returns
+returns g c = gets_it c.args.self.now c.call.new.self c.args.instr c.requires.all c.requires.can c.call.result c.call.ensures.called c.in-Done.is c.call.ensures.of_heap c.requires.valid
