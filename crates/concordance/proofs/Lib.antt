@@ -6,11 +6,7 @@ pub mod Lists
 pub mod Notes
 pub mod Desks
 pub mod Partners
-pub mod OneMutator
-pub mod FewFlips
-pub mod LiveWords
-pub mod DoneCalls
-pub mod FullHeaps
+pub mod LoneHeaps
 pub mod Whole
 pub mod Gathered
 pub mod Pieces

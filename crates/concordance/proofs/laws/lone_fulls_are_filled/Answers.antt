@@ -1,6 +1,6 @@
-use Rattle.concordance.proofs.DoneCalls.{lone_calls_are_done}
-use Rattle.concordance.proofs.FullHeaps.{lone_fulls_are_filled}
-use Rattle.concordance.proofs.LiveWords.{live_is_made}
+use Rattle.concordance.proofs.LoneHeaps.DoneCalls.{lone_calls_are_done}
+use Rattle.concordance.proofs.LoneHeaps.FullHeaps.{lone_fulls_are_filled}
+use Rattle.concordance.proofs.LoneHeaps.LiveWords.{live_is_made}
 use Rattle.concordance.proofs.laws.lone_fulls_are_filled.Goals as goal
 
 pub returns-clause-live : goal.returns-clause-live

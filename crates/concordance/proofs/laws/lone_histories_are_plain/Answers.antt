@@ -1,5 +1,5 @@
-use Rattle.concordance.proofs.FewFlips.{lone_flips_are_few}
-use Rattle.concordance.proofs.OneMutator.{lone_flips_are_now, lone_histories}
+use Rattle.concordance.proofs.LoneHeaps.FewFlips.{lone_flips_are_few}
+use Rattle.concordance.proofs.LoneHeaps.OneMutator.{lone_flips_are_now, lone_histories}
 use Rattle.concordance.proofs.laws.lone_histories_are_plain.Goals as goal
 
 pub returns-clause-calls : goal.returns-clause-calls

@@ -27,7 +27,7 @@ use Rattle.ael_threads.specs.Histories.{opening_tally}
 use Rattle.ael_threads.specs.Unread.{EachCall}
 use Rattle.ael_threads.proofs.WholeCalls.OneMore.{makers}
 use Rattle.concordance.specs.OneMutator.{LoneFlipsAreFew, WasDone}
-use Rattle.concordance.proofs.OneMutator.{apart, by_first, one_still}
+use Rattle.concordance.proofs.LoneHeaps.OneMutator.{apart, by_first, one_still}
 
 -- ---- one call
 

@@ -27,9 +27,9 @@ use Rattle.ael_threads.proofs.WholeCalls.OneMore.{makers}
 use Rattle.concordance.specs.Full.{LoneFullsAreFilled, words_made}
 use Rattle.concordance.specs.Lone.{IsLone, alone_by}
 use Rattle.concordance.specs.OneMutator.{WasDone}
-use Rattle.concordance.proofs.FewFlips.{lone_flips_are_few}
-use Rattle.concordance.proofs.LiveWords.{live_is_made}
-use Rattle.concordance.proofs.OneMutator.{each_call, lone_flips_are_now, lone_histories}
+use Rattle.concordance.proofs.LoneHeaps.FewFlips.{lone_flips_are_few}
+use Rattle.concordance.proofs.LoneHeaps.LiveWords.{live_is_made}
+use Rattle.concordance.proofs.LoneHeaps.OneMutator.{each_call, lone_flips_are_now, lone_histories}
 
 legal_front : (p : Plain) (xs ys : List Entry) → IsLegal p (xs ++ ys) → IsLegal p xs
 legal_front p [] ys h = tt

@@ -1,0 +1,5 @@
+pub mod OneMutator
+pub mod FewFlips
+pub mod LiveWords
+pub mod DoneCalls
+pub mod FullHeaps
