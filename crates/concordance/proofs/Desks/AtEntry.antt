@@ -1,18 +1,15 @@
 -- What is read at an entry.
-use Rattle.std.proofs.Common.{◌≡◌, ℕ, ◌+◌, ◌<◌, List, [], ◌∷◌, map, length, get_or, Some, refl, sym, ap, ap₂, ◌∙◌, subst, arith}
-use Rattle.std.proofs.lemmas.List.{length-map}
+use Rattle.std.proofs.Common.{◌≡◌, ℕ, ◌<◌, List, length, get_or, sym, ap, ◌∙◌, subst}
 use Rattle.plain_state.specs.declared.sizes.TheConstants.{REGISTERS}
 use Rattle.plain_state.specs.declared.value.Value.{Value}
 use Rattle.plain_state.specs.declared.value.Value.TheVariants.{Number}
 use Rattle.plain_state.specs.State.{Record, at_serial}
 use Rattle.mutator_asm.specs.declared.instr.Instr.TheVariants.{Ld, Len}
 use Rattle.mutator_asm.specs.declared.operand.Operand.TheVariants as operands
-use Rattle.concordance.specs.Desk.{CanDo, Desk, HasWord, LeadsTo, desk_after, desk_register, desk_word, own}
+use Rattle.concordance.specs.Desk.{CanDo, Desk, LeadsTo, desk_after, desk_register, desk_word, own}
 use Rattle.concordance.specs.Notes.Records.{IsEntry, IsLetters, IsLine, Note, entry_record, letters_record, line_record}
-use Rattle.concordance.specs.declared.registers.TheConstants.{HERE, LETTERS, NUMBER}
 use Rattle.concordance.proofs.Doing.{values_there, word_there}
 use Rattle.concordance.proofs.Desks.Instructions.{Loads, loads}
-use Rattle.concordance.proofs.Lists.Letters.{letter_at}
 
 -- ---- a value of a record
 

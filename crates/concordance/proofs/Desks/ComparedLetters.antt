@@ -1,5 +1,5 @@
 -- Letters that are compared with a word, one by one.
-use Rattle.std.proofs.Common.{◌≡◌, ℕ, ◌+◌, ◌<◌, List, length, get_or, refl, sym, ap, ◌∙◌, arith}
+use Rattle.std.proofs.Common.{◌≡◌, ℕ, List, get_or, refl, ◌∙◌, arith}
 use Rattle.plain_state.specs.declared.value.Value.{Value}
 use Rattle.plain_state.specs.declared.value.Value.TheVariants.{Number}
 use Rattle.mutator_asm.specs.declared.instr.Instr.TheVariants.{Ld}
@@ -11,7 +11,7 @@ use Rattle.concordance.specs.Notes.Desks.{for_number}
 use Rattle.concordance.specs.Notes.Records.{IsLetters, letters_record}
 use Rattle.concordance.specs.declared.registers.TheConstants.{LETTERS, NUMBER}
 use Rattle.concordance.proofs.Desks.AtEntry.{letters_there, loaded, to_letters}
-use Rattle.concordance.proofs.Desks.Instructions.{Loads, changes_then, loads, loads_change}
+use Rattle.concordance.proofs.Desks.Instructions.{changes_then, loads, loads_change}
 use Rattle.concordance.proofs.Desks.Seats.{StaysWith, seat_then}
 use Rattle.concordance.proofs.Lists.Letters.{letter_at}
 use Rattle.concordance.proofs.Shown.{all_registers}

@@ -1,11 +1,11 @@
 -- What one instruction changes on a desk.
-use Rattle.std.proofs.Common.{◌≡◌, ◌≢◌, ℕ, ◌+◌, ◌-◌, ◌<◌, Bool, true, false, List, [], ◌∷◌, ◌++◌, length, Some, slice_set, refl, sym, ap, ◌∙◌, subst, arith, get_or-set_same, get_or-set_other}
+use Rattle.std.proofs.Common.{◌≡◌, ◌≢◌, ℕ, ◌+◌, ◌<◌, Bool, true, false, [], ◌∷◌, ◌++◌, length, refl, sym, ap, ◌∙◌, subst, arith, get_or-set_same, get_or-set_other}
 use Rattle.plain_state.specs.declared.kind.Kind.{Kind}
 use Rattle.plain_state.specs.declared.sizes.TheConstants.{REGISTERS}
 use Rattle.plain_state.specs.declared.value.Value.{Value}
-use Rattle.plain_state.specs.declared.value.Value.TheVariants.{Number, Reference}
-use Rattle.plain_state.specs.State.{Record, at_serial}
-use Rattle.plain_state.specs.Writing.{with_value, zeros}
+use Rattle.plain_state.specs.declared.value.Value.TheVariants.{Number}
+use Rattle.plain_state.specs.State.{Record}
+use Rattle.plain_state.specs.Writing.{zeros}
 use Rattle.concordance.specs.Desk.{Desk, LeadsTo, desk_register, desk_with_record, desk_with_value, desk_with_word, own}
 use Rattle.concordance.specs.Notes.Desks.{ChangesAtMost}
 use Rattle.concordance.specs.Notes.Making.{StoresIn}

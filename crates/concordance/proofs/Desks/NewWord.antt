@@ -1,15 +1,14 @@
 -- The three records of a word that had no entry.
-use Rattle.std.proofs.Common.{◌≡◌, ℕ, ◌+◌, false, List, [], ◌∷◌, ◌++◌, length, refl, sym, ap, ap₂, ◌∙◌, subst, append_assoc, arith}
+use Rattle.std.proofs.Common.{◌≡◌, ℕ, ◌+◌, false, List, [], ◌∷◌, ◌++◌, length, refl, ap, ap₂, ◌∙◌, append_assoc, arith}
 use Rattle.std.proofs.lemmas.Bool.Decides.{nat_tests}
 use Rattle.std.proofs.lemmas.List.{length-append}
-use Rattle.plain_state.specs.declared.value.Value.{Value}
 use Rattle.plain_state.specs.declared.value.Value.TheVariants.{Number}
 use Rattle.plain_state.specs.State.{Record}
 use Rattle.concordance.specs.Desk.{Desk, desk_register, own}
 use Rattle.concordance.specs.Notes.Desks.{ChangesAtMost, for_entry, for_letters, for_line, for_new_entry}
 use Rattle.concordance.specs.Notes.Making.{new_records}
 use Rattle.concordance.specs.Notes.Records.{entry_record, letters_record, line_record}
-use Rattle.concordance.specs.declared.registers.TheConstants.{ENTRY, LATEST, LETTERS, LINE}
+use Rattle.concordance.specs.declared.registers.TheConstants.{LATEST, LETTERS, LINE}
 use Rattle.concordance.proofs.Desks.Instructions.{changes_more, changes_then}
 
 letters_within : (r : ℕ) → for_entry r ≡ false → for_letters r ≡ false

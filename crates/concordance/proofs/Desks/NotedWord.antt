@@ -1,5 +1,5 @@
 -- A word that is noted by its three records, after the search found no entry.
-use Rattle.std.proofs.Common.{◌≡◌, ℕ, ◌+◌, ◌≤◌, Bool, List, [], ◌∷◌, ◌++◌, length, Some, refl, sym, ap, ◌∙◌, arith}
+use Rattle.std.proofs.Common.{◌≡◌, ℕ, ◌+◌, ◌≤◌, Bool, List, [], ◌∷◌, ◌++◌, length, refl, sym, ap, ◌∙◌, arith}
 use Rattle.std.proofs.lemmas.List.{length-append}
 use Rattle.std.proofs.Math.ListN.{length-set}
 use Rattle.plain_state.specs.declared.value.Value.TheVariants.{Number}
@@ -15,7 +15,7 @@ use Rattle.concordance.specs.Notes.Paths.{side}
 use Rattle.concordance.specs.Notes.Places.{PathEndsAt, HasNone}
 use Rattle.concordance.specs.Notes.Records.{Note, entry_record}
 use Rattle.concordance.specs.declared.registers.TheConstants.{ENTRY, FIRST, HERE, LATEST}
-use Rattle.concordance.proofs.Desks.Instructions.{Loads, Stores, loads, stores}
+use Rattle.concordance.proofs.Desks.Instructions.{Stores, loads, stores}
 use Rattle.concordance.proofs.Desks.Noting.{first_noted, side_noted, still_noted}
 use Rattle.concordance.proofs.Desks.Searched.{side_within}
 use Rattle.concordance.proofs.Lists.Serials.{at_front}

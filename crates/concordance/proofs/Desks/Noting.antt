@@ -1,9 +1,9 @@
 -- What a desk has noted after a word more.
-use Rattle.std.proofs.Common.{◌≡◌, ◌≢◌, ◌⊎◌, ⊎_elim, inl, inr, ℕ, ◌+◌, ◌<◌, ◌≤◌, Bool, false, List, [], ◌∷◌, ◌++◌, map, length, Some, refl, sym, ap, ap₂, ◌∙◌, subst, arith}
+use Rattle.std.proofs.Common.{◌≡◌, ◌≢◌, inl, ℕ, ◌+◌, ◌<◌, ◌≤◌, Bool, List, [], ◌∷◌, ◌++◌, map, length, refl, sym, ◌∙◌, subst, arith}
 use Rattle.std.specs.List.{AllByRecursion}
 use Rattle.plain_state.specs.declared.value.Value.{Value}
 use Rattle.plain_state.specs.declared.value.Value.TheVariants.{Number}
-use Rattle.plain_state.specs.State.{Record, at_serial}
+use Rattle.plain_state.specs.State.{Record}
 use Rattle.concordance_text.specs.declared.letters.TheConstants.{MOST_LETTERS}
 use Rattle.concordance_text.specs.Rows.{IsElementOf, TellsMention}
 use Rattle.concordance_text.specs.Words.{Mention, mention}
@@ -13,7 +13,7 @@ use Rattle.concordance.specs.Notes.Invariant.{AreFalling, HasLines, HoldsNotes, 
 use Rattle.concordance.specs.Notes.Making.{StoresIn, new_records}
 use Rattle.concordance.specs.Notes.Paths.{side}
 use Rattle.concordance.specs.Notes.Places.{PathEndsAt, HasNone, IsEntryOf}
-use Rattle.concordance.specs.Notes.Records.{AreLines, IsEntry, IsLine, Note, line_record}
+use Rattle.concordance.specs.Notes.Records.{AreLines, IsLine, Note, line_record}
 use Rattle.concordance.specs.declared.registers.TheConstants.{ENTRY, FIRST, HERE, LATEST}
 use Rattle.concordance.proofs.Lists.Elements.{all_at}
 use Rattle.concordance.proofs.Notes.Adding.{holds_again, holds_with_entry, holds_with_first}

@@ -1,9 +1,8 @@
 -- A text whose lines are read one by one.
-use Rattle.std.proofs.Common.{◌≡◌, ℕ, ◌+◌, ◌*◌, ◌<◌, ◌≤◌, true, false, List, [], ◌∷◌, ◌++◌, length, map, refl, sym, ap, ◌∙◌, subst, append_assoc, arith}
+use Rattle.std.proofs.Common.{◌≡◌, ℕ, ◌+◌, ◌*◌, ◌<◌, ◌≤◌, true, List, [], ◌∷◌, ◌++◌, length, map, refl, sym, ap, ◌∙◌, subst, append_assoc, arith}
 use borrow.Author.Tests.{eqb-true}
 use lib.Dec.{eqb}
-use Rattle.std.specs.List.{AllByRecursion}
-use Rattle.concordance_text.specs.Words.{HasShortWords, Mention, has_long_word, lines_of, lower_cased, mention, mentions_from, mentions_in, words_in}
+use Rattle.concordance_text.specs.Words.{HasShortWords, Mention, lines_of, lower_cased, mention, mentions_from, mentions_in, words_in}
 use Rattle.ael_threads.specs.Seats.{Seated}
 use Rattle.concordance.specs.Lone.{IsLone, KeepsSeat, desk_of}
 use Rattle.concordance.specs.Notes.Desks.{KeepsNotesTo, HasNotedJust}

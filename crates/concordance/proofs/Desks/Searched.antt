@@ -1,9 +1,9 @@
 -- A desk on which a word's entry is looked for.
-use Rattle.std.proofs.Common.{◌≡◌, ◌≢◌, ℕ, ◌<◌, Bool, true, false, List, [], Some, refl, sym, ap, ◌∙◌, subst, arith}
+use Rattle.std.proofs.Common.{◌≡◌, ◌≢◌, ℕ, ◌<◌, Bool, true, false, List, Some, sym, ap, ◌∙◌, subst, arith}
 use Rattle.plain_state.specs.declared.value.Value.{Value}
 use Rattle.plain_state.specs.declared.value.Value.TheVariants.{Number}
 use Rattle.plain_state.specs.State.{Record, at_serial}
-use Rattle.mutator_asm.specs.declared.instr.Instr.TheVariants.{Ld, Mov}
+use Rattle.mutator_asm.specs.declared.instr.Instr.TheVariants.{Ld}
 use Rattle.mutator_asm.specs.declared.operand.Operand.TheVariants as operands
 use Rattle.concordance_text.specs.Words.{Mention}
 use Rattle.concordance.specs.Desk.{CanDo, desk_after, desk_register, own}
@@ -19,7 +19,7 @@ use Rattle.concordance.proofs.Desks.AtEntry.{can_load, entry_there, loaded, to_e
 use Rattle.concordance.proofs.Desks.Instructions.{Loads}
 use Rattle.concordance.proofs.Notes.Finding.{none_at_all}
 use Rattle.concordance.proofs.Notes.Keeping.{HasEntry, entry_of}
-use Rattle.concordance.proofs.Notes.Search.{IsOnPath, begins_on_path, ends_here, goes_on, is_entry_of}
+use Rattle.concordance.proofs.Notes.Search.{IsOnPath, begins_on_path, ends_here, goes_on}
 use Rattle.concordance.proofs.Shown.{all_registers}
 
 pub side_within : (right : Bool) → side right < 5

@@ -1,13 +1,12 @@
 -- What is read at the entries, letters and lines of a clerk's notes.
-use Rattle.std.proofs.Common.{◌≡◌, ◌≢◌, ℕ, ◌^◌, ◌<◌, List, [], ◌∷◌, ◌++◌, length, map, Option, Some, None, slice_index_or, refl, ap, sym, ◌∙◌, subst, arith}
-use Rattle.std.specs.List.{AllByRecursion}
+use Rattle.std.proofs.Common.{◌≡◌, ℕ, ◌<◌, List, [], ◌∷◌, length, Option, Some, slice_index_or, refl, ap, sym, ◌∙◌, subst}
 use Rattle.std.specs.Option.{option_map_or}
 use Rattle.std.proofs.lemmas.List.{get_or-map, length-map}
 use Rattle.plain_state.specs.declared.value.Value.{Value}
-use Rattle.plain_state.specs.declared.value.Value.TheVariants.{Number, Reference}
+use Rattle.plain_state.specs.declared.value.Value.TheVariants.{Number}
 use Rattle.plain_state.specs.State.{Heap, Record, made_by}
 use Rattle.ael_threads.specs.Seats.{Seated}
-use Rattle.concordance.specs.Gathering.{HasAll, HasGot, HasRead, HasSmallNumbers, HasValueAt, LeadsToEntries, LeadsToEntry, WholeDesk, record_at, values_at, whole_desk_of, whole_register}
+use Rattle.concordance.specs.Gathering.{HasAll, HasRead, HasValueAt, record_at, values_at, whole_desk_of}
 use Rattle.concordance.specs.Lone.{KeepsSeat}
 use Rattle.concordance.specs.Notes.Records.{AreEntries, AreLines, IsEntry, IsLetters, IsLine, Note, entry_record, letters_record, line_record}
 

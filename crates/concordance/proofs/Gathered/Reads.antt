@@ -1,5 +1,5 @@
 -- One call more of a clerk that has taken in all others, which reads.
-use Rattle.std.proofs.Common.{◌≡◌, ◌≢◌, ℕ, ◌<◌, ◌&&◌, Bool, true, false, List, length, Option, Some, None, Result, Ok, Err, nat_lt, slice_get, slice_index, slice_index_or, slice_set, refl, ap, sym, ◌∙◌, subst}
+use Rattle.std.proofs.Common.{◌≡◌, ℕ, ◌<◌, ◌&&◌, Bool, true, List, length, Some, None, Result, Ok, slice_get, slice_index, slice_index_or, slice_set, refl, ap, sym, ◌∙◌, subst}
 use Rattle.std.specs.Prelude.{IsTrue}
 use Rattle.std.specs.Option.{option_map}
 use Rattle.std.proofs.lemmas.Bool.{and_parts, lt-ltb, ltb-true}
@@ -21,24 +21,23 @@ use Rattle.mutator_asm.specs.Program.{is_operand, is_register, is_valid}
 use Rattle.plain_heap.specs.declared.action.Action.{Action}
 use Rattle.plain_heap.specs.declared.action.Action.TheVariants.{Makes}
 use Rattle.plain_heap.specs.Action.{action, register}
-use Rattle.plain_heap.specs.Call.{After, board_word, call, loads, set_register, went_on}
+use Rattle.plain_heap.specs.Call.{After, board_word, call, loads}
 use Rattle.plain_heap.specs.Order.{fresh}
 use Rattle.plain_heap.specs.Step.{new_record, pages_of, record_made, settled}
 use Rattle.gc_worker.specs.declared.calls.did.Did.{Did}
 use Rattle.gc_worker.specs.declared.calls.did.Did.TheVariants.{Done, Trap}
 use Rattle.gc_worker.specs.declared.task.Task.TheVariants.{Calls}
 use Rattle.gc_worker.specs.History.Legal.{after_call}
-use Rattle.gc_worker.specs.Plain.Answer.{ComesTo, MayCome, MayEnd, after_answer}
+use Rattle.gc_worker.specs.Plain.Answer.{MayCome, MayEnd, after_answer}
 use Rattle.gc_worker.specs.Plain.Seen.{making_in, seen}
 use Rattle.gc_worker.specs.Workers.Fits.{FitsCall}
 use Rattle.gc_worker.proofs.Plain.RecordsMade.{made_of}
-use Rattle.ael_threads.specs.declared.view.Hand.{Hand}
 use Rattle.ael_threads.specs.Calls.{Called, call_by, end_by_did}
 use Rattle.ael_threads.specs.Readers.{IsThere}
 use Rattle.ael_threads.specs.Seats.{IsShown, Seated, ShowsSeen, first_number, plain_after_seen}
 use Rattle.concordance.specs.Gathering.{CanGet, HasAll, HasGot, HasRead, HasValueAt, WholeDesk, record_at, register_set, value_got, whole_desk_of, whole_register}
 use Rattle.concordance.specs.Lone.{KeepsSeat}
-use Rattle.concordance.specs.Whole.{CallsWhole, IsWhole}
+use Rattle.concordance.specs.Whole.{CallsWhole}
 use Rattle.concordance.proofs.RegisterCount.{have_registers}
 use Rattle.concordance.proofs.Whole.{whole_calls}
 

@@ -1,17 +1,16 @@
 -- How the walk gets on: what holds of the clerk that reads, before and after each step.
-use Rattle.std.proofs.Common.{◌≡◌, ◌≢◌, ℕ, zero, suc, ◌+◌, ◌^◌, ◌<◌, ◌≤◌, List, [], ◌∷◌, ◌++◌, flat_map, length, map, reverse, Option, Some, None, slice_get, slice_index_or, take, refl, ap, ap₂, sym, ◌∙◌, subst, arith, append_assoc, append-nil, add-one}
+use Rattle.std.proofs.Common.{◌≡◌, ◌≢◌, ℕ, zero, suc, ◌+◌, ◌^◌, ◌<◌, ◌≤◌, List, [], ◌∷◌, ◌++◌, length, reverse, slice_index_or, take, refl, ap, ap₂, sym, ◌∙◌, subst, arith, append_assoc, append-nil, add-one}
 use Rattle.std.specs.List.{AllByRecursion}
 use Rattle.std.proofs.Math.Seq.{take-suc}
 use Rattle.std.proofs.lemmas.List.{take_all}
 use Rattle.plain_state.specs.declared.value.Value.{Value}
-use Rattle.plain_state.specs.declared.value.Value.TheVariants.{Number, Reference}
+use Rattle.plain_state.specs.declared.value.Value.TheVariants.{Number}
 use Rattle.plain_state.specs.State.{Heap, made_by}
-use Rattle.plain_heap.specs.Call.{board_word}
 use Rattle.ael_threads.specs.Seats.{Seated}
 use Rattle.concordance_text.specs.Rows.{WordRow, with_lines}
 use Rattle.concordance.specs.Gathering.{HasGot, HasRead, HasSmallNumbers, HasValueAt, LeadsToEntries, LeadsToEntry, values_at, whole_desk_of, whole_register, with_notes}
 use Rattle.concordance.specs.Notes.Records.{AreEntries, AreLines, IsEntry, IsLetters, IsLine, Note}
-use Rattle.concordance.proofs.Gathered.Places.{FirstEntry, FirstLine, before_got, carried, entry_has, first_entry, first_line, letter_got, letter_there, length_got, letters_at, letters_got, line_before_got, line_got, line_has, line_number_got, no_entry, no_line}
+use Rattle.concordance.proofs.Gathered.Places.{FirstEntry, FirstLine, before_got, carried, entry_has, first_entry, first_line, letter_got, length_got, letters_got, line_before_got, line_got, line_has, line_number_got, no_entry, no_line}
 
 abbrev reg : Seated → ℕ → Value
 reg s r = whole_register (whole_desk_of s) r

@@ -1,11 +1,11 @@
-use Rattle.std.proofs.Common.{◌≡◌, ◌≤◌, ◌<◌, ◌∙◌, refl, ℕ, List, [], flat_map, length, take, ap, arith, sym, subst}
+use Rattle.std.proofs.Common.{◌≤◌, ◌<◌, ◌∙◌, refl, List, [], flat_map, length, arith, sym, subst}
 use Rattle.std.proofs.lemmas.Bool.{lt-ltb}
 use Rattle.std.proofs.lemmas.List.{take_all}
-use Rattle.plain_state.specs.declared.sizes.TheConstants.{BOARD_WORDS, NUMBERS}
+use Rattle.plain_state.specs.declared.sizes.TheConstants.{NUMBERS}
 use Rattle.ael_threads.specs.Seats.{plain_after_seen}
 use Rattle.concordance_text.specs.declared.part.Part.{Part}
 use Rattle.concordance_text.specs.Parts.{mentions_of_part}
-use Rattle.concordance_text.specs.Rows.{AreRowsOf, WordRow, rows_of}
+use Rattle.concordance_text.specs.Rows.{AreRowsOf, rows_of}
 use Rattle.concordance.proofs.Gathered.Parts.{no_rows, part_gathered, part_leads}
 use Rattle.concordance.proofs.Gathered.Places.{read_nothing, read_on}
 use Rattle.concordance.proofs.Gathered.Reads.{whole_heap}

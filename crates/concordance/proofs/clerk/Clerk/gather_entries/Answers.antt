@@ -1,10 +1,10 @@
-use Rattle.std.proofs.Common.{◌≡◌, ◌∙◌, List, ℕ, ap₂, arith, refl, reverse, sym}
+use Rattle.std.proofs.Common.{◌≡◌, ◌∙◌, List, ℕ, ap₂, arith, refl, sym}
 use Rattle.std.proofs.lemmas.Bool.{false≢true}
 use Rattle.plain_state.specs.declared.value.Value.TheVariants.{Number}
 use Rattle.concordance_text.specs.Rows.{rows_of, with_lines}
 use Rattle.concordance.specs.Gathering.{LeadsToEntry, whole_desk_of, whole_register, with_notes}
 use Rattle.concordance.proofs.Gathered.Places.{read_nothing, read_on}
-use Rattle.concordance.proofs.Gathered.Walks.{NextEntry, all_entries, entries_on, entry_kept, entry_may_get, next_entry}
+use Rattle.concordance.proofs.Gathered.Walks.{all_entries, entries_on, entry_kept, entry_may_get, next_entry}
 use Rattle.concordance.proofs.clerk.Clerk.gather_entries.Goals as goal
 
 pub loop-init : goal.loop-init

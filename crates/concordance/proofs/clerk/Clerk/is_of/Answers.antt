@@ -1,4 +1,4 @@
-use Rattle.std.proofs.Common.{◌≡◌, ℕ, List, length, ap, sym, ◌∙◌}
+use Rattle.std.proofs.Common.{ℕ, List, length, ap, sym, ◌∙◌}
 use Rattle.plain_state.specs.declared.value.Value.TheVariants.{Number}
 use Rattle.concordance.proofs.Desks.ComparedLetters.{same_number}
 use Rattle.concordance.proofs.Desks.ComparedWord.{can_count, counted, letters_counted}

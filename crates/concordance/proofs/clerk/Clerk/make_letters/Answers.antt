@@ -1,4 +1,4 @@
-use Rattle.std.proofs.Common.{◌≡◌, ℕ, List, ◌++◌, [], ◌∷◌, get_or, ap, ◌∙◌, refl, arith}
+use Rattle.std.proofs.Common.{List, ◌++◌, [], ◌∷◌, ap, ◌∙◌, refl, arith}
 use Rattle.plain_state.specs.declared.value.Value.{Value}
 use Rattle.concordance.specs.Lone.{desk_of}
 use Rattle.concordance.specs.Notes.Records.{raw}

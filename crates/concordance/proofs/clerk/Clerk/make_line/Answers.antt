@@ -1,13 +1,12 @@
-use Rattle.std.proofs.Common.{◌≡◌, ◌≢◌, ℕ, List, [], ◌∷◌, ◌++◌, refl, sym, ap, ◌∙◌, arith}
+use Rattle.std.proofs.Common.{◌≡◌, ℕ, [], ◌∷◌, ◌++◌, refl, ap, ◌∙◌, arith}
 use Rattle.plain_state.specs.declared.kind.Kind.TheVariants.{Fields}
 use Rattle.plain_state.specs.declared.value.Value.TheVariants.{Number}
-use Rattle.plain_state.specs.State.{Record}
 use Rattle.plain_state.specs.Writing.{with_value, zeros}
-use Rattle.concordance.specs.Desk.{Desk, desk_register, desk_with_record, desk_with_value, desk_with_word}
+use Rattle.concordance.specs.Desk.{desk_register, desk_with_record, desk_with_value}
 use Rattle.ael_threads.specs.Seats.{Seated}
 use Rattle.concordance.specs.Lone.{desk_of}
 use Rattle.concordance.specs.declared.registers.TheConstants.{LINE, NUMBER}
-use Rattle.concordance.proofs.Desks.FreshRecord.{IsFresh, fresh_leads, fresh_loads, fresh_made, fresh_number, fresh_registers, fresh_stores, fresh_takes}
+use Rattle.concordance.proofs.Desks.FreshRecord.{IsFresh, fresh_loads, fresh_made, fresh_registers, fresh_stores, fresh_takes}
 use Rattle.concordance.proofs.Desks.Instructions.{Loads, Makes, loads, makes}
 use Rattle.concordance.proofs.Shown.{all_registers}
 use Rattle.concordance.proofs.clerk.Clerk.make_line.Goals as goal

@@ -1,4 +1,4 @@
-use Rattle.std.proofs.Common.{◌≡◌, ℕ, ◌+◌, ◌≤◌, List, length, sym, ap, ◌∙◌, subst, arith}
+use Rattle.std.proofs.Common.{sym, ap, ◌∙◌, subst, arith}
 use Rattle.mutator_asm.specs.declared.instr.Instr.TheVariants.{St}
 use Rattle.mutator_asm.specs.declared.operand.Operand.{Operand}
 use Rattle.concordance.specs.Desk.{CanDo, desk_after}

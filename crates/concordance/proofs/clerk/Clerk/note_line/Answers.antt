@@ -1,4 +1,4 @@
-use Rattle.std.proofs.Common.{◌≡◌, ℕ, ◌+◌, ◌≤◌, List, length, sym, ap, ◌∙◌, arith}
+use Rattle.std.proofs.Common.{sym, ap, ◌∙◌, arith}
 use Rattle.plain_state.specs.declared.value.Value.TheVariants.{Number}
 use Rattle.concordance.proofs.Desks.NotedLine.{can_load_line, can_load_number, line_is_noted, noted_again, one_more, takes_before, takes_line}
 use Rattle.concordance.proofs.clerk.Clerk.note_line.Goals as goal

@@ -1,4 +1,4 @@
-use Rattle.std.proofs.Common.{◌≡◌, ◌∙◌}
+use Rattle.std.proofs.Common.{◌∙◌}
 use Rattle.concordance.proofs.Desks.ReadLine.{begins, ends, goes, notes_there, word_short}
 use Rattle.concordance.proofs.clerk.Clerk.read_line.Goals as goal
 
