@@ -5,7 +5,6 @@ pub mod Shown
 pub mod Lists
 pub mod Notes
 pub mod Desks
-pub mod Partners
 pub mod LoneHeaps
 pub mod Whole
 pub mod Gathered

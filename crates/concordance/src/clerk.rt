@@ -129,19 +129,6 @@ impl<'h> Clerk<'h> {
         }
     }
 
-    /// The number that a register holds.
-    pub(crate) fn number(&self, register: u8) -> u64
-        requires lone { IsLone self.now }
-        requires register { register < REGISTERS }
-        requires number { (n : ℕ) × (desk_register (desk_of self.now) register ≡ values.Number n) }
-        ensures { desk_register (desk_of self.now) register ≡ values.Number result }
-    {
-        match self.mutator.reg(register) {
-            Reg::Number(n) => n,
-            Reg::Pointer(_) => unreachable!("it holds a number"),
-        }
-    }
-
     /// Its mutator leaves the heap, so that nobody waits for it any more. One without an end makes `halt` first.
     pub(crate) fn leave<R: Wait>(&mut self, rt: &R)
         ensures of_heap { self.new.table ≡ self.old.table }

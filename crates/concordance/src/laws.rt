@@ -4,7 +4,6 @@ ghost use Rattle.concordance.specs.Full.{LiveIsMade, LoneCallsAreDone, LoneFulls
 ghost use Rattle.concordance.specs.Notes.Theorems.{EndedPathsHaveNone, NotesNeedNoMore};
 ghost use Rattle.concordance.specs.Notes.Worked.{HoldsWorkedOut};
 ghost use Rattle.concordance.specs.OneMutator.{LoneFlipsAreFew, LoneFlipsAreNow, LoneHistories};
-ghost use Rattle.concordance.specs.Partners.{PartnersWeighNoLess};
 ghost use Rattle.concordance.specs.Whole.{WholeCalls};
 
 /// The history of a heap with one mutator.
@@ -24,11 +23,6 @@ pub fn lone_fulls_are_filled()
 /// The calls of a clerk that has taken in all others are those of the plain machine, one after another.
 pub fn whole_calls_are_plain()
     ensures { WholeCalls }
-{}
-
-/// Each of these has a partner there that weighs no less, and no two have the same: so they weigh no more.
-pub fn partners_weigh_no_less()
-    ensures { PartnersWeighNoLess }
 {}
 
 /// If the path of a word has ended, and no entry on it is of the word, no note is of the word.

@@ -14,5 +14,5 @@ mod registers;
 
 pub use laws::{
     ended_paths_have_none, lone_fulls_are_filled, lone_histories_are_plain, notes_are_worked_out,
-    notes_need_no_more, partners_weigh_no_less, whole_calls_are_plain,
+    notes_need_no_more, whole_calls_are_plain,
 };

@@ -12,7 +12,11 @@ use Rattle.heap_state.specs.Meaning.Reachable.{sum_of_records, words_of}
 use Rattle.ael_threads.specs.Histories.{Each}
 use Rattle.ael_threads.proofs.Lists.Elements.{each_to_map}
 use Rattle.concordance.specs.Full.{LiveIsMade}
-use Rattle.concordance.specs.Partners.{total_weight}
+
+-- what all of these weigh
+abbrev total_weight : (ℕ → ℕ) → List ℕ → ℕ
+total_weight weight [] = 0
+total_weight weight (x ∷ xs) = weight x + total_weight weight xs
 
 -- ---- serials, of which none but 0 stands twice
 
