@@ -5,6 +5,7 @@ pub mod Shown
 pub mod Lists
 pub mod Notes
 pub mod Desks
+pub mod FoundFull
 pub mod LoneHeaps
 pub mod Whole
 pub mod Gathered

@@ -8,5 +8,6 @@ pub mod Telling
 pub mod Adding
 pub mod AddingLines
 pub mod Needing
+pub mod NeedWithNew
 pub mod Worked
 pub mod Search

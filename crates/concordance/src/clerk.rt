@@ -12,6 +12,7 @@ ghost use Rattle.gc_worker.specs.declared.stage.Stage.TheVariants.{Gone};
 ghost use Rattle.gc_worker.specs.declared.task.Task.TheVariants.{Calls};
 ghost use Rattle.gc_worker.specs.Workers.Fits.{MayBegin};
 ghost use Rattle.ael_threads.specs.Calls.{Called, Halts, StaysSilent};
+ghost use Rattle.ael_threads.specs.Seats.{ShowsSeen};
 ghost use Rattle.concordance.specs.Desk.{CanDo, CanMake, desk_after, desk_register};
 ghost use Rattle.concordance.specs.Lone.{FindsFull, IsLone, KeepsSeat, desk_of};
 
@@ -108,6 +109,7 @@ impl<'h> Clerk<'h> {
         ensures lone { OnOk result (IsLone self.new) }
         ensures desk { OnOk result (desk_of self.new ≡ desk_after (desk_of self.old) instr) }
         ensures full { IfErr result (λ full. FindsFull self.old instr full.asked full.room self.new) }
+        ensures shows { ShowsSeen self.old.worker self.old.knows }
     {
         let serial = self.mutator.serial();
         prove!(serial < MOST_RECORDS);

@@ -1,9 +1,11 @@
 //! How a part of the text is read.
 
-ghost use Rattle.std.specs.Prelude.{◌≡◌, ◌+◌, ◌*◌, ◌^◌, ◌<◌, ◌≤◌, List, None, [], ◌∷◌, ◌++◌, IfSome, OnOk, length, false};
+ghost use Rattle.std.specs.Prelude.{◌≡◌, ◌+◌, ◌*◌, ◌^◌, ◌<◌, ◌≤◌, List, None, [], ◌∷◌, ◌++◌, IfErr, IfSome, OnOk, length, false};
 ghost use Rattle.std.specs.List.{AllByRecursion};
 ghost use Rattle.concordance_text.specs.Parts.{IsNumbered, mentions_of_part};
 ghost use Rattle.concordance_text.specs.Words.{HasShortWords, Mention, has_long_word, lines_of, mentions_in, words_in};
+ghost use Rattle.ael_threads.specs.Seats.{first_number};
+ghost use Rattle.concordance.specs.Full.{WasFullFor};
 ghost use Rattle.concordance.specs.Lone.{IsLone, KeepsSeat, desk_of};
 ghost use Rattle.concordance.specs.Notes.Invariant.{NoneIsLater};
 ghost use Rattle.concordance.specs.Pieces.{IsFirstLine};
@@ -24,6 +26,7 @@ impl<'h> Clerk<'h> {
         ensures same { KeepsSeat self.old self.new }
         ensures lone { OnOk result (IsLone self.new) }
         ensures noted { OnOk result (HasNotedJust (desk_of self.new) (mentions_of_part part.entry)) }
+        ensures full { IfErr result (λ full. WasFullFor self.old.knows.plan (first_number self.old.knows.hands) (mentions_of_part part.entry) full.asked full.room) }
     {
         let mut number = part.line;
         let mut rest = part.text;
@@ -46,6 +49,7 @@ impl<'h> Clerk<'h> {
         ensures lone { OnOk result (IsLone self.new) }
         ensures noted { OnOk result ((noted : List Mention) → HasNotedJust (desk_of self.old) noted → NoneIsLater noted number → HasNotedJust (desk_of self.new) (noted ++ mentions_in number line.now)) }
         ensures made { OnOk result (length (desk_of self.new).records ≤ length (desk_of self.old).records + 3 * length line.now) }
+        ensures full { IfErr result (λ full. (noted more : List Mention) → HasNotedJust (desk_of self.old) noted → NoneIsLater noted number → WasFullFor self.old.knows.plan (first_number self.old.knows.hands) (noted ++ mentions_in number line.now ++ more) full.asked full.room) }
     {
         let mut rest = line;
         while let Some((word, behind)) = first_word(rest) {

@@ -4,11 +4,13 @@ use Rattle.std.specs.List.{list_any}
 use Rattle.std.proofs.lemmas.Bool.{ltb-false}
 use Rattle.concordance_text.specs.declared.letters.TheConstants.{MOST_LETTERS}
 use Rattle.concordance_text.specs.Words.{Mention, has_long_word, is_too_long, lower_cased, mention, mentions_in, words_in}
-use Rattle.ael_threads.specs.Seats.{Seated}
+use Rattle.ael_threads.specs.Seats.{Seated, first_number}
+use Rattle.concordance.specs.Full.{WasFullFor}
 use Rattle.concordance.specs.Lone.{IsLone, KeepsSeat, desk_of}
 use Rattle.concordance.specs.Notes.Desks.{KeepsNotesTo, HasNotedJust}
 use Rattle.concordance.specs.Notes.Invariant.{NoneIsLater}
 use Rattle.concordance.proofs.Desks.Seats.{seat_stays, seat_then}
+use Rattle.concordance.proofs.FoundFull.{full_from}
 use Rattle.concordance.proofs.Lists.Elements.{all_append}
 
 -- with the words that are left, it comes to all of the line
@@ -60,6 +62,20 @@ module _ (a : Seated) (number : ℕ) (line rest : List ℕ) (s : Seated) (on : R
               ∙ (ap (λ (ws : List (List ℕ)). n.now ++ map (λ v. mention (lower_cased v) number) ws) (sym words) ∙ n.all));
         };
   }
+
+  -- the heap is full while its next word is noted
+  pub full_in_line : (w : List ℕ) → w ≡ lower_cased word → (asked room : ℕ) → ((noted more : List Mention) → HasNotedJust (desk_of s) noted → WasFullFor s.knows.plan (first_number s.knows.hands) (noted ++ mention w number ∷ more) asked room)
+      → (noted more : List Mention) → HasNotedJust (desk_of a) noted → NoneIsLater noted number → WasFullFor a.knows.plan (first_number a.knows.hands) (noted ++ mentions_in number line ++ more) asked room
+  full_in_line w is_word asked room full noted more is none_later =
+      let n = on.noted noted is none_later in
+      full_from a s (noted ++ mentions_in number line ++ more) asked room on.same
+      (subst (λ (ms : List Mention). WasFullFor s.knows.plan (first_number s.knows.hands) ms asked room) (all_of n) (full n.now (mentions_in number behind ++ more) n.is))
+    where
+      all_of : (n : NotesOn number line rest noted s) → n.now ++ mention w number ∷ (mentions_in number behind ++ more) ≡ noted ++ mentions_in number line ++ more
+      all_of n =
+          ap (λ (v : List ℕ). n.now ++ mention v number ∷ (mentions_in number behind ++ more)) is_word
+          ∙ (ap (λ (ws : List (List ℕ)). n.now ++ (map (λ v. mention (lower_cased v) number) ws ++ more)) (sym words)
+          ∙ (sym (append_assoc n.now (mentions_in number rest) more) ∙ ap (λ (ms : List Mention). ms ++ more) n.all))
 
 -- no word is left
 pub ends : (a : Seated) (number : ℕ) (line rest : List ℕ) (s : Seated) → ReadsOn a number line rest s → words_in rest ≡ [] → (noted : List Mention) → HasNotedJust (desk_of a) noted → NoneIsLater noted number → HasNotedJust (desk_of s) (noted ++ mentions_in number line)

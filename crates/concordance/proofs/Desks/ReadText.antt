@@ -3,11 +3,13 @@ use Rattle.std.proofs.Common.{◌≡◌, ℕ, ◌+◌, ◌*◌, ◌<◌, ◌≤�
 use borrow.Author.Tests.{eqb-true}
 use lib.Dec.{eqb}
 use Rattle.concordance_text.specs.Words.{HasShortWords, Mention, lines_of, lower_cased, mention, mentions_from, mentions_in, words_in}
-use Rattle.ael_threads.specs.Seats.{Seated}
+use Rattle.ael_threads.specs.Seats.{Seated, first_number}
+use Rattle.concordance.specs.Full.{WasFullFor}
 use Rattle.concordance.specs.Lone.{IsLone, KeepsSeat, desk_of}
 use Rattle.concordance.specs.Notes.Desks.{KeepsNotesTo, HasNotedJust}
 use Rattle.concordance.specs.Notes.Invariant.{NoneIsLater}
 use Rattle.concordance.proofs.Desks.Seats.{seat_stays, seat_then}
+use Rattle.concordance.proofs.FoundFull.{full_from}
 use Rattle.concordance.proofs.Lists.Elements.{all_append, all_map}
 
 -- A clerk that has noted the lines before the rest of the text, which are numbered from the first number on.
@@ -47,6 +49,12 @@ module _ (a : Seated) (first : ℕ) (text : List ℕ) (number : ℕ) (rest : Lis
       none_later = all_append (λ (n : Mention). n.line ≤ number + 1) on.now (mentions_in number line) (all_map (λ (n : Mention). n.line ≤ number) (λ (n : Mention). n.line ≤ number + 1) on.now (λ n at less. omega (arith, less)) on.none_later) (in_line number (words_in line));
       all = append_assoc on.now (mentions_in number line) (mentions_from (number + 1) (lines_of behind)) ∙ (ap (λ (ms : List Mention). on.now ++ ms) (sym (mentions number)) ∙ on.all);
     }
+
+    -- the heap is full while the line is read
+    pub full_in_text : (asked room : ℕ) → ((noted more : List Mention) → HasNotedJust (desk_of s) noted → NoneIsLater noted number → WasFullFor s.knows.plan (first_number s.knows.hands) (noted ++ mentions_in number line ++ more) asked room)
+        → WasFullFor a.knows.plan (first_number a.knows.hands) (mentions_from first (lines_of text)) asked room
+    full_in_text asked room full = full_from a s (mentions_from first (lines_of text)) asked room on.same
+        (subst (λ (ms : List Mention). WasFullFor s.knows.plan (first_number s.knows.hands) ms asked room) (append_assoc on.now (mentions_in number line) (mentions_from (number + 1) (lines_of behind)) ∙ (ap (λ (ms : List Mention). on.now ++ ms) (sym (mentions number)) ∙ on.all)) (full on.now (mentions_from (number + 1) (lines_of behind)) on.is on.none_later))
 
 -- no byte is left
 nothing_behind : (xs : List Mention) → xs ++ [] ≡ xs

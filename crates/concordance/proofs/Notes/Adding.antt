@@ -1,6 +1,6 @@
 -- The invariant with a word more that had no entry, or that was noted in its line.
 use Rattle.std.proofs.Common.{◌≡◌, ◌≢◌, inl, ℕ, ◌+◌, ◌-◌, ◌≤◌, Bool, true, false, List, [], ◌∷◌, ◌++◌, map, length, Some, slice_set, refl, sym, ap, ◌∙◌, subst, arith}
-use Rattle.std.specs.List.{sum_by}
+use Rattle.std.specs.List.{AllByRecursion, sum_by}
 use Rattle.std.proofs.lemmas.List.{length-append, length-map}
 use Rattle.std.proofs.lemmas.List.Sums.{sum_by-append}
 use Rattle.std.proofs.Math.ListN.{length-set}
@@ -13,7 +13,7 @@ use Rattle.plain_state.proofs.Lists.{at_serial_within}
 use Rattle.concordance_text.specs.declared.letters.TheConstants.{MOST_LETTERS}
 use Rattle.concordance_text.specs.Rows.{IsElementOf, TellsMention}
 use Rattle.concordance_text.specs.Words.{Mention, mention}
-use Rattle.concordance.specs.Notes.Invariant.{AreFilled, AreKept, AreTwo, HoldsNotes, note_row}
+use Rattle.concordance.specs.Notes.Invariant.{AreFilled, AreKept, AreTwo, HasLines, HoldsNotes, note_row}
 use Rattle.concordance.specs.Notes.Making.{StoresIn, new_records}
 use Rattle.concordance.specs.Notes.Paths.{side, turns_of}
 use Rattle.concordance.specs.Notes.Places.{PathEndsAt, HasNone}
@@ -32,7 +32,7 @@ use Rattle.concordance.proofs.Notes.Turns.{still_there}
 
 pub holds_at_first : (m : ℕ) → HoldsNotes m [] (Number 0) (Number 0) [] []
 holds_at_first m = record {
-  kept = record { entries = refl; apart = tt; lines = tt; begins = inl refl; turns = tt; found = tt };
+  kept = record { entries = refl; apart = tt; lines = tt; begins = inl refl; turns = tt; found = tt; ends = λ turns. refl };
   told = record { all = λ n at. at; only = λ n tells. tells };
   filled = record { words = refl; few_words = omega arith; few_records = omega arith };
 }
@@ -79,6 +79,18 @@ module _ (m : ℕ) (records : List Record) (first latest : Value) (notes : List 
   kept : AreKept m then first latest notes
   kept = kept_by_more records more m first latest notes holds.kept
 
+  pub new_alone : AllByRecursion (AreTwo new_note) notes
+  new_alone = all_by (AreTwo new_note) notes (λ e at. record { words = all_at (λ (f : Note). f.word ≢ word) notes e none at; serials = λ same. newer e at same })
+    where
+      newer : (e : Note) → IsElementOf e notes → e.serial ≡ made + 3 → ⊥
+      newer e at same =
+          let w = at_serial_within records e.serial _ (entry_of m records latest notes e holds.kept.entries at).is.entry in
+          let past = w.1 in
+          omega (arith, past, same)
+
+  pub new_has_lines : HasLines new_note
+  new_has_lines = record { some = omega arith; falling = (tt, tt) }
+
   new_is : IsNewEntry m then latest notes new_note
   new_is = record {
     letters = own m (made + 1);
@@ -86,15 +98,9 @@ module _ (m : ℕ) (records : List Record) (first latest : Value) (notes : List 
     entry = at_behind records more 2;
     word = record { serial = made + 1; is = refl; letters = at_behind records more 0 };
     lines = (Number 0, record { serial = made + 2; is = refl; line = at_behind records more 1 }, refl);
-    has_lines = record { some = omega arith; falling = (tt, tt) };
-    alone = all_by (AreTwo new_note) notes (λ e at. record { words = all_at (λ (f : Note). f.word ≢ word) notes e none at; serials = λ same. newer e at same });
+    has_lines = new_has_lines;
+    alone = new_alone;
   }
-    where
-      newer : (e : Note) → IsElementOf e notes → e.serial ≡ made + 3 → ⊥
-      newer e at same =
-          let w = at_serial_within records e.serial _ (entry_of m records latest notes e holds.kept.entries at).is.entry in
-          let past = w.1 in
-          omega (arith, past, same)
 
   filled : (later : List Record) → sum_by size_of later ≡ sum_by size_of then → length later ≡ length then → AreFilled later (new_note ∷ notes) (noted ++ mention word line ∷ [])
   filled later same_words same_count =

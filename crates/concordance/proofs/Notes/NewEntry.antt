@@ -17,7 +17,7 @@ use Rattle.concordance.specs.Notes.Records.{AreEntries, AreLines, IsEntry, IsLet
 use Rattle.concordance.proofs.Lists.Elements.{all_at, all_map}
 use Rattle.concordance.proofs.Notes.Keeping.{HasEntry, Keeps, letters_kept, lines_kept}
 use Rattle.concordance.proofs.Lists.Serials.{at_others, at_stored}
-use Rattle.concordance.proofs.Notes.Turns.{KeepsTurns, still_there}
+use Rattle.concordance.proofs.Notes.Turns.{KeepsTurns, ends_with_new, still_there}
 
 -- ---- records that can't be one
 
@@ -205,6 +205,17 @@ module _ (m : ℕ) (records : List Record) (first latest : Value) (notes : List 
       ap (λ (w : Value). turn_from then w (turns_of new.word at.depth)) (still_there records then first (turns_of new.word) at.depth m here keeps_turns at.reaches)
       ∙ (ap (turn_from then (own m here)) (sym at.turn) ∙ this_turn)
 
+  -- each turn leads where it led, or to the new entry
+  either_turn : (w : Value) (right : Bool) → (turn_from then w right ≡ turn_from records w right) ⊎ (turn_from then w right ≡ to)
+  either_turn (Number n) right = inl refl
+  either_turn (Reference i) right = ⊎_elim
+      (λ (same : i.serial ≡ here). ⊎_elim
+      (λ (turn : right ≡ to_right). inr (ap (λ (s : ℕ). turn_from then (own m s) right) same ∙ (ap (turn_from then (own m here)) turn ∙ this_turn)))
+      (λ (turn : right ≢ to_right). inl (other_turn i.serial right (λ _. turn)))
+      (cases_bool right to_right))
+      (λ (other : i.serial ≢ here). inl (other_turn i.serial right (λ same. absurd (other same))))
+      (cases_eq i.serial here)
+
   pub kept_with_new : AreKept m then first to (new ∷ notes)
   kept_with_new = record {
     entries = (
@@ -234,6 +245,7 @@ module _ (m : ℕ) (records : List Record) (first latest : Value) (notes : List 
       all_map (λ (e : Note). (depth : ℕ) × (reached records first (turns_of e.word) depth ≡ own m e.serial)) (λ (e : Note). (depth : ℕ) × (reached then first (turns_of e.word) depth ≡ own m e.serial)) notes
           (λ e in_notes old. (old.0, still_there records then first (turns_of e.word) old.0 m e.serial keeps_turns old.1)) kept.found,
     );
+    ends = λ turns. ends_with_new records then to either_turn (λ right. no_turns m then new is.letters is.line latest right then_entry) first turns (length notes) (kept.ends turns);
   }
 
 -- the first entry of all
@@ -245,4 +257,5 @@ kept_with_first m records new is = record {
   begins = inr (new, inl refl, refl);
   turns = ((λ right. inl (no_turns m records new is.letters is.line (Number 0) right is.entry)), tt);
   found = ((0, refl), tt);
+  ends = λ turns. no_turns m records new is.letters is.line (Number 0) (turns 0) is.entry;
 }

@@ -1,7 +1,8 @@
 -- A new line of a note, before those that it has.
-use Rattle.std.proofs.Common.{◌≡◌, ◌≢◌, ◌⊎◌, ⊎_elim, inl, inr, ℕ, ◌-◌, ◌<◌, Bool, true, false, List, [], ◌∷◌, ◌++◌, Some, slice_set, refl, sym, ap, ◌∙◌, subst, arith}
+use Rattle.std.proofs.Common.{◌≡◌, ◌≢◌, ◌⊎◌, ⊎_elim, inl, inr, ℕ, ◌-◌, ◌<◌, Bool, true, false, List, [], ◌∷◌, ◌++◌, length, Some, slice_set, refl, sym, ap, ◌∙◌, subst, arith}
 use Rattle.std.specs.List.{AllByRecursion}
 use Rattle.std.proofs.lemmas.Bool.{cases_eq}
+use Rattle.std.proofs.lemmas.List.{length-append}
 use Rattle.plain_state.specs.declared.value.Value.{Value}
 use Rattle.plain_state.specs.declared.value.Value.TheVariants.{Number, Reference}
 use Rattle.plain_state.specs.State.{Record, at_serial}
@@ -14,7 +15,7 @@ use Rattle.concordance.proofs.Lists.Elements.{all_at, all_map, all_replaced, in_
 use Rattle.concordance.proofs.Notes.Keeping.{HasEntry, Keeps, entries_kept, entry_kept, letters_kept, lines_kept}
 use Rattle.concordance.proofs.Notes.NewEntry.{stored_keeps}
 use Rattle.concordance.proofs.Lists.Serials.{at_others, at_stored}
-use Rattle.concordance.proofs.Notes.Turns.{KeepsTurns, still_there}
+use Rattle.concordance.proofs.Notes.Turns.{KeepsTurns, same_path, still_there}
 
 -- the note with one more line
 abbrev pub with_line : Note → (number : ℕ) → Note
@@ -122,6 +123,13 @@ module _ (m : ℕ) (records : List Record) (first latest : Value) (front back : 
   leads_on v (inl none) = inl none
   leads_on v (inr to) = let g = among to.0 (in_either to.0 front (e ∷ back) to.1) in inr (g.0, g.1, to.2 ∙ ap (own m) g.2)
 
+  same_there : (v : Value) (right : Bool) → turn_from then v right ≡ turn_from records v right
+  same_there (Number n) right = refl
+  same_there (Reference i) right = same_turn i.serial right
+
+  as_many : length later ≡ length notes
+  as_many = length-append front (new ∷ back) ∙ sym (length-append front (e ∷ back))
+
   pub kept_with_line : AreKept m then first latest later
   kept_with_line = record {
     entries = entries_then latest front (front_apart front back e kept.apart) kept.entries;
@@ -134,4 +142,5 @@ module _ (m : ℕ) (records : List Record) (first latest : Value) (front back : 
     found = all_replaced (λ (f : Note). (depth : ℕ) × (reached then first (turns_of f.word) depth ≡ own m f.serial)) front back e new (λ to. to)
         (all_map (λ (f : Note). (depth : ℕ) × (reached records first (turns_of f.word) depth ≡ own m f.serial)) (λ (f : Note). (depth : ℕ) × (reached then first (turns_of f.word) depth ≡ own m f.serial)) notes
         (λ f at to. (to.0, still_there records then first (turns_of f.word) to.0 m f.serial keeps_turns to.1)) kept.found);
+    ends = λ turns. same_path records then first turns (λ d right. same_there (reached records first turns d) right) (length later) ∙ (ap (reached records first turns) as_many ∙ kept.ends turns);
   }

@@ -1,5 +1,5 @@
 -- Where turns lead: what stays so if records change, and where a path has ended.
-use Rattle.std.proofs.Common.{◌≡◌, ◌≢◌, ℕ, zero, suc, ◌≤◌, ⊎_elim, inl, inr, Bool, List, refl, sym, ap, ◌∙◌, subst, arith}
+use Rattle.std.proofs.Common.{◌≡◌, ◌≢◌, ◌⊎◌, ℕ, zero, suc, ◌≤◌, ⊎_elim, inl, inr, Bool, List, refl, sym, ap, ◌∙◌, subst, arith}
 use Rattle.std.proofs.lemmas.Bool.{cases_eq}
 use Rattle.plain_state.specs.declared.value.Value.{Value}
 use Rattle.plain_state.specs.declared.value.Value.TheVariants.{Number, Reference}
@@ -38,6 +38,28 @@ pub still_there : (records later : List Record) (first : Value) (turns : Turns) 
     → reached later first turns depth ≡ own m serial
 still_there records later first turns depth m serial keeps is =
     later_turns records later first turns depth keeps (λ e. somewhere m serial (sym is ∙ e)) ∙ is
+
+-- Where each turn leads where it led, so do more of them.
+pub same_path : (records later : List Record) (first : Value) (turns : Turns) → ((d : ℕ) (right : Bool) → turn_from later (reached records first turns d) right ≡ turn_from records (reached records first turns d) right) → (depth : ℕ)
+    → reached later first turns depth ≡ reached records first turns depth
+same_path records later first turns same zero = refl
+same_path records later first turns same (suc d) = ap (λ (v : Value). turn_from later v (turns d)) (same_path records later first turns same d) ∙ same d (turns d)
+
+-- Each turn leads where it led, or to a new entry, from which none leads on.
+module _ (records later : List Record) (to : Value) (either : (v : Value) (right : Bool) → (turn_from later v right ≡ turn_from records v right) ⊎ (turn_from later v right ≡ to)) (none : (right : Bool) → turn_from later to right ≡ Number 0) (first : Value) (turns : Turns) where
+  passes_new : (depth : ℕ) → (reached later first turns depth ≡ reached records first turns depth) ⊎ (turn_from later (reached later first turns depth) (turns depth) ≡ Number 0)
+  passes_new zero = inl refl
+  passes_new (suc d) = ⊎_elim
+      (λ same. let here : reached later first turns (suc d) ≡ turn_from later (reached records first turns d) (turns d) = ap (λ (v : Value). turn_from later v (turns d)) same in ⊎_elim
+      (λ old. inl (here ∙ old))
+      (λ new. inr (ap (λ (v : Value). turn_from later v (turns (suc d))) (here ∙ new) ∙ none (turns (suc d))))
+      (either (reached records first turns d) (turns d)))
+      (λ gone. inr (ap (λ (v : Value). turn_from later v (turns (suc d))) gone))
+      (passes_new d)
+
+  -- so one turn more leads nowhere, if those before led nowhere
+  pub ends_with_new : (depth : ℕ) → reached records first turns depth ≡ Number 0 → reached later first turns (suc depth) ≡ Number 0
+  ends_with_new depth ends = ⊎_elim (λ same. ap (λ (v : Value). turn_from later v (turns depth)) (same ∙ ends)) (λ gone. gone) (passes_new depth)
 
 -- a path that has ended leads nowhere any more
 pub ended : (records : List Record) (first : Value) (turns : Turns) (depth d : ℕ) → reached records first turns depth ≡ Number 0 → depth ≤ d → reached records first turns d ≡ Number 0

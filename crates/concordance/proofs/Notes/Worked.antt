@@ -59,6 +59,11 @@ found_a : reached worked_records (own 1 3) (turns_of (codes "a")) 1 ≡ own 1 6
 unfolding turns_of bits_of is_high
 found_a = refl
 
+two_turns : (right next : Bool) → turn_from worked_records (turn_from worked_records (own 1 3) right) next ≡ Number 0
+two_turns true next = refl
+two_turns false true = refl
+two_turns false false = refl
+
 kept : AreKept 1 worked_records (own 1 3) (own 1 6) worked_notes
 kept = record {
   entries = entries;
@@ -70,6 +75,7 @@ kept = record {
   begins = inr (note_b, inr (inl refl), refl);
   turns = (turns_a, (turns_b, tt));
   found = ((1, found_a), ((0, refl), tt));
+  ends = λ turns. two_turns (turns 0) (turns 1);
 }
 
 word_is : {n k : Mention} → n ≡ k → n.word ≡ k.word

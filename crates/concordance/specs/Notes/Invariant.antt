@@ -7,7 +7,7 @@ use Rattle.plain_state.specs.declared.value.Value.{Value}
 use Rattle.plain_state.specs.declared.value.Value.TheVariants.{Number}
 use Rattle.concordance_text.specs.Rows.{IsElementOf, TellsMention, WordRow, need, row}
 use Rattle.concordance_text.specs.Words.{Mention}
-use Rattle.concordance.specs.Notes.Paths.{reached, turn_from, turns_of}
+use Rattle.concordance.specs.Notes.Paths.{Turns, reached, turn_from, turns_of}
 use Rattle.concordance.specs.Desk.{own}
 use Rattle.concordance.specs.Notes.Records.{AreEntries, Note}
 
@@ -53,7 +53,8 @@ abbrev pub LeadsToNote : (m : ℕ) → List Note → Value → Type 0
 LeadsToNote m notes v = (v ≡ Number 0) ⊎ ((e : Note) × IsElementOf e notes × (v ≡ own m e.serial))
 
 -- Clerk m keeps the notes in its records. From `latest` all entries follow one another. From `first` each is found on the path of its
--- word, and each turn leads nowhere or to an entry.
+-- word, and each turn leads nowhere or to an entry. Entries stand in no circle: as many turns as there are notes lead nowhere, whichever
+-- they are.
 pub record AreKept (m : ℕ) (records : List Record) (first latest : Value) (notes : List Note) : Type 0 where
   pub entries : AreEntries m records latest notes
   pub apart : AreApart notes
@@ -61,6 +62,7 @@ pub record AreKept (m : ℕ) (records : List Record) (first latest : Value) (not
   pub begins : LeadsToNote m notes first
   pub turns : AllByRecursion (λ (e : Note). (right : Bool) → LeadsToNote m notes (turn_from records (own m e.serial) right)) notes
   pub found : AllByRecursion (λ (e : Note). (depth : ℕ) × (reached records first (turns_of e.word) depth ≡ own m e.serial)) notes
+  pub ends : (turns : Turns) → reached records first turns (length notes) ≡ Number 0
 
 -- ---- what they fill
 
@@ -68,8 +70,8 @@ pub record AreKept (m : ℕ) (records : List Record) (first latest : Value) (not
 abbrev pub words_noted : List Note → ℕ
 words_noted notes = need (map note_row notes)
 
--- The records are those of the notes and no others, at most three for each word that was read; so they fill at most 74 heap words for
--- each: 64 letters, a line and an entry.
+-- All records together fill just the heap words that the notes' rows need. There are at most three for each word that was read, of at most 74
+-- heap words: 64 letters, a line and an entry.
 pub record AreFilled (records : List Record) (notes : List Note) (noted : List Mention) : Type 0 where
   pub words : sum_by size_of records ≡ words_noted notes
   pub few_words : words_noted notes ≤ 74 * length noted
@@ -77,7 +79,7 @@ pub record AreFilled (records : List Record) (notes : List Note) (noted : List M
 
 -- ---- all of it
 
--- THE INVARIANT between two words of the text: the notes are kept, tell just what was noted, and nothing else was made.
+-- THE INVARIANT between two words of the text: the notes are kept, tell just what was noted, and no more is filled than they need.
 pub record HoldsNotes (m : ℕ) (records : List Record) (first latest : Value) (notes : List Note) (noted : List Mention) : Type 0 where
   pub kept : AreKept m records first latest notes
   pub told : TellJust notes noted

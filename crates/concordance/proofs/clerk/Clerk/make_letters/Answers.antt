@@ -4,6 +4,7 @@ use Rattle.concordance.specs.Lone.{desk_of}
 use Rattle.concordance.specs.Notes.Records.{raw}
 use Rattle.concordance.proofs.Desks.MadeLetters.{begun, begun_changes, goes_on, goes_on_changes, takes_letter}
 use Rattle.concordance.proofs.Desks.Seats.{seat_then}
+use Rattle.concordance.proofs.FoundFull.{full_now, passed_on}
 use Rattle.concordance.proofs.Lists.Letters.{all_written}
 use Rattle.concordance.proofs.clerk.Clerk.make_letters.Goals as goal
 
@@ -35,3 +36,6 @@ pub returns-clause-records : goal.returns-clause-records
 returns-clause-records g c =
     let i = c.loop-letter.invariant in
     i.3.records ∙ ap (λ (vs : List Value). (desk_of c.args.self.now).records ++ raw vs ∷ []) (all_written c.args.word.now c.loop-letter.letter-index c.loop-letter-test.false)
+
+pub returns-in_err-makes-clause-full : goal.returns-in_err-makes-clause-full
+returns-in_err-makes-clause-full g c = let e = c.in_err-makes.ensures in let n = c.requires.short in passed_on _ _ _ c.from_residual.ensures.1 (full_now _ _ _ _ _ c.requires.lone e.shows e.full (omega (arith, n)))

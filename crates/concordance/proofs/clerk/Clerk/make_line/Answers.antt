@@ -8,6 +8,7 @@ use Rattle.concordance.specs.Lone.{desk_of}
 use Rattle.concordance.specs.declared.registers.TheConstants.{LINE, NUMBER}
 use Rattle.concordance.proofs.Desks.FreshRecord.{IsFresh, fresh_loads, fresh_made, fresh_registers, fresh_stores, fresh_takes}
 use Rattle.concordance.proofs.Desks.Instructions.{Loads, Makes, loads, makes}
+use Rattle.concordance.proofs.FoundFull.{full_now, passed_on}
 use Rattle.concordance.proofs.Shown.{all_registers}
 use Rattle.concordance.proofs.clerk.Clerk.make_line.Goals as goal
 
@@ -38,3 +39,6 @@ returns-clause-line g c =
     let m = makes_it c.args.self.now c.makes.new.self c.does.new.self c.from.result c.in_ok-makes.ensures.desk c.does.ensures.desk in
     let l = loads_it c.args.self.now c.makes.new.self c.does.new.self c.from.result c.in_ok-makes.ensures.desk c.does.ensures.desk in
     fresh_registers _ (zeros Fields 2) LINE _ f 0 _ _ c.does-2.ensures.desk LINE ∙ (l.others LINE (λ e. absurd (omega arith)) ∙ m.taken)
+
+pub returns-in_err-makes-clause-full : goal.returns-in_err-makes-clause-full
+returns-in_err-makes-clause-full g c = let e = c.in_err-makes.ensures in passed_on _ _ _ c.from_residual.ensures.1 (full_now _ _ _ _ _ c.requires.lone e.shows e.full (omega arith))

@@ -1,5 +1,6 @@
-use Rattle.std.proofs.Common.{◌∙◌, ap, arith}
+use Rattle.std.proofs.Common.{◌∙◌, ap, subst, arith}
 use Rattle.gc_worker.specs.declared.calls.did.Did.TheVariants.{Trap}
+use Rattle.ael_threads.specs.Seats.{Seated, ShowsSeen}
 use Rattle.concordance.specs.Lone.{desk_of}
 use Rattle.concordance.proofs.Doing.{makes_serial}
 use Rattle.concordance.proofs.Lone.{finds_full, makes_desk, makes_full, makes_lone}
@@ -27,3 +28,9 @@ returns-in-Done-clause-desk g c = makes_desk c.args.self.now c.call.new.self c.a
 pub returns-in-Trap-clause-full : goal.returns-in-Trap-clause-full
 returns-in-Trap-clause-full g c =
     finds_full c.args.self.now c.call.new.self c.args.instr c.requires.lone c.requires.can c.call.result c.call.ensures.called c.of.result.asked c.of.result.room c.of.ensures.0 (c.in-Trap.is ∙ ap Trap c.of.ensures.1)
+
+pub returns-in-Done-clause-shows : goal.returns-in-Done-clause-shows
+returns-in-Done-clause-shows g c = subst (λ (s : Seated). ShowsSeen s.worker s.knows) c.self.view_is c.serial-serial.ensures.shows
+
+pub returns-in-Trap-clause-shows : goal.returns-in-Trap-clause-shows
+returns-in-Trap-clause-shows g c = subst (λ (s : Seated). ShowsSeen s.worker s.knows) c.self.view_is c.serial-serial.ensures.shows

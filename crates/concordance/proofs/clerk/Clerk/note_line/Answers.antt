@@ -1,6 +1,8 @@
 use Rattle.std.proofs.Common.{sym, ap, ◌∙◌, arith}
 use Rattle.plain_state.specs.declared.value.Value.TheVariants.{Number}
-use Rattle.concordance.proofs.Desks.NotedLine.{can_load_line, can_load_number, line_is_noted, noted_again, one_more, takes_before, takes_line}
+use Rattle.concordance.proofs.Desks.NotedLine.{can_load_line, can_load_number, line_is_noted, noted_again, one_more, records_c, takes_before, takes_line}
+use Rattle.concordance.proofs.Desks.Seats.{seat_then}
+use Rattle.concordance.proofs.FoundFull.{full_still, passed_on}
 use Rattle.concordance.proofs.clerk.Clerk.note_line.Goals as goal
 
 pub does-requires-clause-can : goal.does-requires-clause-can
@@ -39,3 +41,9 @@ returns-clause-made g c =
     let more = one_more c.args.self.now n.notes n.noted n.word n.holds n.is c.does.new.self c.does.ensures.desk c.does-2.new.self c.does-2.ensures.desk c.args.line c.make_line.new.self made.records made.line made.others c.does-3.new.self c.does-3.ensures.desk c.does-4.new.self
     c.does-4.ensures.desk in
     omega (arith, more)
+
+pub returns-in_err-make_line-clause-full : goal.returns-in_err-make_line-clause-full
+returns-in_err-make_line-clause-full g c =
+    let n = c.requires.note in
+    passed_on _ _ _ c.from_residual.ensures.1
+    (full_still c.args.self.now c.does-2.new.self 0 0 _ _ (seat_then c.args.self.now c.does.new.self c.does-2.new.self c.does.ensures.same c.does-2.ensures.same) (records_c c.args.self.now n.notes n.noted n.word n.holds n.is c.does.new.self c.does.ensures.desk c.does-2.new.self c.does-2.ensures.desk) c.in_err-make_line.ensures.full)

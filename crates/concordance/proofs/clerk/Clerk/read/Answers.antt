@@ -1,5 +1,6 @@
 use Rattle.std.proofs.Common.{sym, ◌∙◌}
-use Rattle.concordance.proofs.Desks.ReadText.{begins, ends, goes, none_left, notes_there}
+use Rattle.concordance.proofs.Desks.ReadText.{begins, ends, full_in_text, goes, none_left, notes_there}
+use Rattle.concordance.proofs.FoundFull.{passed_on}
 use Rattle.concordance.proofs.clerk.Clerk.read.Goals as goal
 
 pub loop-rest-init : goal.loop-rest-init
@@ -20,3 +21,8 @@ loop-rest-preserved g c =
 
 pub returns-clause-noted : goal.returns-clause-noted
 returns-clause-noted g c = ends c.args.self.now c.args.part.line c.args.part.text.now c.loop-rest.number c.loop-rest.rest.now c.loop-rest.self c.loop-rest.invariant (none_left c.loop-rest.rest.now (sym c.is_empty.ensures ∙ c.loop-rest-test.false))
+
+pub returns-in_err-read_line-clause-full : goal.returns-in_err-read_line-clause-full
+returns-in_err-read_line-clause-full g c =
+    passed_on _ _ _ c.from_residual.ensures.1
+    (full_in_text c.args.self.now c.args.part.line c.args.part.text.now c.loop-rest.number c.loop-rest.rest.now c.loop-rest.self c.loop-rest.invariant c.first_line.result.0.now c.first_line.result.1.now c.first_line.ensures.line.mentions _ _ c.in_err-read_line.ensures.full)
