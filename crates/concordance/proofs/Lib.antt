@@ -10,3 +10,5 @@ pub mod LoneHeaps
 pub mod Whole
 pub mod Gathered
 pub mod Pieces
+pub mod Working
+pub mod Joined

@@ -3,3 +3,4 @@ pub mod Sums
 pub mod Serials
 pub mod LastRecord
 pub mod Letters
+pub mod Numbered

@@ -3,3 +3,4 @@ pub mod FewFlips
 pub mod LiveWords
 pub mod DoneCalls
 pub mod FullHeaps
+pub mod FullSpaces

@@ -6,3 +6,7 @@ pub mod Full
 pub mod Whole
 pub mod Gathering
 pub mod Pieces
+pub mod MayBeFull
+pub mod FirstAndRest
+pub mod Working
+pub mod Making

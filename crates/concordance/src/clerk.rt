@@ -1,5 +1,6 @@
 //! A clerk: a mutator of the heap that notes the words of a part of the text.
 
+mod joining;
 mod whole;
 
 ghost use Rattle.std.specs.Prelude.{◌≡◌, ◌<◌, ◌↔◌, ℕ, Some, None, IfErr, IsTrue, OnOk};

@@ -81,11 +81,11 @@ makes_none q desk (instrs.Ld d a x) can = made_of q (instrs.Ld d a x)
 makes_none q desk (instrs.Len d a) can = made_of q (instrs.Len d a)
 makes_none q desk _ can = absurd can
 
-record_none : (o : Result Action End) → making_in o ≡ None → record_made o ≡ None
+pub record_none : (o : Result Action End) → making_in o ≡ None → record_made o ≡ None
 record_none (Ok (Makes kind d n)) none = cc
 record_none _ none = refl
 
-not_ended : (m : ℕ) (heap : Heap) (k : Mutator) (i : Instr) (end : End) (after : After) → call m heap k i ≡ Ok after → new_record k i ≡ None → MayEnd m heap k i end → ⊥
+pub not_ended : (m : ℕ) (heap : Heap) (k : Mutator) (i : Instr) (end : End) (after : After) → call m heap k i ≡ Ok after → new_record k i ≡ None → MayEnd m heap k i end → ⊥
 not_ended m heap k i (HeapFull asked room live) after ok none may = let asks : None ≡ Some asked = sym (ap (option_map pages_of) none) ∙ may in cc
 not_ended m heap k i _ after ok none may = cc
 

@@ -39,6 +39,10 @@ module _ {A : Type 0} where
   all_append P [] ys all more = more
   all_append P (x ∷ xs) ys all more = (all.0, all_append P xs ys all.1 more)
 
+  pub all_apart : (P : A → Type 0) (xs ys : List A) → AllByRecursion P (xs ++ ys) → AllByRecursion P xs × AllByRecursion P ys
+  all_apart P [] ys h = (tt, h)
+  all_apart P (x ∷ xs) ys h = let both = all_apart P xs ys h.1 in ((h.0, both.0), both.1)
+
   -- ---- one element among others
 
   -- where it stands

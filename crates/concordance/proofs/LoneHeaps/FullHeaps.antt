@@ -31,7 +31,7 @@ use Rattle.concordance.proofs.LoneHeaps.FewFlips.{lone_flips_are_few}
 use Rattle.concordance.proofs.LoneHeaps.LiveWords.{live_is_made}
 use Rattle.concordance.proofs.LoneHeaps.OneMutator.{each_call, lone_flips_are_now, lone_histories}
 
-legal_front : (p : Plain) (xs ys : List Entry) → IsLegal p (xs ++ ys) → IsLegal p xs
+pub legal_front : (p : Plain) (xs ys : List Entry) → IsLegal p (xs ++ ys) → IsLegal p xs
 legal_front p [] ys h = tt
 legal_front p (Made c ∷ xs) ys h = (h.0, legal_front (after_call p c) xs ys h.1)
 legal_front p (Exchanged by asked ∷ xs) ys h = legal_front p xs ys h

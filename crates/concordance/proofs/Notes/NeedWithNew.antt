@@ -1,9 +1,9 @@
 -- What the notes, and a word more that had no entry, need of the rows that have all of them.
-use Rattle.std.proofs.Common.{◌≡◌, ⊎_elim, inl, ℕ, ◌+◌, ◌≤◌, List, [], ◌∷◌, ◌++◌, length, arith}
+use Rattle.std.proofs.Common.{⊎_elim, inl, ℕ, ◌+◌, ◌≤◌, List, ◌∷◌, ◌++◌, length, arith}
 use Rattle.plain_state.specs.declared.value.Value.{Value}
 use Rattle.plain_state.specs.State.{Record}
 use Rattle.concordance_text.specs.declared.letters.TheConstants.{MOST_LETTERS}
-use Rattle.concordance_text.specs.Rows.{AreRowsOf, IsElementOf, WordRow, need}
+use Rattle.concordance_text.specs.Rows.{AreRowsOf, WordRow, need}
 use Rattle.concordance_text.specs.Words.{Mention, mention}
 use Rattle.concordance.specs.Notes.Invariant.{HoldsNotes, words_noted}
 use Rattle.concordance.specs.Notes.Places.{HasNone}

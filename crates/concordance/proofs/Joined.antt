@@ -1,0 +1,3 @@
+pub mod OwnCalls
+pub mod NotedParts
+pub mod TakenIn
