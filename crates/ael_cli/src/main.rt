@@ -1,4 +1,5 @@
-//! The program `ael`: mutators in a small register assembler, listed, or run over a bounded heap, by a schedule or on threads.
+//! The program `ael`: mutators in a small register assembler, listed, or run over a bounded heap, by a schedule or on threads; and the
+//! concordance of a text, made on such a heap.
 #![tactic(auto)]
 
 use ael_commands::{Answer, Status, StdSink, StdSource, ael, emit};

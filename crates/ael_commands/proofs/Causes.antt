@@ -8,21 +8,23 @@ use Rattle.mutator_asm.specs.declared.item.Item.{Item}
 use Rattle.mutator_asm.specs.Text.{IsText}
 use Rattle.benchmark.specs.Text.{bench_text}
 use Rattle.ael_commands.specs.declared.arguments.job.Job.{Job}
-use Rattle.ael_commands.specs.declared.arguments.job.Job.TheVariants.{Asm, Bench, Run, Sim}
+use Rattle.ael_commands.specs.declared.arguments.job.Job.TheVariants.{Asm, Bench, Concord, Run, Sim}
 use Rattle.ael_commands.specs.declared.arguments.operands.BenchOperands.{BenchOperands}
+use Rattle.ael_commands.specs.declared.arguments.options.ConcordOptions.{ConcordOptions}
 use Rattle.ael_commands.specs.declared.arguments.options.RunOptions.{RunOptions}
 use Rattle.ael_commands.specs.declared.arguments.options.SimOptions.{SimOptions}
 use Rattle.ael_commands.specs.declared.status.Status.{Status}
-use Rattle.ael_commands.specs.declared.status.Status.TheVariants.{Done, Text, Usage, Ended, StepsOut, ReadFault, WriteFault, NoMemory, TooLong}
+use Rattle.ael_commands.specs.declared.status.Status.TheVariants.{Done, Text, LongWord, Usage, Ended, HeapFull, StepsOut, ReadFault, WriteFault, NoMemory, TooLong}
 use Rattle.ael_commands.specs.Calls.Answer.{IsCaused, IsDrawnFor, Made, Refused, Unread, OutOfMemory}
 use Rattle.ael_commands.specs.Tasks.Asm.{IsListed}
 use Rattle.ael_commands.specs.Tasks.Bench.{bench_options}
 use Rattle.ael_commands.specs.Streams.Ends.{Drawn}
-use Rattle.ael_commands.specs.Arguments.Jobs.{job_task}
+use Rattle.ael_commands.specs.Arguments.Jobs.{IsStill, ReadsProgram, job_task}
 use Rattle.ael_commands.specs.Tasks.ProgramTask.{IsMadeOf, IsTextIn, IsUnfit}
 use Rattle.ael_commands.specs.Runs.Run.{IsRun, Scheduled, Threaded}
 use Rattle.ael_commands.specs.Calls.Status.{is_made}
-use Rattle.ael_commands.specs.Tasks.Task.{Everything, IsDrawn}
+use Rattle.ael_commands.specs.Tasks.Concord.{FoundFull, HasLongWord, HasNoConcordance, HasNoMemory, HasNoRoom, IsMadeOfText}
+use Rattle.ael_commands.specs.Tasks.Task.{Everything, IsDrawn, IsInput}
 
 -- a failure that is told, or want of memory to tell it, passes over no failed read
 pub failed_counts : {P : Type 0} (status final : Status) → (final ≡ status) ⊎ ((final ≡ NoMemory) × (is_made status ≡ true)) → (status ≢ ReadFault → P) → final ≢ ReadFault → P
@@ -47,8 +49,9 @@ none_made job source (Ok x) r is = subst (λ r. IfErr r (IsCaused job source [])
 none_made job source (Err e) r is = subst (λ r. IfErr r (IsCaused job source [])) (sym is) (OutOfMemory refl refl)
 
 -- the answer to a job on a program that is read, where there is none
-pub unfit : (job : Job) (source : Drawn) (status : Status) → (job_task job).reads ≡ Everything → IsUnfit source status → IsCaused job source [] status
-unfit (Bench operands) source status reads u = cc
+pub unfit : (job : Job) (source : Drawn) (status : Status) → ReadsProgram job → IsUnfit source status → IsCaused job source [] status
+unfit (Bench operands) source status reads u = absurd reads
+unfit (Concord options) source status reads u = absurd reads
 unfit Asm source (Text number line) reads u = Refused u.bytes u.input u.fault refl
 unfit (Sim options) source (Text number line) reads u = Refused u.bytes u.input u.fault refl
 unfit (Run options) source (Text number line) reads u = Refused u.bytes u.input u.fault refl
@@ -60,17 +63,28 @@ unfit (Sim options) source TooLong reads u = Unread u refl
 unfit (Run options) source TooLong reads u = Unread u refl
 unfit job source NoMemory reads u = OutOfMemory refl refl
 unfit job source Done reads u = absurd u
+unfit job source (LongWord line) reads u = absurd u
 unfit job source Usage reads u = absurd u
 unfit job source Ended reads u = absurd u
+unfit job source (HeapFull asked room) reads u = absurd u
 unfit job source StepsOut reads u = absurd u
 unfit job source WriteFault reads u = absurd u
 
--- each job but the benchmark reads its program
-pub reads_all : (job : Job) → ((operands : BenchOperands) → job ≢ Bench operands) → (job_task job).reads ≡ Everything
-reads_all (Bench operands) not = absurd (not operands refl)
-reads_all Asm not = refl
-reads_all (Sim options) not = refl
-reads_all (Run options) not = refl
+-- each job that waits for nobody, but the benchmark, reads a program
+pub reads_program : (job : Job) → IsStill job → ((operands : BenchOperands) → job ≢ Bench operands) → ReadsProgram job
+reads_program (Bench operands) still not = absurd (not operands refl)
+reads_program Asm still not = tt
+reads_program (Sim options) still not = tt
+reads_program (Run options) still not = tt
+reads_program (Concord options) still not = absurd (true≢false still)
+
+-- then it reads its input
+pub reads_all : (job : Job) → ReadsProgram job → (job_task job).reads ≡ Everything
+reads_all (Bench operands) reads = absurd reads
+reads_all (Concord options) reads = absurd reads
+reads_all Asm reads = refl
+reads_all (Sim options) reads = refl
+reads_all (Run options) reads = refl
 
 -- and with it as much as a program
 pub drawn_for : (job : Job) (source : Drawn) → (job_task job).reads ≡ Everything → IsDrawn Everything source → IsDrawnFor (Some job) source
@@ -94,9 +108,25 @@ simulates job options program items output status is made bytes text =
     subst (λ j. (job_task j).Makes bytes output status) (sym is) (record { program = program; items = items; text = text; made = made })
 
 -- a program that is run on threads
-pub threaded : (options : RunOptions) (source : Drawn) (program : List (List Instr)) (items : List Item) (output : List ℕ) (status : Status)
-    → IsTextIn source program items → IsRun (Threaded options) program items output status → IsCaused (Run options) source output status
-threaded options source program items output status t made = Made t.bytes t.input (record { program = program; items = items; text = t.text; made = made })
+pub threaded : (job : Job) (options : RunOptions) (source : Drawn) (program : List (List Instr)) (items : List Item) (output : List ℕ) (status : Status) → job ≡ Run options
+    → IsTextIn source program items → IsRun (Threaded options) program items output status → IsCaused job source output status
+threaded job options source program items output status is t made =
+    subst (λ j. IsCaused j source output status) (sym is) (Made t.bytes t.input (record { program = program; items = items; text = t.text; made = made }))
+
+-- a text whose concordance is made
+pub concords : (job : Job) (options : ConcordOptions) (source : Drawn) (bytes output : List ℕ) (status : Status) → job ≡ Concord options
+    → IsInput Everything source bytes → IsMadeOfText options.pages bytes output status → IsCaused job source output status
+concords job options source bytes output status is input made = subst (λ j. IsCaused j source output status) (sym is) (Made bytes input made)
+
+-- or one that has none
+pub without_concordance : (job : Job) (options : ConcordOptions) (source : Drawn) (bytes : List ℕ) (status : Status) → job ≡ Concord options
+    → IsInput Everything source bytes → HasNoConcordance options.pages bytes status → IsCaused job source [] status
+without_concordance job options source bytes status is input none = subst (λ j. IsCaused j source [] status) (sym is) (by none)
+  where
+    by : HasNoConcordance options.pages bytes status → IsCaused (Concord options) source [] status
+    by (HasLongWord long) = Refused bytes input long refl
+    by (HasNoRoom asked room short may told) = Made bytes input (FoundFull asked room short may told refl)
+    by (HasNoMemory wanting) = OutOfMemory wanting refl
 
 -- the benchmark
 pub benched : (job : Job) (operands : BenchOperands) (source : Drawn) (output : List ℕ) (status : Status) → job ≡ Bench operands

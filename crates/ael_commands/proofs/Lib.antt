@@ -7,7 +7,7 @@ pub mod Seeing
 pub mod Simulating
 pub mod Noting
 pub mod Agreeing
-pub mod Plainly
+pub mod Concordances
+pub mod Calls
 pub mod Parsed
-pub mod Assured
 pub mod Threading

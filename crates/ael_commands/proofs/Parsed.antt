@@ -7,13 +7,13 @@ use Rattle.simple_commands.specs.Exact.{is_exact}
 use Rattle.simple_commands.specs.Held.{IsSubcommandOf}
 use Rattle.simple_commands.proofs.Taking.{holds_operands, holds_options}
 use Rattle.ael_commands.specs.Arguments.CommandLine.{ael_app}
-use Rattle.ael_commands.specs.Arguments.Options.{bench_numbers, bench_wide, run_flags, run_numbers, run_wide, sim_flags, sim_numbers, sim_wide}
+use Rattle.ael_commands.specs.Arguments.Options.{bench_numbers, bench_wide, concord_flags, concord_numbers, concord_wide, run_flags, run_numbers, run_wide, sim_flags, sim_numbers, sim_wide}
 use Rattle.ael_commands.specs.Arguments.Words.{IsKnown}
 
 pub exact : (a : App) → a ≡ ael_app → IsTrue (is_exact a)
 exact a is = let holds : IsTrue (is_exact ael_app) = refl in subst (λ (x : App). IsTrue (is_exact x)) (sym is) holds
 
--- the subcommands are `asm`, `sim`, `run` and `bench`
+-- the subcommands are `asm`, `sim`, `run`, `concord` and `bench`
 pub known : (a : App) (o : Option (Text × List Row)) → a ≡ ael_app → IfSome o (IsSubcommandOf a) → IfSome o IsKnown
 known a None is h = tt
 known a (Some p) is h = elim (subst (λ (x : App). IsSubcommandOf x p) is h) [
@@ -22,14 +22,18 @@ known a (Some p) is h = elim (subst (λ (x : App). IsSubcommandOf x p) is h) [
     | inl sim ↦ inr (inl (sim.0, holds_options 1 sim_numbers sim_wide sim_flags p.1 sim.1))
     | inr others ↦ elim others [
       | inl run ↦ inr (inr (inl (run.0, holds_options 1 run_numbers run_wide run_flags p.1 run.1)))
-      | inr last ↦ elim last [ inl bench ↦ inr (inr (inr (bench.0, holds_operands 1 bench_numbers bench_wide p.1 bench.1))) | inr none ↦ absurd none ]
+      | inr more_others ↦ elim more_others [
+        | inl concord ↦ inr (inr (inr (inl (concord.0, holds_options 1 concord_numbers concord_wide concord_flags p.1 concord.1))))
+        | inr last ↦ elim last [ inl bench ↦ inr (inr (inr (inr (bench.0, holds_operands 1 bench_numbers bench_wide p.1 bench.1)))) | inr none ↦ absurd none ]
+      ]
     ]
   ]
 ]
 
 -- and have no other names
-pub never_another : (p : Text × List Row) → IsKnown p → p.0 ≢ codes "asm" → p.0 ≢ codes "sim" → p.0 ≢ codes "run" → p.0 ≢ codes "bench" → ⊥
-never_another p (inl asm) not_asm not_sim not_run not_bench = not_asm asm
-never_another p (inr (inl sim)) not_asm not_sim not_run not_bench = not_sim sim.0
-never_another p (inr (inr (inl run))) not_asm not_sim not_run not_bench = not_run run.0
-never_another p (inr (inr (inr bench))) not_asm not_sim not_run not_bench = not_bench bench.0
+pub never_another : (p : Text × List Row) → IsKnown p → p.0 ≢ codes "asm" → p.0 ≢ codes "sim" → p.0 ≢ codes "run" → p.0 ≢ codes "concord" → p.0 ≢ codes "bench" → ⊥
+never_another p (inl asm) not_asm not_sim not_run not_concord not_bench = not_asm asm
+never_another p (inr (inl sim)) not_asm not_sim not_run not_concord not_bench = not_sim sim.0
+never_another p (inr (inr (inl run))) not_asm not_sim not_run not_concord not_bench = not_run run.0
+never_another p (inr (inr (inr (inl concord)))) not_asm not_sim not_run not_concord not_bench = not_concord concord.0
+never_another p (inr (inr (inr (inr bench)))) not_asm not_sim not_run not_concord not_bench = not_bench bench.0

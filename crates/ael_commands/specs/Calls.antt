@@ -1,5 +1,6 @@
 pub mod Answer
 pub mod Call
+pub mod Concordance
 pub mod Emits
 pub mod Headline
 pub mod Status

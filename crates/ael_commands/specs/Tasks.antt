@@ -1,4 +1,5 @@
 pub mod Asm
 pub mod Bench
+pub mod Concord
 pub mod ProgramTask
 pub mod Task

@@ -4,21 +4,19 @@ ghost use Rattle.std.specs.Prelude.{◌≡◌, ◌≢◌, ℕ, List, [], Ok, Err
 ghost use Rattle.std.specs.Result.{ForOk, MatchResult};
 ghost use Rattle.mutator_asm.specs.Text.{IsText};
 ghost use Rattle.ael_commands.specs.declared.arguments.job.Job.{Job};
-ghost use Rattle.ael_commands.specs.declared.arguments.job.Job.TheVariants.{Run};
 ghost use Rattle.ael_commands.specs.declared.status.Status.TheVariants.{NoMemory, ReadFault};
 ghost use Rattle.ael_commands.specs.Calls.Answer.{IsAnswer, IsAsked, IsCaused, IsDrawnFor};
 ghost use Rattle.ael_commands.specs.Streams.Ends.{drawn_by_call};
-ghost use Rattle.ael_commands.specs.Arguments.Jobs.{IsStill, is_waiting, job_task};
-ghost use Rattle.ael_commands.specs.Arguments.Options.{AreInRange};
+ghost use Rattle.ael_commands.specs.Arguments.Jobs.{IsStill, ReadsProgram, is_waiting, job_task};
 ghost use Rattle.ael_commands.specs.Tasks.ProgramTask.{IsTextIn, IsUnfit};
 ghost use Rattle.ael_commands.specs.Tasks.Task.{Everything, IsDrawn};
 ghost use Rattle.ael_commands.specs.Arguments.Words.{NumbersAreInRange};
 
 use crate::answer::Answer;
 use crate::arguments::job::Job;
-use crate::arguments::options::RunOptions;
 use crate::asm::asm;
 use crate::bench::bench;
+use crate::concord::concord;
 use crate::runs::run::run;
 use crate::runs::sim::sim;
 use crate::status::Status;
@@ -44,7 +42,7 @@ pub fn answer<R: Threads + Wait + Sync, S: Source>(
     ensures counted { result.status ≢ ReadFault → S.faults src.new ≡ S.faults src.old }
 {
     match asked {
-        Ok(Job::Run(options)) => match wait_for(rt, alloc, options, src) {
+        Ok(job) if job.waits() => match wait_for(rt, alloc, job, src) {
             Ok(answer) => answer,
             Err(status) => Answer::failed(alloc, status),
         },
@@ -72,20 +70,25 @@ pub fn answer_still<S: Source>(alloc: Global, asked: Result<Job, WordsError>, sr
     }
 }
 
-/// The answer to a run on threads.
+/// The answer to a job that waits for other threads.
 fn wait_for<R: Threads + Wait + Sync, S: Source>(
     rt: &R,
     alloc: Global,
-    options: RunOptions,
+    job: Job,
     src: &mut S,
 ) -> Result<Answer, Status>
-    requires { AreInRange options }
-    ensures ok { IfOk result (λ answer. IsCaused (Run options) (drawn_by_call S.Source src.old src.new) answer.output.items answer.status) }
-    ensures err { IfErr result (IsCaused (Run options) (drawn_by_call S.Source src.old src.new) []) }
-    ensures drawn { IsDrawnFor (Some (Run options)) (drawn_by_call S.Source src.old src.new) }
+    requires range { NumbersAreInRange job }
+    requires waits { (job_task job).waits ≡ true }
+    ensures ok { IfOk result (λ answer. IsCaused job (drawn_by_call S.Source src.old src.new) answer.output.items answer.status) }
+    ensures err { IfErr result (IsCaused job (drawn_by_call S.Source src.old src.new) []) }
+    ensures drawn { IsDrawnFor (Some job) (drawn_by_call S.Source src.old src.new) }
     ensures counted { result ≢ Err ReadFault → S.faults src.new ≡ S.faults src.old }
 {
-    or_no_memory(run(rt, alloc, &read_program(alloc, src)?, options))
+    match job {
+        Job::Run(options) => or_no_memory(run(rt, alloc, &read_program(alloc, src)?, options)),
+        Job::Concord(options) => concord(rt, alloc, &read_all(alloc, src)?, options),
+        Job::Asm | Job::Bench(_) | Job::Sim(_) => unreachable!("it waits for nobody"),
+    }
 }
 
 /// The answer to a job that waits for nobody.
@@ -107,7 +110,7 @@ fn work<S: Source>(alloc: Global, job: Job, src: &mut S) -> Result<Answer, Statu
 fn make(alloc: Global, program: &Program, job: Job) -> Result<Answer, plain_heap::NoMemory>
     requires range { NumbersAreInRange job }
     requires still { IsStill job }
-    requires reads { (job_task job).reads ≡ Everything }
+    requires reads { ReadsProgram job }
     ensures { IfOk result (λ answer. (bytes : List ℕ) → IsText bytes program.now.code program.now.schedule
         → (job_task job).Makes bytes answer.output.items answer.status) }
 {
@@ -115,7 +118,7 @@ fn make(alloc: Global, program: &Program, job: Job) -> Result<Answer, plain_heap
         Job::Asm => asm(alloc, program),
         Job::Sim(options) => sim(alloc, program, options),
         Job::Bench(_) => unreachable!("it reads no program"),
-        Job::Run(_) => unreachable!("it waits for threads"),
+        Job::Run(_) | Job::Concord(_) => unreachable!("it waits for threads"),
     }
 }
 

@@ -3,6 +3,7 @@
 ghost use Rattle.std.specs.Prelude.{◌≡◌};
 
 use crate::streams::reading::ReadError;
+use concordance::ConcordError;
 use gc_core::OpenError;
 use mutator_asm::AsmError;
 use plain_heap::NoMemory;
@@ -18,14 +19,18 @@ pub const NO_MEMORY: &str = "ael: out of memory\n";
 /// How a call went, from which its exit status follows and the line that standard error gets.
 #[derive(Clone, Copy, Debug, PartialEq, Eq)]
 pub enum Status {
-    /// All was done: every mutator halted, or the listing was given.
+    /// All was done: every mutator halted, or the listing or the concordance was given.
     Done,
     /// The text has this fault in this line.
     Text { no: u8, line: u32 },
+    /// This line is the first of the text that has a word of more than 64 letters.
+    LongWord { line: u32 },
     /// The words are no command.
     Usage,
     /// Every mutator has its end, and one isn't `halt`.
     Ended,
+    /// A concordance asked for so many pages of a heap, and there was room for so many words, which was less.
+    HeapFull { asked: u32, room: u32 },
     /// As many steps as were allowed were made before every mutator had its end.
     StepsOut,
     /// The source failed.
@@ -49,9 +54,9 @@ impl Status {
     {
         match self {
             Status::Done => 0,
-            Status::Text { .. } => 1,
+            Status::Text { .. } | Status::LongWord { .. } => 1,
             Status::Usage => 2,
-            Status::Ended => 3,
+            Status::Ended | Status::HeapFull { .. } => 3,
             Status::StepsOut => 4,
             Status::ReadFault => 5,
             Status::WriteFault => 6,
@@ -71,6 +76,14 @@ impl Status {
             Status::Text { no, line } => {
                 let fault = AsmError::Text { no, line };
                 return Ok(CowStr::Owned(format!(in alloc; "ael: {fault}\n")?));
+            }
+            Status::LongWord { line } => {
+                return Ok(CowStr::Owned(format!(in alloc; "ael: line {line}: word too long\n")?));
+            }
+            Status::HeapFull { asked, room } => {
+                return Ok(CowStr::Owned(format!(in alloc;
+                    "ael: heap full asked {asked} room {room}\n"
+                )?));
             }
             Status::Usage => "usage: ael asm, sim, run, concord or bench\n",
             Status::StepsOut => "ael: steps out\n",
@@ -108,6 +121,21 @@ impl From<AsmError> for Status {
         match error {
             AsmError::Text { no, line } => Status::Text { no, line },
             AsmError::NoMemory => Status::NoMemory,
+        }
+    }
+}
+
+impl From<ConcordError> for Status {
+    ghost use Rattle.std.specs.Prelude.{◌≡◌};
+    ghost use Rattle.ael_commands.specs.Calls.Status.{concord_status};
+
+    ghost from_gives = { λ e status. status ≡ concord_status e };
+
+    fn from(error: ConcordError) -> Status {
+        match error {
+            ConcordError::WordTooLong { line } => Status::LongWord { line },
+            ConcordError::HeapFull { asked, room } => Status::HeapFull { asked, room },
+            ConcordError::NoMemory => Status::NoMemory,
         }
     }
 }

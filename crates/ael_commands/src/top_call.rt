@@ -3,6 +3,7 @@
 ghost use Rattle.std.specs.Prelude.{◌≡◌, IfSome, List, None, ℕ, map, string_bytes, true};
 ghost use Rattle.ael_commands.specs.Calls.Answer.{IsAnswerTo};
 ghost use Rattle.ael_commands.specs.Calls.Call.{call_of, call_with};
+ghost use Rattle.ael_commands.specs.Calls.Concordance.{ConcordEnds, LargeHeapsSuffice, PrintsConcordance};
 ghost use Rattle.ael_commands.specs.Calls.Emits.{IsEmitted};
 ghost use Rattle.ael_commands.specs.Streams.Ends.{Drawn, filled};
 ghost use Rattle.ael_commands.specs.Calls.Headline.{HeadlineHolds, IsAlwaysTheSame, CallIsAnswered, IsComplete, IsOutOfMemory, PrintsListing, PrintsPlainly};
@@ -15,6 +16,7 @@ use crate::arguments::words::read_words;
 use crate::streams::sink::Sink;
 use crate::streams::source::Source;
 use crate::streams::writing::emit;
+use concordance_text::one_concordance;
 use mutator_asm::{listing_is_a_text, never_both, one_program};
 use plain_heap::alone_mutators_are_independent;
 use std::alloc::Global;
@@ -37,6 +39,9 @@ pub fn ael<R: Threads + Wait + Sync, S: Source, O: Sink, E: Sink>(
     ensures prints { PrintsPlainly (call_of S.Source O.Sink E.Sink words.now src.old src.new out.old out.new err.old err.new result) }
     ensures lists { PrintsListing (call_of S.Source O.Sink E.Sink words.now src.old src.new out.old out.new err.old err.new result) }
     ensures always_the_same { IsAlwaysTheSame (call_of S.Source O.Sink E.Sink words.now src.old src.new out.old out.new err.old err.new result) }
+    ensures concords { PrintsConcordance (call_of S.Source O.Sink E.Sink words.now src.old src.new out.old out.new err.old err.new result) }
+    ensures concord_ends { ConcordEnds (call_of S.Source O.Sink E.Sink words.now src.old src.new out.old out.new err.old err.new result) }
+    ensures large_heaps_suffice { LargeHeapsSuffice (call_of S.Source O.Sink E.Sink words.now src.old src.new out.old out.new err.old err.new result) }
 {
     match ael_still(alloc, words, src, out, err) {
         Some(code) => code,
@@ -79,6 +84,7 @@ fn finish<O: Sink, E: Sink>(answer: &Answer, out: &mut O, err: &mut E) -> u8
     never_both();
     listing_is_a_text();
     alone_mutators_are_independent();
+    one_concordance();
 
     emit(answer, out, err).code()
 }

@@ -2,6 +2,7 @@
 
 mod benches;
 mod collecting;
+mod concordances;
 mod dumps;
 mod failing;
 mod files;
@@ -150,6 +151,7 @@ fn calls_give_what_they_should(rt: HostRuntime) -> Result<(), Fail> {
     let tables = [
         ROWS,
         collecting::ROWS,
+        concordances::ROWS,
         instructions::ROWS,
         schedules::ROWS,
         texts::ROWS,
@@ -201,7 +203,12 @@ const LENGTHS: &str = "\
 
 #[test]
 fn long_calls_give_what_they_should(rt: HostRuntime) -> Result<(), Fail> {
-    for table in [LENGTHS, instructions::FULL, texts::LIMITS] {
+    for table in [
+        LENGTHS,
+        concordances::LONG,
+        instructions::FULL,
+        texts::LIMITS,
+    ] {
         check_long_rows(&rt, rt.alloc(), table)?;
     }
     Ok(())

@@ -2,7 +2,7 @@
 use Rattle.std.specs.Prelude.{true, false, List, [], ◌∷◌, codes}
 use Rattle.clap.specs.Simple.{App, Shape, new_app, new_shape}
 use Rattle.simple_commands.specs.Options.{operand_rules_of, rules_of, with_rules}
-use Rattle.ael_commands.specs.Arguments.Options.{bench_numbers, bench_wide, run_flags, run_numbers, run_wide, sim_flags, sim_numbers, sim_wide}
+use Rattle.ael_commands.specs.Arguments.Options.{bench_numbers, bench_wide, concord_flags, concord_numbers, concord_wide, run_flags, run_numbers, run_wide, sim_flags, sim_numbers, sim_wide}
 
 -- `sim`, with its options and flags
 abbrev pub sim_app : App
@@ -11,6 +11,10 @@ sim_app = with_rules (new_app (codes "sim")) (rules_of sim_numbers sim_wide sim_
 -- `run`, with its options and flags
 abbrev pub run_app : App
 run_app = with_rules (new_app (codes "run")) (rules_of run_numbers run_wide run_flags)
+
+-- `concord`, with its options
+abbrev pub concord_app : App
+concord_app = with_rules (new_app (codes "concord")) (rules_of concord_numbers concord_wide concord_flags)
 
 -- `bench`, with its operands
 abbrev pub bench_app : App
@@ -34,4 +38,4 @@ ael_with subs = record {
 
 -- all subcommands
 abbrev pub ael_app : App
-ael_app = ael_with (asm_app.top ∷ sim_app.top ∷ run_app.top ∷ bench_app.top ∷ [])
+ael_app = ael_with (asm_app.top ∷ sim_app.top ∷ run_app.top ∷ concord_app.top ∷ bench_app.top ∷ [])

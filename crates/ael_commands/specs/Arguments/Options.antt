@@ -1,13 +1,14 @@
--- The options of runs, and the operands of the benchmark, by the rows of what was given.
+-- The options of runs and of concordances, and the operands of the benchmark, by the rows of what was given.
 use Rattle.std.specs.Prelude.{ℕ, ◌≤◌, IsTrue, List, [], ◌∷◌, codes, unwrap_or}
 use Rattle.clap.specs.Walk.{Row, Text}
-use Rattle.space_map.specs.declared.spaces.TheConstants.{MOST_PAGES, FEWEST_PAGES, MOST_SCANNERS}
+use Rattle.space_map.specs.declared.spaces.TheConstants.{FEWEST_PAGES, MOST_MUTATORS, MOST_PAGES, MOST_SCANNERS}
 use Rattle.space_map.specs.Spaces.{is_size}
 use Rattle.gc_worker.specs.declared.config.TheConstants.{MOST_TURNS}
 use Rattle.simple_commands.specs.Options.{number_given}
 use Rattle.simple_commands.specs.Readers.{number_of, was_given}
 use Rattle.simple_commands.specs.declared.options.Numbers.{Numbers}
 use Rattle.ael_commands.specs.declared.arguments.operands.BenchOperands.{BenchOperands}
+use Rattle.ael_commands.specs.declared.arguments.options.ConcordOptions.{ConcordOptions}
 use Rattle.ael_commands.specs.declared.arguments.options.RunOptions.{RunOptions}
 use Rattle.ael_commands.specs.declared.arguments.options.SimOptions.{SimOptions}
 
@@ -18,6 +19,10 @@ pages_option = (codes "pages", record { least = FEWEST_PAGES; most = MOST_PAGES;
 -- `--scanners`
 abbrev pub scanners_option : Text × Numbers
 scanners_option = (codes "scanners", record { least = 0; most = MOST_SCANNERS; default = 1 })
+
+-- `--workers`
+abbrev pub workers_option : Text × Numbers
+workers_option = (codes "workers", record { least = 1; most = MOST_MUTATORS; default = 2 })
 
 -- `--turns`
 abbrev pub turns_option : Text × Numbers
@@ -64,6 +69,16 @@ run_wide = []
 abbrev pub run_flags : List Text
 run_flags = cycles_flag ∷ dump_flag ∷ []
 
+-- the tables of `concord`
+abbrev pub concord_numbers : List (Text × Numbers)
+concord_numbers = workers_option ∷ pages_option ∷ []
+
+abbrev pub concord_wide : List Text
+concord_wide = []
+
+abbrev pub concord_flags : List Text
+concord_flags = []
+
 -- the tables of `sim`
 abbrev pub sim_numbers : List (Text × Numbers)
 sim_numbers = pages_option ∷ scanners_option ∷ turns_option ∷ steps_option ∷ []
@@ -96,6 +111,14 @@ pub record AreInRange (options : RunOptions) : Type 0 where
   pub pages : IsTrue (is_size options.pages)
   pub scanners : options.scanners ≤ MOST_SCANNERS
   pub turns : (1 ≤ options.turns) × (options.turns ≤ MOST_TURNS)
+
+abbrev pub concord_options_of : List Row → ConcordOptions
+concord_options_of rows = record { workers = number_given workers_option rows; pages = number_given pages_option rows }
+
+-- so many workers may make a concordance, and a space may have so many pages
+pub record AreConcordOptions (options : ConcordOptions) : Type 0 where
+  pub workers : (1 ≤ options.workers) × (options.workers ≤ MOST_MUTATORS)
+  pub pages : IsTrue (is_size options.pages)
 
 abbrev pub operands_of : List Row → BenchOperands
 operands_of rows = record { depth = number_given depth_operand rows; seed = unwrap_or (number_of seed_option rows) 0 }

@@ -6,17 +6,18 @@ use Rattle.clap.specs.Simple.{subcommand_of}
 use Rattle.clap.specs.Takes.{takes}
 use Rattle.simple_commands.specs.Options.{HoldOptions}
 use Rattle.ael_commands.specs.declared.arguments.job.Job.{Job}
-use Rattle.ael_commands.specs.declared.arguments.job.Job.TheVariants.{Asm, Bench, Run, Sim}
+use Rattle.ael_commands.specs.declared.arguments.job.Job.TheVariants.{Asm, Bench, Concord, Run, Sim}
 use Rattle.ael_commands.specs.Arguments.CommandLine.{ael_app}
-use Rattle.ael_commands.specs.Arguments.Options.{AreInRange, IsDepth, bench_numbers, bench_wide, operands_of, run_numbers, run_options_of, run_wide, sim_numbers, sim_options_of, sim_wide}
+use Rattle.ael_commands.specs.Arguments.Options.{AreInRange, AreConcordOptions, IsDepth, bench_numbers, bench_wide, concord_numbers, concord_options_of, concord_wide, operands_of, run_numbers, run_options_of, run_wide, sim_numbers, sim_options_of, sim_wide}
 
--- the job of a subcommand, by its name and its rows; there are `asm`, `sim`, `run` and `bench`
+-- the job of a subcommand, by its name and its rows; there are `asm`, `sim`, `run`, `concord` and `bench`
 abbrev pub job_from : Text × List Row → Job
 job_from p =
     if bytes_eq p.0 (codes "asm") then Asm
     else (if bytes_eq p.0 (codes "sim") then Sim (sim_options_of p.1)
     else (if bytes_eq p.0 (codes "run") then Run (run_options_of p.1)
-    else Bench (operands_of p.1)))
+    else (if bytes_eq p.0 (codes "concord") then Concord (concord_options_of p.1)
+    else Bench (operands_of p.1))))
 
 -- the job that the words ask for: `clap` takes them as a command line of `ael`, and they name a subcommand
 abbrev pub job_of : List Text → Option Job
@@ -28,7 +29,8 @@ IsKnown p =
     (p.0 ≡ codes "asm")
     ⊎ (((p.0 ≡ codes "sim") × HoldOptions sim_numbers sim_wide p.1)
     ⊎ (((p.0 ≡ codes "run") × HoldOptions run_numbers run_wide p.1)
-    ⊎ ((p.0 ≡ codes "bench") × HoldOptions bench_numbers bench_wide p.1)))
+    ⊎ (((p.0 ≡ codes "concord") × HoldOptions concord_numbers concord_wide p.1)
+    ⊎ ((p.0 ≡ codes "bench") × HoldOptions bench_numbers bench_wide p.1))))
 
 -- the numbers of a job are in their ranges
 abbrev pub NumbersAreInRange : Job → Type 0
@@ -36,3 +38,4 @@ NumbersAreInRange Asm = ⊤
 NumbersAreInRange (Bench operands) = IsDepth operands.depth
 NumbersAreInRange (Sim options) = AreInRange options.run
 NumbersAreInRange (Run options) = AreInRange options
+NumbersAreInRange (Concord options) = AreConcordOptions options

@@ -15,6 +15,7 @@ use Rattle.ael_commands.specs.declared.status.Status.{Status}
 use Rattle.ael_commands.specs.declared.status.Status.TheVariants.{NoMemory}
 use Rattle.ael_commands.specs.Calls.Answer.{IsAnswerTo}
 use Rattle.ael_commands.specs.Calls.Call.{Call}
+use Rattle.ael_commands.specs.Calls.Concordance.{ConcordEnds, LargeHeapsSuffice, PrintsConcordance}
 use Rattle.ael_commands.specs.Calls.Emits.{IsEmitted}
 use Rattle.ael_commands.specs.Arguments.Jobs.{run_by, job_task}
 use Rattle.ael_commands.specs.Runs.Run.{IsRunOf, Manner, flag_lines, options_by}
@@ -89,3 +90,6 @@ pub record HeadlineHolds (call : Call) : Type 0 where
   pub prints : PrintsPlainly call
   pub lists : PrintsListing call
   pub always_the_same : IsAlwaysTheSame call
+  pub concords : PrintsConcordance call
+  pub concord_ends : ConcordEnds call
+  pub large_heaps_suffice : LargeHeapsSuffice call

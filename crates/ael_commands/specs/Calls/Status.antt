@@ -1,12 +1,14 @@
 -- Exit statuses, and the lines of standard error.
-use Rattle.std.specs.Prelude.{ℕ, Bool, true, false, List, [], ◌++◌, codes}
+use Rattle.std.specs.Prelude.{ℕ, Bool, true, false, List, [], ◌++◌, codes, decimal}
+use Rattle.concordance.specs.declared.error.ConcordError.{ConcordError}
+use Rattle.concordance.specs.declared.error.ConcordError.TheVariants as concord
 use Rattle.mutator_asm.specs.AsmError.{text_of_error}
 use Rattle.mutator_asm.specs.declared.errors.asm_error.AsmError.{AsmError}
 use Rattle.mutator_asm.specs.declared.errors.asm_error.AsmError.TheVariants as asm
 use Rattle.ael_commands.specs.declared.streams.reading.ReadError.{ReadError}
 use Rattle.ael_commands.specs.declared.streams.reading.ReadError.TheVariants as reads
 use Rattle.ael_commands.specs.declared.status.Status.{Status}
-use Rattle.ael_commands.specs.declared.status.Status.TheVariants.{Done, Text, Usage, Ended, StepsOut, ReadFault, WriteFault, NoMemory, TooLong}
+use Rattle.ael_commands.specs.declared.status.Status.TheVariants.{Done, Text, LongWord, Usage, Ended, HeapFull, StepsOut, ReadFault, WriteFault, NoMemory, TooLong}
 
 -- how a status is told: the exit status, the line of standard error, and whether that line is made
 -- from numbers, for which memory may be wanting
@@ -30,8 +32,10 @@ numbered code text = record { code = code; line = codes "ael: " ++ text ++ codes
 abbrev pub telling : Status → Telling
 telling Done = silent 0
 telling (Text number line) = numbered 1 (text_of_error (asm.Text number line))
+telling (LongWord line) = numbered 1 (codes "line " ++ decimal line ++ codes ": word too long")
 telling Usage = fixed 2 (codes "usage: ael asm, sim, run, concord or bench")
 telling Ended = silent 3
+telling (HeapFull asked room) = numbered 3 (codes "heap full asked " ++ decimal asked ++ codes " room " ++ decimal room)
 telling StepsOut = fixed 4 (codes "ael: steps out")
 telling ReadFault = fixed 5 (codes "ael: read fault")
 telling WriteFault = fixed 6 (codes "ael: write fault")
@@ -55,3 +59,8 @@ read_status reads.NoMemory = NoMemory
 abbrev pub text_status : AsmError → Status
 text_status (asm.Text number line) = Text number line
 text_status asm.NoMemory = NoMemory
+
+abbrev pub concord_status : ConcordError → Status
+concord_status (concord.WordTooLong line) = LongWord line
+concord_status (concord.HeapFull asked room) = HeapFull asked room
+concord_status concord.NoMemory = NoMemory

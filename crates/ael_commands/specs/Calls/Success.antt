@@ -10,15 +10,18 @@ use Rattle.ael_commands.specs.Arguments.Jobs.{job_task, job_text}
 use Rattle.ael_commands.specs.Tasks.Task.{IsGiven}
 use Rattle.ael_commands.specs.Arguments.Words.{job_of}
 
--- Nothing fails in a call: the words ask for this job, the input is these bytes and is right, and no
--- count of faults rose.
-pub record GoesWell (call : Call) (job : Job) (bytes : List ℕ) : Type 0 where
+-- No end fails in a call: the words ask for this job, the input is these bytes, no more than an input may have, and no count of faults rose.
+pub record NoEndFails (call : Call) (job : Job) (bytes : List ℕ) : Type 0 where
   pub asked : job_of call.words ≡ Some job
   pub given : IsGiven (job_task job).reads call.source bytes
-  pub right : (job_task job).IsRight bytes
   pub read : IsFaultless call.source.before call.source.after
   pub printed : IsFaultless call.out.before call.out.after
   pub told : IsFaultless call.err.before call.err.after
+
+-- and nothing else does: the input is right
+pub record GoesWell (call : Call) (job : Job) (bytes : List ℕ) : Type 0 where
+  pub ends : NoEndFails call job bytes
+  pub right : (job_task job).IsRight bytes
 
 -- nothing fails in a call that asks for this job, whose text is that of this program, and memory is not wanting
 pub record Succeeds (call : Call) (job : Job) (program : List (List Instr)) (items : List Item) : Type 0 where

@@ -3,11 +3,12 @@
 ghost use Rattle.std.specs.Prelude.{◌≡◌, [], ◌∷◌, IfOk, false};
 ghost use Rattle.clap.specs.Words.{App, app_of, with_subcommand};
 ghost use Rattle.clap.specs.declared.builder.Command.TheViews.{out-Command};
-ghost use Rattle.ael_commands.specs.Arguments.CommandLine.{ael_app, ael_with, asm_app, bench_app, run_app, sim_app};
+ghost use Rattle.ael_commands.specs.Arguments.CommandLine.{ael_app, ael_with, asm_app, bench_app, concord_app, run_app, sim_app};
 
 use crate::arguments::operands::{BENCH_NUMBERS, BENCH_WIDE};
 use crate::arguments::options::{
-    RUN_FLAGS, RUN_NUMBERS, RUN_WIDE, SIM_FLAGS, SIM_NUMBERS, SIM_WIDE,
+    CONCORD_FLAGS, CONCORD_NUMBERS, CONCORD_WIDE, RUN_FLAGS, RUN_NUMBERS, RUN_WIDE, SIM_FLAGS,
+    SIM_NUMBERS, SIM_WIDE,
 };
 use clap::Command;
 use simple_commands::{add_operands, add_options};
@@ -29,6 +30,21 @@ fn run<'a>(alloc: Global) -> Result<Command<'a>, AllocError>
 {
     let run = Command::new(alloc, "run");
     add_options(alloc, run, &RUN_NUMBERS, &RUN_WIDE, &RUN_FLAGS)
+}
+
+/// `concord`, with its options.
+fn concord<'a>(alloc: Global) -> Result<Command<'a>, AllocError>
+    ensures app { IfOk result (λ r. app_of r ≡ concord_app) }
+    ensures local { IfOk result (λ r. (out-Command r).has_globals ≡ false) }
+{
+    let concord = Command::new(alloc, "concord");
+    add_options(
+        alloc,
+        concord,
+        &CONCORD_NUMBERS,
+        &CONCORD_WIDE,
+        &CONCORD_FLAGS,
+    )
 }
 
 /// `bench`, with its operands.
@@ -76,5 +92,6 @@ pub fn command<'a>(alloc: Global) -> Result<Command<'a>, AllocError>
 {
     let two = add(with_asm(alloc), sim(alloc));
     let three = add(two, run(alloc));
-    add(three, bench(alloc))
+    let four = add(three, concord(alloc));
+    add(four, bench(alloc))
 }

@@ -1,7 +1,7 @@
 //! What the words of the command line ask for.
 
 use crate::arguments::operands::BenchOperands;
-use crate::arguments::options::{RunOptions, SimOptions};
+use crate::arguments::options::{ConcordOptions, RunOptions, SimOptions};
 
 /// What a call of the program is to do.
 #[derive(Clone, Copy, Debug, PartialEq, Eq)]
@@ -14,6 +14,8 @@ pub enum Job {
     Sim(SimOptions),
     /// To run a program on threads, and print what its mutators printed.
     Run(RunOptions),
+    /// To print the concordance of a text.
+    Concord(ConcordOptions),
 }
 
 impl Job {
@@ -26,7 +28,7 @@ impl Job {
     {
         match self {
             Job::Asm | Job::Bench(_) | Job::Sim(_) => false,
-            Job::Run(_) => true,
+            Job::Run(_) | Job::Concord(_) => true,
         }
     }
 }

@@ -4,7 +4,7 @@ use clap::ArgMatches;
 use gc_core::Config;
 use gc_worker::MOST_TURNS;
 use simple_commands::{Numbers, is_given, number_of, wide_number};
-use space_map::{FEWEST_PAGES, MOST_PAGES, MOST_SCANNERS};
+use space_map::{FEWEST_PAGES, MOST_MUTATORS, MOST_PAGES, MOST_SCANNERS};
 
 /// The pages of a space.
 pub const PAGES: (&str, Numbers) = (
@@ -23,6 +23,16 @@ pub const SCANNERS: (&str, Numbers) = (
         least: 0,
         most: MOST_SCANNERS,
         default: 1,
+    },
+);
+
+/// The workers that make a concordance, each of which is a mutator.
+pub const WORKERS: (&str, Numbers) = (
+    "workers",
+    Numbers {
+        least: 1,
+        most: MOST_MUTATORS,
+        default: 2,
     },
 );
 
@@ -66,6 +76,15 @@ pub const RUN_WIDE: [&str; 0] = [];
 
 /// The flags of `run`.
 pub const RUN_FLAGS: [&str; 2] = [CYCLES, DUMP];
+
+/// The options of `concord` with a number of 32 bits.
+pub const CONCORD_NUMBERS: [(&str, Numbers); 2] = [WORKERS, PAGES];
+
+/// The options of `concord` with a number of 64 bits: there are none.
+pub const CONCORD_WIDE: [&str; 0] = [];
+
+/// The flags of `concord`: there are none.
+pub const CONCORD_FLAGS: [&str; 0] = [];
 
 /// The options of `sim` with a number of 32 bits.
 pub const SIM_NUMBERS: [(&str, Numbers); 4] = [PAGES, SCANNERS, TURNS, STEPS];
@@ -150,6 +169,45 @@ impl SimOptions {
             steps: number_of(matches, STEPS),
             seed: wide_number(matches, SEED),
             order: is_given(matches, ORDER),
+        }
+    }
+}
+
+/// How many workers make a concordance, and on how large a heap.
+#[derive(Clone, Copy, Debug, PartialEq, Eq)]
+pub struct ConcordOptions {
+    pub workers: u32,
+    pub pages: u32,
+}
+
+impl ConcordOptions {
+    ghost use Rattle.std.specs.Prelude.{◌≡◌};
+    ghost use Rattle.clap.specs.Matches.{found_of};
+    ghost use Rattle.clap.specs.Walk.{rows_of};
+    ghost use Rattle.simple_commands.specs.Options.{HoldOptions};
+    ghost use Rattle.ael_commands.specs.Arguments.Options.{AreConcordOptions, concord_numbers, concord_options_of, concord_wide};
+    ghost use Rattle.ael_commands.specs.Tasks.Concord.{concord_config};
+
+    /// The options that were given, and the defaults of the others.
+    pub fn given(matches: &ArgMatches) -> ConcordOptions
+        requires { HoldOptions concord_numbers concord_wide (rows_of (found_of matches.now)) }
+        ensures value { result ≡ concord_options_of (rows_of (found_of matches.now)) }
+        ensures range { AreConcordOptions result }
+    {
+        ConcordOptions {
+            workers: number_of(matches, WORKERS),
+            pages: number_of(matches, PAGES),
+        }
+    }
+
+    /// The heap, with one scanner.
+    pub fn config(self) -> Config
+        ensures { result ≡ concord_config self }
+    {
+        Config {
+            pages: self.pages,
+            scanners: 1,
+            turns: MOST_TURNS,
         }
     }
 }

@@ -13,7 +13,7 @@ ghost use Rattle.ael_commands.specs.Calls.Answer.{IsAsked};
 use crate::arguments::command_line::command;
 use crate::arguments::job::Job;
 use crate::arguments::operands::BenchOperands;
-use crate::arguments::options::{RunOptions, SimOptions};
+use crate::arguments::options::{ConcordOptions, RunOptions, SimOptions};
 use clap::ArgMatches;
 use simple_commands::{WordsError, parse};
 use std::alloc::Global;
@@ -28,6 +28,7 @@ fn job_named(name: &str, given: &ArgMatches) -> Option<Job>
         "asm" => Some(Job::Asm),
         "sim" => Some(Job::Sim(SimOptions::given(given))),
         "run" => Some(Job::Run(RunOptions::given(given))),
+        "concord" => Some(Job::Concord(ConcordOptions::given(given))),
         "bench" => Some(Job::Bench(BenchOperands::given(given))),
         _ => None,
     }

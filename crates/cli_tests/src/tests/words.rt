@@ -1,13 +1,14 @@
 //! What the words of a command line mean.
 
 use super::{same, words_of};
-use ael_commands::{BenchOperands, Job, RunOptions, SimOptions, read_words};
+use ael_commands::{BenchOperands, ConcordOptions, Job, RunOptions, SimOptions, read_words};
 use simple_commands::WordsError;
 use std::alloc::Global;
 use std::test::Fail;
 
 /// Words and their job: a simulation's pages, scanners, turns, steps, seed and order, and the flags
-/// besides that were given; a run's pages, scanners, turns and flags; or a benchmark's depth and seed.
+/// besides that were given; a run's pages, scanners, turns and flags; a concordance's workers and pages;
+/// or a benchmark's depth and seed.
 const ROWS: &str = "\
 sim|256 1 1000000 10000000 None false
 sim --|256 1 1000000 10000000 None false
@@ -46,6 +47,13 @@ run --turns 10000000|run 256 1 10000000
 run --cycles|run 256 1 1000000 cycles
 run --dump|run 256 1 1000000 dump
 run --dump --turns 5 --cycles --scanners 8 --pages 2048|run 2048 8 5 cycles dump
+concord|concord 2 256
+concord --|concord 2 256
+concord --workers 1|concord 1 256
+concord --workers 16|concord 16 256
+concord --workers=+03 --|concord 3 256
+concord --pages 4|concord 2 4
+concord --pages 2048 --workers 08|concord 8 2048
 asm|asm
 asm --|asm
 |refused
@@ -98,6 +106,24 @@ sim run|refused
 run --help|refused
 --cycles run|refused
 Run|refused
+concord --workers 0|refused
+concord --workers 17|refused
+concord --workers -1|refused
+concord --workers|refused
+concord --workers 1 --workers 1|refused
+concord --pages 3|refused
+concord --pages 2049|refused
+concord --scanners 1|refused
+concord --turns 5|refused
+concord --cycles|refused
+concord x|refused
+concord sim|refused
+concord --help|refused
+--workers 1 concord|refused
+Concord|refused
+sim --workers 1|refused
+run --workers 1|refused
+asm --workers 1|refused
 sim x|refused
 sim -- x|refused
 sim -- --order|refused
@@ -201,6 +227,9 @@ fn found_text(alloc: Global, found: Result<Job, WordsError>) -> Result<String, F
         }
         Ok(Job::Sim(options)) => sim_text(alloc, options),
         Ok(Job::Run(options)) => run_text(alloc, options),
+        Ok(Job::Concord(ConcordOptions { workers, pages })) => {
+            Ok(format!(in alloc; "concord {workers} {pages}")?)
+        }
         Err(WordsError::Refused) => Ok(String::from_str(alloc, "refused")?),
         Err(WordsError::NoMemory) => Ok(String::from_str(alloc, "no memory")?),
     }

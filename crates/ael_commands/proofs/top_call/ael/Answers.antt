@@ -46,3 +46,21 @@ returns-in-Some-clause-lists g c = c.in-Some.ensures.holds.lists
 
 pub returns-in-Some-clause-always_the_same : goal.returns-in-Some-clause-always_the_same
 returns-in-Some-clause-always_the_same g c = c.in-Some.ensures.holds.always_the_same
+
+pub returns-in-None-clause-concords : goal.returns-in-None-clause-concords
+returns-in-None-clause-concords g c = (holds g c).concords
+
+pub returns-in-None-clause-concord_ends : goal.returns-in-None-clause-concord_ends
+returns-in-None-clause-concord_ends g c = (holds g c).concord_ends
+
+pub returns-in-None-clause-large_heaps_suffice : goal.returns-in-None-clause-large_heaps_suffice
+returns-in-None-clause-large_heaps_suffice g c = (holds g c).large_heaps_suffice
+
+pub returns-in-Some-clause-concords : goal.returns-in-Some-clause-concords
+returns-in-Some-clause-concords g c = c.in-Some.ensures.holds.concords
+
+pub returns-in-Some-clause-concord_ends : goal.returns-in-Some-clause-concord_ends
+returns-in-Some-clause-concord_ends g c = c.in-Some.ensures.holds.concord_ends
+
+pub returns-in-Some-clause-large_heaps_suffice : goal.returns-in-Some-clause-large_heaps_suffice
+returns-in-Some-clause-large_heaps_suffice g c = c.in-Some.ensures.holds.large_heaps_suffice

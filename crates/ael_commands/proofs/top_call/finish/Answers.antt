@@ -1,7 +1,7 @@
 use Rattle.ael_commands.specs.Calls.Call.{Call, call_with}
 use Rattle.ael_commands.specs.Streams.Ends.{filled}
 use Rattle.ael_commands.specs.Calls.Headline.{CallIsAnswered}
-use Rattle.ael_commands.proofs.Plainly.{holds}
+use Rattle.ael_commands.proofs.Calls.Plainly.{holds}
 use Rattle.ael_commands.proofs.top_call.finish.Goals as goal
 
 pub returns-clause-holds : goal.returns-clause-holds
@@ -13,4 +13,4 @@ returns-clause-holds g c = λ words source is.
       answer = is;
       emitted = record { final = c.emit.result; emitted = c.emit.ensures; code_is = c.code.ensures };
     } in
-    holds c.one_program.ensures c.never_both.ensures c.listing_is_a_text.ensures.well_formed c.listing_is_a_text.ensures.text c.alone_mutators_are_independent.ensures.same call answered
+    holds c.one_program.ensures c.never_both.ensures c.listing_is_a_text.ensures.well_formed c.listing_is_a_text.ensures.text c.alone_mutators_are_independent.ensures.same c.one_concordance.ensures.rows call answered

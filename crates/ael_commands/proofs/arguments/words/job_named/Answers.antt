@@ -10,8 +10,11 @@ returns-in-sim-clause-value c = rw (c.in-sim.is, c.given.ensures.value)
 pub returns-in-run-clause-value : goal.returns-in-run-clause-value
 returns-in-run-clause-value c = rw (c.in-run.is, c.given-in-run.ensures.value)
 
+pub returns-in-concord-clause-value : goal.returns-in-concord-clause-value
+returns-in-concord-clause-value c = rw (c.in-concord.is, c.given-in-concord.ensures.value)
+
 pub returns-in-bench-clause-value : goal.returns-in-bench-clause-value
 returns-in-bench-clause-value c = rw (c.in-bench.is, c.given-in-bench.ensures.value)
 
 pub returns-in_default-clause-value : goal.returns-in_default-clause-value
-returns-in_default-clause-value c = absurd (never_another _ c.requires c.in_default.not-asm c.in_default.not-sim c.in_default.not-run c.in_default.not-bench)
+returns-in_default-clause-value c = absurd (never_another _ c.requires c.in_default.not-asm c.in_default.not-sim c.in_default.not-run c.in_default.not-concord c.in_default.not-bench)

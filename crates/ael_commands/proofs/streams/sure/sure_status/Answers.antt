@@ -1,6 +1,6 @@
 use Rattle.std.proofs.Common.{◌<◌, ℕ, List, Some, ap, arith}
 use Rattle.ael_commands.specs.Streams.Ends.{IsFaultless}
-use Rattle.ael_commands.proofs.Assured.{goes_as}
+use Rattle.ael_commands.proofs.Calls.Assured.{goes_as}
 use Rattle.ael_commands.proofs.streams.sure.sure_status.Goals as goal
 
 never : IsFaultless 0 0

@@ -1,0 +1,4 @@
+pub mod SoundEnds
+pub mod Plainly
+pub mod ConcordEnds
+pub mod Assured
