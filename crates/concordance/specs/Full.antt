@@ -54,7 +54,7 @@ pub record FindsFullWithin (a : Seated) (records words : ℕ) (asked room : ℕ)
   pub few_words : sum_by size_of (desk_of here).records ≤ sum_by size_of (desk_of a).records + words
 
 -- The heap was full for this clerk, which notes just these words, for a record of at most 65 words, for which it asked in one call. What it had
--- made so far are at most three records for each of the words, 74 heap words in all for each, and no more than the words' rows need.
+-- made so far is at most three records for each of the words, 74 heap words in all for each, and no more than the words' rows need.
 pub record WasFullFor (plan : Plan) (number : ℕ) (mentions : List Mention) (asked room : ℕ) : Type 0 where
   pub here : Seated
   pub then : Seated

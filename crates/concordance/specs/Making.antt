@@ -5,13 +5,8 @@ use Rattle.space_map.specs.declared.spaces.TheConstants.{MOST_MUTATORS}
 use Rattle.ael_threads.specs.Seats.{Seated, plain_after_seen}
 use Rattle.concordance_text.specs.declared.part.Part.{Part}
 use Rattle.concordance_text.specs.Parts.{AreInLineOrder, IsNumbered}
-use Rattle.concordance_text.specs.Words.{HasShortWords}
 use Rattle.concordance.specs.Gathering.{AllAreNoted, HasAll}
-use Rattle.concordance.specs.Working.{AreReady, SharedHeap}
-
--- no word of the part is too long
-abbrev pub IsShort : Part → Type 0
-IsShort part = HasShortWords part.text.now
+use Rattle.concordance.specs.Working.{AreReady, IsShort, SharedHeap}
 
 -- Parts of a text in a row, none of which has too long a word, and for each of them a clerk that has noted nothing: all of the heap.
 pub record AreDealt (w : SharedHeap) (parts : List Part) (clerks : List Seated) : Type 0 where

@@ -4,8 +4,8 @@ use Rattle.plain_state.specs.declared.sizes.TheConstants.{PAGE_WORDS}
 use Rattle.concordance_text.specs.Rows.{AreRowsOf, WordRow, need}
 use Rattle.concordance_text.specs.Words.{mentions_of}
 
--- A space of so many pages may be full: fewer than four pages for each word of the text and two, of which the words are no more than a room and
--- the need of the text's rows, if one or two pages are asked for and the room is less.
+-- Spaces of so many pages may be full for a text: they have fewer than four pages for each word of it plus two, and no more heap words than the
+-- room that is left plus what the text's rows need. At most two pages are asked for, and the room is less.
 pub record MayBeFull (pages : ℕ) (text : List ℕ) (asked room : ℕ) : Type 0 where
   pub rows : List WordRow
   pub are : AreRowsOf (mentions_of text) rows

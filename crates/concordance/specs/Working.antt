@@ -39,9 +39,13 @@ pub record IsReady (w : SharedHeap) (k : ℕ) (s : Seated) : Type 0 where
   pub lone : IsLone s
   pub none : HasNotedJust (desk_of s) []
 
+-- no word of the part is too long
+abbrev pub IsShort : Part → Type 0
+IsShort part = HasShortWords part.text.now
+
 -- it may read this part
 abbrev pub MayWork : SharedHeap → ℕ → Part → Seated → Type 0
-MayWork w k part s = (k < MOST_MUTATORS) × IsNumbered part × HasShortWords part.text.now × IsReady w k s
+MayWork w k part s = (k < MOST_MUTATORS) × IsNumbered part × IsShort part × IsReady w k s
 
 -- the call was of `halt`
 abbrev pub IsHalt : Call → Type 0
@@ -78,7 +82,7 @@ AreReady w from clerks = EachFrom (IsReady w) from clerks
 abbrev pub MayAllWork : SharedHeap → (from : ℕ) → List Part → List Seated → Type 0
 MayAllWork w from parts clerks =
     (from + length clerks ≤ MOST_MUTATORS) × (length parts ≡ length clerks) × AllByRecursion IsNumbered parts
-    × AllByRecursion (λ (p : Part). HasShortWords p.text.now) parts × AreReady w from clerks
+    × AllByRecursion IsShort parts × AreReady w from clerks
 
 abbrev pub MayAllBeTakenIn : SharedHeap → (from : ℕ) → List Seated → Type 0
 MayAllBeTakenIn w from clerks = EachFrom (MayBeTakenIn w) from clerks

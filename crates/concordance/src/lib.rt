@@ -1,7 +1,7 @@
 //! The concordance of a text, made on the heap: clerks, each of which is a mutator, note words and their lines in records, and one of them
 //! gathers what all noted.
 //!
-//! A clerk leaves the board alone while it works, so what it knows of its records rests on its own calls.
+//! A clerk leaves the board alone while it reads, so what it knows of its records rests on its own calls.
 #![tactic(auto)]
 
 mod clerk;

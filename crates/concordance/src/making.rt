@@ -34,9 +34,9 @@ use std::thread::{Threads, join_mut};
 /// own, as many of them at once as threads can be had.
 ///
 /// The text has at most 1,048,576 bytes. `WordTooLong` comes exactly for a text that has a word of more than 64 letters, with the first line
-/// that has one; `NoMemory` may come to any other text. `HeapFull` comes only for a space with fewer than four pages for each word of the text
-/// and two, of which the words are no more than the room that is told and the need of the text's rows; at most two pages were asked for, and
-/// the room is less. If the heap is full for one of several clerks, one makes the whole on a new heap of the same size, and only what this one
+/// that has one; `NoMemory` may come to any other text. `HeapFull` comes only if a space has fewer than four pages for each word of the text
+/// plus two, and no more heap words than the room that is told plus what the text's rows need. It tells at most two pages that were asked for,
+/// and the room, which is less. If the heap is full for one of several clerks, one makes the whole on a new heap of the same size, and only what this one
 /// finds is told. That the call returns is not promised, since clerks wait for one another.
 pub fn concord<R: Threads + Wait + Sync>(
     rt: &R,
@@ -113,6 +113,7 @@ fn make<R: Threads + Wait + Sync>(
     Ok(told(alloc, &words)?)
 }
 
+/// A new heap of so many mutators.
 fn open(alloc: Global, clerks: u8, config: &Config) -> Result<(Shared, Seats), ConcordError>
     requires some { 1 ≤ clerks }
     requires few { clerks ≤ MOST_MUTATORS }
@@ -199,6 +200,7 @@ fn noted<R: Threads + Wait + Sync>(
     gathered
 }
 
+/// What the first clerk gathers, which has taken in the others.
 fn gathered<R: Wait>(
     job: &Job<R>,
     alloc: Global,

@@ -8,9 +8,8 @@ ghost use Rattle.ael_threads.specs.Histories.{Each};
 ghost use Rattle.ael_threads.specs.Readers.{SeatedScanner};
 ghost use Rattle.concordance_text.specs.declared.part.Part.{Part};
 ghost use Rattle.concordance_text.specs.Parts.{IsNumbered, mentions_of_part};
-ghost use Rattle.concordance_text.specs.Words.{HasShortWords};
 ghost use Rattle.concordance.specs.Full.{WasFullFor};
-ghost use Rattle.concordance.specs.Working.{AreReady, HasWorked, HaveWorked, IsReady, MayAllBeTakenIn, MayAllWork, MayBeTakenIn, MayWork, WasFullForOne};
+ghost use Rattle.concordance.specs.Working.{AreReady, HasWorked, HaveWorked, IsReady, IsShort, MayAllBeTakenIn, MayAllWork, MayBeTakenIn, MayWork, WasFullForOne};
 
 use crate::clerk::{Clerk, Full};
 use crate::first_and_rest::join_first;
@@ -37,7 +36,7 @@ pub(crate) fn read_all<R: Threads + Wait + Sync>(
     requires few { from + length clerks.old ≤ MOST_MUTATORS }
     requires parts { length parts.now ≡ length clerks.old }
     requires numbered { AllByRecursion IsNumbered parts.now }
-    requires short { AllByRecursion (λ (p : Part). HasShortWords p.text.now) parts.now }
+    requires short { AllByRecursion IsShort parts.now }
     requires ready { AreReady job.now from clerks.old }
     ensures as_many { length clerks.new ≡ length clerks.old }
     ensures left { MayAllBeTakenIn job.now from clerks.new }
@@ -79,7 +78,7 @@ fn works<R: Wait>(
 ) -> Result<(), Full>
     requires few { number < MOST_MUTATORS }
     requires numbered { IsNumbered part }
-    requires short { HasShortWords part.text.now }
+    requires short { IsShort part }
     requires ready { IsReady job.now number clerk.old }
     ensures left { MayBeTakenIn job.now number clerk.new }
     ensures worked { OnOk result (HasWorked job.now number part.entry clerk.new) }
@@ -102,7 +101,7 @@ fn reads<R: Wait>(
 ) -> Result<(), Full>
     requires few { number < MOST_MUTATORS }
     requires numbered { IsNumbered part }
-    requires short { HasShortWords part.text.now }
+    requires short { IsShort part }
     requires ready { IsReady job.now number clerk.old }
     ensures left { MayBeTakenIn job.now number clerk.new }
     ensures worked { OnOk result (HasWorked job.now number part.entry clerk.new) }

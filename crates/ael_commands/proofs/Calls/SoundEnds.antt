@@ -24,7 +24,7 @@ input_is : (reads : NeededInput) (source : Drawn) (bytes own : List ℕ) → IsG
 input_is Nothing source bytes own given input = input ∙ sym given
 input_is Everything source bytes own given input = rw given.0 at input.all
 
--- an input that is told, where no read fails, is read
+-- an input that is told, if no read fails, is read
 is_read : {A : Type 0} (reads : NeededInput) (source : Drawn) (bytes : List ℕ) (status : Status) → IsGiven reads source bytes → IsFaultless source.before source.after
     → IsUnread reads source status → A
 is_read Nothing source bytes status given sound unread = absurd unread
@@ -52,7 +52,7 @@ answered asked job source output status is_job is = rw is_job at is
 
 -- ---- the output
 
--- what was written, where no sink failed
+-- what was written, if no sink failed
 written : (output : List ℕ) (status final : Status) (out err : Filled) → IsFaultless out.before out.after → IsFaultless err.before err.after
     → Emits output status out err final → (final ≡ status) × Grows out.held output out.holds × Grows err.held (status_line status) err.holds
 written output status final out err out_sound err_sound (AllWritten same printed told) = (same, printed.grows, told.grows)

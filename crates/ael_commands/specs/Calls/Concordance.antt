@@ -19,7 +19,7 @@ pub record ConcordanceIsPrinted (call : Call) (text : List ℕ) : Type 0 where
   pub is : IsConcordanceOf text output
   pub prints : Grows call.out.held output call.out.holds
 
--- where the exit status of `concord` is 0, it prints the concordance of its input
+-- if the exit status of `concord` is 0, it prints the concordance of its input
 abbrev pub PrintsConcordance : Call → Type 0
 PrintsConcordance call = (options : ConcordOptions) (text : List ℕ) → NoEndFails call (Concord options) text → call.code ≡ 0 → ConcordanceIsPrinted call text
 

@@ -39,7 +39,7 @@ pub still_there : (records later : List Record) (first : Value) (turns : Turns) 
 still_there records later first turns depth m serial keeps is =
     later_turns records later first turns depth keeps (λ e. somewhere m serial (sym is ∙ e)) ∙ is
 
--- Where each turn leads where it led, so do more of them.
+-- If each turn leads where it led, so do more of them.
 pub same_path : (records later : List Record) (first : Value) (turns : Turns) → ((d : ℕ) (right : Bool) → turn_from later (reached records first turns d) right ≡ turn_from records (reached records first turns d) right) → (depth : ℕ)
     → reached later first turns depth ≡ reached records first turns depth
 same_path records later first turns same zero = refl

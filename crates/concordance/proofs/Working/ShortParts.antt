@@ -5,7 +5,7 @@ use Rattle.concordance_text.specs.declared.part.Part.{Part}
 use Rattle.concordance_text.specs.Parts.{AreCutAtLineEnds, EndsWithLine, bytes_of}
 use Rattle.concordance_text.specs.Words.{HasShortWords, ends_line, has_long_word, lines_of}
 use Rattle.concordance_text.proofs.Cuts.{slice_split-append}
-use Rattle.concordance.specs.Making.{IsShort}
+use Rattle.concordance.specs.Working.{IsShort}
 use Rattle.concordance.proofs.Lists.Elements.{all_apart, all_append}
 
 none_short : HasShortWords []

@@ -21,7 +21,7 @@ use mutator_asm::Operand;
 use std::sync::Wait;
 use std::sync::atomic::{AtomicU64, Ordering};
 
-/// How many acts it makes between two looks at a count.
+/// How many acts a clerk makes between two looks at how many have left.
 const ACTS: u32 = 64;
 
 impl<'h> Clerk<'h> {
